@@ -15,7 +15,8 @@ use Rattle.aggregate.specs.Accumulators.{State, start, take}
 use Rattle.aggregate.specs.Each.{just, behind, each}
 use Rattle.aggregate.specs.Expression.{expression_value}
 use Rattle.aggregate.specs.Fields.{set_field}
-use Rattle.aggregate.specs.Group.{GroupField, Grouping, Identified, id_value, identify, same, first_of_each, members, groups, field_value, with_fields, group_document, grouped}
+use Rattle.aggregate.specs.Group.{GroupField, Grouping, Identified, id_value, identify, same, first_of_each, members, groups, field_value, with_fields}
+use Rattle.aggregate.specs.Group.{group_document, grouped}
 use Rattle.aggregate.specs.Table.{taken, starts, Entry, put_document, with_outcomes, entry_document, entry_documents, grouped_from}
 use Rattle.aggregate.proofs.SplitLemmas.{add_all, split}
 
@@ -38,13 +39,15 @@ taken_each : (f : GroupField) (fs : List GroupField) (documents : List Pairs) (s
 taken_each f fs [] s ss = refl
 taken_each f fs (ps ∷ documents) s ss = taken_each f fs documents (take s (expression_value f.expression ps)) (taken fs ps ss)
 
-outcomes_are : (fields : List GroupField) (documents : List Pairs) (qs : Pairs) → with_outcomes fields (states_of fields documents) qs ≡ with_fields fields documents qs
+outcomes_are : (fields : List GroupField) (documents : List Pairs) (qs : Pairs)
+    → with_outcomes fields (states_of fields documents) qs ≡ with_fields fields documents qs
 outcomes_are [] documents qs = refl
 outcomes_are (f ∷ fs) documents qs =
     ap (λ (ss : List State). with_outcomes (f ∷ fs) ss qs) (taken_each f fs documents (start f.accumulator) (starts fs))
     ∙ by (field_value f documents) (outcomes_are fs documents)
   where
-    then : (r : Result Pairs Refusal) → ((rs : Pairs) → with_outcomes fs (states_of fs documents) rs ≡ with_fields fs documents rs) → (r >>= with_outcomes fs (states_of fs documents)) ≡ (r >>= with_fields fs documents)
+    then : (r : Result Pairs Refusal) → ((rs : Pairs) → with_outcomes fs (states_of fs documents) rs ≡ with_fields fs documents rs)
+        → (r >>= with_outcomes fs (states_of fs documents)) ≡ (r >>= with_fields fs documents)
     then (Ok rs) later = later rs
     then (Err e) later = refl
 
@@ -53,7 +56,8 @@ outcomes_are (f ∷ fs) documents qs =
     by (Ok t) later = then (set_field f.name t qs) later
     by (Err e) later = refl
 
-document_is : (fields : List GroupField) (id : Tree) (documents : List Pairs) → entry_document fields (id, states_of fields documents) ≡ group_document fields (id, documents)
+document_is : (fields : List GroupField) (id : Tree) (documents : List Pairs)
+    → entry_document fields (id, states_of fields documents) ≡ group_document fields (id, documents)
 document_is fields id documents = by (set_field _ id no_pairs)
   where
     by : (r : Result Pairs Refusal) → (r >>= with_outcomes fields (states_of fields documents)) ≡ (r >>= with_fields fields documents)
@@ -82,7 +86,9 @@ from_identified g (ps ∷ documents) entries = by (id_value g.id ps) (λ id. fro
     then id (Err e) = refl
 
     by : (r : Result Tree Refusal)
-        → ((id : Tree) → grouped_from g documents (put_document g.fields (id, ps) entries) ≡ (each (λ qs. just (identify g.id qs)) documents >>= finished g.fields (put_document g.fields (id, ps) entries)))
+        → ((id : Tree)
+        → grouped_from g documents (put_document g.fields (id, ps) entries)
+        ≡ (each (λ qs. just (identify g.id qs)) documents >>= finished g.fields (put_document g.fields (id, ps) entries)))
         → (r >>= (λ id. grouped_from g documents (put_document g.fields (id, ps) entries)))
         ≡ ((just (r >>= (λ id. Ok (id, ps))) >>= (λ ys. behind ys (each (λ qs. just (identify g.id qs)) documents))) >>= finished g.fields entries)
     by (Ok id) later = later id ∙ then id (each (λ qs. just (identify g.id qs)) documents)
@@ -91,7 +97,8 @@ from_identified g (ps ∷ documents) entries = by (id_value g.id ps) (λ id. fro
 pub grouped_is : (g : Grouping) (documents : List Pairs) → grouped_from g documents [] ≡ grouped g documents
 grouped_is g documents = from_identified g documents [] ∙ by (each (λ ps. just (identify g.id ps)) documents)
   where
-    by : (r : Result (List Identified) Refusal) → (r >>= finished g.fields []) ≡ (r >>= (λ identified. each (λ group. just (group_document g.fields group)) (groups identified)))
+    by : (r : Result (List Identified) Refusal)
+        → (r >>= finished g.fields []) ≡ (r >>= (λ identified. each (λ group. just (group_document g.fields group)) (groups identified)))
     by (Err e) = refl
     by (Ok xs) =
         ap (entry_documents g.fields) (split same same_laws (λ states ps. taken g.fields ps states) (starts g.fields) xs)

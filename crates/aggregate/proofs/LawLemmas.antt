@@ -32,7 +32,8 @@ all_append (condition r rs) qs s = ap (λ (b : Bool). holds r s && b) (all_appen
 pub matches_both : MatchesBoth
 matches_both first second documents =
     ap (λ (ds : List Pairs). let r : Result (List Pairs) Refusal = Ok ds in r)
-    (sym (filter-both (matches (append_conditions first second)) (matches second) (matches first) (λ ps. all_append first second (whole ps) ∙ and_swap (matches first ps) (matches second ps)) documents))
+    (sym (filter-both (matches (append_conditions first second)) (matches second) (matches first)
+    (λ ps. all_append first second (whole ps) ∙ and_swap (matches first ps) (matches second ps)) documents))
 
 -- ---- numbers of documents
 
@@ -65,7 +66,13 @@ total-all (x ∷ xs) es = omega (arith, total-all xs (put same count 0 x es), to
 lengths : (of : Tree → List Pairs) (ids : List Tree) → sum_by size (map (λ id. (id, of id)) ids) ≡ sum_by number (map (λ id. (id, fold count 0 (of id))) ids)
 lengths of [] = refl
 lengths of (id ∷ ids) =
-    omega (arith, counted 0 (of id), lengths of ids, sum_by-cons size (id, of id) (map (λ id. (id, of id)) ids), sum_by-cons number (id, fold count 0 (of id)) (map (λ id. (id, fold count 0 (of id))) ids))
+    omega (
+      arith,
+      counted 0 (of id),
+      lengths of ids,
+      sum_by-cons size (id, of id) (map (λ id. (id, of id)) ids),
+      sum_by-cons number (id, fold count 0 (of id)) (map (λ id. (id, fold count 0 (of id))) ids),
+    )
 
 pub groups_all : GroupsAll
 groups_all documents =

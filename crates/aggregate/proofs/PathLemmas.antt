@@ -1,5 +1,6 @@
 -- Values of paths: what a `$` stands in front of, what a field holds, and that what is made nests no deeper.
-use Rattle.std.proofs.Common.{◌≡◌, ℕ, suc, ◌+◌, ◌-◌, ◌<◌, ◌≤◌, max, Bool, true, false, List, [], ◌∷◌, length, take, drop, get_or, Option, Some, None, Bor, refl, sym, ap, subst, ◌∙◌, arith}
+use Rattle.std.proofs.Common.{◌≡◌, ℕ, suc, ◌+◌, ◌-◌, ◌<◌, ◌≤◌, max, Bool, true, false, List, [], ◌∷◌, length, take, drop, get_or, Option, Some, None, Bor, refl}
+use Rattle.std.proofs.Common.{sym, ap, subst, ◌∙◌, arith}
 use Rattle.std.specs.Prelude.{◌≢◌, ◌==◌, if◌then◌else◌, option_map, MatchOption}
 use Rattle.std.specs.Option.{option_and_then}
 use Rattle.std.specs.Str.{bytes_eq}
@@ -32,7 +33,8 @@ pub count-lookup : (ps : Pairs) (name : List ℕ) (t : Tree) → lookup ps name 
 count-lookup no_pairs name t e = absurd cc
 count-lookup (pair other u ps) name t e = by (bytes_eq name other) e (count-lookup ps name t)
   where
-    by : (b : Bool) → (if b then Some u else lookup ps name) ≡ Some t → (lookup ps name ≡ Some t → count t ≤ count_pairs ps) → count t ≤ count u + count_pairs ps
+    by : (b : Bool) → (if b then Some u else lookup ps name) ≡ Some t → (lookup ps name ≡ Some t → count t ≤ count_pairs ps)
+        → count t ≤ count u + count_pairs ps
     by true e later = let same : u ≡ t = cc in omega (arith, ap count same)
     by false e later = omega (arith, later e)
 
@@ -43,7 +45,8 @@ kept-lookup : (ps : Pairs) (name : List ℕ) (t : Tree) → IsPairs ps → looku
 kept-lookup no_pairs name t h e = absurd cc
 kept-lookup (pair other u ps) name t h e = by (bytes_eq name other) e (kept-lookup ps name t h.3)
   where
-    by : (b : Bool) → (if b then Some u else lookup ps name) ≡ Some t → (lookup ps name ≡ Some t → IsTree t × (levels t ≤ pairs_levels ps)) → IsTree t × (levels t ≤ max (levels u) (pairs_levels ps))
+    by : (b : Bool) → (if b then Some u else lookup ps name) ≡ Some t → (lookup ps name ≡ Some t → IsTree t × (levels t ≤ pairs_levels ps))
+        → IsTree t × (levels t ≤ max (levels u) (pairs_levels ps))
     by true e later = let same : u ≡ t = cc in (subst IsTree same h.1, omega (arith, ap levels same))
     by false e later = let rest = later e in (rest.0, omega (arith, rest.1))
 
@@ -105,7 +108,8 @@ module _ (go : Tree → Option Tree) (name : List ℕ) where
       ∙ sym (ap (λ (ws : List Value). append_items out (each_by_field go name (items_of ws))) (drop_step vs i v lt is))
       ∙ so_far
 
-  pub items_end : (vs : List Value) (i : ℕ) (out whole : Items) → length vs ≤ i → append_items out (each_by_field go name (items_of (drop i vs))) ≡ whole → out ≡ whole
+  pub items_end : (vs : List Value) (i : ℕ) (out whole : Items) → length vs ≤ i → append_items out (each_by_field go name (items_of (drop i vs))) ≡ whole
+      → out ≡ whole
   items_end vs i out whole le so_far =
       sym (append_items-none out) ∙ sym (ap (λ (ws : List Value). append_items out (each_by_field go name (items_of ws))) (drop_all i vs le)) ∙ so_far
 

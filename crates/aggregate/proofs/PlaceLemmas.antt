@@ -1,5 +1,6 @@
 -- Groups that are looked up, written and added.
-use Rattle.std.proofs.Common.{◌≡◌, ℕ, zero, suc, ◌+◌, ◌<◌, ◌≤◌, Bool, true, false, cond, List, [], ◌∷◌, ◌++◌, length, set, take, drop, get_or, map, Some, None, Result, Ok, Err, refl, sym, ap, subst, ◌∙◌, arith, inl, inr, eq-eqb}
+use Rattle.std.proofs.Common.{◌≡◌, ℕ, zero, suc, ◌+◌, ◌<◌, ◌≤◌, Bool, true, false, cond, List, [], ◌∷◌, ◌++◌, length, set, take, drop, get_or, map, Some, None}
+use Rattle.std.proofs.Common.{Result, Ok, Err, refl, sym, ap, subst, ◌∙◌, arith, inl, inr, eq-eqb}
 use Rattle.std.specs.Prelude.{◌||◌, ◌&&◌, is_some, if◌then◌else◌, OnOk}
 use Rattle.std.specs.Global.{Vec}
 use Rattle.std.specs.Str.{bytes_eq}
@@ -70,7 +71,8 @@ not_both true e f = absurd cc
 not_both false e f = absurd cc
 
 -- an `_id` whose text isn't known has no group
-pub unknown : (gs : Groups) (text : Vec ℕ) (id : Tree) → IsIndexed gs → text.items ≡ tree_text id → get same_text gs.places text ≡ None → has same (entries_of gs) id ≡ false
+pub unknown : (gs : Groups) (text : Vec ℕ) (id : Tree) → IsIndexed gs → text.items ≡ tree_text id → get same_text gs.places text ≡ None
+    → has same (entries_of gs) id ≡ false
 unknown gs text id h is none = by (has same (entries_of gs) id) refl
   where
     by : (b : Bool) → has same (entries_of gs) id ≡ b → b ≡ false
@@ -91,12 +93,14 @@ module _ (fields : List GroupField) (ps : Pairs) where
   put_new [] k e = refl
   put_new (x ∷ es) k e = by (same x.0 k) e (put_new es k)
     where
-      by : (b : Bool) → (b || has same es k) ≡ false → (has same es k ≡ false → put_document fields (k, ps) es ≡ es ++ (k, taken fields ps (starts fields)) ∷ [])
+      by : (b : Bool) → (b || has same es k) ≡ false
+          → (has same es k ≡ false → put_document fields (k, ps) es ≡ es ++ (k, taken fields ps (starts fields)) ∷ [])
           → (if b then (x.0, taken fields ps x.1) ∷ es else x ∷ put_document fields (k, ps) es) ≡ x ∷ (es ++ (k, taken fields ps (starts fields)) ∷ [])
       by true e later = absurd cc
       by false e later = ap (λ (fs : List Entry). x ∷ fs) (later e)
 
-  pub put_there : (xs : List Group) (at : ℕ) (old g : Group) (k : Tree) → at < length xs → ((d : Group) → same (id_at xs at d) k ≡ true) → Apart same (map entry_of xs)
+  pub put_there : (xs : List Group) (at : ℕ) (old g : Group) (k : Tree) → at < length xs → ((d : Group) → same (id_at xs at d) k ≡ true)
+      → Apart same (map entry_of xs)
       → old ≡ get_or xs at old → tree g.id ≡ tree old.id → map state_of g.states.items ≡ taken fields ps (map state_of old.states.items)
       → map entry_of (set xs at g) ≡ put_document fields (k, ps) (map entry_of xs)
   put_there [] at old g k lt is apart was kept states = absurd (omega (arith, lt))
@@ -108,7 +112,9 @@ module _ (fields : List GroupField) (ps : Pairs) where
       by (same (tree x.id) k) refl (put_there xs at old g k (omega (arith, lt)) is apart.1 was kept states)
     where
       by : (b : Bool) → same (tree x.id) k ≡ b → map entry_of (set xs at g) ≡ put_document fields (k, ps) (map entry_of xs)
-          → entry_of x ∷ map entry_of (set xs at g) ≡ (if b then (tree x.id, taken fields ps (map state_of x.states.items)) ∷ map entry_of xs else entry_of x ∷ put_document fields (k, ps) (map entry_of xs))
+          → entry_of x ∷ map entry_of (set xs at g)
+          ≡ (if b then (tree x.id, taken fields ps (map state_of x.states.items)) ∷ map entry_of xs
+          else entry_of x ∷ put_document fields (k, ps) (map entry_of xs))
       by false e later = ap (λ (es : List Entry). entry_of x ∷ es) later
       by true e later =
           let again = λ (d : Group).
@@ -121,7 +127,8 @@ module _ (fields : List GroupField) (ps : Pairs) where
   apart_put : (es next : List Entry) (k : Tree) → Apart same es → next ≡ put_document fields (k, ps) es → Apart same next
   apart_put es next k h is = subst (Apart same) (sym is) (Apart-add same same_laws (λ states qs. taken fields qs states) (starts fields) (k, ps) es h)
 
-  pub indexed_there : (gs : Groups) (groups : Vec Group) (at : ℕ) (old g : Group) (k : Tree) → IsIndexed gs → at < length gs.groups.items → groups.items ≡ set gs.groups.items at g
+  pub indexed_there : (gs : Groups) (groups : Vec Group) (at : ℕ) (old g : Group) (k : Tree) → IsIndexed gs → at < length gs.groups.items
+      → groups.items ≡ set gs.groups.items at g
       → old ≡ get_or gs.groups.items at old → tree g.id ≡ tree old.id → map entry_of groups.items ≡ put_document fields (k, ps) (entries_of gs)
       → IsIndexed (record { places = gs.places; groups = groups })
   indexed_there gs groups at old g k h lt is was kept put = record {
@@ -169,18 +176,24 @@ module _ (fields : List GroupField) (ps : Pairs) where
       at_end (x ∷ xs) zero d e = absurd (omega (arith, e))
       at_end (x ∷ xs) (suc i) d e = at_end xs i d (omega (arith, e))
 
-      known : (q : Vec ℕ) (i : ℕ) (d : Group) → i < length groups.items → q.items ≡ tree_text (tree (get_or groups.items i d).id) → is_some (get same_text places q) ≡ true
+      known : (q : Vec ℕ) (i : ℕ) (d : Group) → i < length groups.items → q.items ≡ tree_text (tree (get_or groups.items i d).id)
+          → is_some (get same_text places q) ≡ true
       known q i d lt same_id = ap is_some (updated q) ∙ by (same_text text q) refl
         where
-          old : (b : Bool) → same_text text q ≡ b → i < length gs.groups.items → is_some (cond b (Some (length gs.groups.items)) (get same_text gs.places q)) ≡ true
+          old : (b : Bool) → same_text text q ≡ b → i < length gs.groups.items
+              → is_some (cond b (Some (length gs.groups.items)) (get same_text gs.places q)) ≡ true
           old true e before = refl
           old false e before =
-              h.known q i d before (same_id ∙ ap (λ (x : Group). tree_text (tree x.id)) (ap (λ (xs : List Group). get_or xs i d) grown ∙ get_or_append_left gs.groups.items (g ∷ []) d i before))
+              h.known q i d before (same_id
+              ∙ ap (λ (x : Group). tree_text (tree x.id))
+              (ap (λ (xs : List Group). get_or xs i d) grown ∙ get_or_append_left gs.groups.items (g ∷ []) d i before))
 
-          new : (b : Bool) → same_text text q ≡ b → i ≡ length gs.groups.items → is_some (cond b (Some (length gs.groups.items)) (get same_text gs.places q)) ≡ true
+          new : (b : Bool) → same_text text q ≡ b → i ≡ length gs.groups.items
+              → is_some (cond b (Some (length gs.groups.items)) (get same_text gs.places q)) ≡ true
           new true e last = refl
           new false e last =
-              let is : q.items ≡ tree_text (tree g.id) = same_id ∙ ap (λ (x : Group). tree_text (tree x.id)) (ap (λ (xs : List Group). get_or xs i d) grown ∙ at_end gs.groups.items i d last) in
+              let is : q.items ≡ tree_text (tree g.id) =
+              same_id ∙ ap (λ (x : Group). tree_text (tree x.id)) (ap (λ (xs : List Group). get_or xs i d) grown ∙ at_end gs.groups.items i d last) in
               absurd (not_both (same_text text q) (bytes_same text.items q.items (texted ∙ sym is)) e)
 
           by : (b : Bool) → same_text text q ≡ b → is_some (cond b (Some (length gs.groups.items)) (get same_text gs.places q)) ≡ true
@@ -189,7 +202,8 @@ module _ (fields : List GroupField) (ps : Pairs) where
             | inr other ↦ old b e (omega (arith, lt, len, other.1))
           ]
 
-pub same_there : (xs : List Group) (at : ℕ) (x : Group) (k : Tree) → at < length xs → x ≡ get_or xs at x → same (tree x.id) k ≡ true → (d : Group) → same (tree (get_or xs at d).id) k ≡ true
+pub same_there : (xs : List Group) (at : ℕ) (x : Group) (k : Tree) → at < length xs → x ≡ get_or xs at x → same (tree x.id) k ≡ true → (d : Group)
+    → same (tree (get_or xs at d).id) k ≡ true
 same_there [] at x k lt is e d = absurd (omega (arith, lt))
 same_there (y ∷ ys) zero x k lt is e d = sym (ap (λ (z : Group). same (tree z.id) k) is) ∙ e
 same_there (y ∷ ys) (suc at) x k lt is e d = same_there ys at x k (omega (arith, lt)) is e d

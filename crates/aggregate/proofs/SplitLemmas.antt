@@ -27,7 +27,8 @@ pub map-filter : {X Y : Type 0} (p : X → Bool) (f g : X → Y) → ((x : X) �
 map-filter p f g alike [] = refl
 map-filter {X} {Y} p f g alike (x ∷ xs) = by (p x) refl (map-filter p f g alike xs)
   where
-    by : (b : Bool) → p x ≡ b → map f (filter p xs) ≡ map g (filter p xs) → map f (if b then x ∷ filter p xs else filter p xs) ≡ map g (if b then x ∷ filter p xs else filter p xs)
+    by : (b : Bool) → p x ≡ b → map f (filter p xs) ≡ map g (filter p xs)
+        → map f (if b then x ∷ filter p xs else filter p xs) ≡ map g (if b then x ∷ filter p xs else filter p xs)
     by true e later = (λ i. alike x e i ∷ later i)
     by false e later = later
 
@@ -140,7 +141,8 @@ module _ {K D S : Type 0} (same : K → K → Bool) (laws : IsEquivalence same) 
   old-other x xs [] e = refl
   old-other x xs (f ∷ es) e = by (same f.0 x.0) refl e (old-other x xs es)
     where
-      by : (b : Bool) → same f.0 x.0 ≡ b → (b || has es x.0) ≡ false → (has es x.0 ≡ false → old xs es ≡ old (x ∷ xs) es) → old xs (f ∷ es) ≡ old (x ∷ xs) (f ∷ es)
+      by : (b : Bool) → same f.0 x.0 ≡ b → (b || has es x.0) ≡ false → (has es x.0 ≡ false → old xs es ≡ old (x ∷ xs) es)
+          → old xs (f ∷ es) ≡ old (x ∷ xs) (f ∷ es)
       by true is e later = absurd cc
       by false is e later = (λ i. (f.0, fold step f.1 (sym (of_key-other x xs f.0 is) i)) ∷ later e i)
 
@@ -160,10 +162,13 @@ module _ {K D S : Type 0} (same : K → K → Bool) (laws : IsEquivalence same) 
     where
       others : map (new_one (x ∷ xs)) (filter (λ k. not (has es k)) (filter (λ k. not (same x.0 k)) (firsts (keys_of xs)))) ≡ new xs (add x es)
       others =
-          ap (map (new_one (x ∷ xs))) (sym (filter-both (λ k. not (has (add x es) k)) (λ k. not (has es k)) (λ k. not (same x.0 k)) (λ k. ap not (has-add x es k) ∙ not_or (has es k) (same x.0 k)) (firsts (keys_of xs))))
+          ap (map (new_one (x ∷ xs)))
+          (sym (filter-both (λ k. not (has (add x es) k)) (λ k. not (has es k)) (λ k. not (same x.0 k))
+          (λ k. ap not (has-add x es k) ∙ not_or (has es k) (same x.0 k)) (firsts (keys_of xs))))
           ∙ map-filter (λ k. not (has (add x es) k)) (new_one (x ∷ xs)) (new_one xs)
           (λ k is. ap (λ (ds : List D). (k, fold step begin ds)) (of_key-other x xs k
-          (laws.symm k x.0 ∙ not_true (same x.0 k) (and_right (not (has es k)) (not (same x.0 k)) (sym (ap not (has-add x es k) ∙ not_or (has es k) (same x.0 k)) ∙ is)))))
+          (laws.symm k x.0
+          ∙ not_true (same x.0 k) (and_right (not (has es k)) (not (same x.0 k)) (sym (ap not (has-add x es k) ∙ not_or (has es k) (same x.0 k)) ∙ is)))))
           (firsts (keys_of xs))
 
       by : (b : Bool) → has es x.0 ≡ b → new (x ∷ xs) es ≡ heads x xs b ++ new xs (add x es)

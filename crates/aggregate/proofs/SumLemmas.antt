@@ -64,7 +64,8 @@ is_total n z (Some (array ts)) = kept n z
 both : (n : Bool) (z : ℤ) (a b : Option Tree) → take (take (total n z) a) b ≡ total ((n && narrows a) && narrows b) ((z +ℤ summand a) +ℤ summand b)
 both n z a b = ap (λ (s : State). take s b) (is_total n z a) ∙ is_total (n && narrows a) (z +ℤ summand a) b
 
-swapped : (before behind : List (Option Tree)) (a b : Option Tree) (n : Bool) (z : ℤ) → fold take (total n z) (before ++ a ∷ b ∷ behind) ≡ fold take (total n z) (before ++ b ∷ a ∷ behind)
+swapped : (before behind : List (Option Tree)) (a b : Option Tree) (n : Bool) (z : ℤ)
+    → fold take (total n z) (before ++ a ∷ b ∷ behind) ≡ fold take (total n z) (before ++ b ∷ a ∷ behind)
 swapped [] behind a b n z =
     ap (λ (s : State). fold take s behind)
     (both n z a b ∙ (λ i. total (and_swap n (narrows a) (narrows b) i) (plus_swap z (summand a) (summand b) i)) ∙ sym (both n z b a))

@@ -6,7 +6,8 @@ use Rattle.std.specs.Int.{w32, w64, to_be_bytes}
 use Rattle.std.specs.declared.cmp.Ordering.{Ordering}
 use Rattle.std.specs.declared.cmp.Ordering.TheVariants.{Less, Equal, Greater}
 use Rattle.std.specs.Ordering.{ordering_then, nat_cmp, int_cmp}
-use Rattle.bson.specs.Tree.{Scalar, text, binary, object_id, boolean, date, null, int32, timestamp, int64, min_key, max_key, Tree, scalar, document, array, Pairs, no_pairs, pair, Items, no_items, item}
+use Rattle.bson.specs.Tree.{Scalar, text, binary, object_id, boolean, date, null, int32, timestamp, int64, min_key, max_key, Tree, scalar, document, array}
+use Rattle.bson.specs.Tree.{Pairs, no_pairs, pair, Items, no_items, item}
 use Rattle.filter.specs.Matches.{is_equal}
 use Rattle.value_order.specs.Order.{scalar_class, class, bytes_cmp, Leaf, scalar_leaf, leaf_cmp, content_cmp, pairs_cmp, items_cmp, compare}
 use Rattle.value_order.specs.KeyText.{escaped_text, sortable_bits, scalar_text, content_text, pairs_text, items_text, tree_text}

@@ -1,5 +1,6 @@
 -- Checking element after element, as a loop does that keeps only how far it has come.
-use Rattle.std.proofs.Common.{◌≡◌, ℕ, ◌+◌, ◌-◌, ◌^◌, ◌<◌, ◌≤◌, false, List, [], ◌∷◌, ◌++◌, length, take, Result, Ok, Err, refl, sym, ap, subst, ◌∙◌, append_assoc, arith}
+use Rattle.std.proofs.Common.{◌≡◌, ℕ, ◌+◌, ◌-◌, ◌^◌, ◌<◌, ◌≤◌, false, List, [], ◌∷◌, ◌++◌, length, take, Result, Ok, Err, refl, sym, ap, subst, ◌∙◌}
+use Rattle.std.proofs.Common.{append_assoc, arith}
 use Rattle.std.specs.Str.{bytes_eq}
 use Rattle.std.proofs.lemmas.List.{length-append, take_at, nil_from_length}
 use Rattle.bson.specs.declared.fault.BsonFault.{BsonFault}
@@ -14,7 +15,8 @@ use Rattle.bson.specs.Reading.{Read, stands_in, element_by, item_by, content_at,
 use Rattle.bson.specs.Raw.{tree_names, pairs_spelled, Elements, rest_of, outcome_of}
 use Rattle.bson.proofs.FrameLaws.{or_false}
 use Rattle.bson.proofs.TreeLaws.{IsBytes-rest, ne-bytes_eq, element_takes, value_reads}
-use Rattle.bson.proofs.ReadLoopLaws.{PairsSoFar, pairs_start, pairs_step, pairs_stop, pairs_done, ItemsSoFar, items_start, items_step, items_stop, items_done, item_shorter, value_at_document, value_at_array}
+use Rattle.bson.proofs.ReadLoopLaws.{PairsSoFar, pairs_start, pairs_step, pairs_stop, pairs_done, ItemsSoFar, items_start, items_step, items_stop, items_done}
+use Rattle.bson.proofs.ReadLoopLaws.{item_shorter, value_at_document, value_at_array}
 use Rattle.bson.proofs.RawLaws.{pairs_spelled-is}
 
 -- ---- what is left says what was read
@@ -37,21 +39,26 @@ outcome_err (Err g) f e = let same : g ≡ f = cc in ap (λ (h : BsonFault). Err
 
 -- ---- one more level
 
-pub document_refused : (f : BsonFault) (more : ℕ) (bytes : List ℕ) (content : List ℕ × List ℕ) → 0 < more → content_at bytes ≡ Ok content → outcome_of (pairs_in (value_at (more - 1)) content.0) ≡ Err f
+pub document_refused : (f : BsonFault) (more : ℕ) (bytes : List ℕ) (content : List ℕ × List ℕ) → 0 < more → content_at bytes ≡ Ok content
+    → outcome_of (pairs_in (value_at (more - 1)) content.0) ≡ Err f
     → rest_of (value_at more kinds.Document bytes) ≡ Err f
-document_refused f more bytes content h c e = ap rest_of (value_at_document more bytes h) ∙ rw (c, outcome_err (pairs_in (value_at (more - 1)) content.0) f e) refl
+document_refused f more bytes content h c e =
+    ap rest_of (value_at_document more bytes h) ∙ rw (c, outcome_err (pairs_in (value_at (more - 1)) content.0) f e) refl
 
-pub document_passed : (more : ℕ) (bytes : List ℕ) (content : List ℕ × List ℕ) (u : Unit {0}) → 0 < more → content_at bytes ≡ Ok content → outcome_of (pairs_in (value_at (more - 1)) content.0) ≡ Ok u
+pub document_passed : (more : ℕ) (bytes : List ℕ) (content : List ℕ × List ℕ) (u : Unit {0}) → 0 < more → content_at bytes ≡ Ok content
+    → outcome_of (pairs_in (value_at (more - 1)) content.0) ≡ Ok u
     → rest_of (value_at more kinds.Document bytes) ≡ Ok content.1
 document_passed more bytes content u h c e =
     let found = outcome_ok (pairs_in (value_at (more - 1)) content.0) u e in
     ap rest_of (value_at_document more bytes h) ∙ rw (c, found.1) refl
 
-pub array_refused : (f : BsonFault) (more : ℕ) (bytes : List ℕ) (content : List ℕ × List ℕ) → 0 < more → content_at bytes ≡ Ok content → outcome_of (items_in (value_at (more - 1)) content.0) ≡ Err f
+pub array_refused : (f : BsonFault) (more : ℕ) (bytes : List ℕ) (content : List ℕ × List ℕ) → 0 < more → content_at bytes ≡ Ok content
+    → outcome_of (items_in (value_at (more - 1)) content.0) ≡ Err f
     → rest_of (value_at more kinds.Array bytes) ≡ Err f
 array_refused f more bytes content h c e = ap rest_of (value_at_array more bytes h) ∙ rw (c, outcome_err (items_in (value_at (more - 1)) content.0) f e) refl
 
-pub array_passed : (more : ℕ) (bytes : List ℕ) (content : List ℕ × List ℕ) (u : Unit {0}) → 0 < more → content_at bytes ≡ Ok content → outcome_of (items_in (value_at (more - 1)) content.0) ≡ Ok u
+pub array_passed : (more : ℕ) (bytes : List ℕ) (content : List ℕ × List ℕ) (u : Unit {0}) → 0 < more → content_at bytes ≡ Ok content
+    → outcome_of (items_in (value_at (more - 1)) content.0) ≡ Ok u
     → rest_of (value_at more kinds.Array bytes) ≡ Ok content.1
 array_passed more bytes content u h c e =
     let found = outcome_ok (items_in (value_at (more - 1)) content.0) u e in
@@ -94,34 +101,43 @@ pub rest_within : (more : ℕ) (content rest : List ℕ) → CheckedPairs more c
 rest_within more content rest k = omega (arith, ap length k.parts, length-append (pairs_bytes k.front) rest)
 
 -- what stands before the rest
-pub before_rest : (more : ℕ) (content rest earlier : List ℕ) (at : ℕ) (k : CheckedPairs more content rest) → at ≡ length content - length rest → earlier ≡ take at content → more ≤ 99 → length content < 2 ^ 31 → Elements earlier k.front
+pub before_rest : (more : ℕ) (content rest earlier : List ℕ) (at : ℕ) (k : CheckedPairs more content rest) → at ≡ length content - length rest
+    → earlier ≡ take at content → more ≤ 99 → length content < 2 ^ 31 → Elements earlier k.front
 before_rest more content rest earlier at k e is le short =
     let size : length (pairs_bytes k.front) ≡ at = omega (arith, e, ap length k.parts, length-append (pairs_bytes k.front) rest) in
     let same : earlier ≡ pairs_bytes k.front = is ∙ ap (take at) k.parts ∙ take_at (pairs_bytes k.front) rest at size in
     record { lawful = k.lawful; depth = omega (arith, k.depth, le); spelled = same; short = omega (arith, ap length same, ap length k.parts, length-append (pairs_bytes k.front) rest, short) }
 
-module _ (more : ℕ) (content rest earlier : List ℕ) (type : ℕ) (bytes : List ℕ) (k : CheckedPairs more content rest) (front : rest ≡ type ∷ bytes) (before : Elements earlier k.front) where
+module _ (more : ℕ) (content rest earlier : List ℕ) (type : ℕ) (bytes : List ℕ) (k : CheckedPairs more content rest) (front : rest ≡ type ∷ bytes)
+    (before : Elements earlier k.front) where
   at_front : PairsSoFar more k.front (tree_names k.front) (type ∷ bytes) (pairs_in (value_at more) content)
   at_front = subst (λ (r : List ℕ). PairsSoFar more k.front (tree_names k.front) r (pairs_in (value_at more) content)) front k.so_far
 
-  same_read : element_by (value_at more) (stands_in (tree_names (pairs_spelled earlier))) faults.Repeated type bytes ≡ element_by (value_at more) (stands_in (tree_names k.front)) faults.Repeated type bytes
+  same_read : element_by (value_at more) (stands_in (tree_names (pairs_spelled earlier))) faults.Repeated type bytes
+      ≡ element_by (value_at more) (stands_in (tree_names k.front)) faults.Repeated type bytes
   same_read = ap (λ (ps : Pairs). element_by (value_at more) (stands_in (tree_names ps)) faults.Repeated type bytes) (pairs_spelled-is earlier k.front before)
 
-  pub pair_checked : (after : List ℕ) → rest_of (element_by (value_at more) (stands_in (tree_names (pairs_spelled earlier))) faults.Repeated type bytes) ≡ Ok after → (next : CheckedPairs more content after) × (length after < length rest) × (length (tree_names next.front) ≡ length (tree_names k.front) + 1)
+  pub pair_checked : (after : List ℕ)
+      → rest_of (element_by (value_at more) (stands_in (tree_names (pairs_spelled earlier))) faults.Repeated type bytes) ≡ Ok after
+      → (next : CheckedPairs more content after) × (length after < length rest) × (length (tree_names next.front) ≡ length (tree_names k.front) + 1)
   pair_checked after e =
       let found = rest_ok (element_by (value_at more) (stands_in (tree_names k.front)) faults.Repeated type bytes) after (ap rest_of (sym same_read) ∙ e) in
       let name = found.0.0 in
       let t = found.0.1 in
-      let r = element_takes (value_at more) more (value_reads more) (stands_in (tree_names k.front)) faults.Repeated type bytes ((name, t), after) (IsBytes-rest type bytes at_front.fits) found.1 in
+      let r = element_takes (value_at more) more (value_reads more) (stands_in (tree_names k.front)) faults.Repeated type bytes ((name, t), after)
+      (IsBytes-rest type bytes at_front.fits) found.1 in
       let next = pairs_step more k.front (tree_names k.front) type bytes (pairs_in (value_at more) content) name t after at_front found.1 in
       let grown = append k.front (pair name t no_pairs) in
-      let spelled : pairs_bytes grown ≡ pairs_bytes k.front ++ element (type_byte t) name (tree_bytes t) = pairs_bytes-append k.front (pair name t no_pairs) ∙ ap (λ (x : List ℕ). pairs_bytes k.front ++ x) (pairs_bytes-one name t) in
+      let spelled : pairs_bytes grown ≡ pairs_bytes k.front ++ element (type_byte t) name (tree_bytes t) =
+      pairs_bytes-append k.front (pair name t no_pairs) ∙ ap (λ (x : List ℕ). pairs_bytes k.front ++ x) (pairs_bytes-one name t) in
       let size = ap length (front ∙ r.0.takes.parts) in (
         record {
           front = grown;
-          so_far = subst (λ (names : List (List ℕ)). PairsSoFar more grown names after (pairs_in (value_at more) content)) (sym (tree_names-append k.front name t)) next;
+          so_far = subst (λ (names : List (List ℕ)). PairsSoFar more grown names after (pairs_in (value_at more) content))
+              (sym (tree_names-append k.front name t)) next;
           parts =
-              k.parts ∙ ap (λ (x : List ℕ). pairs_bytes k.front ++ x) (front ∙ r.0.takes.parts) ∙ sym (append_assoc (pairs_bytes k.front) (element (type_byte t) name (tree_bytes t)) after) ∙ ap (λ (x : List ℕ). x ++ after) (sym spelled);
+              k.parts ∙ ap (λ (x : List ℕ). pairs_bytes k.front ++ x) (front ∙ r.0.takes.parts)
+              ∙ sym (append_assoc (pairs_bytes k.front) (element (type_byte t) name (tree_bytes t)) after) ∙ ap (λ (x : List ℕ). x ++ after) (sym spelled);
           lawful = IsPairs-append k.front name t k.lawful r.0.is_name r.0.lawful (Lacks-from_names k.front name r.1);
           depth = omega (arith, pairs_levels-append k.front (pair name t no_pairs), k.depth, r.0.depth);
         },
@@ -129,20 +145,24 @@ module _ (more : ℕ) (content rest earlier : List ℕ) (type : ℕ) (bytes : Li
         ap length (tree_names-append k.front name t) ∙ length-append (tree_names k.front) (name ∷ []),
       )
 
-  pub pair_refused : (f : BsonFault) → rest_of (element_by (value_at more) (stands_in (tree_names (pairs_spelled earlier))) faults.Repeated type bytes) ≡ Err f → outcome_of (pairs_in (value_at more) content) ≡ Err f
+  pub pair_refused : (f : BsonFault) → rest_of (element_by (value_at more) (stands_in (tree_names (pairs_spelled earlier))) faults.Repeated type bytes) ≡ Err f
+      → outcome_of (pairs_in (value_at more) content) ≡ Err f
   pair_refused f e =
       let failed = rest_err (element_by (value_at more) (stands_in (tree_names k.front)) faults.Repeated type bytes) f (ap rest_of (sym same_read) ∙ e) in
       ap outcome_of (pairs_stop f more k.front (tree_names k.front) type bytes (pairs_in (value_at more) content) at_front failed)
 
   pub pair_counted : (count : ℕ) (after : List ℕ) → count ≡ length (tree_names k.front) → count + length rest ≤ length content
-      → rest_of (element_by (value_at more) (stands_in (tree_names (pairs_spelled earlier))) faults.Repeated type bytes) ≡ Ok after → CountedPairs more content after (count + 1)
+      → rest_of (element_by (value_at more) (stands_in (tree_names (pairs_spelled earlier))) faults.Repeated type bytes) ≡ Ok after
+      → CountedPairs more content after (count + 1)
   pair_counted count after counted within e =
       let next = pair_checked after e in
       record { checked = next.0; counted = omega (arith, counted, next.2); within = omega (arith, within, next.1) }
 
 pub pairs_passed : (more : ℕ) (content rest : List ℕ) → CheckedPairs more content rest → length rest ≡ 0 → outcome_of (pairs_in (value_at more) content) ≡ Ok tt
 pairs_passed more content rest k none =
-    ap outcome_of (pairs_done more k.front (tree_names k.front) (pairs_in (value_at more) content) (subst (λ (r : List ℕ). PairsSoFar more k.front (tree_names k.front) r (pairs_in (value_at more) content)) (nil_from_length rest none) k.so_far))
+    ap outcome_of
+    (pairs_done more k.front (tree_names k.front) (pairs_in (value_at more) content)
+    (subst (λ (r : List ℕ). PairsSoFar more k.front (tree_names k.front) r (pairs_in (value_at more) content)) (nil_from_length rest none) k.so_far))
 
 -- ---- arrays
 
@@ -158,7 +178,8 @@ module _ (more : ℕ) (content rest : List ℕ) (i type : ℕ) (bytes : List ℕ
   items_front : ItemsSoFar more k.front i (type ∷ bytes) (items_in (value_at more) content)
   items_front = subst (λ (r : List ℕ). ItemsSoFar more k.front i r (items_in (value_at more) content)) front k.so_far
 
-  pub item_checked : (after : List ℕ) → rest_of (item_by (value_at more) i type bytes) ≡ Ok after → CheckedItems more content after (i + 1) × (length after < length rest)
+  pub item_checked : (after : List ℕ) → rest_of (item_by (value_at more) i type bytes) ≡ Ok after
+      → CheckedItems more content after (i + 1) × (length after < length rest)
   item_checked after e =
       let found = rest_ok (item_by (value_at more) i type bytes) after e in
       let lt = item_shorter more i type bytes found.0 after (IsBytes-rest type bytes items_front.fits) found.1 in
@@ -168,8 +189,13 @@ module _ (more : ℕ) (content rest : List ℕ) (i type : ℕ) (bytes : List ℕ
       )
 
   pub item_refused : (f : BsonFault) → rest_of (item_by (value_at more) i type bytes) ≡ Err f → outcome_of (items_in (value_at more) content) ≡ Err f
-  item_refused f e = ap outcome_of (items_stop f more k.front i type bytes (items_in (value_at more) content) items_front (rest_err (item_by (value_at more) i type bytes) f e))
+  item_refused f e =
+      ap outcome_of
+      (items_stop f more k.front i type bytes (items_in (value_at more) content) items_front (rest_err (item_by (value_at more) i type bytes) f e))
 
-pub items_passed : (more : ℕ) (content rest : List ℕ) (i : ℕ) → CheckedItems more content rest i → length rest ≡ 0 → outcome_of (items_in (value_at more) content) ≡ Ok tt
+pub items_passed : (more : ℕ) (content rest : List ℕ) (i : ℕ) → CheckedItems more content rest i → length rest ≡ 0
+    → outcome_of (items_in (value_at more) content) ≡ Ok tt
 items_passed more content rest i k none =
-    ap outcome_of (items_done more k.front i (items_in (value_at more) content) (subst (λ (r : List ℕ). ItemsSoFar more k.front i r (items_in (value_at more) content)) (nil_from_length rest none) k.so_far))
+    ap outcome_of
+    (items_done more k.front i (items_in (value_at more) content)
+    (subst (λ (r : List ℕ). ItemsSoFar more k.front i r (items_in (value_at more) content)) (nil_from_length rest none) k.so_far))

@@ -6,7 +6,9 @@ use Rattle.bson.specs.declared.kind.Kind.{Kind}
 use Rattle.bson.specs.declared.kind.Kind.TheVariants as kinds
 use Rattle.bson.specs.Tree.{Tree}
 use Rattle.outcome.specs.Outcome.{◌>>=◌, unless}
-use Rattle.bson.specs.Reading.{Read, fixed_at, count_at, ended_at, text_at, content_at, name_at, kind_of, string_at, binary_of, binary_at, object_id_at, boolean_at, date_at, int32_at, timestamp_at, int64_at, leaf, scalar_at, element_by, item_by, stands_in, is_no_index, pairs_by, items_by, pairs_in, items_in, value_at, length_at, document_at}
+use Rattle.bson.specs.Reading.{Read, fixed_at, count_at, ended_at, text_at, content_at, name_at, kind_of, string_at, binary_of, binary_at, object_id_at}
+use Rattle.bson.specs.Reading.{boolean_at, date_at, int32_at, timestamp_at, int64_at, leaf, scalar_at, element_by, item_by, stands_in, is_no_index, pairs_by}
+use Rattle.bson.specs.Reading.{items_by, pairs_in, items_in, value_at, length_at, document_at}
 
 pub record IsNoMemory {Y : Type 0} (read : Result Y BsonFault) : Type 0 where
   pub never : read ≢ Err faults.Memory
@@ -21,7 +23,8 @@ then_no : {A B : Type 0} (r : Result A BsonFault) (f : A → Result B BsonFault)
 then_no (Ok x) f first later = later x
 then_no (Err e) f first later = record { never = λ same. first.never (let fault : e ≡ faults.Memory = cc in ap (λ (d : BsonFault). Err d) fault) }
 
-unless_no : {X : Type 0} (test : Bool) (fault : BsonFault) (read : Result X BsonFault) → fault ≢ faults.Memory → IsNoMemory read → IsNoMemory (unless test fault read)
+unless_no : {X : Type 0} (test : Bool) (fault : BsonFault) (read : Result X BsonFault) → fault ≢ faults.Memory → IsNoMemory read
+    → IsNoMemory (unless test fault read)
 unless_no true fault read other safe = err_no fault other
 unless_no false fault read other safe = safe
 
@@ -46,7 +49,10 @@ ended_no fault len bytes other = unless_no _ faults.Length _ length_no (unless_n
 
 text_no : (bytes : List ℕ) → IsNoMemory (text_at bytes)
 unfolding text_at
-text_no bytes = then_no (count_at 1 bytes) _ (count_no 1 bytes) (λ n. then_no (ended_at faults.Text (n.0 - 1) n.1) _ (ended_no faults.Text (n.0 - 1) n.1 (λ e. absurd cc)) (λ s. unless_no _ faults.Text _ (λ e. absurd cc) (ok_no _)))
+text_no bytes =
+    then_no (count_at 1 bytes) _ (count_no 1 bytes)
+    (λ n. then_no (ended_at faults.Text (n.0 - 1) n.1) _ (ended_no faults.Text (n.0 - 1) n.1 (λ e. absurd cc))
+    (λ s. unless_no _ faults.Text _ (λ e. absurd cc) (ok_no _)))
 
 content_no : (bytes : List ℕ) → IsNoMemory (content_at bytes)
 unfolding content_at
@@ -88,7 +94,8 @@ body_no (subtype ∷ bytes) rest = unless_no _ faults.Subtype _ (λ e. absurd cc
 
 binary_no : (bytes : List ℕ) → IsNoMemory (binary_at bytes)
 unfolding binary_at
-binary_no bytes = then_no (count_at 0 bytes) _ (count_no 0 bytes) (λ n. then_no (fixed_at (n.0 + 1) n.1) _ (fixed_no (n.0 + 1) n.1) (λ body. body_no body.0 body.1))
+binary_no bytes =
+    then_no (count_at 0 bytes) _ (count_no 0 bytes) (λ n. then_no (fixed_at (n.0 + 1) n.1) _ (fixed_no (n.0 + 1) n.1) (λ body. body_no body.0 body.1))
 
 object_id_no : (bytes : List ℕ) → IsNoMemory (object_id_at bytes)
 unfolding object_id_at
@@ -138,26 +145,33 @@ scalar_no kinds.MaxKey bytes = ok_no _
 abbrev Reader : Type 0
 Reader = Kind → List ℕ → Read Tree
 
-element_no : (read : Reader) → ((k : Kind) (bytes : List ℕ) → IsNoMemory (read k bytes)) → (wrong : List ℕ → Bool) (fault : BsonFault) (type : ℕ) (bytes : List ℕ) → fault ≢ faults.Memory
+element_no : (read : Reader) → ((k : Kind) (bytes : List ℕ) → IsNoMemory (read k bytes))
+    → (wrong : List ℕ → Bool) (fault : BsonFault) (type : ℕ) (bytes : List ℕ) → fault ≢ faults.Memory
     → IsNoMemory (element_by read wrong fault type bytes)
 unfolding element_by
 element_no read inner wrong fault type bytes other =
     then_no (kind_of type) _ (kind_no type)
-    (λ k. then_no (name_at bytes) _ (name_no bytes) (λ name. then_no (unless (wrong name.0) fault (read k name.1)) _ (unless_no (wrong name.0) fault (read k name.1) other (inner k name.1)) (λ value. (ok_no _))))
+    (λ k. then_no (name_at bytes) _ (name_no bytes)
+    (λ name. then_no (unless (wrong name.0) fault (read k name.1)) _ (unless_no (wrong name.0) fault (read k name.1) other (inner k name.1))
+    (λ value. (ok_no _))))
 
 item_no : (read : Reader) → ((k : Kind) (bytes : List ℕ) → IsNoMemory (read k bytes)) → (i type : ℕ) (bytes : List ℕ) → IsNoMemory (item_by read i type bytes)
 unfolding item_by
 item_no read inner i type bytes =
-    then_no (element_by read (is_no_index i) faults.ArrayName type bytes) _ (element_no read inner (is_no_index i) faults.ArrayName type bytes (λ e. absurd cc)) (λ first. (ok_no _))
+    then_no (element_by read (is_no_index i) faults.ArrayName type bytes) _
+    (element_no read inner (is_no_index i) faults.ArrayName type bytes (λ e. absurd cc)) (λ first. (ok_no _))
 
-pairs_no : (read : Reader) → ((k : Kind) (bytes : List ℕ) → IsNoMemory (read k bytes)) → (most : ℕ) (earlier : List (List ℕ)) (bytes : List ℕ) → IsNoMemory (pairs_by read most earlier bytes)
+pairs_no : (read : Reader) → ((k : Kind) (bytes : List ℕ) → IsNoMemory (read k bytes)) → (most : ℕ) (earlier : List (List ℕ)) (bytes : List ℕ)
+    → IsNoMemory (pairs_by read most earlier bytes)
 unfolding pairs_by
 pairs_no read inner zero earlier [] = ok_no _
 pairs_no read inner (suc most) earlier [] = ok_no _
 pairs_no read inner zero earlier (type ∷ bytes) = err_no _ (λ e. absurd cc)
 pairs_no read inner (suc most) earlier (type ∷ bytes) =
-    then_no (element_by read (stands_in earlier) faults.Repeated type bytes) _ (element_no read inner (stands_in earlier) faults.Repeated type bytes (λ e. absurd cc))
-    (λ first. then_no (pairs_by read most (earlier ++ first.0.0 ∷ []) first.1) _ (pairs_no read inner most (earlier ++ first.0.0 ∷ []) first.1) (λ others. (ok_no _)))
+    then_no (element_by read (stands_in earlier) faults.Repeated type bytes) _
+    (element_no read inner (stands_in earlier) faults.Repeated type bytes (λ e. absurd cc))
+    (λ first. then_no (pairs_by read most (earlier ++ first.0.0 ∷ []) first.1) _ (pairs_no read inner most (earlier ++ first.0.0 ∷ []) first.1)
+    (λ others. (ok_no _)))
 
 items_no : (read : Reader) → ((k : Kind) (bytes : List ℕ) → IsNoMemory (read k bytes)) → (most i : ℕ) (bytes : List ℕ) → IsNoMemory (items_by read most i bytes)
 unfolding items_by
@@ -165,7 +179,8 @@ items_no read inner zero i [] = ok_no _
 items_no read inner (suc most) i [] = ok_no _
 items_no read inner zero i (type ∷ bytes) = err_no _ (λ e. absurd cc)
 items_no read inner (suc most) i (type ∷ bytes) =
-    then_no (item_by read i type bytes) _ (item_no read inner i type bytes) (λ first. then_no (items_by read most (i + 1) first.1) _ (items_no read inner most (i + 1) first.1) (λ others. (ok_no _)))
+    then_no (item_by read i type bytes) _ (item_no read inner i type bytes)
+    (λ first. then_no (items_by read most (i + 1) first.1) _ (items_no read inner most (i + 1) first.1) (λ others. (ok_no _)))
 
 leaf_no : (k : Kind) (bytes : List ℕ) → IsNoMemory (leaf (scalar_at k bytes))
 leaf_no k bytes = then_no (scalar_at k bytes) _ (scalar_no k bytes) (λ s. (ok_no _))
@@ -174,10 +189,12 @@ value_no : (more : ℕ) (k : Kind) (bytes : List ℕ) → IsNoMemory (value_at m
 unfolding value_at
 value_no zero kinds.Document bytes = err_no _ (λ e. absurd cc)
 value_no (suc more) kinds.Document bytes =
-    then_no (content_at bytes) _ (content_no bytes) (λ content. then_no (pairs_in (value_at more) content.0) _ (pairs_no (value_at more) (value_no more) (length content.0) [] content.0) (λ ps. (ok_no _)))
+    then_no (content_at bytes) _ (content_no bytes)
+    (λ content. then_no (pairs_in (value_at more) content.0) _ (pairs_no (value_at more) (value_no more) (length content.0) [] content.0) (λ ps. (ok_no _)))
 value_no zero kinds.Array bytes = err_no _ (λ e. absurd cc)
 value_no (suc more) kinds.Array bytes =
-    then_no (content_at bytes) _ (content_no bytes) (λ content. then_no (items_in (value_at more) content.0) _ (items_no (value_at more) (value_no more) (length content.0) 0 content.0) (λ ts. (ok_no _)))
+    then_no (content_at bytes) _ (content_no bytes)
+    (λ content. then_no (items_in (value_at more) content.0) _ (items_no (value_at more) (value_no more) (length content.0) 0 content.0) (λ ts. (ok_no _)))
 value_no zero kinds.String bytes = leaf_no kinds.String bytes
 value_no (suc more) kinds.String bytes = leaf_no kinds.String bytes
 value_no zero kinds.Binary bytes = leaf_no kinds.Binary bytes
@@ -204,7 +221,9 @@ value_no (suc more) kinds.MaxKey bytes = leaf_no kinds.MaxKey bytes
 pub document_no : (bytes : List ℕ) → IsNoMemory (document_at bytes)
 unfolding document_at length_at
 document_no bytes =
-    then_no (length_at bytes) _ (unless_no _ faults.Truncated _ (λ e. absurd cc) (unless_no _ faults.Length _ length_no (unless_no _ faults.TooLarge _ (λ e. absurd cc) (unless_no _ faults.Truncated _ (λ e. absurd cc) (ok_no _)))))
+    then_no (length_at bytes) _
+    (unless_no _ faults.Truncated _ (λ e. absurd cc)
+    (unless_no _ faults.Length _ length_no (unless_no _ faults.TooLarge _ (λ e. absurd cc) (unless_no _ faults.Truncated _ (λ e. absurd cc) (ok_no _)))))
     (λ len. then_no (ended_at faults.Length (len - 5) (drop 4 bytes)) _ (ended_no faults.Length (len - 5) (drop 4 bytes) length_no)
     (λ content. then_no (pairs_in (value_at 99) content.0) _ (pairs_no (value_at 99) (value_no 99) (length content.0) [] content.0) (λ ps. (ok_no _))))
 

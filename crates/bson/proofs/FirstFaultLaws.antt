@@ -1,5 +1,6 @@
 -- Each fault that reading gives is wrong at a place, and all before that is spelled as it has to be.
-use Rattle.std.proofs.Common.{◌≡◌, ◌≢◌, ◌⊎◌, ℕ, zero, suc, ◌+◌, ◌-◌, ◌<◌, ◌≤◌, Bool, true, false, not, eqb, List, [], ◌∷◌, ◌++◌, length, take, drop, Result, Ok, Err, refl, sym, ap, subst, ◌∙◌, append_assoc, zero-add, arith, inl, inr}
+use Rattle.std.proofs.Common.{◌≡◌, ◌≢◌, ◌⊎◌, ℕ, zero, suc, ◌+◌, ◌-◌, ◌<◌, ◌≤◌, Bool, true, false, not, eqb, List, [], ◌∷◌, ◌++◌, length, take, drop, Result, Ok}
+use Rattle.std.proofs.Common.{Err, refl, sym, ap, subst, ◌∙◌, append_assoc, zero-add, arith, inl, inr}
 use Rattle.std.specs.Prelude.{◌==◌, IfErr, slice_index, nat_le, nat_lt}
 use Rattle.std.specs.Int.{w32, to_le_bytes, from_le_bytes}
 use Rattle.std.specs.Fmt.{decimal}
@@ -16,9 +17,11 @@ use Rattle.bson.specs.Spelling.{HasNoDocument, frame_of, element, type_byte, tre
 use Rattle.bson.specs.Edits.{items_len}
 use Rattle.bson.specs.EditsLaws.{IsPairs-append, IsItems-append, pairs_levels-append, items_levels-append, items_len-append}
 use Rattle.bson.specs.SizingLaws.{pairs_bytes-none, pairs_bytes-append, pairs_bytes-one, items_bytes-none, items_bytes-append}
-use Rattle.bson.specs.Reading.{Read, is_below, fixed_at, zero_at, name_at, kind_of, leaf, scalar_at, count_at, ended_at, content_at, element_by, item_by, pairs_by, items_by, value_at, pairs_in, items_in, length_at, document_at, stands_in, is_no_index}
+use Rattle.bson.specs.Reading.{Read, is_below, fixed_at, zero_at, name_at, kind_of, leaf, scalar_at, count_at, ended_at, content_at, element_by, item_by}
+use Rattle.bson.specs.Reading.{pairs_by, items_by, value_at, pairs_in, items_in, length_at, document_at, stands_in, is_no_index}
 use Rattle.bson.specs.Raw.{tree_names}
-use Rattle.bson.specs.FirstFault.{Behind, WrongScalar, TooDeep, WrongElement, wrong_type, wrong_name, wrong_here, wrong_value, WrongPair, WrongItem, InFrame, WrongFrame, wrong_count, wrong_end, wrong_in, WrongValue, WrongDocument, wrong_length, wrong_last, wrong_inside, FirstFault}
+use Rattle.bson.specs.FirstFault.{Behind, WrongScalar, TooDeep, WrongElement, wrong_type, wrong_name, wrong_here, wrong_value, WrongPair, WrongItem, InFrame}
+use Rattle.bson.specs.FirstFault.{WrongFrame, wrong_count, wrong_end, wrong_in, WrongValue, WrongDocument, wrong_length, wrong_last, wrong_inside, FirstFault}
 use Rattle.bson.proofs.FrameLaws.{done, Takes, Takes-then, name_takes, content_takes, ended_takes}
 use Rattle.bson.proofs.TreeLaws.{Reads, IsBytes-rest, element_takes, item_takes, value_reads, length_takes, document_again}
 use Rattle.bson.proofs.ReadLoopLaws.{element_shorter, item_shorter}
@@ -35,11 +38,13 @@ behind : (n : ℕ) (wrong : ℕ → ℕ → BsonFault → Type 0) (fault : BsonF
 behind n wrong fault s = record { at = s.place; upto = s.seen; place_is = refl; seen_is = refl; inner = s.stands }
 
 -- a step that failed, or one after it
-pub bind_err : {A B : Type 0} (r : Result A BsonFault) (f : A → Result B BsonFault) (e : BsonFault) → (r >>= f) ≡ Err e → (r ≡ Err e) ⊎ ((x : A) × (r ≡ Ok x) × (f x ≡ Err e))
+pub bind_err : {A B : Type 0} (r : Result A BsonFault) (f : A → Result B BsonFault) (e : BsonFault) → (r >>= f) ≡ Err e
+    → (r ≡ Err e) ⊎ ((x : A) × (r ≡ Ok x) × (f x ≡ Err e))
 bind_err (Ok x) f e failed = inr (x, refl, failed)
 bind_err (Err d) f e failed = let same : d ≡ e = cc in inl (ap (λ (g : BsonFault). Err g) same)
 
-pub unless_err : {X : Type 0} (test : Bool) (fault e : BsonFault) (read : Result X BsonFault) → unless test fault read ≡ Err e → ((test ≡ true) × (e ≡ fault)) ⊎ ((test ≡ false) × (read ≡ Err e))
+pub unless_err : {X : Type 0} (test : Bool) (fault e : BsonFault) (read : Result X BsonFault) → unless test fault read ≡ Err e
+    → ((test ≡ true) × (e ≡ fault)) ⊎ ((test ≡ false) × (read ≡ Err e))
 unless_err true fault e read failed = let same : fault ≡ e = cc in inl (refl, sym same)
 unless_err false fault e read failed = inr (refl, failed)
 
@@ -60,7 +65,8 @@ named_value name r = r >>= λ v. Ok ((name, v.0), v.1)
 abbrev made_element : List ℕ → Tree → List ℕ → Element
 made_element name t rest = ((name, t), rest)
 
-element_wrong : (value : Kind → List ℕ → ℕ → ℕ → BsonFault → Type 0) (read : Reader) (wrong : List ℕ → Bool) (named : BsonFault) (type : ℕ) (bytes : List ℕ) (e : BsonFault) → IsBytes bytes
+element_wrong : (value : Kind → List ℕ → ℕ → ℕ → BsonFault → Type 0) (read : Reader) (wrong : List ℕ → Bool) (named : BsonFault) (type : ℕ) (bytes : List ℕ)
+    (e : BsonFault) → IsBytes bytes
     → ((k : Kind) (rest : List ℕ) → IsBytes rest → read k rest ≡ Err e → Somewhere (value k rest) e)
     → element_by read wrong named type bytes ≡ Err e → Somewhere (WrongElement value wrong named type bytes) e
 unfolding element_by
@@ -97,7 +103,8 @@ record GrownPairs (more : ℕ) (content : List ℕ) (before : Pairs) (name : Lis
   lawful : IsPairs (append before (pair name t no_pairs))
   depth : pairs_levels (append before (pair name t no_pairs)) ≤ more
 
-pairs_grown : (read : Reader) (more : ℕ) → Reads read more → (before : Pairs) (type : ℕ) (bytes content : List ℕ) (x : Element) → IsBytes (type ∷ bytes) → content ≡ pairs_bytes before ++ type ∷ bytes → IsPairs before → pairs_levels before ≤ more
+pairs_grown : (read : Reader) (more : ℕ) → Reads read more → (before : Pairs) (type : ℕ) (bytes content : List ℕ) (x : Element) → IsBytes (type ∷ bytes)
+    → content ≡ pairs_bytes before ++ type ∷ bytes → IsPairs before → pairs_levels before ≤ more
     → element_by read (stands_in (tree_names before)) faults.Repeated type bytes ≡ Ok x → GrownPairs more content before x.0.0 x.0.1 x.1 bytes
 pairs_grown read more reads before type bytes content x fits parts lawful depth first =
     let name = x.0.0 in
@@ -106,20 +113,23 @@ pairs_grown read more reads before type bytes content x fits parts lawful depth 
     let r = element_takes read more reads (stands_in (tree_names before)) faults.Repeated type bytes x (IsBytes-rest type bytes fits) first in
     let grown = append before (pair name t no_pairs) in
     let piece = element (type_byte t) name (tree_bytes t) in
-    let spelled : pairs_bytes grown ≡ pairs_bytes before ++ piece = pairs_bytes-append before (pair name t no_pairs) ∙ ap (λ (y : List ℕ). pairs_bytes before ++ y) (pairs_bytes-one name t) in
+    let spelled : pairs_bytes grown ≡ pairs_bytes before ++ piece =
+    pairs_bytes-append before (pair name t no_pairs) ∙ ap (λ (y : List ℕ). pairs_bytes before ++ y) (pairs_bytes-one name t) in
     let one = length-append piece after in
     let two = length-append name (0 ∷ tree_bytes t) in
     record {
       shorter = omega (arith, ap length r.0.takes.parts, one, two);
       fits = r.0.takes.rest_fits;
-      parts = parts ∙ ap (λ (y : List ℕ). pairs_bytes before ++ y) r.0.takes.parts ∙ sym (append_assoc (pairs_bytes before) piece after) ∙ ap (λ (y : List ℕ). y ++ after) (sym spelled);
+      parts = parts ∙ ap (λ (y : List ℕ). pairs_bytes before ++ y) r.0.takes.parts ∙ sym (append_assoc (pairs_bytes before) piece after)
+          ∙ ap (λ (y : List ℕ). y ++ after) (sym spelled);
       lawful = IsPairs-append before name t lawful r.0.is_name r.0.lawful (Lacks-from_names before name r.1);
       depth = omega (arith, pairs_levels-append before (pair name t no_pairs), depth, r.0.depth);
     }
 
 pairs_wrong : (value : Kind → List ℕ → ℕ → ℕ → BsonFault → Type 0) (read : Reader) (more : ℕ) → Reads read more → (e : BsonFault)
     → ((k : Kind) (rest : List ℕ) → IsBytes rest → read k rest ≡ Err e → Somewhere (value k rest) e)
-    → (most : ℕ) (before : Pairs) (rest content : List ℕ) → length rest ≤ most → IsBytes rest → content ≡ pairs_bytes before ++ rest → IsPairs before → pairs_levels before ≤ more
+    → (most : ℕ) (before : Pairs) (rest content : List ℕ) → length rest ≤ most → IsBytes rest → content ≡ pairs_bytes before ++ rest → IsPairs before
+    → pairs_levels before ≤ more
     → pairs_by read most (tree_names before) rest ≡ Err e → Somewhere (WrongPair more value content) e
 unfolding pairs_by
 pairs_wrong value read more reads e inner zero before [] content enough fits parts lawful depth failed = absurd (ok_err no_pairs e failed)
@@ -136,12 +146,15 @@ pairs_wrong value read more reads e inner (suc most) before (type ∷ bytes) con
             stands = record { before = before; type = type; bytes = bytes; parts = parts; lawful = lawful; depth = depth; element = behind (length (pairs_bytes before)) (WrongElement value (stands_in (tree_names before)) faults.Repeated type bytes) e w };
           }
       | inr first ↦
-          let bad = elim (bind_err (pairs_by read most (tree_names before ++ first.0.0.0 ∷ []) first.0.1) (λ others. Ok (pair first.0.0.0 first.0.0.1 others)) e first.2) as (λ _. pairs_by read most (tree_names before ++ first.0.0.0 ∷ []) first.0.1 ≡ Err e) [
+          let bad = elim
+          (bind_err (pairs_by read most (tree_names before ++ first.0.0.0 ∷ []) first.0.1) (λ others. Ok (pair first.0.0.0 first.0.0.1 others)) e first.2) as
+          (λ _. pairs_by read most (tree_names before ++ first.0.0.0 ∷ []) first.0.1 ≡ Err e) [
             | inl bad ↦ bad
             | inr o ↦ absurd (ok_err (pair first.0.0.0 first.0.0.1 o.0) e o.2)
           ] in
           let g = pairs_grown read more reads before type bytes content first.0 fits parts lawful depth first.1 in
-          pairs_wrong value read more reads e inner most (append before (pair first.0.0.0 first.0.0.1 no_pairs)) first.0.1 content (omega (arith, enough, g.shorter)) g.fits g.parts g.lawful g.depth
+          pairs_wrong value read more reads e inner most (append before (pair first.0.0.0 first.0.0.1 no_pairs)) first.0.1 content
+          (omega (arith, enough, g.shorter)) g.fits g.parts g.lawful g.depth
           (ap (λ (names : List (List ℕ)). pairs_by read most names first.0.1) (tree_names-append before first.0.0.0 first.0.0.1) ∙ bad)
     ]
 
@@ -164,7 +177,8 @@ record GrownItems (more : ℕ) (content : List ℕ) (before : Items) (t : Tree) 
   depth : items_levels (append_items before (item t no_items)) ≤ more
   count : items_len before + 1 ≡ items_len (append_items before (item t no_items))
 
-items_grown : (read : Reader) (more : ℕ) → Reads read more → (before : Items) (type : ℕ) (bytes content : List ℕ) (x : Tree × List ℕ) → IsBytes (type ∷ bytes) → content ≡ items_bytes 0 before ++ type ∷ bytes → IsItems before → items_levels before ≤ more
+items_grown : (read : Reader) (more : ℕ) → Reads read more → (before : Items) (type : ℕ) (bytes content : List ℕ) (x : Tree × List ℕ) → IsBytes (type ∷ bytes)
+    → content ≡ items_bytes 0 before ++ type ∷ bytes → IsItems before → items_levels before ≤ more
     → item_by read (items_len before) type bytes ≡ Ok x → GrownItems more content before x.0 x.1 bytes
 items_grown read more reads before type bytes content x fits parts lawful depth first =
     let t = x.0 in
@@ -176,7 +190,10 @@ items_grown read more reads before type bytes content x fits parts lawful depth 
     record {
       shorter = omega (arith, ap length r.takes.parts, one, two);
       fits = r.takes.rest_fits;
-      parts = parts ∙ ap (λ (y : List ℕ). items_bytes 0 before ++ y) r.takes.parts ∙ sym (append_assoc (items_bytes 0 before) piece after) ∙ ap (λ (y : List ℕ). y ++ after) (sym (items_bytes-append 0 before t ∙ ap (λ (k : ℕ). items_bytes 0 before ++ element (type_byte t) (decimal k) (tree_bytes t)) (zero-add (items_len before))));
+      parts = parts ∙ ap (λ (y : List ℕ). items_bytes 0 before ++ y) r.takes.parts ∙ sym (append_assoc (items_bytes 0 before) piece after)
+          ∙ ap (λ (y : List ℕ). y ++ after)
+          (sym (items_bytes-append 0 before t
+          ∙ ap (λ (k : ℕ). items_bytes 0 before ++ element (type_byte t) (decimal k) (tree_bytes t)) (zero-add (items_len before))));
       lawful = IsItems-append before t lawful r.lawful;
       depth = omega (arith, items_levels-append before (item t no_items), depth, r.depth);
       count = omega (arith, items_len-append before (item t no_items));
@@ -184,14 +201,16 @@ items_grown read more reads before type bytes content x fits parts lawful depth 
 
 items_wrong : (value : Kind → List ℕ → ℕ → ℕ → BsonFault → Type 0) (read : Reader) (more : ℕ) → Reads read more → (e : BsonFault)
     → ((k : Kind) (rest : List ℕ) → IsBytes rest → read k rest ≡ Err e → Somewhere (value k rest) e)
-    → (most : ℕ) (before : Items) (rest content : List ℕ) → length rest ≤ most → IsBytes rest → content ≡ items_bytes 0 before ++ rest → IsItems before → items_levels before ≤ more
+    → (most : ℕ) (before : Items) (rest content : List ℕ) → length rest ≤ most → IsBytes rest → content ≡ items_bytes 0 before ++ rest → IsItems before
+    → items_levels before ≤ more
     → items_by read most (items_len before) rest ≡ Err e → Somewhere (WrongItem more value content) e
 unfolding items_by
 items_wrong value read more reads e inner zero before [] content enough fits parts lawful depth failed = absurd (ok_err no_items e failed)
 items_wrong value read more reads e inner (suc most) before [] content enough fits parts lawful depth failed = absurd (ok_err no_items e failed)
 items_wrong value read more reads e inner zero before (type ∷ bytes) content enough fits parts lawful depth failed = absurd (omega arith)
 items_wrong value read more reads e inner (suc most) before (type ∷ bytes) content enough fits parts lawful depth failed =
-    elim (bind_err (item_by read (items_len before) type bytes) (λ first. items_by read most (items_len before + 1) first.1 >>= λ others. Ok (item first.0 others)) e failed) [
+    elim (bind_err (item_by read (items_len before) type bytes)
+    (λ first. items_by read most (items_len before + 1) first.1 >>= λ others. Ok (item first.0 others)) e failed) [
       | inl bad ↦
           let w = item_wrong value read (items_len before) type bytes e (IsBytes-rest type bytes fits) inner bad in
           record {
@@ -200,12 +219,14 @@ items_wrong value read more reads e inner (suc most) before (type ∷ bytes) con
             stands = record { before = before; type = type; bytes = bytes; parts = parts; lawful = lawful; depth = depth; element = behind (length (items_bytes 0 before)) (WrongElement value (is_no_index (items_len before)) faults.ArrayName type bytes) e w };
           }
       | inr first ↦
-          let bad = elim (bind_err (items_by read most (items_len before + 1) first.0.1) (λ others. Ok (item first.0.0 others)) e first.2) as (λ _. items_by read most (items_len before + 1) first.0.1 ≡ Err e) [
+          let bad = elim (bind_err (items_by read most (items_len before + 1) first.0.1) (λ others. Ok (item first.0.0 others)) e first.2) as
+          (λ _. items_by read most (items_len before + 1) first.0.1 ≡ Err e) [
             | inl bad ↦ bad
             | inr o ↦ absurd (ok_err (item first.0.0 o.0) e o.2)
           ] in
           let g = items_grown read more reads before type bytes content first.0 fits parts lawful depth first.1 in
-          items_wrong value read more reads e inner most (append_items before (item first.0.0 no_items)) first.0.1 content (omega (arith, enough, g.shorter)) g.fits g.parts g.lawful g.depth
+          items_wrong value read more reads e inner most (append_items before (item first.0.0 no_items)) first.0.1 content
+          (omega (arith, enough, g.shorter)) g.fits g.parts g.lawful g.depth
           (ap (λ (i : ℕ). items_by read most i first.0.1) (sym g.count) ∙ bad)
     ]
 
@@ -214,9 +235,14 @@ items_wrong value read more reads e inner (suc most) before (type ∷ bytes) con
 count_err : (least : ℕ) (bytes : List ℕ) (e : BsonFault) → count_at least bytes ≡ Err e → e ≡ faults.Length
 unfolding count_at fixed_at
 count_err least bytes e failed =
-    elim (bind_err {B = ℕ × List ℕ} (fixed_at 4 bytes) (λ four. unless (is_below least (from_le_bytes w32 four.0)) faults.Length (Ok (from_le_bytes w32 four.0, four.1))) e failed) [
-      | inl short ↦ elim (unless_err (nat_lt (length bytes) 4) faults.Length e (done {A = List ℕ × List ℕ} (take 4 bytes, drop 4 bytes)) short) [ inl s ↦ s.1 | inr o ↦ absurd (ok_err {X = List ℕ × List ℕ} (take 4 bytes, drop 4 bytes) e o.1) ]
-      | inr four ↦ elim (unless_err (is_below least (from_le_bytes w32 four.0.0)) faults.Length e (done {A = ℕ × List ℕ} (from_le_bytes w32 four.0.0, four.0.1)) four.2) [ inl s ↦ s.1 | inr o ↦ absurd (ok_err {X = ℕ × List ℕ} (from_le_bytes w32 four.0.0, four.0.1) e o.1) ]
+    elim (bind_err {B = ℕ × List ℕ} (fixed_at 4 bytes)
+    (λ four. unless (is_below least (from_le_bytes w32 four.0)) faults.Length (Ok (from_le_bytes w32 four.0, four.1))) e failed) [
+      | inl short ↦ elim
+          (unless_err (nat_lt (length bytes) 4) faults.Length e (done {A = List ℕ × List ℕ} (take 4 bytes, drop 4 bytes)) short)
+          [ inl s ↦ s.1 | inr o ↦ absurd (ok_err {X = List ℕ × List ℕ} (take 4 bytes, drop 4 bytes) e o.1) ]
+      | inr four ↦ elim
+          (unless_err (is_below least (from_le_bytes w32 four.0.0)) faults.Length e (done {A = ℕ × List ℕ} (from_le_bytes w32 four.0.0, four.0.1)) four.2)
+          [ inl s ↦ s.1 | inr o ↦ absurd (ok_err {X = ℕ × List ℕ} (from_le_bytes w32 four.0.0, four.0.1) e o.1) ]
     ]
 
 lt-leb : (a b : ℕ) → b < a → nat_le a b ≡ false
@@ -249,24 +275,30 @@ content_wrong inner bytes e failed =
     after_count n counted (inl long) =
         record { place = 0; seen = 4; stands = wrong_count (record { here = refl; upto = refl; fault_is = long.1; judged = inr (n, counted, leb-true (length n.1) (n.0 - 5) long.0) }) }
     after_count n counted (inr fits) =
-        elim (unless_err (not (slice_index n.1 (n.0 - 5) == 0)) faults.Length e (done {A = List ℕ × List ℕ} (take (n.0 - 5) n.1, drop (n.0 - 5 + 1) n.1)) fits.1) [
+        elim (unless_err (not (slice_index n.1 (n.0 - 5) == 0)) faults.Length e
+        (done {A = List ℕ × List ℕ} (take (n.0 - 5) n.1, drop (n.0 - 5 + 1) n.1)) fits.1) [
           | inl bad ↦
               record {
                 place = 0;
                 seen = n.0;
-                stands = wrong_end (record { here = refl; count = n; upto = refl; fault_is = bad.1; counted = counted; fits = leb-false (length n.1) (n.0 - 5) fits.0; judged = eqb-ne (slice_index n.1 (n.0 - 5)) 0 (not_true (slice_index n.1 (n.0 - 5) == 0) bad.0) });
+                stands = wrong_end
+                    (record { here = refl; count = n; upto = refl; fault_is = bad.1; counted = counted; fits = leb-false (length n.1) (n.0 - 5) fits.0; judged = eqb-ne (slice_index n.1 (n.0 - 5)) 0 (not_true (slice_index n.1 (n.0 - 5) == 0) bad.0) });
               }
           | inr o ↦ absurd (ok_err {X = List ℕ × List ℕ} (take (n.0 - 5) n.1, drop (n.0 - 5 + 1) n.1) e o.1)
         ]
 
 -- what is wrong in a frame
-abbrev in_frame : (inner : List ℕ → ℕ → ℕ → BsonFault → Type 0) (bytes content rest : List ℕ) (e : BsonFault) → bytes ≡ frame_of content ++ rest → Somewhere (inner content) e → Somewhere (InFrame inner bytes) e
-in_frame inner bytes content rest e parts w = record { place = 4 + w.place; seen = 4 + w.seen; stands = record { content = content; rest = rest; parts = parts; fault_in = behind 4 (inner content) e w } }
+abbrev in_frame : (inner : List ℕ → ℕ → ℕ → BsonFault → Type 0) (bytes content rest : List ℕ) (e : BsonFault) → bytes ≡ frame_of content ++ rest
+    → Somewhere (inner content) e → Somewhere (InFrame inner bytes) e
+in_frame inner bytes content rest e parts w = record
+    { place = 4 + w.place; seen = 4 + w.seen; stands = record { content = content; rest = rest; parts = parts; fault_in = behind 4 (inner content) e w } }
 
-as_frame : (inner : List ℕ → ℕ → ℕ → BsonFault → Type 0) (bytes : List ℕ) (e : BsonFault) → Somewhere (InFrame inner bytes) e → Somewhere (WrongFrame inner bytes) e
+as_frame : (inner : List ℕ → ℕ → ℕ → BsonFault → Type 0) (bytes : List ℕ) (e : BsonFault) → Somewhere (InFrame inner bytes) e
+    → Somewhere (WrongFrame inner bytes) e
 as_frame inner bytes e w = record { place = w.place; seen = w.seen; stands = wrong_in w.stands }
 
-frame_wrong : {Y Z : Type 0} (inner : List ℕ → ℕ → ℕ → BsonFault → Type 0) (read : List ℕ → Result Y BsonFault) (made : Y → List ℕ → Z) (bytes : List ℕ) (e : BsonFault) → IsBytes bytes
+frame_wrong : {Y Z : Type 0} (inner : List ℕ → ℕ → ℕ → BsonFault → Type 0) (read : List ℕ → Result Y BsonFault) (made : Y → List ℕ → Z) (bytes : List ℕ)
+    (e : BsonFault) → IsBytes bytes
     → ((content : List ℕ) → IsBytes content → read content ≡ Err e → Somewhere (inner content) e)
     → (content_at bytes >>= λ content. read content.0 >>= λ y. Ok (made y content.1)) ≡ Err e → Somewhere (WrongFrame inner bytes) e
 frame_wrong {Y} {Z} inner read made bytes e fits each failed =
@@ -295,12 +327,14 @@ deep_wrong e read deep failed = let same : faults.Deep ≡ e = cc in record { pl
 pairs_in_wrong : (more : ℕ) (e : BsonFault) → ((k : Kind) (rest : List ℕ) → IsBytes rest → value_at more k rest ≡ Err e → Somewhere (WrongValue more k rest) e)
     → (content : List ℕ) → IsBytes content → pairs_in (value_at more) content ≡ Err e → Somewhere (WrongPair more (WrongValue more) content) e
 pairs_in_wrong more e inner content fits failed =
-    pairs_wrong (WrongValue more) (value_at more) more (value_reads more) e inner (length content) no_pairs content content (omega arith) fits (ap (λ (x : List ℕ). x ++ content) (sym pairs_bytes-none)) tt (omega arith) failed
+    pairs_wrong (WrongValue more) (value_at more) more (value_reads more) e inner (length content) no_pairs content content (omega arith) fits
+    (ap (λ (x : List ℕ). x ++ content) (sym pairs_bytes-none)) tt (omega arith) failed
 
 items_in_wrong : (more : ℕ) (e : BsonFault) → ((k : Kind) (rest : List ℕ) → IsBytes rest → value_at more k rest ≡ Err e → Somewhere (WrongValue more k rest) e)
     → (content : List ℕ) → IsBytes content → items_in (value_at more) content ≡ Err e → Somewhere (WrongItem more (WrongValue more) content) e
 items_in_wrong more e inner content fits failed =
-    items_wrong (WrongValue more) (value_at more) more (value_reads more) e inner (length content) no_items content content (omega arith) fits (ap (λ (x : List ℕ). x ++ content) (sym (items_bytes-none 0))) tt (omega arith) failed
+    items_wrong (WrongValue more) (value_at more) more (value_reads more) e inner (length content) no_items content content (omega arith) fits
+    (ap (λ (x : List ℕ). x ++ content) (sym (items_bytes-none 0))) tt (omega arith) failed
 
 value_wrong_zero : (e : BsonFault) (k : Kind) (bytes : List ℕ) → IsBytes bytes → value_at 0 k bytes ≡ Err e → Somewhere (WrongValue 0 k bytes) e
 unfolding value_at WrongValue
@@ -318,11 +352,14 @@ value_wrong_zero e kinds.Int64 bytes fits failed = leaf_wrong kinds.Int64 bytes 
 value_wrong_zero e kinds.MinKey bytes fits failed = leaf_wrong kinds.MinKey bytes e failed
 value_wrong_zero e kinds.MaxKey bytes fits failed = leaf_wrong kinds.MaxKey bytes e failed
 
-value_wrong_more : (more : ℕ) (e : BsonFault) → ((k : Kind) (rest : List ℕ) → IsBytes rest → value_at more k rest ≡ Err e → Somewhere (WrongValue more k rest) e)
+value_wrong_more : (more : ℕ) (e : BsonFault)
+    → ((k : Kind) (rest : List ℕ) → IsBytes rest → value_at more k rest ≡ Err e → Somewhere (WrongValue more k rest) e)
     → (k : Kind) (bytes : List ℕ) → IsBytes bytes → value_at (suc more) k bytes ≡ Err e → Somewhere (WrongValue (suc more) k bytes) e
 unfolding value_at WrongValue
-value_wrong_more more e inner kinds.Document bytes fits failed = frame_wrong (WrongPair more (WrongValue more)) (pairs_in (value_at more)) (λ ps rest. (document ps, rest)) bytes e fits (pairs_in_wrong more e inner) failed
-value_wrong_more more e inner kinds.Array bytes fits failed = frame_wrong (WrongItem more (WrongValue more)) (items_in (value_at more)) (λ ts rest. (array ts, rest)) bytes e fits (items_in_wrong more e inner) failed
+value_wrong_more more e inner kinds.Document bytes fits failed =
+    frame_wrong (WrongPair more (WrongValue more)) (pairs_in (value_at more)) (λ ps rest. (document ps, rest)) bytes e fits (pairs_in_wrong more e inner) failed
+value_wrong_more more e inner kinds.Array bytes fits failed =
+    frame_wrong (WrongItem more (WrongValue more)) (items_in (value_at more)) (λ ts rest. (array ts, rest)) bytes e fits (items_in_wrong more e inner) failed
 value_wrong_more more e inner kinds.String bytes fits failed = leaf_wrong kinds.String bytes e failed
 value_wrong_more more e inner kinds.Binary bytes fits failed = leaf_wrong kinds.Binary bytes e failed
 value_wrong_more more e inner kinds.ObjectId bytes fits failed = leaf_wrong kinds.ObjectId bytes e failed
@@ -344,22 +381,27 @@ value_wrong_at (suc more) e = value_wrong_more more e (value_wrong_at more e)
 pub document_wrong : (bytes : List ℕ) (e : BsonFault) → IsBytes bytes → document_at bytes ≡ Err e → Somewhere (WrongDocument bytes) e
 unfolding document_at ended_at
 document_wrong bytes e fits failed =
-    elim (bind_err {B = Pairs × ℕ} (length_at bytes) (λ len. ended_at faults.Length (len - 5) (drop 4 bytes) >>= λ content. pairs_in (value_at 99) content.0 >>= λ ps. Ok (ps, len)) e failed) [
+    elim (bind_err {B = Pairs × ℕ} (length_at bytes)
+    (λ len. ended_at faults.Length (len - 5) (drop 4 bytes) >>= λ content. pairs_in (value_at 99) content.0 >>= λ ps. Ok (ps, len)) e failed) [
       | inl bad ↦ record { place = 0; seen = 4; stands = wrong_length (record { here = refl; upto = refl; judged = bad }) }
-      | inr len ↦ elim (bind_err {B = Pairs × ℕ} (ended_at faults.Length (len.0 - 5) (drop 4 bytes)) (λ content. pairs_in (value_at 99) content.0 >>= λ ps. Ok (ps, len.0)) e len.2) [
-        | inl bad ↦ not_ended len.0 len.1 bad
-        | inr content ↦ elim (bind_err {B = Pairs × ℕ} (pairs_in (value_at 99) content.0.0) (λ ps. Ok (ps, len.0)) e content.2) [
-          | inl bad ↦ inside len.0 len.1 content.0 content.1 bad
-          | inr o ↦ absurd (ok_err {X = Pairs × ℕ} (o.0, len.0) e o.2)
-        ]
-      ]
+      | inr len ↦ elim
+          (bind_err {B = Pairs × ℕ} (ended_at faults.Length (len.0 - 5) (drop 4 bytes))
+          (λ content. pairs_in (value_at 99) content.0 >>= λ ps. Ok (ps, len.0)) e len.2) [
+            | inl bad ↦ not_ended len.0 len.1 bad
+            | inr content ↦ elim (bind_err {B = Pairs × ℕ} (pairs_in (value_at 99) content.0.0) (λ ps. Ok (ps, len.0)) e content.2) [
+              | inl bad ↦ inside len.0 len.1 content.0 content.1 bad
+              | inr o ↦ absurd (ok_err {X = Pairs × ℕ} (o.0, len.0) e o.2)
+            ]
+          ]
     ]
   where
     not_ended : (len : ℕ) → length_at bytes ≡ Ok len → ended_at faults.Length (len - 5) (drop 4 bytes) ≡ Err e → Somewhere (WrongDocument bytes) e
     not_ended len counted bad =
         let l = length_takes bytes len fits counted in
-        let long : nat_le (length (drop 4 bytes)) (len - 5) ≡ false = lt-leb (length (drop 4 bytes)) (len - 5) (omega (arith, length-drop 4 bytes, l.low, l.whole)) in
-        let zero_there = not_zero (slice_index (drop 4 bytes) (len - 5) == 0) (sym (ap (λ (b : Bool). unless b faults.Length (ended (len - 5) (drop 4 bytes))) long) ∙ bad) in
+        let long : nat_le (length (drop 4 bytes)) (len - 5) ≡ false =
+        lt-leb (length (drop 4 bytes)) (len - 5) (omega (arith, length-drop 4 bytes, l.low, l.whole)) in
+        let zero_there =
+        not_zero (slice_index (drop 4 bytes) (len - 5) == 0) (sym (ap (λ (b : Bool). unless b faults.Length (ended (len - 5) (drop 4 bytes))) long) ∙ bad) in
         record {
           place = 0;
           seen = len;
@@ -367,27 +409,33 @@ document_wrong bytes e fits failed =
             here = refl;
             counted = counted;
             fault_is = zero_there.1;
-            judged = subst (λ (b : ℕ). b ≢ 0) (get_or-drop 4 bytes (len - 5) 0 ∙ ap (slice_index bytes) (omega (arith, l.low))) (eqb-ne (slice_index (drop 4 bytes) (len - 5)) 0 zero_there.0);
+            judged = subst (λ (b : ℕ). b ≢ 0) (get_or-drop 4 bytes (len - 5) 0 ∙ ap (slice_index bytes) (omega (arith, l.low)))
+                (eqb-ne (slice_index (drop 4 bytes) (len - 5)) 0 zero_there.0);
           });
         }
       where
-        not_zero : (b : Bool) → unless (not b) faults.Length (done {A = List ℕ × List ℕ} (take (len - 5) (drop 4 bytes), drop (len - 5 + 1) (drop 4 bytes))) ≡ Err e → (b ≡ false) × (e ≡ faults.Length)
+        not_zero : (b : Bool)
+            → unless (not b) faults.Length (done {A = List ℕ × List ℕ} (take (len - 5) (drop 4 bytes), drop (len - 5 + 1) (drop 4 bytes))) ≡ Err e
+            → (b ≡ false) × (e ≡ faults.Length)
         not_zero true h = absurd (ok_err {X = List ℕ × List ℕ} (take (len - 5) (drop 4 bytes), drop (len - 5 + 1) (drop 4 bytes)) e h)
         not_zero false h = let same : faults.Length ≡ e = cc in (refl, sym same)
 
-    inside : (len : ℕ) → length_at bytes ≡ Ok len → (content : List ℕ × List ℕ) → ended_at faults.Length (len - 5) (drop 4 bytes) ≡ Ok content → pairs_in (value_at 99) content.0 ≡ Err e → Somewhere (WrongDocument bytes) e
+    inside : (len : ℕ) → length_at bytes ≡ Ok len → (content : List ℕ × List ℕ) → ended_at faults.Length (len - 5) (drop 4 bytes) ≡ Ok content
+        → pairs_in (value_at 99) content.0 ≡ Err e → Somewhere (WrongDocument bytes) e
     inside len counted content ended bad =
         let l = length_takes bytes len fits counted in
         let f = ended_takes faults.Length (len - 5) (drop 4 bytes) content l.takes.rest_fits ended in
         let size : len ≡ length content.0 + 5 = omega (arith, f.2, l.low) in
         let both = Takes-then bytes (to_le_bytes w32 len) (drop 4 bytes) (content.0 ++ 0 ∷ []) content.1 l.takes f.0 in
-        let whole : Takes bytes (frame_of content.0) content.1 = subst (λ (k : ℕ). Takes bytes (to_le_bytes w32 k ++ (content.0 ++ 0 ∷ [])) content.1) size both in
+        let whole : Takes bytes (frame_of content.0) content.1 =
+        subst (λ (k : ℕ). Takes bytes (to_le_bytes w32 k ++ (content.0 ++ 0 ∷ [])) content.1) size both in
         let w = in_frame (WrongPair 99 (WrongValue 99)) bytes content.0 content.1 e whole.parts (pairs_in_wrong 99 e (value_wrong_at 99 e) content.0 f.1 bad) in
         record { place = w.place; seen = w.seen; stands = wrong_inside w.stands (omega (arith, size, l.high)) }
 
 -- ---- what decode promises
 
-pub is_fault : (bytes : List ℕ) (r : Result (Pairs × ℕ) BsonFault) → IsBytes bytes → Gives faults.Memory (λ x. x) r (document_at bytes) → IfErr r (λ e. e ≢ faults.Memory → FirstFault bytes e × HasNoDocument bytes)
+pub is_fault : (bytes : List ℕ) (r : Result (Pairs × ℕ) BsonFault) → IsBytes bytes → Gives faults.Memory (λ x. x) r (document_at bytes)
+    → IfErr r (λ e. e ≢ faults.Memory → FirstFault bytes e × HasNoDocument bytes)
 is_fault bytes (Ok x) fits given = tt
 is_fault bytes (Err e) fits given = λ not_memory. (
   let w = document_wrong bytes e fits (given not_memory) in record { read = given not_memory; place = w.place; seen = w.seen; stands = w.stands },
@@ -403,7 +451,8 @@ raw_fault bytes e fits failed = is_fault bytes (Err e) fits (λ no_memory. faile
 
 -- ---- the bound on the number of elements is never met
 
-pairs_bound : (more m n : ℕ) (earlier : List (List ℕ)) (bytes : List ℕ) → IsBytes bytes → length bytes ≤ m → length bytes ≤ n → pairs_by (value_at more) m earlier bytes ≡ pairs_by (value_at more) n earlier bytes
+pairs_bound : (more m n : ℕ) (earlier : List (List ℕ)) (bytes : List ℕ) → IsBytes bytes → length bytes ≤ m → length bytes ≤ n
+    → pairs_by (value_at more) m earlier bytes ≡ pairs_by (value_at more) n earlier bytes
 unfolding pairs_by
 pairs_bound more zero zero earlier [] fits le le2 = refl
 pairs_bound more zero (suc n) earlier [] fits le le2 = refl
@@ -417,12 +466,15 @@ pairs_bound more (suc m) (suc n) earlier (type ∷ bytes) fits le le2 =
     let lt = element_shorter more (stands_in earlier) faults.Repeated type bytes x.0.0 x.0.1 x.1 (IsBytes-rest type bytes fits) e in
     pairs_bound more m n (earlier ++ x.0.0 ∷ []) x.1 first.0.takes.rest_fits (omega arith) (omega arith))
   where
-    by : (r : Result Element BsonFault) → ((x : Element) → r ≡ Ok x → pairs_by (value_at more) m (earlier ++ x.0.0 ∷ []) x.1 ≡ pairs_by (value_at more) n (earlier ++ x.0.0 ∷ []) x.1)
-        → (r >>= λ first. pairs_by (value_at more) m (earlier ++ first.0.0 ∷ []) first.1 >>= λ others. Ok (pair first.0.0 first.0.1 others)) ≡ (r >>= λ first. pairs_by (value_at more) n (earlier ++ first.0.0 ∷ []) first.1 >>= λ others. Ok (pair first.0.0 first.0.1 others))
+    by : (r : Result Element BsonFault)
+        → ((x : Element) → r ≡ Ok x → pairs_by (value_at more) m (earlier ++ x.0.0 ∷ []) x.1 ≡ pairs_by (value_at more) n (earlier ++ x.0.0 ∷ []) x.1)
+        → (r >>= λ first. pairs_by (value_at more) m (earlier ++ first.0.0 ∷ []) first.1 >>= λ others. Ok (pair first.0.0 first.0.1 others))
+        ≡ (r >>= λ first. pairs_by (value_at more) n (earlier ++ first.0.0 ∷ []) first.1 >>= λ others. Ok (pair first.0.0 first.0.1 others))
     by (Ok x) later = ap (λ (o : Result Pairs BsonFault). o >>= λ others. Ok (pair x.0.0 x.0.1 others)) (later x refl)
     by (Err e) later = refl
 
-items_bound : (more m n i : ℕ) (bytes : List ℕ) → IsBytes bytes → length bytes ≤ m → length bytes ≤ n → items_by (value_at more) m i bytes ≡ items_by (value_at more) n i bytes
+items_bound : (more m n i : ℕ) (bytes : List ℕ) → IsBytes bytes → length bytes ≤ m → length bytes ≤ n
+    → items_by (value_at more) m i bytes ≡ items_by (value_at more) n i bytes
 unfolding items_by
 items_bound more zero zero i [] fits le le2 = refl
 items_bound more zero (suc n) i [] fits le le2 = refl
@@ -437,12 +489,15 @@ items_bound more (suc m) (suc n) i (type ∷ bytes) fits le le2 =
     items_bound more m n (i + 1) x.1 first.takes.rest_fits (omega arith) (omega arith))
   where
     by : (r : Read Tree) → ((x : Tree × List ℕ) → r ≡ Ok x → items_by (value_at more) m (i + 1) x.1 ≡ items_by (value_at more) n (i + 1) x.1)
-        → (r >>= λ first. items_by (value_at more) m (i + 1) first.1 >>= λ others. Ok (item first.0 others)) ≡ (r >>= λ first. items_by (value_at more) n (i + 1) first.1 >>= λ others. Ok (item first.0 others))
+        → (r >>= λ first. items_by (value_at more) m (i + 1) first.1 >>= λ others. Ok (item first.0 others))
+        ≡ (r >>= λ first. items_by (value_at more) n (i + 1) first.1 >>= λ others. Ok (item first.0 others))
     by (Ok x) later = ap (λ (o : Result Items BsonFault). o >>= λ others. Ok (item x.0 others)) (later x refl)
     by (Err e) later = refl
 
-pub pairs_unbounded : (more most : ℕ) (content : List ℕ) → IsBytes content → length content ≤ most → pairs_by (value_at more) most [] content ≡ pairs_in (value_at more) content
+pub pairs_unbounded : (more most : ℕ) (content : List ℕ) → IsBytes content → length content ≤ most
+    → pairs_by (value_at more) most [] content ≡ pairs_in (value_at more) content
 pairs_unbounded more most content fits le = pairs_bound more most (length content) [] content fits le (omega arith)
 
-pub items_unbounded : (more most : ℕ) (content : List ℕ) → IsBytes content → length content ≤ most → items_by (value_at more) most 0 content ≡ items_in (value_at more) content
+pub items_unbounded : (more most : ℕ) (content : List ℕ) → IsBytes content → length content ≤ most
+    → items_by (value_at more) most 0 content ≡ items_in (value_at more) content
 items_unbounded more most content fits le = items_bound more most (length content) 0 content fits le (omega arith)

@@ -1,5 +1,6 @@
 -- A count, a text, a name or a frame that is read is what was written, and what was written is read again.
-use Rattle.std.proofs.Common.{◌≡◌, ◌⊎◌, ℕ, ℤ, zero, suc, ◌+◌, ◌-◌, ◌^◌, ◌<◌, ◌≤◌, Bool, true, false, not, ◌||◌, ◌&&◌, cond, ltb, eqb, List, [], ◌∷◌, ◌++◌, length, get_or, take, drop, Result, Ok, Err, refl, sym, ap, subst, ◌∙◌, append_assoc, arith, inl, inr}
+use Rattle.std.proofs.Common.{◌≡◌, ◌⊎◌, ℕ, ℤ, zero, suc, ◌+◌, ◌-◌, ◌^◌, ◌<◌, ◌≤◌, Bool, true, false, not, ◌||◌, ◌&&◌, cond, ltb, eqb, List, [], ◌∷◌, ◌++◌}
+use Rattle.std.proofs.Common.{length, get_or, take, drop, Result, Ok, Err, refl, sym, ap, subst, ◌∙◌, append_assoc, arith, inl, inr}
 use Rattle.std.specs.Prelude.{IsUtf8, FitsSigned, nat_le}
 use Rattle.std.specs.Str.{is_utf8}
 use Rattle.std.specs.Int.{Width, w32, w64, byte_len, from_le_bytes, to_le_bytes, cast_signed, cast_unsigned}
@@ -37,11 +38,13 @@ bind_ok (Ok x) f y e = (x, refl, e)
 bind_ok (Err d) f y e = absurd cc
 
 -- what a test let pass
-pub unless_ok : {X : Type 0} (test : Bool) (fault : BsonFault) (read : Result X BsonFault) (x : X) → unless test fault read ≡ Ok x → (test ≡ false) × (read ≡ Ok x)
+pub unless_ok : {X : Type 0} (test : Bool) (fault : BsonFault) (read : Result X BsonFault) (x : X) → unless test fault read ≡ Ok x
+    → (test ≡ false) × (read ≡ Ok x)
 unless_ok true fault read x e = absurd cc
 unless_ok false fault read x e = (refl, e)
 
-pub unless_not_ok : {X : Type 0} (test : Bool) (fault : BsonFault) (read : Result X BsonFault) (x : X) → unless (not test) fault read ≡ Ok x → (test ≡ true) × (read ≡ Ok x)
+pub unless_not_ok : {X : Type 0} (test : Bool) (fault : BsonFault) (read : Result X BsonFault) (x : X) → unless (not test) fault read ≡ Ok x
+    → (test ≡ true) × (read ≡ Ok x)
 unless_not_ok true fault read x e = (refl, e)
 unless_not_ok false fault read x e = absurd cc
 
@@ -99,14 +102,18 @@ front32 bytes fits long =
     let front = wide32.back (take 4 bytes) (omega (arith, length-take 4 bytes)) (IsBytes-take 4 bytes fits) in
     record { parts = sym (take-append-drop 4 bytes) ∙ ap (λ (x : List ℕ). x ++ drop 4 bytes) (sym front); rest_fits = IsBytes-drop 4 bytes fits }
 
-pub fixed_takes : (len : ℕ) (bytes : List ℕ) (x : List ℕ × List ℕ) → IsBytes bytes → fixed_at len bytes ≡ Ok x → Takes bytes x.0 x.1 × IsBytes x.0 × (length x.0 ≡ len)
+pub fixed_takes : (len : ℕ) (bytes : List ℕ) (x : List ℕ × List ℕ) → IsBytes bytes → fixed_at len bytes ≡ Ok x
+    → Takes bytes x.0 x.1 × IsBytes x.0 × (length x.0 ≡ len)
 unfolding fixed_at
 fixed_takes len bytes x fits e =
     let made : List ℕ × List ℕ = (take len bytes, drop len bytes) in
     let a = unless_ok (ltb (length bytes) len) faults.Length (Ok made) x e in
     let long : len ≤ length bytes = ltb-false _ _ a.0 in
-    subst (λ (y : List ℕ × List ℕ). Takes bytes y.0 y.1 × IsBytes y.0 × (length y.0 ≡ len)) (ok_is made x a.1)
-    (record { parts = sym (take-append-drop len bytes); rest_fits = IsBytes-drop len bytes fits }, IsBytes-take len bytes fits, omega (arith, length-take len bytes))
+    subst (λ (y : List ℕ × List ℕ). Takes bytes y.0 y.1 × IsBytes y.0 × (length y.0 ≡ len)) (ok_is made x a.1) (
+      record { parts = sym (take-append-drop len bytes); rest_fits = IsBytes-drop len bytes fits },
+      IsBytes-take len bytes fits,
+      omega (arith, length-take len bytes),
+    )
 
 pub fixed_again : (len : ℕ) (front rest : List ℕ) → length front ≡ len → fixed_at len (front ++ rest) ≡ Ok (front, rest)
 unfolding fixed_at
@@ -145,7 +152,8 @@ is_below-false least n e =
 pub not_below : (least n : ℕ) → least ≤ n → n < 2 ^ 31 → is_below least n ≡ false
 not_below least n low high = grind arith
 
-pub count_takes : (least : ℕ) (bytes : List ℕ) (x : ℕ × List ℕ) → IsBytes bytes → count_at least bytes ≡ Ok x → Takes bytes (to_le_bytes w32 x.0) x.1 × (least ≤ x.0) × (x.0 < 2 ^ 31)
+pub count_takes : (least : ℕ) (bytes : List ℕ) (x : ℕ × List ℕ) → IsBytes bytes → count_at least bytes ≡ Ok x
+    → Takes bytes (to_le_bytes w32 x.0) x.1 × (least ≤ x.0) × (x.0 < 2 ^ 31)
 unfolding count_at
 count_takes least bytes x fits e =
     let f = λ (four : List ℕ × List ℕ). unless (is_below least (from_le_bytes w32 four.0)) faults.Length (Ok (from_le_bytes w32 four.0, four.1)) in
@@ -178,15 +186,19 @@ regroup_zero s rest = append_assoc s (0 ∷ []) rest
 drop_zero : (m : ℕ) (s rest : List ℕ) → length s ≡ m → drop (m + 1) (s ++ 0 ∷ rest) ≡ rest
 drop_zero m s rest len = ap (drop (m + 1)) (sym (regroup_zero s rest)) ∙ drop_at (s ++ 0 ∷ []) rest (m + 1) (omega (arith, length-append s (0 ∷ [])))
 
-pub ended_takes : (fault : BsonFault) (m : ℕ) (bytes : List ℕ) (x : List ℕ × List ℕ) → IsBytes bytes → ended_at fault m bytes ≡ Ok x → Takes bytes (x.0 ++ 0 ∷ []) x.1 × IsBytes x.0 × (length x.0 ≡ m)
+pub ended_takes : (fault : BsonFault) (m : ℕ) (bytes : List ℕ) (x : List ℕ × List ℕ) → IsBytes bytes → ended_at fault m bytes ≡ Ok x
+    → Takes bytes (x.0 ++ 0 ∷ []) x.1 × IsBytes x.0 × (length x.0 ≡ m)
 unfolding ended_at
 ended_takes fault m bytes x fits e =
     let made : List ℕ × List ℕ = (take m bytes, drop (m + 1) bytes) in
     let a = unless_ok (nat_le (length bytes) m) faults.Length (unless (not (eqb (get_or bytes m 0) 0)) fault (Ok made)) x e in
     let b = unless_not_ok (eqb (get_or bytes m 0) 0) fault (Ok made) x a.1 in
     let lt : m < length bytes = grind (arith, a.0) in
-    subst (λ (y : List ℕ × List ℕ). Takes bytes (y.0 ++ 0 ∷ []) y.1 × IsBytes y.0 × (length y.0 ≡ m)) (ok_is made x b.1)
-    (record { parts = split_zero m bytes lt (eqb-true (get_or bytes m 0) 0 b.0); rest_fits = IsBytes-drop (m + 1) bytes fits }, IsBytes-take m bytes fits, omega (arith, length-take m bytes))
+    subst (λ (y : List ℕ × List ℕ). Takes bytes (y.0 ++ 0 ∷ []) y.1 × IsBytes y.0 × (length y.0 ≡ m)) (ok_is made x b.1) (
+      record { parts = split_zero m bytes lt (eqb-true (get_or bytes m 0) 0 b.0); rest_fits = IsBytes-drop (m + 1) bytes fits },
+      IsBytes-take m bytes fits,
+      omega (arith, length-take m bytes),
+    )
 
 pub ended_again : (fault : BsonFault) (m : ℕ) (s rest : List ℕ) → length s ≡ m → ended_at fault m (s ++ 0 ∷ rest) ≡ Ok (s, rest)
 unfolding ended_at
@@ -213,9 +225,11 @@ text_takes bytes x fits e =
 pub text_again : (s rest : List ℕ) → IsUtf8 s → length s + 1 < 2 ^ 31 → text_at (scalar_bytes (text s) ++ rest) ≡ Ok (s, rest)
 unfolding text_at
 text_again s rest utf8 short =
-    let regrouped : scalar_bytes (text s) ++ rest ≡ to_le_bytes w32 (length s + 1) ++ (s ++ 0 ∷ rest) = ap (λ (t : List ℕ). to_le_bytes w32 (length s + 1) ++ t) (regroup_zero s rest) in
+    let regrouped : scalar_bytes (text s) ++ rest ≡ to_le_bytes w32 (length s + 1) ++ (s ++ 0 ∷ rest) =
+    ap (λ (t : List ℕ). to_le_bytes w32 (length s + 1) ++ t) (regroup_zero s rest) in
     let valid = is_utf8-from_IsUtf8 s utf8 in
-    ap text_at regrouped ∙ rw (count_again 1 (length s + 1) (s ++ 0 ∷ rest) (omega arith) short, ended_again faults.Text (length s + 1 - 1) s rest (omega arith), valid) refl
+    ap text_at regrouped
+    ∙ rw (count_again 1 (length s + 1) (s ++ 0 ∷ rest) (omega arith) short, ended_again faults.Text (length s + 1 - 1) s rest (omega arith), valid) refl
 
 -- ---- a document's frame
 
@@ -233,8 +247,13 @@ content_takes bytes x fits e =
 pub content_again : (content rest : List ℕ) → length content + 5 < 2 ^ 31 → content_at (frame_of content ++ rest) ≡ Ok (content, rest)
 unfolding content_at
 content_again content rest short =
-    let regrouped : frame_of content ++ rest ≡ to_le_bytes w32 (length content + 5) ++ (content ++ 0 ∷ rest) = ap (λ (t : List ℕ). to_le_bytes w32 (length content + 5) ++ t) (regroup_zero content rest) in
-    ap content_at regrouped ∙ rw (count_again 5 (length content + 5) (content ++ 0 ∷ rest) (omega arith) short, ended_again faults.Length (length content + 5 - 5) content rest (omega arith)) refl
+    let regrouped : frame_of content ++ rest ≡ to_le_bytes w32 (length content + 5) ++ (content ++ 0 ∷ rest) =
+    ap (λ (t : List ℕ). to_le_bytes w32 (length content + 5) ++ t) (regroup_zero content rest) in
+    ap content_at regrouped
+    ∙ rw (
+      count_again 5 (length content + 5) (content ++ 0 ∷ rest) (omega arith) short,
+      ended_again faults.Length (length content + 5 - 5) content rest (omega arith),
+    ) refl
 
 -- ---- names
 
@@ -297,7 +316,8 @@ kind_again kinds.Int64 = refl
 kind_again kinds.MinKey = refl
 kind_again kinds.MaxKey = refl
 
-chosen : (b n : ℕ) (k x : Kind) (others : Result Kind BsonFault) → n ≡ kind_byte k → (others ≡ Ok x → b ≡ kind_byte x) → cond (eqb b n) (Ok k) others ≡ Ok x → b ≡ kind_byte x
+chosen : (b n : ℕ) (k x : Kind) (others : Result Kind BsonFault) → n ≡ kind_byte k → (others ≡ Ok x → b ≡ kind_byte x) → cond (eqb b n) (Ok k) others ≡ Ok x
+    → b ≡ kind_byte x
 chosen b n k x others same more e =
     elim (cases_bool (eqb b n)) [
       | inl here ↦ eqb-true b n here ∙ same ∙ ap kind_byte (ok_is k x (subst (λ (t : Bool). cond t (Ok k) others ≡ Ok x) here e))

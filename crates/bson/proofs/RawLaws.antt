@@ -1,19 +1,22 @@
 -- Elements that are known to spell pairs, taken apart.
-use Rattle.std.proofs.Common.{◌≡◌, ℕ, ◌+◌, ◌-◌, ◌^◌, ◌<◌, ◌≤◌, false, ◌||◌, ltb, cond, Some, List, [], ◌∷◌, ◌++◌, length, take, drop, Result, Ok, Err, refl, sym, ap, subst, ◌∙◌, append_assoc, arith}
+use Rattle.std.proofs.Common.{◌≡◌, ℕ, ◌+◌, ◌-◌, ◌^◌, ◌<◌, ◌≤◌, false, ◌||◌, ltb, cond, Some, List, [], ◌∷◌, ◌++◌, length, take, drop, Result, Ok, Err, refl}
+use Rattle.std.proofs.Common.{sym, ap, subst, ◌∙◌, append_assoc, arith}
 use Rattle.std.specs.Int.{w32, to_le_bytes}
 use Rattle.std.specs.Str.{bytes_eq}
 use Rattle.std.proofs.lemmas.Bool.{le-ltb}
 use Rattle.std.proofs.lemmas.List.{length-append, append-nil, take_all, take_at, drop_at}
 use Rattle.bson.specs.declared.fault.BsonFault.{BsonFault}
 use Rattle.bson.specs.declared.kind.Kind.{Kind}
-use Rattle.bson.specs.Tree.{Scalar, text, binary, object_id, boolean, date, null, int32, timestamp, int64, min_key, max_key, Tree, scalar, document, array, Pairs, no_pairs, pair}
+use Rattle.bson.specs.Tree.{Scalar, text, binary, object_id, boolean, date, null, int32, timestamp, int64, min_key, max_key, Tree, scalar, document, array}
+use Rattle.bson.specs.Tree.{Pairs, no_pairs, pair}
 use Rattle.bson.specs.Kinds.{kind}
 use Rattle.bson.specs.Lawful.{IsBytes, IsScalar, IsTree}
 use Rattle.bson.specs.Spelling.{Spells, scalar_bytes, frame_of, element, type_byte, tree_bytes, pairs_bytes, items_bytes}
 use Rattle.bson.specs.SizingLaws.{frame_of-length, element-length, pairs_bytes-none, pairs_bytes-pair}
 use Rattle.bson.specs.Reading.{kind_of, name_at, stands_in, value_at, document_at}
 use Rattle.bson.specs.Lookup.{lookup}
-use Rattle.bson.specs.Raw.{tree_names, pairs_or_none, pairs_spelled, Elements, IsFirst, number_at, len_at, value_or_null, value_spelled, SpellsValue, document_or_none, document_spelled, only_length, only_document}
+use Rattle.bson.specs.Raw.{tree_names, pairs_or_none, pairs_spelled, Elements, IsFirst, number_at, len_at, value_or_null, value_spelled, SpellsValue}
+use Rattle.bson.specs.Raw.{document_or_none, document_spelled, only_length, only_document}
 use Rattle.bson.proofs.FrameLaws.{ok_is, wide32, name_again, kind_again}
 use Rattle.bson.proofs.TreeLaws.{value_reads, AreNew-none, pairs_again, document_takes, document_again}
 
@@ -21,7 +24,8 @@ use Rattle.bson.proofs.TreeLaws.{value_reads, AreNew-none, pairs_again, document
 
 pub pairs_spelled-is : (bytes : List ℕ) (ps : Pairs) → Elements bytes ps → pairs_spelled bytes ≡ ps
 pairs_spelled-is bytes ps e =
-    let again = pairs_again (value_at 99) 99 (value_reads 99) (length (pairs_bytes ps)) [] ps e.lawful e.depth (AreNew-none ps) (omega arith) (subst (λ (xs : List ℕ). length xs < 2 ^ 31) e.spelled e.short) in
+    let again = pairs_again (value_at 99) 99 (value_reads 99) (length (pairs_bytes ps)) [] ps e.lawful e.depth (AreNew-none ps) (omega arith)
+    (subst (λ (xs : List ℕ). length xs < 2 ^ 31) e.spelled e.short) in
     ap pairs_spelled e.spelled ∙ ap pairs_or_none again
 
 pub Elements-spelled : (bytes : List ℕ) (ps : Pairs) → Elements bytes ps → Elements bytes (pairs_spelled bytes)
@@ -34,9 +38,11 @@ number_at-is n rest lt =
     let long : ltb (length (to_le_bytes w32 n ++ rest)) 4 ≡ false = le-ltb _ _ (omega arith) in
     rw (long, wide32.again n lt) refl
 
-scalar_len : (s : Scalar) (rest : List ℕ) → IsScalar s → length (scalar_bytes s) < 2 ^ 31 → len_at (kind (scalar s)) (scalar_bytes s ++ rest) ≡ length (scalar_bytes s)
+scalar_len : (s : Scalar) (rest : List ℕ) → IsScalar s → length (scalar_bytes s) < 2 ^ 31
+    → len_at (kind (scalar s)) (scalar_bytes s ++ rest) ≡ length (scalar_bytes s)
 unfolding len_at
-scalar_len (text s) rest lawful short = let n = number_at-is (length s + 1) ((s ++ 0 ∷ []) ++ rest) (omega (arith, length-append s (0 ∷ []))) in omega (arith, n, length-append s (0 ∷ []))
+scalar_len (text s) rest lawful short = let n = number_at-is (length s + 1) ((s ++ 0 ∷ []) ++ rest) (omega (arith, length-append s (0 ∷ []))) in
+    omega (arith, n, length-append s (0 ∷ []))
 scalar_len (binary subtype bytes) rest lawful short = let n = number_at-is (length bytes) ((subtype ∷ bytes) ++ rest) (omega arith) in omega (arith, n)
 scalar_len (object_id bytes) rest lawful short = sym lawful.0
 scalar_len (boolean b) rest lawful short = refl
@@ -92,7 +98,12 @@ has_front bytes (pair name t ps) type after e front =
 pub no_front : (bytes : List ℕ) (ps : Pairs) → Elements bytes ps → length bytes ≡ 0 → ps ≡ no_pairs
 no_front bytes no_pairs e none = refl
 no_front bytes (pair name t ps) e none =
-    absurd (omega (arith, ap length (e.spelled ∙ pairs_bytes-pair name t ps), length-append (element (type_byte t) name (tree_bytes t)) (pairs_bytes ps), element-length (type_byte t) name (tree_bytes t)))
+    absurd (omega (
+      arith,
+      ap length (e.spelled ∙ pairs_bytes-pair name t ps),
+      length-append (element (type_byte t) name (tree_bytes t)) (pairs_bytes ps),
+      element-length (type_byte t) name (tree_bytes t),
+    ))
 
 pub kind_found : (ps : Pairs) (type : ℕ) (after : List ℕ) (e : BsonFault) → HasFront ps type after → kind_of type ≡ Err e → ⊥
 kind_found no_pairs type after e front failed = front
@@ -102,7 +113,8 @@ pub name_found : (ps : Pairs) (type : ℕ) (after : List ℕ) (e : BsonFault) �
 name_found no_pairs type after e front failed = front
 name_found (pair name t ps) type after e front failed = let f = front.named in absurd cc
 
-pub value_fits : (ps : Pairs) (type : ℕ) (after : List ℕ) (k : Kind) (x : List ℕ × List ℕ) → HasFront ps type after → kind_of type ≡ Ok k → name_at after ≡ Ok x → len_at k x.1 ≤ length x.1
+pub value_fits : (ps : Pairs) (type : ℕ) (after : List ℕ) (k : Kind) (x : List ℕ × List ℕ) → HasFront ps type after → kind_of type ≡ Ok k
+    → name_at after ≡ Ok x → len_at k x.1 ≤ length x.1
 value_fits no_pairs type after k x front kinded named = absurd front
 value_fits (pair name t ps) type after k x front kinded named =
     let same_kind : kind t ≡ k = ok_is (kind t) k (sym front.kinds ∙ kinded) in
@@ -110,7 +122,8 @@ value_fits (pair name t ps) type after k x front kinded named =
     let len : len_at (kind t) (tree_bytes t ++ pairs_bytes ps) ≡ len_at k x.1 = λ i. len_at (same_kind i) (same i).1 in
     omega (arith, len, ap (λ (y : List ℕ × List ℕ). length y.1) same, front.long, length-append (tree_bytes t) (pairs_bytes ps))
 
-pub first_is : (ps : Pairs) (type : ℕ) (after : List ℕ) (k : Kind) (x : List ℕ × List ℕ) (value rest : List ℕ) (n : ℕ) → HasFront ps type after → kind_of type ≡ Ok k → name_at after ≡ Ok x
+pub first_is : (ps : Pairs) (type : ℕ) (after : List ℕ) (k : Kind) (x : List ℕ × List ℕ) (value rest : List ℕ) (n : ℕ) → HasFront ps type after
+    → kind_of type ≡ Ok k → name_at after ≡ Ok x
     → n ≡ len_at k x.1 → value ≡ take n x.1 → rest ≡ drop n x.1 → IsFirst ps k x.0 value rest
 first_is no_pairs type after k x value rest n front kinded named len e1 e2 = absurd front
 first_is (pair name t ps) type after k x value rest n front kinded named len e1 e2 =
@@ -131,8 +144,15 @@ Elements-rest bytes no_pairs k name value rest e first = absurd first
 Elements-rest bytes (pair other t qs) k name value rest e first =
     let size = ap length (e.spelled ∙ pairs_bytes-pair other t qs) in
     let one = length-append (element (type_byte t) other (tree_bytes t)) (pairs_bytes qs) in
-    let shorter : length rest < length bytes = omega (arith, size, one, ap length first.3) in
-    (qs, t, ap (λ (n : List ℕ). pair n t qs) (sym first.1), record { lawful = e.lawful.3; depth = omega (arith, e.depth); spelled = first.3; short = omega (arith, e.short, shorter) }, shorter, first.2, first.0)
+    let shorter : length rest < length bytes = omega (arith, size, one, ap length first.3) in (
+      qs,
+      t,
+      ap (λ (n : List ℕ). pair n t qs) (sym first.1),
+      record { lawful = e.lawful.3; depth = omega (arith, e.depth); spelled = first.3; short = omega (arith, e.short, shorter) },
+      shorter,
+      first.2,
+      first.0,
+    )
 
 -- ---- a value
 
@@ -159,7 +179,8 @@ pub record Step (bytes : List ℕ) (k : Kind) (value rest name wanted : List ℕ
   pub looked : lookup (pairs_spelled bytes) wanted ≡ cond (bytes_eq wanted name) (Some (value_spelled k value)) (lookup (pairs_spelled rest) wanted)
   pub spelled : SpellsValue k value (value_spelled k value)
 
-pub element_step : (bytes : List ℕ) (k : Kind) (name value rest wanted : List ℕ) → Elements bytes (pairs_spelled bytes) → IsFirst (pairs_spelled bytes) k name value rest → Step bytes k value rest name wanted
+pub element_step : (bytes : List ℕ) (k : Kind) (name value rest wanted : List ℕ) → Elements bytes (pairs_spelled bytes)
+    → IsFirst (pairs_spelled bytes) k name value rest → Step bytes k value rest name wanted
 element_step bytes k name value rest wanted e first =
     let r = Elements-rest bytes (pairs_spelled bytes) k name value rest e first in
     let others : pairs_spelled rest ≡ r.0 = pairs_spelled-is rest r.0 r.3 in
@@ -167,12 +188,15 @@ element_step bytes k name value rest wanted e first =
     let size = ap length (whole.spelled ∙ pairs_bytes-pair name r.1 r.0) in
     let one = length-append (element (type_byte r.1) name (tree_bytes r.1)) (pairs_bytes r.0) in
     let two = element-length (type_byte r.1) name (tree_bytes r.1) in
-    let spells : SpellsValue k value r.1 = record { lawful = whole.lawful.1; depth = omega (arith, whole.depth); same_kind = r.6; spelled = r.5; short = omega (arith, ap length r.5, size, one, two, e.short) } in
+    let spells :
+    SpellsValue k value r.1 = record
+    { lawful = whole.lawful.1; depth = omega (arith, whole.depth); same_kind = r.6; spelled = r.5; short = omega (arith, ap length r.5, size, one, two, e.short) } in
     let same : value_spelled k value ≡ r.1 = value_spelled-is k value r.1 spells in
     record {
       elements = Elements-spelled rest r.0 r.3;
       shorter = r.4;
-      stands = ap (λ (ps : Pairs). stands_in (tree_names ps) wanted) r.2 ∙ ap (λ (ps : Pairs). bytes_eq wanted name || stands_in (tree_names ps) wanted) (sym others);
+      stands = ap (λ (ps : Pairs). stands_in (tree_names ps) wanted) r.2
+          ∙ ap (λ (ps : Pairs). bytes_eq wanted name || stands_in (tree_names ps) wanted) (sym others);
       looked = ap (λ (ps : Pairs). lookup ps wanted) r.2 ∙ (λ i. cond (bytes_eq wanted name) (Some (sym same i)) (lookup (sym others i) wanted));
       spelled = SpellsValue-spelled k value r.1 spells;
     }
@@ -194,7 +218,8 @@ pub document_spelled-is : (bytes : List ℕ) (ps : Pairs) → Spells bytes ps �
 document_spelled-is bytes ps s = ap document_spelled (sym (append-nil bytes)) ∙ ap document_or_none (document_again bytes ps [] s)
 
 -- the elements of a document
-pub content_elements : (bytes rest content : List ℕ) (ps : Pairs) (n : ℕ) → Spells bytes ps → rest ≡ drop 4 bytes → n ≡ length rest - 1 → content ≡ take n rest → Elements content ps
+pub content_elements : (bytes rest content : List ℕ) (ps : Pairs) (n : ℕ) → Spells bytes ps → rest ≡ drop 4 bytes → n ≡ length rest - 1 → content ≡ take n rest
+    → Elements content ps
 content_elements bytes rest content ps n s e1 e2 e3 =
     let tail : rest ≡ pairs_bytes ps ++ 0 ∷ [] = e1 ∙ ap (drop 4) s.spelled in
     let size : length (pairs_bytes ps) ≡ n = omega (arith, ap length tail, length-append (pairs_bytes ps) (0 ∷ []), e2) in

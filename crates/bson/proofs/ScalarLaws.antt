@@ -1,5 +1,6 @@
 -- A scalar that is read is spelled so, and a scalar that is spelled is read.
-use Rattle.std.proofs.Common.{◌≡◌, ◌≢◌, ℕ, ℤ, zero, suc, ◌+◌, ◌^◌, ◌<◌, Bool, true, false, eqb, List, [], ◌∷◌, ◌++◌, length, Ok, refl, sym, ap, subst, ◌∙◌, arith}
+use Rattle.std.proofs.Common.{◌≡◌, ◌≢◌, ℕ, ℤ, zero, suc, ◌+◌, ◌^◌, ◌<◌, Bool, true, false, eqb, List, [], ◌∷◌, ◌++◌, length, Ok, refl, sym, ap, subst, ◌∙◌}
+use Rattle.std.proofs.Common.{arith}
 use Rattle.std.specs.Int.{Width, w32, w64, byte_len, from_le_bytes, to_le_bytes, cast_signed, cast_unsigned}
 use Rattle.std.proofs.lemmas.Int.{to_z-of_z, of_z-to_z}
 use Rattle.std.proofs.lemmas.List.{length-append}
@@ -11,8 +12,10 @@ use Rattle.bson.specs.Kinds.{scalar_kind}
 use Rattle.bson.specs.Lawful.{IsBytes, IsScalar}
 use Rattle.bson.specs.Spelling.{scalar_bytes}
 use Rattle.outcome.specs.Outcome.{◌>>=◌}
-use Rattle.bson.specs.Reading.{fixed_at, count_at, text_at, string_at, binary_of, binary_at, object_id_at, boolean_at, date_at, int32_at, timestamp_at, int64_at, scalar_at}
-use Rattle.bson.proofs.FrameLaws.{Takes, Takes-then, IsWide, wide32, wide64, bind_ok, unless_ok, done, ok_is, fixed_takes, fixed_again, number_takes, count_takes, count_again, text_takes, text_again, signed_fits32, signed_fits64, unsigned_fits32, unsigned_fits64}
+use Rattle.bson.specs.Reading.{fixed_at, count_at, text_at, string_at, binary_of, binary_at, object_id_at, boolean_at, date_at, int32_at, timestamp_at}
+use Rattle.bson.specs.Reading.{int64_at, scalar_at}
+use Rattle.bson.proofs.FrameLaws.{Takes, Takes-then, IsWide, wide32, wide64, bind_ok, unless_ok, done, ok_is, fixed_takes, fixed_again, number_takes}
+use Rattle.bson.proofs.FrameLaws.{count_takes, count_again, text_takes, text_again, signed_fits32, signed_fits64, unsigned_fits32, unsigned_fits64}
 
 -- a scalar that was read
 pub record IsScalarRead (k : Kind) (bytes : List ℕ) (s : Scalar) (rest : List ℕ) : Type 0 where
@@ -40,7 +43,8 @@ eqb-ne a b e same = absurd (grind (arith, e, same))
 ne-eqb : (a b : ℕ) → a ≢ b → eqb a b ≡ false
 ne-eqb a b h = grind arith
 
-binary_of_takes : (n : ℕ) (bytes after body rest : List ℕ) (x : Scalar × List ℕ) → Takes bytes (to_le_bytes w32 n) after → Takes after body rest → IsBytes body → length body ≡ n + 1
+binary_of_takes : (n : ℕ) (bytes after body rest : List ℕ) (x : Scalar × List ℕ) → Takes bytes (to_le_bytes w32 n) after → Takes after body rest → IsBytes body
+    → length body ≡ n + 1
     → binary_of body rest ≡ Ok x → IsScalarRead kinds.Binary bytes x.0 x.1
 binary_of_takes n bytes after [] rest x first second fits len e = absurd cc
 binary_of_takes n bytes after (subtype ∷ content) rest x first second fits len e =
@@ -79,7 +83,8 @@ object_id_takes bytes x fits e =
     let a = bind_ok (fixed_at 12 bytes) (λ twelve. Ok (object_id twelve.0, twelve.1)) x e in
     let t = fixed_takes 12 bytes a.0 fits a.1 in
     let made : Scalar × List ℕ = (object_id a.0.0, a.0.1) in
-    subst (λ (y : Scalar × List ℕ). IsScalarRead kinds.ObjectId bytes y.0 y.1) (ok_is made x a.2) (record { takes = t.0; lawful = (t.2, t.1); same_kind = refl })
+    subst (λ (y : Scalar × List ℕ). IsScalarRead kinds.ObjectId bytes y.0 y.1) (ok_is made x a.2)
+    (record { takes = t.0; lawful = (t.2, t.1); same_kind = refl })
 
 object_id_again : (bytes rest : List ℕ) → IsScalar (object_id bytes) → object_id_at (bytes ++ rest) ≡ Ok (object_id bytes, rest)
 unfolding object_id_at
@@ -91,9 +96,11 @@ boolean_takes : (bytes : List ℕ) (x : Scalar × List ℕ) → IsBytes bytes �
 unfolding boolean_at
 boolean_takes [] x fits e = absurd cc
 boolean_takes (zero ∷ rest) x fits e =
-    subst (λ (y : Scalar × List ℕ). IsScalarRead kinds.Bool (0 ∷ rest) y.0 y.1) (ok_is (boolean false, rest) x e) (record { takes = record { parts = refl; rest_fits = λ i. fits (suc i) }; lawful = tt; same_kind = refl })
+    subst (λ (y : Scalar × List ℕ). IsScalarRead kinds.Bool (0 ∷ rest) y.0 y.1) (ok_is (boolean false, rest) x e)
+    (record { takes = record { parts = refl; rest_fits = λ i. fits (suc i) }; lawful = tt; same_kind = refl })
 boolean_takes (suc zero ∷ rest) x fits e =
-    subst (λ (y : Scalar × List ℕ). IsScalarRead kinds.Bool (1 ∷ rest) y.0 y.1) (ok_is (boolean true, rest) x e) (record { takes = record { parts = refl; rest_fits = λ i. fits (suc i) }; lawful = tt; same_kind = refl })
+    subst (λ (y : Scalar × List ℕ). IsScalarRead kinds.Bool (1 ∷ rest) y.0 y.1) (ok_is (boolean true, rest) x e)
+    (record { takes = record { parts = refl; rest_fits = λ i. fits (suc i) }; lawful = tt; same_kind = refl })
 boolean_takes (suc (suc b) ∷ rest) x fits e = absurd cc
 
 boolean_again : (b : Bool) (rest : List ℕ) → boolean_at (scalar_bytes (boolean b) ++ rest) ≡ Ok (boolean b, rest)
@@ -107,7 +114,8 @@ boolean_again true rest = refl
 module _ (w : Width) (limit : ℕ) (wide : IsWide w limit) (make : ℤ → Scalar) (k : Kind) (kind_is : (z : ℤ) → scalar_kind (make z) ≡ k)
     (spelled : (z : ℤ) → scalar_bytes (make z) ≡ to_le_bytes w (cast_unsigned w z)) (lawful : (n : ℕ) → n < limit → IsScalar (make (cast_signed w n)))
     (same : (n : ℕ) → n < limit → cast_unsigned w (cast_signed w n) ≡ n) where
-  signed_takes : (bytes : List ℕ) (x : Scalar × List ℕ) → IsBytes bytes → (fixed_at (byte_len w) bytes >>= λ y. Ok (make (cast_signed w (from_le_bytes w y.0)), y.1)) ≡ Ok x → IsScalarRead k bytes x.0 x.1
+  signed_takes : (bytes : List ℕ) (x : Scalar × List ℕ) → IsBytes bytes
+      → (fixed_at (byte_len w) bytes >>= λ y. Ok (make (cast_signed w (from_le_bytes w y.0)), y.1)) ≡ Ok x → IsScalarRead k bytes x.0 x.1
   signed_takes bytes x fits e =
       let a = bind_ok (fixed_at (byte_len w) bytes) (λ y. Ok (make (cast_signed w (from_le_bytes w y.0)), y.1)) x e in
       let n = from_le_bytes w a.0.0 in
@@ -130,7 +138,11 @@ date_takes = signed_takes w64 (2 ^ 64) wide64 date kinds.Date (λ z. refl) (λ z
 date_again : (z : ℤ) (rest : List ℕ) → IsScalar (date z) → date_at (scalar_bytes (date z) ++ rest) ≡ Ok (date z, rest)
 unfolding date_at
 date_again z rest lawful =
-    rw (fixed_again 8 (to_le_bytes w64 (cast_unsigned w64 z)) rest refl, wide64.again (cast_unsigned w64 z) (unsigned_fits64 z lawful), to_z-of_z w64 z lawful) refl
+    rw (
+      fixed_again 8 (to_le_bytes w64 (cast_unsigned w64 z)) rest refl,
+      wide64.again (cast_unsigned w64 z) (unsigned_fits64 z lawful),
+      to_z-of_z w64 z lawful,
+    ) refl
 
 int32_takes : (bytes : List ℕ) (x : Scalar × List ℕ) → IsBytes bytes → int32_at bytes ≡ Ok x → IsScalarRead kinds.Int32 bytes x.0 x.1
 unfolding int32_at
@@ -139,7 +151,11 @@ int32_takes = signed_takes w32 (2 ^ 32) wide32 int32 kinds.Int32 (λ z. refl) (�
 int32_again : (z : ℤ) (rest : List ℕ) → IsScalar (int32 z) → int32_at (scalar_bytes (int32 z) ++ rest) ≡ Ok (int32 z, rest)
 unfolding int32_at
 int32_again z rest lawful =
-    rw (fixed_again 4 (to_le_bytes w32 (cast_unsigned w32 z)) rest refl, wide32.again (cast_unsigned w32 z) (unsigned_fits32 z lawful), to_z-of_z w32 z lawful) refl
+    rw (
+      fixed_again 4 (to_le_bytes w32 (cast_unsigned w32 z)) rest refl,
+      wide32.again (cast_unsigned w32 z) (unsigned_fits32 z lawful),
+      to_z-of_z w32 z lawful,
+    ) refl
 
 timestamp_takes : (bytes : List ℕ) (x : Scalar × List ℕ) → IsBytes bytes → timestamp_at bytes ≡ Ok x → IsScalarRead kinds.Timestamp bytes x.0 x.1
 unfolding timestamp_at
@@ -160,12 +176,17 @@ int64_takes = signed_takes w64 (2 ^ 64) wide64 int64 kinds.Int64 (λ z. refl) (�
 int64_again : (z : ℤ) (rest : List ℕ) → IsScalar (int64 z) → int64_at (scalar_bytes (int64 z) ++ rest) ≡ Ok (int64 z, rest)
 unfolding int64_at
 int64_again z rest lawful =
-    rw (fixed_again 8 (to_le_bytes w64 (cast_unsigned w64 z)) rest refl, wide64.again (cast_unsigned w64 z) (unsigned_fits64 z lawful), to_z-of_z w64 z lawful) refl
+    rw (
+      fixed_again 8 (to_le_bytes w64 (cast_unsigned w64 z)) rest refl,
+      wide64.again (cast_unsigned w64 z) (unsigned_fits64 z lawful),
+      to_z-of_z w64 z lawful,
+    ) refl
 
 -- ---- all kinds
 
 -- a scalar of no bytes
-bare_takes : (k : Kind) (s : Scalar) (bytes : List ℕ) (x : Scalar × List ℕ) → IsBytes bytes → scalar_bytes s ≡ [] → IsScalar s → scalar_kind s ≡ k → done (s, bytes) ≡ Ok x → IsScalarRead k bytes x.0 x.1
+bare_takes : (k : Kind) (s : Scalar) (bytes : List ℕ) (x : Scalar × List ℕ) → IsBytes bytes → scalar_bytes s ≡ [] → IsScalar s → scalar_kind s ≡ k
+    → done (s, bytes) ≡ Ok x → IsScalarRead k bytes x.0 x.1
 bare_takes k s bytes x fits none lawful same e =
     let made : Scalar × List ℕ = (s, bytes) in
     subst (λ (y : Scalar × List ℕ). IsScalarRead k bytes y.0 y.1) (ok_is made x e)
@@ -187,7 +208,8 @@ scalar_takes kinds.Int64 bytes x fits e = int64_takes bytes x fits e
 scalar_takes kinds.MinKey bytes x fits e = bare_takes kinds.MinKey min_key bytes x fits refl tt refl e
 scalar_takes kinds.MaxKey bytes x fits e = bare_takes kinds.MaxKey max_key bytes x fits refl tt refl e
 
-pub scalar_again : (s : Scalar) (rest : List ℕ) → IsScalar s → length (scalar_bytes s) < 2 ^ 31 → scalar_at (scalar_kind s) (scalar_bytes s ++ rest) ≡ Ok (s, rest)
+pub scalar_again : (s : Scalar) (rest : List ℕ) → IsScalar s → length (scalar_bytes s) < 2 ^ 31
+    → scalar_at (scalar_kind s) (scalar_bytes s ++ rest) ≡ Ok (s, rest)
 unfolding scalar_at
 scalar_again (text s) rest lawful short = string_again s rest lawful short
 scalar_again (binary subtype bytes) rest lawful short = binary_again subtype bytes rest lawful short

@@ -1,9 +1,11 @@
 -- What is wrong stays wrong at its place whatever stands behind what was seen, unless a document or an array that is open
 -- there no longer ends with a zero, which is wrong further left.
-use Rattle.std.proofs.Common.{◌≡◌, ℕ, zero, suc, ◌+◌, ◌<◌, ◌≤◌, Bool, true, false, not, List, [], ◌∷◌, ◌++◌, length, take, drop, Ok, Err, refl, sym, ap, subst, ◌∙◌, append_assoc, arith, inl, inr, ◌≢◌, ◌⊎◌, ◌-◌, ◌^◌, ltb, eqb, get_or, Result}
+use Rattle.std.proofs.Common.{◌≡◌, ℕ, zero, suc, ◌+◌, ◌<◌, ◌≤◌, Bool, true, false, not, List, [], ◌∷◌, ◌++◌, length, take, drop, Ok, Err, refl, sym, ap, subst}
+use Rattle.std.proofs.Common.{◌∙◌, append_assoc, arith, inl, inr, ◌≢◌, ◌⊎◌, ◌-◌, ◌^◌, ltb, eqb, get_or, Result}
 use Rattle.std.specs.Prelude.{nat_le, slice_index, nat_lt}
 use Rattle.std.specs.Str.{is_utf8}
-use Rattle.std.proofs.lemmas.List.{length-append, length-drop, take-append-drop, take_at, drop_at, drop-take, length-take, drop_more, get_or-take, get_or-drop, get_or_at, take_all}
+use Rattle.std.proofs.lemmas.List.{length-append, length-drop, take-append-drop, take_at, drop_at, drop-take, length-take, drop_more, get_or-take, get_or-drop}
+use Rattle.std.proofs.lemmas.List.{get_or_at, take_all}
 use Rattle.bson.specs.declared.fault.BsonFault.{BsonFault}
 use Rattle.bson.specs.declared.fault.BsonFault.TheVariants as faults
 use Rattle.bson.specs.declared.kind.Kind.{Kind}
@@ -13,7 +15,9 @@ use Rattle.bson.specs.Spelling.{pairs_bytes, items_bytes, frame_of}
 use Rattle.bson.specs.Edits.{items_len}
 use Rattle.bson.specs.Reading.{Read, zero_at, name_at, stands_in, is_no_index, is_below, fixed_at, count_at, length_at}
 use Rattle.bson.specs.Raw.{tree_names}
-use Rattle.bson.specs.FirstFault.{Behind, WrongElement, wrong_type, wrong_name, wrong_here, wrong_value, WrongPair, WrongItem, Agrees, IsStill, WrongScalar, WrongCount, WrongEnd, InFrame, WrongFrame, wrong_count, wrong_end, wrong_in, WrongValue, WrongDocument, wrong_length, wrong_last, wrong_inside}
+use Rattle.bson.specs.FirstFault.{Behind, WrongElement, wrong_type, wrong_name, wrong_here, wrong_value, WrongPair, WrongItem, Agrees, IsStill, WrongScalar}
+use Rattle.bson.specs.FirstFault.{WrongCount, WrongEnd, InFrame, WrongFrame, wrong_count, wrong_end, wrong_in, WrongValue, WrongDocument, wrong_length}
+use Rattle.bson.specs.FirstFault.{wrong_last, wrong_inside}
 use Rattle.std.proofs.lemmas.Bool.{le-ltb, eqb-true, eqb-false}
 use Rattle.std.specs.Int.{w32, to_le_bytes, from_le_bytes}
 use Rattle.bson.specs.Limits.{message_limit}
@@ -64,18 +68,22 @@ agrees_cons k t u bytes other h = let e = h.front in (cc, record { long = omega 
 
 -- ---- faults that stay
 
-still_is : (wrong other : ℕ → ℕ → BsonFault → Type 0) (place seen : ℕ) (fault : BsonFault) → ((p s : ℕ) (f : BsonFault) → wrong p s f → other p s f) → IsStill wrong place seen fault → IsStill other place seen fault
+still_is : (wrong other : ℕ → ℕ → BsonFault → Type 0) (place seen : ℕ) (fault : BsonFault) → ((p s : ℕ) (f : BsonFault) → wrong p s f → other p s f)
+    → IsStill wrong place seen fault → IsStill other place seen fault
 still_is wrong other place seen fault each (inl w) = inl (each place seen fault w)
-still_is wrong other place seen fault each (inr e) = inr (record { at = e.at; upto = e.upto; earlier = e.earlier; stands = each e.at e.upto faults.Length e.stands })
+still_is wrong other place seen fault each (inr e) =
+    inr (record { at = e.at; upto = e.upto; earlier = e.earlier; stands = each e.at e.upto faults.Length e.stands })
 
-behind_still : (n : ℕ) (wrong : ℕ → ℕ → BsonFault → Type 0) (place seen at upto : ℕ) (fault : BsonFault) → place ≡ n + at → seen ≡ n + upto → IsStill wrong at upto fault → IsStill (Behind n wrong) place seen fault
+behind_still : (n : ℕ) (wrong : ℕ → ℕ → BsonFault → Type 0) (place seen at upto : ℕ) (fault : BsonFault) → place ≡ n + at → seen ≡ n + upto
+    → IsStill wrong at upto fault → IsStill (Behind n wrong) place seen fault
 behind_still n wrong place seen at upto fault e1 e2 (inl w) = inl (record { at = at; upto = upto; place_is = e1; seen_is = e2; inner = w })
 behind_still n wrong place seen at upto fault e1 e2 (inr e) =
     inr (record { at = n + e.at; upto = n + e.upto; earlier = omega (arith, e.earlier, e1); stands = record { at = e.at; upto = e.upto; place_is = refl; seen_is = refl; inner = e.stands } })
 
 -- ---- names
 
-zero_same : (bytes other : List ℕ) → length other ≡ length bytes → take (suc (zero_at bytes)) other ≡ take (suc (zero_at bytes)) bytes → zero_at other ≡ zero_at bytes
+zero_same : (bytes other : List ℕ) → length other ≡ length bytes → take (suc (zero_at bytes)) other ≡ take (suc (zero_at bytes)) bytes
+    → zero_at other ≡ zero_at bytes
 zero_same [] [] long front = refl
 zero_same [] (c ∷ other) long front = absurd (omega arith)
 zero_same (b ∷ bytes) [] long front = absurd (omega arith)
@@ -84,7 +92,8 @@ zero_same (suc b ∷ bytes) (c ∷ other) long front =
     let both = heads_same (zero_at (suc b ∷ bytes)) (zero_at bytes) (suc b) c bytes other (zero_later b bytes) front in
     ap (λ (x : ℕ). zero_at (x ∷ other)) both.0 ∙ zero_later b other ∙ ap suc (zero_same bytes other (omega arith) both.1) ∙ sym (zero_later b bytes)
   where
-    heads_same : (m n b c : ℕ) (bytes other : List ℕ) → m ≡ suc n → take (suc m) (c ∷ other) ≡ take (suc m) (b ∷ bytes) → (c ≡ b) × (take (suc n) other ≡ take (suc n) bytes)
+    heads_same : (m n b c : ℕ) (bytes other : List ℕ) → m ≡ suc n → take (suc m) (c ∷ other) ≡ take (suc m) (b ∷ bytes)
+        → (c ≡ b) × (take (suc n) other ≡ take (suc n) bytes)
     heads_same m n b c bytes other is front =
         let both : c ∷ take (suc n) other ≡ b ∷ take (suc n) bytes = subst (λ (k : ℕ). take (suc k) (c ∷ other) ≡ take (suc k) (b ∷ bytes)) is front in
         (cc, cc)
@@ -97,12 +106,15 @@ tests_same true wrong name rest other e h = h
 tests_same false true name rest other e h = h
 tests_same false false name rest other e h = absurd cc
 
-name_same : (bytes other : List ℕ) (e : BsonFault) → Agrees (suc (zero_at bytes)) bytes other → name_at bytes ≡ Err e → (name_at other ≡ Err e) × (zero_at other ≡ zero_at bytes)
+name_same : (bytes other : List ℕ) (e : BsonFault) → Agrees (suc (zero_at bytes)) bytes other → name_at bytes ≡ Err e
+    → (name_at other ≡ Err e) × (zero_at other ≡ zero_at bytes)
 unfolding name_at
 name_same bytes other e h failed =
     let z = zero_same bytes other h.long h.front in
-    let name : take (zero_at other) other ≡ take (zero_at bytes) bytes = ap (λ (k : ℕ). take k other) z ∙ (fewer (zero_at bytes) (suc (zero_at bytes)) bytes other (omega arith) h).front in
-    let here = tests_same (nat_le (length bytes) (zero_at bytes)) (not (is_utf8 (take (zero_at bytes) bytes))) (take (zero_at bytes) bytes) (drop (zero_at bytes + 1) bytes) (drop (zero_at other + 1) other) e failed in
+    let name : take (zero_at other) other ≡ take (zero_at bytes) bytes =
+    ap (λ (k : ℕ). take k other) z ∙ (fewer (zero_at bytes) (suc (zero_at bytes)) bytes other (omega arith) h).front in
+    let here = tests_same (nat_le (length bytes) (zero_at bytes)) (not (is_utf8 (take (zero_at bytes) bytes))) (take (zero_at bytes) bytes)
+    (drop (zero_at bytes + 1) bytes) (drop (zero_at other + 1) other) e failed in
     ((λ i. two_tests (nat_le (h.long i) (z i)) (not (is_utf8 (name i))) (name i) (drop (zero_at other + 1) other)) ∙ here, z)
 
 -- ---- elements
@@ -112,10 +124,13 @@ Wrong_at = ℕ → ℕ → BsonFault → Type 0
 
 -- values stay wrong, behind bytes that are no more than so many
 abbrev ValuesStay : ℕ → (Kind → List ℕ → ℕ → ℕ → BsonFault → Type 0) → Type 0
-ValuesStay most value = (k : Kind) (bytes other : List ℕ) (place seen : ℕ) (fault : BsonFault) → length bytes < most → value k bytes place seen fault → Agrees seen bytes other → IsStill (value k other) place seen fault
+ValuesStay most value = (k : Kind) (bytes other : List ℕ) (place seen : ℕ) (fault : BsonFault) → length bytes < most → value k bytes place seen fault
+    → Agrees seen bytes other → IsStill (value k other) place seen fault
 
-element_stays : (most : ℕ) (value : Kind → List ℕ → ℕ → ℕ → BsonFault → Type 0) → ValuesStay most value → (wrong : List ℕ → Bool) (named : BsonFault) (type : ℕ) (bytes other : List ℕ) (place seen : ℕ) (fault : BsonFault)
-    → length bytes < most → WrongElement value wrong named type bytes place (suc seen) fault → Agrees seen bytes other → IsStill (WrongElement value wrong named type other) place (suc seen) fault
+element_stays : (most : ℕ) (value : Kind → List ℕ → ℕ → ℕ → BsonFault → Type 0) → ValuesStay most value
+    → (wrong : List ℕ → Bool) (named : BsonFault) (type : ℕ) (bytes other : List ℕ) (place seen : ℕ) (fault : BsonFault)
+    → length bytes < most → WrongElement value wrong named type bytes place (suc seen) fault → Agrees seen bytes other
+    → IsStill (WrongElement value wrong named type other) place (suc seen) fault
 element_stays most value stay wrong named type bytes other place seen fault short (wrong_type p s bad) h = inl (wrong_type p s bad)
 element_stays most value stay wrong named type bytes other place seen fault short (wrong_name p s k known bad) h =
     let upto : seen ≡ suc (zero_at bytes) = omega (arith, s) in
@@ -123,13 +138,15 @@ element_stays most value stay wrong named type bytes other place seen fault shor
     inl (wrong_name p (omega (arith, s, same.1)) k known same.0)
 element_stays most value stay wrong named type bytes other place seen fault short (wrong_here p name rest s k known is_name parts here is) h =
     let whole : bytes ≡ (name ++ 0 ∷ []) ++ rest = parts ∙ sym (append_assoc name (0 ∷ []) rest) in
-    let g = front_seen (name ++ 0 ∷ []) rest other 0 seen (omega (arith, s, length-append name (0 ∷ []))) (subst (λ (xs : List ℕ). Agrees seen xs other) whole h) in
+    let g = front_seen (name ++ 0 ∷ []) rest other 0 seen (omega (arith, s, length-append name (0 ∷ [])))
+    (subst (λ (xs : List ℕ). Agrees seen xs other) whole h) in
     let left = drop (length (name ++ 0 ∷ [])) other in
     inl (wrong_here p name left s k known is_name (g.parts ∙ append_assoc name (0 ∷ []) left) here is)
 element_stays most value stay wrong named type bytes other place seen fault short (wrong_value name rest k known is_name parts right inner) h =
     let whole : bytes ≡ (name ++ 0 ∷ []) ++ rest = parts ∙ sym (append_assoc name (0 ∷ []) rest) in
     let size = length-append name (0 ∷ []) in
-    let g = front_seen (name ++ 0 ∷ []) rest other inner.upto seen (omega (arith, inner.seen_is, size)) (subst (λ (xs : List ℕ). Agrees seen xs other) whole h) in
+    let g = front_seen (name ++ 0 ∷ []) rest other inner.upto seen (omega (arith, inner.seen_is, size))
+    (subst (λ (xs : List ℕ). Agrees seen xs other) whole h) in
     let left = drop (length (name ++ 0 ∷ [])) other in
     let v = stay k rest left inner.at inner.upto fault (omega (arith, short, ap length whole, length-append (name ++ 0 ∷ []) rest)) inner.inner g.agrees in
     still_is (Behind (length name + 2) (value k left)) (WrongElement value wrong named type other) place (suc seen) fault
@@ -137,31 +154,38 @@ element_stays most value stay wrong named type bytes other place seen fault shor
     (behind_still (length name + 2) (value k left) place (suc seen) inner.at inner.upto fault inner.place_is inner.seen_is v)
 
 -- something of an element was seen
-element_seen : (value : Kind → List ℕ → ℕ → ℕ → BsonFault → Type 0) (wrong : List ℕ → Bool) (named : BsonFault) (type : ℕ) (bytes : List ℕ) (place seen : ℕ) (fault : BsonFault)
+element_seen : (value : Kind → List ℕ → ℕ → ℕ → BsonFault → Type 0) (wrong : List ℕ → Bool) (named : BsonFault) (type : ℕ) (bytes : List ℕ) (place seen : ℕ)
+    (fault : BsonFault)
     → WrongElement value wrong named type bytes place seen fault → (n : ℕ) × (seen ≡ suc n)
 element_seen value wrong named type bytes place seen fault (wrong_type p s bad) = (0, s)
 element_seen value wrong named type bytes place seen fault (wrong_name p s k known bad) = (zero_at bytes + 1, omega (arith, s))
 element_seen value wrong named type bytes place seen fault (wrong_here p name rest s k known is_name parts here is) = (length name + 1, omega (arith, s))
-element_seen value wrong named type bytes place seen fault (wrong_value name rest k known is_name parts right inner) = (length name + 1 + inner.upto, omega (arith, inner.seen_is))
+element_seen value wrong named type bytes place seen fault (wrong_value name rest k known is_name parts right inner) =
+    (length name + 1 + inner.upto, omega (arith, inner.seen_is))
 
 -- an element with its type byte, where others stand for it
-record OtherElement (value : Kind → List ℕ → ℕ → ℕ → BsonFault → Type 0) (wrong : List ℕ → Bool) (named : BsonFault) (other : List ℕ) (place seen : ℕ) (fault : BsonFault) : Type 0 where
+record OtherElement (value : Kind → List ℕ → ℕ → ℕ → BsonFault → Type 0) (wrong : List ℕ → Bool) (named : BsonFault) (other : List ℕ) (place seen : ℕ)
+    (fault : BsonFault) : Type 0 where
   type : ℕ
   bytes : List ℕ
   is : other ≡ type ∷ bytes
   still : IsStill (WrongElement value wrong named type bytes) place seen fault
 
-other_element : (most : ℕ) (value : Kind → List ℕ → ℕ → ℕ → BsonFault → Type 0) → ValuesStay most value → (wrong : List ℕ → Bool) (named : BsonFault) (type : ℕ) (bytes other : List ℕ) (place seen : ℕ) (fault : BsonFault)
-    → length bytes < most → WrongElement value wrong named type bytes place seen fault → Agrees seen (type ∷ bytes) other → OtherElement value wrong named other place seen fault
+other_element : (most : ℕ) (value : Kind → List ℕ → ℕ → ℕ → BsonFault → Type 0) → ValuesStay most value
+    → (wrong : List ℕ → Bool) (named : BsonFault) (type : ℕ) (bytes other : List ℕ) (place seen : ℕ) (fault : BsonFault)
+    → length bytes < most → WrongElement value wrong named type bytes place seen fault → Agrees seen (type ∷ bytes) other
+    → OtherElement value wrong named other place seen fault
 other_element most value stay wrong named type bytes [] place seen fault short w h = absurd (omega (arith, h.long))
 other_element most value stay wrong named type bytes (u ∷ other) place seen fault short w h =
     let n = element_seen value wrong named type bytes place seen fault w in
     let both = agrees_cons n.0 type u bytes other (subst (λ (k : ℕ). Agrees k (type ∷ bytes) (u ∷ other)) n.1 h) in
-    let one = element_stays most value stay wrong named type bytes other place n.0 fault short (subst (λ (k : ℕ). WrongElement value wrong named type bytes place k fault) n.1 w) both.1 in
+    let one = element_stays most value stay wrong named type bytes other place n.0 fault short
+    (subst (λ (k : ℕ). WrongElement value wrong named type bytes place k fault) n.1 w) both.1 in
     record { type = u; bytes = other; is = refl; still = subst (λ (k : ℕ). IsStill (WrongElement value wrong named u other) place k fault) (sym n.1) (subst (λ (t : ℕ). IsStill (WrongElement value wrong named t other) place (suc n.0) fault) (sym both.0) one) }
 
 abbrev ContentStays : ℕ → (List ℕ → ℕ → ℕ → BsonFault → Type 0) → Type 0
-ContentStays most inner = (content other : List ℕ) (place seen : ℕ) (fault : BsonFault) → length content < most → inner content place seen fault → Agrees seen content other → IsStill (inner other) place seen fault
+ContentStays most inner = (content other : List ℕ) (place seen : ℕ) (fault : BsonFault) → length content < most → inner content place seen fault
+    → Agrees seen content other → IsStill (inner other) place seen fault
 
 pairs_stay : (most more : ℕ) (value : Kind → List ℕ → ℕ → ℕ → BsonFault → Type 0) → ValuesStay most value → ContentStays most (WrongPair more value)
 pairs_stay most more value stay content other place seen fault short w h =
@@ -169,10 +193,15 @@ pairs_stay most more value stay content other place seen fault short w h =
     let inner = w.element in
     let size = ap length w.parts ∙ length-append x (w.type ∷ w.bytes) in
     let g = front_seen x (w.type ∷ w.bytes) other inner.upto seen inner.seen_is (subst (λ (xs : List ℕ). Agrees seen xs other) w.parts h) in
-    let o = other_element most value stay (stands_in (tree_names w.before)) faults.Repeated w.type w.bytes (drop (length x) other) inner.at inner.upto fault (omega (arith, short, size)) inner.inner g.agrees in
-    still_is (Behind (length x) (WrongElement value (stands_in (tree_names w.before)) faults.Repeated o.type o.bytes)) (WrongPair more value other) place seen fault
-    (λ p s f e. record { before = w.before; type = o.type; bytes = o.bytes; parts = g.parts ∙ ap (λ (xs : List ℕ). x ++ xs) o.is; lawful = w.lawful; depth = w.depth; element = e })
-    (behind_still (length x) (WrongElement value (stands_in (tree_names w.before)) faults.Repeated o.type o.bytes) place seen inner.at inner.upto fault inner.place_is inner.seen_is o.still)
+    let o = other_element most value stay (stands_in (tree_names w.before)) faults.Repeated w.type w.bytes (drop (length x) other) inner.at inner.upto fault
+    (omega (arith, short, size)) inner.inner g.agrees in
+    still_is (Behind (length x) (WrongElement value (stands_in (tree_names w.before)) faults.Repeated o.type o.bytes))
+    (WrongPair more value other) place seen fault
+    (λ p s f e. record
+    { before = w.before; type = o.type; bytes = o.bytes; parts = g.parts ∙ ap (λ (xs : List ℕ). x ++ xs) o.is; lawful = w.lawful; depth = w.depth; element = e })
+    (behind_still (length x)
+    (WrongElement value (stands_in (tree_names w.before)) faults.Repeated o.type o.bytes) place seen inner.at inner.upto fault inner.place_is inner.seen_is
+    o.still)
 
 items_stay : (most more : ℕ) (value : Kind → List ℕ → ℕ → ℕ → BsonFault → Type 0) → ValuesStay most value → ContentStays most (WrongItem more value)
 items_stay most more value stay content other place seen fault short w h =
@@ -180,10 +209,15 @@ items_stay most more value stay content other place seen fault short w h =
     let inner = w.element in
     let size = ap length w.parts ∙ length-append x (w.type ∷ w.bytes) in
     let g = front_seen x (w.type ∷ w.bytes) other inner.upto seen inner.seen_is (subst (λ (xs : List ℕ). Agrees seen xs other) w.parts h) in
-    let o = other_element most value stay (is_no_index (items_len w.before)) faults.ArrayName w.type w.bytes (drop (length x) other) inner.at inner.upto fault (omega (arith, short, size)) inner.inner g.agrees in
-    still_is (Behind (length x) (WrongElement value (is_no_index (items_len w.before)) faults.ArrayName o.type o.bytes)) (WrongItem more value other) place seen fault
-    (λ p s f e. record { before = w.before; type = o.type; bytes = o.bytes; parts = g.parts ∙ ap (λ (xs : List ℕ). x ++ xs) o.is; lawful = w.lawful; depth = w.depth; element = e })
-    (behind_still (length x) (WrongElement value (is_no_index (items_len w.before)) faults.ArrayName o.type o.bytes) place seen inner.at inner.upto fault inner.place_is inner.seen_is o.still)
+    let o = other_element most value stay (is_no_index (items_len w.before)) faults.ArrayName w.type w.bytes (drop (length x) other) inner.at inner.upto fault
+    (omega (arith, short, size)) inner.inner g.agrees in
+    still_is (Behind (length x) (WrongElement value (is_no_index (items_len w.before)) faults.ArrayName o.type o.bytes))
+    (WrongItem more value other) place seen fault
+    (λ p s f e. record
+    { before = w.before; type = o.type; bytes = o.bytes; parts = g.parts ∙ ap (λ (xs : List ℕ). x ++ xs) o.is; lawful = w.lawful; depth = w.depth; element = e })
+    (behind_still (length x)
+    (WrongElement value (is_no_index (items_len w.before)) faults.ArrayName o.type o.bytes) place seen inner.at inner.upto fault inner.place_is inner.seen_is
+    o.still)
 
 -- ---- counts
 
@@ -199,15 +233,18 @@ four_of short front back = unless short faults.Length (Ok (front, back))
 abbrev number_of : ℕ → List ℕ × List ℕ → Read ℕ
 number_of least four = unless (is_below least (from_le_bytes w32 four.0)) faults.Length (Ok (from_le_bytes w32 four.0, four.1))
 
-four_tests : (least : ℕ) (short : Bool) (front back : List ℕ) → (four_of short front back >>= number_of least) ≡ count_tests short (is_below least (from_le_bytes w32 front)) (from_le_bytes w32 front) back
+four_tests : (least : ℕ) (short : Bool) (front back : List ℕ)
+    → (four_of short front back >>= number_of least) ≡ count_tests short (is_below least (from_le_bytes w32 front)) (from_le_bytes w32 front) back
 four_tests least true front back = refl
 four_tests least false front back = refl
 
-count_is : (least : ℕ) (bytes : List ℕ) → count_at least bytes ≡ count_tests (nat_lt (length bytes) 4) (is_below least (first_number bytes)) (first_number bytes) (drop 4 bytes)
+count_is : (least : ℕ) (bytes : List ℕ)
+    → count_at least bytes ≡ count_tests (nat_lt (length bytes) 4) (is_below least (first_number bytes)) (first_number bytes) (drop 4 bytes)
 unfolding count_at fixed_at
 count_is least bytes = four_tests least (nat_lt (length bytes) 4) (take 4 bytes) (drop 4 bytes)
 
-tests_err : (short below : Bool) (n : ℕ) (back other : List ℕ) (e : BsonFault) → count_tests short below n back ≡ Err e → count_tests short below n other ≡ Err e
+tests_err : (short below : Bool) (n : ℕ) (back other : List ℕ) (e : BsonFault) → count_tests short below n back ≡ Err e
+    → count_tests short below n other ≡ Err e
 tests_err true below n back other e h = h
 tests_err false true n back other e h = h
 tests_err false false n back other e h = absurd cc
@@ -221,7 +258,8 @@ record CountRead (below : Bool) (n : ℕ) (back other : List ℕ) (x : ℕ × Li
 abbrev number_and : ℕ → List ℕ → Read ℕ
 number_and n back = Ok (n, back)
 
-tests_ok : (short below : Bool) (n : ℕ) (back other : List ℕ) (x : ℕ × List ℕ) → count_tests short below n back ≡ Ok x → CountRead below n back other x (count_tests short below n other)
+tests_ok : (short below : Bool) (n : ℕ) (back other : List ℕ) (x : ℕ × List ℕ) → count_tests short below n back ≡ Ok x
+    → CountRead below n back other x (count_tests short below n other)
 tests_ok true below n back other x h = absurd cc
 tests_ok false true n back other x h = absurd cc
 tests_ok false false n back other x h =
@@ -230,12 +268,16 @@ tests_ok false false n back other x h =
     let number : x.0 ≡ n = ap (λ (y : ℕ × List ℕ). y.0) (sym same) in
     record { high = refl; number = number; rest = ap (λ (y : ℕ × List ℕ). y.1) (sym same); same = ap (λ (m : ℕ). number_and m other) (sym number) }
 
-count_other : (least : ℕ) (bytes other : List ℕ) → Agrees 4 bytes other → count_at least other ≡ count_tests (nat_lt (length bytes) 4) (is_below least (first_number bytes)) (first_number bytes) (drop 4 other)
-count_other least bytes other h = count_is least other ∙ (λ i. count_tests (nat_lt (h.long i) 4) (is_below least (from_le_bytes w32 (h.front i))) (from_le_bytes w32 (h.front i)) (drop 4 other))
+count_other : (least : ℕ) (bytes other : List ℕ) → Agrees 4 bytes other
+    → count_at least other ≡ count_tests (nat_lt (length bytes) 4) (is_below least (first_number bytes)) (first_number bytes) (drop 4 other)
+count_other least bytes other h = count_is least other
+    ∙ (λ i. count_tests (nat_lt (h.long i) 4) (is_below least (from_le_bytes w32 (h.front i))) (from_le_bytes w32 (h.front i)) (drop 4 other))
 
 count_err_same : (least : ℕ) (bytes other : List ℕ) (e : BsonFault) → Agrees 4 bytes other → count_at least bytes ≡ Err e → count_at least other ≡ Err e
 count_err_same least bytes other e h failed =
-    count_other least bytes other h ∙ tests_err (nat_lt (length bytes) 4) (is_below least (first_number bytes)) (first_number bytes) (drop 4 bytes) (drop 4 other) e (sym (count_is least bytes) ∙ failed)
+    count_other least bytes other h
+    ∙ tests_err (nat_lt (length bytes) 4) (is_below least (first_number bytes)) (first_number bytes) (drop 4 bytes) (drop 4 other) e
+    (sym (count_is least bytes) ∙ failed)
 
 record CountStays (bytes other : List ℕ) (x : ℕ × List ℕ) : Type 0 where
   low : 5 ≤ x.0
@@ -244,7 +286,8 @@ record CountStays (bytes other : List ℕ) (x : ℕ × List ℕ) : Type 0 where
 
 count_ok_same : (bytes other : List ℕ) (x : ℕ × List ℕ) → Agrees 4 bytes other → count_at 5 bytes ≡ Ok x → CountStays bytes other x
 count_ok_same bytes other x h read =
-    let t = tests_ok (nat_lt (length bytes) 4) (is_below 5 (first_number bytes)) (first_number bytes) (drop 4 bytes) (drop 4 other) x (sym (count_is 5 bytes) ∙ read) in
+    let t = tests_ok (nat_lt (length bytes) 4) (is_below 5 (first_number bytes)) (first_number bytes) (drop 4 bytes) (drop 4 other) x
+    (sym (count_is 5 bytes) ∙ read) in
     record { low = omega (arith, (is_below-false 5 (first_number bytes) t.high).0, t.number); rest = t.rest; same = count_other 5 bytes other h ∙ t.same }
 
 -- a byte that was seen
@@ -253,7 +296,8 @@ byte_same n i bytes other lt h = sym (get_or-take n other i 0 lt) ∙ ap (λ (xs
 
 -- ---- documents and arrays
 
-count_stays : (bytes other : List ℕ) (place seen : ℕ) (fault : BsonFault) → WrongCount bytes place seen fault → Agrees seen bytes other → WrongCount other place seen fault
+count_stays : (bytes other : List ℕ) (place seen : ℕ) (fault : BsonFault) → WrongCount bytes place seen fault → Agrees seen bytes other
+    → WrongCount other place seen fault
 count_stays bytes other place seen fault w h = record { here = w.here; upto = w.upto; fault_is = w.fault_is; judged = again w.judged }
   where
     four : Agrees 4 bytes other
@@ -267,13 +311,15 @@ count_stays bytes other place seen fault w h = record { here = w.here; upto = w.
         let made : ℕ × List ℕ = (n.0.0, drop 4 other) in
         inr (made, s.same, omega (arith, n.2, ap length s.rest, length-drop 4 bytes, length-drop 4 other, h.long))
 
-end_stays : (bytes other : List ℕ) (place seen : ℕ) (fault : BsonFault) → 4 ≤ seen → WrongEnd bytes place seen fault → Agrees seen bytes other → WrongEnd other place seen fault
+end_stays : (bytes other : List ℕ) (place seen : ℕ) (fault : BsonFault) → 4 ≤ seen → WrongEnd bytes place seen fault → Agrees seen bytes other
+    → WrongEnd other place seen fault
 end_stays bytes other place seen fault long w h =
     let s = count_ok_same bytes other w.count (fewer 4 seen bytes other long h) w.counted in
     let made : ℕ × List ℕ = (w.count.0, drop 4 other) in
     let at = w.count.0 - 5 in
     let byte : slice_index (drop 4 other) at ≡ slice_index w.count.1 at =
-    get_or-drop 4 other at 0 ∙ byte_same seen (4 + at) bytes other (omega (arith, s.low, w.upto)) h ∙ sym (get_or-drop 4 bytes at 0) ∙ ap (λ (xs : List ℕ). get_or xs at 0) (sym s.rest) in
+    get_or-drop 4 other at 0 ∙ byte_same seen (4 + at) bytes other (omega (arith, s.low, w.upto)) h ∙ sym (get_or-drop 4 bytes at 0)
+    ∙ ap (λ (xs : List ℕ). get_or xs at 0) (sym s.rest) in
     record {
       here = w.here;
       count = made;
@@ -313,7 +359,9 @@ other_frame content rest other upto seen is h =
       inside = take n left;
       last = get_or left n 0;
       after = drop (n + 1) left;
-      parts = g.parts ∙ ap (λ (xs : List ℕ). number ++ xs) (sym (take-append-drop n left) ∙ ap (λ (xs : List ℕ). take n left ++ xs) (drop_more left n 0 (omega (arith, g.agrees.long, size))));
+      parts = g.parts
+          ∙ ap (λ (xs : List ℕ). number ++ xs)
+          (sym (take-append-drop n left) ∙ ap (λ (xs : List ℕ). take n left ++ xs) (drop_more left n 0 (omega (arith, g.agrees.long, size))));
       long = omega (arith, length-take n left, g.agrees.long, size);
       agrees = record {
         long = omega (arith, length-take n left, g.agrees.long, size);
@@ -321,21 +369,25 @@ other_frame content rest other upto seen is h =
       };
     }
 
-whole_frame : (content inside after other : List ℕ) (last : ℕ) → other ≡ to_le_bytes w32 (length content + 5) ++ (inside ++ last ∷ after) → length inside ≡ length content → last ≡ 0 → other ≡ frame_of inside ++ after
+whole_frame : (content inside after other : List ℕ) (last : ℕ) → other ≡ to_le_bytes w32 (length content + 5) ++ (inside ++ last ∷ after)
+    → length inside ≡ length content → last ≡ 0 → other ≡ frame_of inside ++ after
 whole_frame content inside after other last parts long ended =
     parts ∙ (λ i. to_le_bytes w32 (sym long i + 5) ++ (inside ++ ended i ∷ after)) ∙ sym (frame_parts inside after)
 
 module _ (inner : List ℕ → ℕ → ℕ → BsonFault → Type 0) (stay : ContentStays (2 ^ 31) inner) where
   -- a frame whose end is still a zero
-  ended_stays : (bytes other : List ℕ) (place seen : ℕ) (fault : BsonFault) (w : InFrame inner bytes place seen fault) → length w.content < 2 ^ 31 → (o : OtherFrame w.fault_in.upto w.content other) → o.last ≡ 0 → IsStill (InFrame inner other) place seen fault
+  ended_stays : (bytes other : List ℕ) (place seen : ℕ) (fault : BsonFault) (w : InFrame inner bytes place seen fault) → length w.content < 2 ^ 31
+      → (o : OtherFrame w.fault_in.upto w.content other) → o.last ≡ 0 → IsStill (InFrame inner other) place seen fault
   ended_stays bytes other place seen fault w short o zero_there =
       let parts = whole_frame w.content o.inside o.after other o.last o.parts o.long zero_there in
       let v = stay w.content o.inside w.fault_in.at w.fault_in.upto fault short w.fault_in.inner o.agrees in
-      still_is (Behind 4 (inner o.inside)) (InFrame inner other) place seen fault (λ p s f b. record { content = o.inside; rest = o.after; parts = parts; fault_in = b })
+      still_is (Behind 4 (inner o.inside)) (InFrame inner other) place seen fault
+      (λ p s f b. record { content = o.inside; rest = o.after; parts = parts; fault_in = b })
       (behind_still 4 (inner o.inside) place seen w.fault_in.at w.fault_in.upto fault w.fault_in.place_is w.fault_in.seen_is v)
 
   -- one whose end isn't
-  unended : (bytes other : List ℕ) (place seen : ℕ) (fault : BsonFault) (w : InFrame inner bytes place seen fault) → length w.content + 5 < 2 ^ 31 → (o : OtherFrame w.fault_in.upto w.content other) → o.last ≢ 0 → WrongEnd other 0 (length w.content + 5) faults.Length
+  unended : (bytes other : List ℕ) (place seen : ℕ) (fault : BsonFault) (w : InFrame inner bytes place seen fault) → length w.content + 5 < 2 ^ 31
+      → (o : OtherFrame w.fault_in.upto w.content other) → o.last ≢ 0 → WrongEnd other 0 (length w.content + 5) faults.Length
   unended bytes other place seen fault w short o last =
       let n = length w.content + 5 in
       let tail = o.inside ++ o.last ∷ o.after in
@@ -343,22 +395,29 @@ module _ (inner : List ℕ → ℕ → ℕ → BsonFault → Type 0) (stay : Con
       let at : slice_index tail (n - 5) ≡ o.last = get_or_at o.inside o.last o.after 0 (n - 5) (omega (arith, o.long)) in
       record { here = refl; count = made; upto = refl; fault_is = refl; counted = ap (count_at 5) o.parts ∙ count_again 5 n tail (omega arith) short; fits = omega (arith, o.long, length-append o.inside (o.last ∷ o.after)); judged = λ zero_there. last (sym at ∙ zero_there) }
 
-  frame_stays : (bytes other : List ℕ) (place seen : ℕ) (fault : BsonFault) → length bytes < 2 ^ 31 → WrongFrame inner bytes place seen fault → Agrees seen bytes other → IsStill (WrongFrame inner other) place seen fault
+  frame_stays : (bytes other : List ℕ) (place seen : ℕ) (fault : BsonFault) → length bytes < 2 ^ 31 → WrongFrame inner bytes place seen fault
+      → Agrees seen bytes other → IsStill (WrongFrame inner other) place seen fault
   frame_stays bytes other place seen fault short (wrong_count w) h = inl (wrong_count (count_stays bytes other place seen fault w h))
-  frame_stays bytes other place seen fault short (wrong_end w) h = inl (wrong_end (end_stays bytes other place seen fault (end_seen bytes place seen fault w) w h))
+  frame_stays bytes other place seen fault short (wrong_end w) h =
+      inl (wrong_end (end_stays bytes other place seen fault (end_seen bytes place seen fault w) w h))
   frame_stays bytes other place seen fault short (wrong_in w) h =
       let o = other_frame w.content w.rest other w.fault_in.upto seen w.fault_in.seen_is (subst (λ (xs : List ℕ). Agrees seen xs other) w.parts h) in
-      let size : length w.content + 5 < 2 ^ 31 = omega (arith, short, ap length w.parts, length-append (frame_of w.content) w.rest, frame_of-length w.content) in
+      let size : length w.content + 5 < 2 ^ 31 =
+      omega (arith, short, ap length w.parts, length-append (frame_of w.content) w.rest, frame_of-length w.content) in
       elim (cases_bool (eqb o.last 0)) [
-        | inl zero_there ↦ still_is (InFrame inner other) (WrongFrame inner other) place seen fault (λ p s f x. wrong_in x) (ended_stays bytes other place seen fault w (omega arith) o (eqb-true o.last 0 zero_there))
-        | inr last ↦ inr (record { at = 0; upto = length w.content + 5; earlier = omega (arith, w.fault_in.place_is); stands = wrong_end (unended bytes other place seen fault w size o (eqb-false o.last 0 last)) })
+        | inl zero_there ↦ still_is (InFrame inner other) (WrongFrame inner other) place seen fault (λ p s f x. wrong_in x)
+            (ended_stays bytes other place seen fault w (omega arith) o (eqb-true o.last 0 zero_there))
+        | inr last ↦ inr
+            (record { at = 0; upto = length w.content + 5; earlier = omega (arith, w.fault_in.place_is); stands = wrong_end (unended bytes other place seen fault w size o (eqb-false o.last 0 last)) })
       ]
 
 -- ---- values
 
-scalar_stays : (k : Kind) (bytes other : List ℕ) (place seen : ℕ) (fault : BsonFault) → WrongScalar k bytes place seen fault → Agrees seen bytes other → IsStill (WrongScalar k other) place seen fault
+scalar_stays : (k : Kind) (bytes other : List ℕ) (place seen : ℕ) (fault : BsonFault) → WrongScalar k bytes place seen fault → Agrees seen bytes other
+    → IsStill (WrongScalar k other) place seen fault
 scalar_stays k bytes other place seen fault w h =
-    let same : other ≡ bytes = sym (take_all (length bytes) other (omega (arith, h.long))) ∙ ap (λ (n : ℕ). take n other) (sym w.upto) ∙ h.front ∙ ap (λ (n : ℕ). take n bytes) w.upto ∙ take_all (length bytes) bytes (omega arith) in
+    let same : other ≡ bytes = sym (take_all (length bytes) other (omega (arith, h.long))) ∙ ap (λ (n : ℕ). take n other) (sym w.upto) ∙ h.front
+    ∙ ap (λ (n : ℕ). take n bytes) w.upto ∙ take_all (length bytes) bytes (omega arith) in
     inl (subst (λ (xs : List ℕ). WrongScalar k xs place seen fault) (sym same) w)
 
 values_stay_zero : ValuesStay (2 ^ 31) (WrongValue 0)
@@ -379,8 +438,10 @@ values_stay_zero kinds.MaxKey bytes other place seen fault short w h = scalar_st
 
 values_stay_more : (more : ℕ) → ValuesStay (2 ^ 31) (WrongValue more) → ValuesStay (2 ^ 31) (WrongValue (suc more))
 unfolding WrongValue
-values_stay_more more stay kinds.Document bytes other place seen fault short w h = frame_stays (WrongPair more (WrongValue more)) (pairs_stay (2 ^ 31) more (WrongValue more) stay) bytes other place seen fault short w h
-values_stay_more more stay kinds.Array bytes other place seen fault short w h = frame_stays (WrongItem more (WrongValue more)) (items_stay (2 ^ 31) more (WrongValue more) stay) bytes other place seen fault short w h
+values_stay_more more stay kinds.Document bytes other place seen fault short w h =
+    frame_stays (WrongPair more (WrongValue more)) (pairs_stay (2 ^ 31) more (WrongValue more) stay) bytes other place seen fault short w h
+values_stay_more more stay kinds.Array bytes other place seen fault short w h =
+    frame_stays (WrongItem more (WrongValue more)) (items_stay (2 ^ 31) more (WrongValue more) stay) bytes other place seen fault short w h
 values_stay_more more stay kinds.String bytes other place seen fault short w h = scalar_stays kinds.String bytes other place seen fault w h
 values_stay_more more stay kinds.Binary bytes other place seen fault short w h = scalar_stays kinds.Binary bytes other place seen fault w h
 values_stay_more more stay kinds.ObjectId bytes other place seen fault short w h = scalar_stays kinds.ObjectId bytes other place seen fault w h
@@ -420,13 +481,15 @@ length_again n tail low high fits =
     let whole : ltb (length (to_le_bytes w32 n ++ tail)) n ≡ false = le-ltb _ _ (omega arith) in
     rw (long, back, not_below 5 n low (omega (arith, high)), large, whole) refl
 
-pub document_stays : (bytes other : List ℕ) (place seen : ℕ) (fault : BsonFault) → IsBytes bytes → WrongDocument bytes place seen fault → Agrees seen bytes other → IsStill (WrongDocument other) place seen fault
+pub document_stays : (bytes other : List ℕ) (place seen : ℕ) (fault : BsonFault) → IsBytes bytes → WrongDocument bytes place seen fault
+    → Agrees seen bytes other → IsStill (WrongDocument other) place seen fault
 document_stays bytes other place seen fault fits (wrong_length w) h =
     inl (wrong_length (record { here = w.here; upto = w.upto; judged = length_same bytes other (subst (λ (n : ℕ). Agrees n bytes other) w.upto h) ∙ w.judged }))
 document_stays bytes other place seen fault fits (wrong_last w) h =
     let l = length_takes bytes seen fits w.counted in
     let byte = byte_same seen (seen - 1) bytes other (omega (arith, l.low)) h in
-    inl (wrong_last (record { here = w.here; counted = length_same bytes other (fewer 4 seen bytes other (omega (arith, l.low)) h) ∙ w.counted; fault_is = w.fault_is; judged = λ zero_there. w.judged (sym byte ∙ zero_there) }))
+    inl (wrong_last
+    (record { here = w.here; counted = length_same bytes other (fewer 4 seen bytes other (omega (arith, l.low)) h) ∙ w.counted; fault_is = w.fault_is; judged = λ zero_there. w.judged (sym byte ∙ zero_there) }))
 document_stays bytes other place seen fault fits (wrong_inside w size) h =
     let inner = WrongPair 99 (WrongValue 99) in
     let stay = pairs_stay (2 ^ 31) 99 (WrongValue 99) (values_stay 99) in
@@ -438,19 +501,22 @@ document_stays bytes other place seen fault fits (wrong_inside w size) h =
       | inl zero_there ↦ inside o (eqb-true o.last 0 zero_there)
       | inr last ↦
           let at : slice_index other (n - 1) ≡ o.last =
-          ap (λ (xs : List ℕ). get_or xs (n - 1) 0) (o.parts ∙ sym (append_assoc (to_le_bytes w32 n) o.inside (o.last ∷ o.after))) ∙ get_or_at (to_le_bytes w32 n ++ o.inside) o.last o.after 0 (n - 1) (omega (arith, length-append (to_le_bytes w32 n) o.inside, o.long)) in
+          ap (λ (xs : List ℕ). get_or xs (n - 1) 0) (o.parts ∙ sym (append_assoc (to_le_bytes w32 n) o.inside (o.last ∷ o.after)))
+          ∙ get_or_at (to_le_bytes w32 n ++ o.inside) o.last o.after 0 (n - 1) (omega (arith, length-append (to_le_bytes w32 n) o.inside, o.long)) in
           inr (record {
             at = 0;
             upto = n;
             earlier = omega (arith, w.fault_in.place_is);
-            stands = wrong_last (record { here = refl; counted = ap length_at o.parts ∙ length_again n tail (omega arith) size (omega (arith, long, o.long)); fault_is = refl; judged = λ zero_there. eqb-false o.last 0 last (sym at ∙ zero_there) });
+            stands = wrong_last
+                (record { here = refl; counted = ap length_at o.parts ∙ length_again n tail (omega arith) size (omega (arith, long, o.long)); fault_is = refl; judged = λ zero_there. eqb-false o.last 0 last (sym at ∙ zero_there) });
           })
     ]
   where
     inside : (o : OtherFrame w.fault_in.upto w.content other) → o.last ≡ 0 → IsStill (WrongDocument other) place seen fault
     inside o zero_there =
         let parts = whole_frame w.content o.inside o.after other o.last o.parts o.long zero_there in
-        let v = pairs_stay (2 ^ 31) 99 (WrongValue 99) (values_stay 99) w.content o.inside w.fault_in.at w.fault_in.upto fault (omega (arith, size)) w.fault_in.inner o.agrees in
+        let v = pairs_stay (2 ^ 31) 99 (WrongValue 99) (values_stay 99) w.content o.inside w.fault_in.at w.fault_in.upto fault
+        (omega (arith, size)) w.fault_in.inner o.agrees in
         still_is (Behind 4 (WrongPair 99 (WrongValue 99) o.inside)) (WrongDocument other) place seen fault
         (λ p s f b. wrong_inside (record { content = o.inside; rest = o.after; parts = parts; fault_in = b }) (omega (arith, size, o.long)))
         (behind_still 4 (WrongPair 99 (WrongValue 99) o.inside) place seen w.fault_in.at w.fault_in.upto fault w.fault_in.place_is w.fault_in.seen_is v)

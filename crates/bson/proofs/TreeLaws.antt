@@ -1,5 +1,6 @@
 -- The two laws: what is read is spelled so, and what is spelled so is read.
-use Rattle.std.proofs.Common.{◌≡◌, ◌≢◌, ◌⊎◌, ℕ, zero, suc, ◌+◌, ◌-◌, ◌%◌, ◌^◌, ◌<◌, ◌≤◌, Bool, true, false, not, ltb, List, [], ◌∷◌, ◌++◌, length, take, drop, Result, Ok, Err, refl, sym, ap, subst, ◌∙◌, append_assoc, arith, inl, inr}
+use Rattle.std.proofs.Common.{◌≡◌, ◌≢◌, ◌⊎◌, ℕ, zero, suc, ◌+◌, ◌-◌, ◌%◌, ◌^◌, ◌<◌, ◌≤◌, Bool, true, false, not, ltb, List, [], ◌∷◌, ◌++◌, length, take, drop}
+use Rattle.std.proofs.Common.{Result, Ok, Err, refl, sym, ap, subst, ◌∙◌, append_assoc, arith, inl, inr}
 use Rattle.std.specs.Prelude.{IfOk}
 use Rattle.std.specs.Str.{bytes_eq}
 use Rattle.std.specs.List.{list_any}
@@ -16,13 +17,16 @@ use Rattle.bson.specs.declared.fault.BsonFault.{BsonFault}
 use Rattle.bson.specs.declared.fault.BsonFault.TheVariants as faults
 use Rattle.bson.specs.declared.kind.Kind.{Kind}
 use Rattle.bson.specs.declared.kind.Kind.TheVariants as kinds
-use Rattle.bson.specs.Tree.{Scalar, text, binary, object_id, boolean, date, null, int32, timestamp, int64, min_key, max_key, Tree, scalar, document, array, Pairs, no_pairs, pair, Items, no_items, item}
+use Rattle.bson.specs.Tree.{Scalar, text, binary, object_id, boolean, date, null, int32, timestamp, int64, min_key, max_key, Tree, scalar, document, array}
+use Rattle.bson.specs.Tree.{Pairs, no_pairs, pair, Items, no_items, item}
 use Rattle.bson.specs.Kinds.{kind_byte, scalar_kind, kind}
 use Rattle.bson.specs.Lawful.{IsBytes, levels, pairs_levels, items_levels, NoZero, IsName, Lacks, IsScalar, IsTree, IsPairs, IsItems}
 use Rattle.bson.specs.Spelling.{Spells, scalar_bytes, frame_of, type_byte, element, tree_bytes, pairs_bytes, items_bytes}
 use Rattle.outcome.specs.Outcome.{◌>>=◌, unless, Gives}
-use Rattle.bson.specs.Reading.{Read, element_by, item_by, stands_in, is_no_index, kind_of, name_at, leaf, scalar_at, content_at, pairs_by, items_by, pairs_in, items_in, value_at, is_below, ended_at, length_at, document_at}
-use Rattle.bson.proofs.FrameLaws.{or_false, is_below-false, not_below, bind_ok, unless_ok, done, ok_is, Takes, Takes-then, content_takes, content_again, name_takes, name_again, kind_again, kind_takes, front32, wide32, ended_takes, ended_again}
+use Rattle.bson.specs.Reading.{Read, element_by, item_by, stands_in, is_no_index, kind_of, name_at, leaf, scalar_at, content_at, pairs_by, items_by, pairs_in}
+use Rattle.bson.specs.Reading.{items_in, value_at, is_below, ended_at, length_at, document_at}
+use Rattle.bson.proofs.FrameLaws.{or_false, is_below-false, not_below, bind_ok, unless_ok, done, ok_is, Takes, Takes-then, content_takes, content_again}
+use Rattle.bson.proofs.FrameLaws.{name_takes, name_again, kind_again, kind_takes, front32, wide32, ended_takes, ended_again}
 use Rattle.bson.proofs.ScalarLaws.{scalar_takes, scalar_again}
 
 -- a value that was read
@@ -56,7 +60,8 @@ ne-bytes_eq xs ys e same = let f = (bytes_eq-Decides xs ys).1 same in absurd cc
 AreNew-push : (ps : Pairs) (earlier : List (List ℕ)) (name : List ℕ) → AreNew ps (earlier ++ name ∷ []) → AreNew ps earlier × Lacks ps name
 AreNew-push no_pairs earlier name h = (tt, tt)
 AreNew-push (pair other t ps) earlier name h =
-    let parts = or_false (list_any (bytes_eq other) earlier) (list_any (bytes_eq other) (name ∷ [])) (sym (list_any-append (bytes_eq other) earlier (name ∷ [])) ∙ h.0) in
+    let parts = or_false (list_any (bytes_eq other) earlier) (list_any (bytes_eq other) (name ∷ []))
+    (sym (list_any-append (bytes_eq other) earlier (name ∷ [])) ∙ h.0) in
     let last = or_false (bytes_eq other name) false parts.1 in
     let more = AreNew-push ps earlier name h.1 in
     ((parts.0, more.0), (λ e. ne-bytes_eq other name last.0 (sym e), more.1))
@@ -71,7 +76,8 @@ AreNew-with (pair other t ps) earlier name h l =
 pub regroup_element : (type : ℕ) (name value rest : List ℕ) → element type name value ++ rest ≡ type ∷ (name ++ 0 ∷ (value ++ rest))
 regroup_element type name value rest = ap (λ (t : List ℕ). type ∷ t) (append_assoc name (0 ∷ value) rest)
 
-element_parts : (type t : ℕ) (bytes name b v c os : List ℕ) → type ≡ t → bytes ≡ (name ++ 0 ∷ []) ++ b → b ≡ v ++ c → c ≡ os → type ∷ bytes ≡ element t name v ++ os
+element_parts : (type t : ℕ) (bytes name b v c os : List ℕ) → type ≡ t → bytes ≡ (name ++ 0 ∷ []) ++ b → b ≡ v ++ c → c ≡ os
+    → type ∷ bytes ≡ element t name v ++ os
 element_parts type t bytes name b v c os e1 e2 e3 e4 =
     let left : (name ++ 0 ∷ []) ++ (v ++ os) ≡ name ++ 0 ∷ (v ++ os) = append_assoc name (0 ∷ []) (v ++ os) in
     let right : (name ++ 0 ∷ v) ++ os ≡ name ++ 0 ∷ (v ++ os) = append_assoc name (0 ∷ v) os in
@@ -95,7 +101,8 @@ pub record ElementRead (more : ℕ) (type : ℕ) (bytes : List ℕ) (name : List
   pub lawful : IsTree t
   pub depth : levels t ≤ more
 
-pub element_takes : (read : Kind → List ℕ → Read Tree) (more : ℕ) → Reads read more → (wrong : List ℕ → Bool) (fault : BsonFault) (type : ℕ) (bytes : List ℕ) (x : (List ℕ × Tree) × List ℕ)
+pub element_takes : (read : Kind → List ℕ → Read Tree) (more : ℕ) → Reads read more
+    → (wrong : List ℕ → Bool) (fault : BsonFault) (type : ℕ) (bytes : List ℕ) (x : (List ℕ × Tree) × List ℕ)
     → IsBytes bytes → element_by read wrong fault type bytes ≡ Ok x → ElementRead more type bytes x.0.0 x.0.1 x.1 × (wrong x.0.0 ≡ false)
 unfolding element_by
 element_takes read more reads wrong fault type bytes x fits e =
@@ -112,7 +119,8 @@ element_takes read more reads wrong fault type bytes x fits e =
     let made : (List ℕ × Tree) × List ℕ = ((name.0, value.0), value.1) in
     subst (λ (y : (List ℕ × Tree) × List ℕ). ElementRead more type bytes y.0.0 y.0.1 y.1 × (wrong y.0.0 ≡ false)) (ok_is made x c.2) (
       record {
-        takes = record { parts = element_parts type (type_byte value.0) bytes name.0 name.1 (tree_bytes value.0) value.1 value.1 (type_is type k value.0 a.1 v.same_kind) n.0.parts v.takes.parts refl; rest_fits = v.takes.rest_fits };
+        takes = record
+            { parts = element_parts type (type_byte value.0) bytes name.0 name.1 (tree_bytes value.0) value.1 value.1 (type_is type k value.0 a.1 v.same_kind) n.0.parts v.takes.parts refl; rest_fits = v.takes.rest_fits };
         is_name = n.1;
         lawful = v.lawful;
         depth = v.depth;
@@ -121,7 +129,8 @@ element_takes read more reads wrong fault type bytes x fits e =
     )
 
 -- An element that is spelled is read. Its type byte stands before.
-pub element_again : (read : Kind → List ℕ → Read Tree) (more : ℕ) → Reads read more → (wrong : List ℕ → Bool) (fault : BsonFault) (name : List ℕ) (t : Tree) (rest : List ℕ)
+pub element_again : (read : Kind → List ℕ → Read Tree) (more : ℕ) → Reads read more
+    → (wrong : List ℕ → Bool) (fault : BsonFault) (name : List ℕ) (t : Tree) (rest : List ℕ)
     → IsName name → IsTree t → levels t ≤ more → length (tree_bytes t) < 2 ^ 31 → wrong name ≡ false
     → element_by read wrong fault (type_byte t) (name ++ 0 ∷ (tree_bytes t ++ rest)) ≡ Ok ((name, t), rest)
 unfolding element_by
@@ -134,14 +143,18 @@ pub record AreRead (more : ℕ) (earlier : List (List ℕ)) (bytes : List ℕ) (
   pub depth : pairs_levels ps ≤ more
   pub new : AreNew ps earlier
 
-pub pairs_take : (read : Kind → List ℕ → Read Tree) (more : ℕ) → Reads read more → (most : ℕ) (earlier : List (List ℕ)) (bytes : List ℕ) (ps : Pairs) → IsBytes bytes
+pub pairs_take : (read : Kind → List ℕ → Read Tree) (more : ℕ) → Reads read more → (most : ℕ) (earlier : List (List ℕ)) (bytes : List ℕ) (ps : Pairs)
+    → IsBytes bytes
     → pairs_by read most earlier bytes ≡ Ok ps → AreRead more earlier bytes ps
 unfolding pairs_by pairs_bytes
-pairs_take read more reads zero earlier [] ps fits e = subst (λ (qs : Pairs). AreRead more earlier [] qs) (ok_is no_pairs ps e) (record { spelled = refl; lawful = tt; depth = omega arith; new = tt })
-pairs_take read more reads (suc most) earlier [] ps fits e = subst (λ (qs : Pairs). AreRead more earlier [] qs) (ok_is no_pairs ps e) (record { spelled = refl; lawful = tt; depth = omega arith; new = tt })
+pairs_take read more reads zero earlier [] ps fits e =
+    subst (λ (qs : Pairs). AreRead more earlier [] qs) (ok_is no_pairs ps e) (record { spelled = refl; lawful = tt; depth = omega arith; new = tt })
+pairs_take read more reads (suc most) earlier [] ps fits e =
+    subst (λ (qs : Pairs). AreRead more earlier [] qs) (ok_is no_pairs ps e) (record { spelled = refl; lawful = tt; depth = omega arith; new = tt })
 pairs_take read more reads zero earlier (type ∷ bytes) ps fits e = absurd cc
 pairs_take read more reads (suc most) earlier (type ∷ bytes) ps fits e =
-    let a = bind_ok (element_by read (stands_in earlier) faults.Repeated type bytes) (λ first. pairs_by read most (earlier ++ first.0.0 ∷ []) first.1 >>= λ others. Ok (pair first.0.0 first.0.1 others)) ps e in
+    let a = bind_ok (element_by read (stands_in earlier) faults.Repeated type bytes)
+    (λ first. pairs_by read most (earlier ++ first.0.0 ∷ []) first.1 >>= λ others. Ok (pair first.0.0 first.0.1 others)) ps e in
     let name = a.0.0.0 in
     let t = a.0.0.1 in
     let b = bind_ok (pairs_by read most (earlier ++ name ∷ []) a.0.1) (λ others. Ok (pair name t others)) ps a.2 in
@@ -156,7 +169,8 @@ pairs_take read more reads (suc most) earlier (type ∷ bytes) ps fits e =
       new = (first.1, new.0);
     })
 
-pub pairs_again : (read : Kind → List ℕ → Read Tree) (more : ℕ) → Reads read more → (most : ℕ) (earlier : List (List ℕ)) (ps : Pairs) → IsPairs ps → pairs_levels ps ≤ more
+pub pairs_again : (read : Kind → List ℕ → Read Tree) (more : ℕ) → Reads read more → (most : ℕ) (earlier : List (List ℕ)) (ps : Pairs) → IsPairs ps
+    → pairs_levels ps ≤ more
     → AreNew ps earlier → length (pairs_bytes ps) ≤ most → length (pairs_bytes ps) < 2 ^ 31 → pairs_by read most earlier (pairs_bytes ps) ≡ Ok ps
 unfolding pairs_by pairs_bytes
 pairs_again read more reads zero earlier no_pairs lawful depth new fits short = refl
@@ -165,8 +179,11 @@ pairs_again read more reads zero earlier (pair name t ps) lawful depth new fits 
 pairs_again read more reads (suc most) earlier (pair name t ps) lawful depth new fits short =
     let len = length-append (name ++ 0 ∷ tree_bytes t) (pairs_bytes ps) in
     let len2 = length-append name (0 ∷ tree_bytes t) in
-    let others = pairs_again read more reads most (earlier ++ name ∷ []) ps lawful.3 (omega arith) (AreNew-with ps earlier name new.1 lawful.2) (omega (arith, len, len2)) (omega (arith, len, len2)) in
-    let first = element_again read more reads (stands_in earlier) faults.Repeated name t (pairs_bytes ps) lawful.0 lawful.1 (omega arith) (omega (arith, len, len2)) new.0 in
+    let others =
+    pairs_again read more reads most (earlier ++ name ∷ []) ps lawful.3 (omega arith) (AreNew-with ps earlier name new.1 lawful.2) (omega (arith, len, len2))
+    (omega (arith, len, len2)) in
+    let first = element_again read more reads (stands_in earlier) faults.Repeated name t (pairs_bytes ps) lawful.0 lawful.1 (omega arith)
+    (omega (arith, len, len2)) new.0 in
     ap (pairs_by read (suc most) earlier) (regroup_element (type_byte t) name (tree_bytes t) (pairs_bytes ps)) ∙ rw (first, others) refl
 
 -- ---- arrays
@@ -194,8 +211,10 @@ item_takes read more reads i type bytes x fits e =
 pub items_take : (read : Kind → List ℕ → Read Tree) (more : ℕ) → Reads read more → (most i : ℕ) (bytes : List ℕ) (ts : Items) → IsBytes bytes
     → items_by read most i bytes ≡ Ok ts → ItemsRead more i bytes ts
 unfolding items_by items_bytes
-items_take read more reads zero i [] ts fits e = subst (λ (us : Items). ItemsRead more i [] us) (ok_is no_items ts e) (record { spelled = refl; lawful = tt; depth = omega arith })
-items_take read more reads (suc most) i [] ts fits e = subst (λ (us : Items). ItemsRead more i [] us) (ok_is no_items ts e) (record { spelled = refl; lawful = tt; depth = omega arith })
+items_take read more reads zero i [] ts fits e =
+    subst (λ (us : Items). ItemsRead more i [] us) (ok_is no_items ts e) (record { spelled = refl; lawful = tt; depth = omega arith })
+items_take read more reads (suc most) i [] ts fits e =
+    subst (λ (us : Items). ItemsRead more i [] us) (ok_is no_items ts e) (record { spelled = refl; lawful = tt; depth = omega arith })
 items_take read more reads zero i (type ∷ bytes) ts fits e = absurd cc
 items_take read more reads (suc most) i (type ∷ bytes) ts fits e =
     let a = bind_ok (item_by read i type bytes) (λ first. items_by read most (i + 1) first.1 >>= λ others. Ok (item first.0 others)) ts e in
@@ -232,7 +251,8 @@ items_again read more reads (suc most) i (item t ts) lawful depth fits short =
     let len2 = length-append (decimal i) (0 ∷ tree_bytes t) in
     let others = items_again read more reads most (i + 1) ts lawful.1 (omega arith) (omega (arith, len, len2)) (omega (arith, len, len2)) in
     let right : is_no_index i (decimal i) ≡ false = ap not ((bytes_eq-Decides (decimal i) (decimal i)).1 refl) in
-    let first = element_again read more reads (is_no_index i) faults.ArrayName (decimal i) t (items_bytes (i + 1) ts) (IsName-decimal i (omega arith)) lawful.0 (omega arith) (omega (arith, len, len2)) right in
+    let first = element_again read more reads (is_no_index i) faults.ArrayName (decimal i) t (items_bytes (i + 1) ts) (IsName-decimal i (omega arith)) lawful.0
+    (omega arith) (omega (arith, len, len2)) right in
     ap (items_by read (suc most) i) (regroup_element (type_byte t) (decimal i) (tree_bytes t) (items_bytes (i + 1) ts)) ∙ rw (first, others) refl
 
 -- ---- values at each level
@@ -243,10 +263,12 @@ leaf_is_read more k bytes x fits e =
     let a = bind_ok (scalar_at k bytes) (λ s. Ok (scalar s.0, s.1)) x e in
     let t = scalar_takes k bytes a.0 fits a.1 in
     let made : Tree × List ℕ = (scalar a.0.0, a.0.1) in
-    subst (λ (y : Tree × List ℕ). IsRead more k bytes y.0 y.1) (ok_is made x a.2) (record { takes = t.takes; lawful = t.lawful; depth = omega arith; same_kind = t.same_kind })
+    subst (λ (y : Tree × List ℕ). IsRead more k bytes y.0 y.1) (ok_is made x a.2)
+    (record { takes = t.takes; lawful = t.lawful; depth = omega arith; same_kind = t.same_kind })
 
 document_is_read : (more : ℕ) → Reads (value_at more) more → (bytes : List ℕ) (x : Tree × List ℕ) → IsBytes bytes
-    → (content_at bytes >>= λ content. pairs_in (value_at more) content.0 >>= λ ps. Ok (document ps, content.1)) ≡ Ok x → IsRead (suc more) kinds.Document bytes x.0 x.1
+    → (content_at bytes >>= λ content. pairs_in (value_at more) content.0 >>= λ ps. Ok (document ps, content.1)) ≡ Ok x
+    → IsRead (suc more) kinds.Document bytes x.0 x.1
 unfolding tree_bytes
 document_is_read more reads bytes x fits e =
     let a = bind_ok (content_at bytes) (λ content. pairs_in (value_at more) content.0 >>= λ ps. Ok (document ps, content.1)) x e in
@@ -260,7 +282,8 @@ document_is_read more reads bytes x fits e =
     (record { takes = subst (λ (c : List ℕ). Takes bytes (frame_of c) content.1) r.spelled frame.0; lawful = r.lawful; depth = omega (arith, r.depth); same_kind = refl })
 
 array_is_read : (more : ℕ) → Reads (value_at more) more → (bytes : List ℕ) (x : Tree × List ℕ) → IsBytes bytes
-    → (content_at bytes >>= λ content. items_in (value_at more) content.0 >>= λ ts. Ok (array ts, content.1)) ≡ Ok x → IsRead (suc more) kinds.Array bytes x.0 x.1
+    → (content_at bytes >>= λ content. items_in (value_at more) content.0 >>= λ ts. Ok (array ts, content.1)) ≡ Ok x
+    → IsRead (suc more) kinds.Array bytes x.0 x.1
 unfolding tree_bytes
 array_is_read more reads bytes x fits e =
     let a = bind_ok (content_at bytes) (λ content. items_in (value_at more) content.0 >>= λ ts. Ok (array ts, content.1)) x e in
@@ -306,7 +329,8 @@ value_at_leaf (suc more) min_key bytes = refl
 value_at_leaf zero max_key bytes = refl
 value_at_leaf (suc more) max_key bytes = refl
 
-leaf_again : (more : ℕ) (s : Scalar) (rest : List ℕ) → IsScalar s → length (scalar_bytes s) < 2 ^ 31 → value_at more (kind (scalar s)) (scalar_bytes s ++ rest) ≡ Ok (scalar s, rest)
+leaf_again : (more : ℕ) (s : Scalar) (rest : List ℕ) → IsScalar s → length (scalar_bytes s) < 2 ^ 31
+    → value_at more (kind (scalar s)) (scalar_bytes s ++ rest) ≡ Ok (scalar s, rest)
 leaf_again more s rest lawful short = value_at_leaf more s (scalar_bytes s ++ rest) ∙ ap leaf (scalar_again s rest lawful short)
 
 value_takes_zero : (k : Kind) (bytes : List ℕ) (x : Tree × List ℕ) → IsBytes bytes → value_at 0 k bytes ≡ Ok x → IsRead 0 k bytes x.0 x.1
@@ -325,7 +349,8 @@ value_takes_zero kinds.Int64 bytes x fits e = leaf_is_read 0 kinds.Int64 bytes x
 value_takes_zero kinds.MinKey bytes x fits e = leaf_is_read 0 kinds.MinKey bytes x fits e
 value_takes_zero kinds.MaxKey bytes x fits e = leaf_is_read 0 kinds.MaxKey bytes x fits e
 
-value_takes_more : (more : ℕ) → Reads (value_at more) more → (k : Kind) (bytes : List ℕ) (x : Tree × List ℕ) → IsBytes bytes → value_at (suc more) k bytes ≡ Ok x → IsRead (suc more) k bytes x.0 x.1
+value_takes_more : (more : ℕ) → Reads (value_at more) more → (k : Kind) (bytes : List ℕ) (x : Tree × List ℕ) → IsBytes bytes
+    → value_at (suc more) k bytes ≡ Ok x → IsRead (suc more) k bytes x.0 x.1
 unfolding value_at
 value_takes_more more reads kinds.String bytes x fits e = leaf_is_read (suc more) kinds.String bytes x fits e
 value_takes_more more reads kinds.Document bytes x fits e = document_is_read more reads bytes x fits e
@@ -341,7 +366,8 @@ value_takes_more more reads kinds.Int64 bytes x fits e = leaf_is_read (suc more)
 value_takes_more more reads kinds.MinKey bytes x fits e = leaf_is_read (suc more) kinds.MinKey bytes x fits e
 value_takes_more more reads kinds.MaxKey bytes x fits e = leaf_is_read (suc more) kinds.MaxKey bytes x fits e
 
-value_again_zero : (t : Tree) (rest : List ℕ) → IsTree t → levels t ≤ 0 → length (tree_bytes t) < 2 ^ 31 → value_at 0 (kind t) (tree_bytes t ++ rest) ≡ Ok (t, rest)
+value_again_zero : (t : Tree) (rest : List ℕ) → IsTree t → levels t ≤ 0 → length (tree_bytes t) < 2 ^ 31
+    → value_at 0 (kind t) (tree_bytes t ++ rest) ≡ Ok (t, rest)
 unfolding tree_bytes
 value_again_zero (scalar s) rest lawful depth short = leaf_again 0 s rest lawful short
 value_again_zero (document ps) rest lawful depth short = absurd (omega arith)
@@ -353,7 +379,8 @@ unfolding tree_bytes value_at
 value_again_more more reads (scalar s) rest lawful depth short = leaf_again (suc more) s rest lawful short
 value_again_more more reads (document ps) rest lawful depth short =
     let size = framed_length (pairs_bytes ps) in
-    let inner = pairs_again (value_at more) more reads (length (pairs_bytes ps)) [] ps lawful (omega arith) (AreNew-none ps) (omega arith) (omega (arith, size)) in
+    let inner = pairs_again (value_at more) more reads (length (pairs_bytes ps)) [] ps lawful (omega arith) (AreNew-none ps) (omega arith)
+    (omega (arith, size)) in
     rw (content_again (pairs_bytes ps) rest (omega (arith, size)), inner) refl
 value_again_more more reads (array ts) rest lawful depth short =
     let size = framed_length (items_bytes 0 ts) in
@@ -377,8 +404,10 @@ pub length_takes : (bytes : List ℕ) (n : ℕ) → IsBytes bytes → length_at 
 unfolding length_at
 length_takes bytes n fits e =
     let m = from_le_bytes w32 (take 4 bytes) in
-    let a = unless_ok (ltb (length bytes) 4) faults.Truncated (unless (is_below 5 m) faults.Length (unless (ltb message_limit m) faults.TooLarge (unless (ltb (length bytes) m) faults.Truncated (Ok m)))) n e in
-    let b = unless_ok (is_below 5 m) faults.Length (unless (ltb message_limit m) faults.TooLarge (unless (ltb (length bytes) m) faults.Truncated (Ok m))) n a.1 in
+    let a = unless_ok (ltb (length bytes) 4) faults.Truncated
+    (unless (is_below 5 m) faults.Length (unless (ltb message_limit m) faults.TooLarge (unless (ltb (length bytes) m) faults.Truncated (Ok m)))) n e in
+    let b = unless_ok (is_below 5 m) faults.Length
+    (unless (ltb message_limit m) faults.TooLarge (unless (ltb (length bytes) m) faults.Truncated (Ok m))) n a.1 in
     let c = unless_ok (ltb message_limit m) faults.TooLarge (unless (ltb (length bytes) m) faults.Truncated (Ok m)) n b.1 in
     let d = unless_ok (ltb (length bytes) m) faults.Truncated (Ok m) n c.1 in
     let low = is_below-false 5 m b.0 in
@@ -400,10 +429,15 @@ document_takes bytes x fits e =
     let r = pairs_take (value_at 99) 99 (value_reads 99) (length content.0) [] content.0 ps f.1 c.1 in
     let size : len ≡ length content.0 + 5 = omega (arith, f.2, l.low) in
     let both = Takes-then bytes (to_le_bytes w32 len) (drop 4 bytes) (content.0 ++ 0 ∷ []) content.1 l.takes f.0 in
-    let frame_of-is : Takes bytes (frame_of content.0) content.1 = subst (λ (k : ℕ). Takes bytes (to_le_bytes w32 k ++ (content.0 ++ 0 ∷ [])) content.1) size both in
-    let front : take len bytes ≡ frame_of content.0 = ap (take len) frame_of-is.parts ∙ take_at (frame_of content.0) content.1 len (omega (arith, framed_length content.0)) in
-    subst (λ (y : Pairs × ℕ). (y.1 ≤ length bytes) × Spells (take y.1 bytes) y.0) (ok_is (ps, len) x c.2)
-    (l.whole, record { lawful = record { lawful = r.lawful; depth = r.depth }; spelled = front ∙ ap frame_of r.spelled; size = omega (arith, length-take len bytes, l.high) })
+    let frame_of-is : Takes bytes (frame_of content.0) content.1 =
+    subst (λ (k : ℕ). Takes bytes (to_le_bytes w32 k ++ (content.0 ++ 0 ∷ [])) content.1) size both in
+    let front : take len bytes ≡ frame_of content.0 =
+    ap (take len) frame_of-is.parts ∙ take_at (frame_of content.0) content.1 len (omega (arith, framed_length content.0)) in
+    subst (λ (y : Pairs × ℕ). (y.1 ≤ length bytes) × Spells (take y.1 bytes) y.0) (ok_is (ps, len) x c.2) (
+      l.whole,
+      record
+          { lawful = record { lawful = r.lawful; depth = r.depth }; spelled = front ∙ ap frame_of r.spelled; size = omega (arith, length-take len bytes, l.high) },
+    )
 
 pub document_again : (bytes : List ℕ) (ps : Pairs) (rest : List ℕ) → Spells bytes ps → document_at (bytes ++ rest) ≡ Ok (ps, length bytes)
 unfolding document_at length_at
@@ -411,29 +445,45 @@ document_again bytes ps rest s =
     let content = pairs_bytes ps in
     let n = length content + 5 in
     let size : length bytes ≡ n = ap length s.spelled ∙ framed_length content in
-    let regrouped : bytes ++ rest ≡ to_le_bytes w32 n ++ (content ++ 0 ∷ rest) = ap (λ (t : List ℕ). t ++ rest) s.spelled ∙ ap (λ (t : List ℕ). to_le_bytes w32 n ++ t) (append_assoc content (0 ∷ []) rest) in
+    let regrouped : bytes ++ rest ≡ to_le_bytes w32 n ++ (content ++ 0 ∷ rest) =
+    ap (λ (t : List ℕ). t ++ rest) s.spelled ∙ ap (λ (t : List ℕ). to_le_bytes w32 n ++ t) (append_assoc content (0 ∷ []) rest) in
     let all = length-append content (0 ∷ rest) in
     let high : n ≤ message_limit = omega (arith, s.size) in
     let back = wide32.again n (omega (arith, high)) in
     let long : ltb (length (to_le_bytes w32 n ++ (content ++ 0 ∷ rest))) 4 ≡ false = le-ltb _ _ (omega arith) in
     let large : ltb message_limit n ≡ false = le-ltb _ _ high in
     let whole : ltb (length (to_le_bytes w32 n ++ (content ++ 0 ∷ rest))) n ≡ false = le-ltb _ _ (omega (arith, all)) in
-    let inner = pairs_again (value_at 99) 99 (value_reads 99) (length content) [] ps s.lawful.lawful s.lawful.depth (AreNew-none ps) (omega arith) (omega (arith, high)) in
-    ap document_at regrouped ∙ rw (long, back, not_below 5 n (omega arith) (omega (arith, high)), large, whole, ended_again faults.Length (n - 5) content rest (omega arith), inner, size) refl
+    let inner = pairs_again (value_at 99) 99 (value_reads 99) (length content) [] ps s.lawful.lawful s.lawful.depth (AreNew-none ps) (omega arith)
+    (omega (arith, high)) in
+    ap document_at regrouped
+    ∙ rw (
+      long,
+      back,
+      not_below 5 n (omega arith) (omega (arith, high)),
+      large,
+      whole,
+      ended_again faults.Length (n - 5) content rest (omega arith),
+      inner,
+      size,
+    ) refl
 
 -- ---- what decode promises
 
-pub is_found : (bytes : List ℕ) (r : Result (Pairs × ℕ) BsonFault) → IsBytes bytes → Gives faults.Memory (λ x. x) r (document_at bytes) → IfOk r (λ x. (x.1 ≤ length bytes) × Spells (take x.1 bytes) x.0)
+pub is_found : (bytes : List ℕ) (r : Result (Pairs × ℕ) BsonFault) → IsBytes bytes → Gives faults.Memory (λ x. x) r (document_at bytes)
+    → IfOk r (λ x. (x.1 ≤ length bytes) × Spells (take x.1 bytes) x.0)
 is_found bytes (Ok x) fits given = document_takes bytes x fits given
 is_found bytes (Err e) fits given = tt
 
 -- a document that was read inside so many others
-pub is_shallow : {Y : Type 0} (view : Y → Tree × List ℕ) (outer : ℕ) (bytes : List ℕ) (r : Result Y BsonFault) → outer ≤ 100 → IsBytes bytes → Gives faults.Memory view r (value_at (100 - outer) kinds.Document bytes) → IfOk r (λ x. levels (view x).0 + outer ≤ 100)
+pub is_shallow : {Y : Type 0} (view : Y → Tree × List ℕ) (outer : ℕ) (bytes : List ℕ) (r : Result Y BsonFault) → outer ≤ 100 → IsBytes bytes
+    → Gives faults.Memory view r (value_at (100 - outer) kinds.Document bytes) → IfOk r (λ x. levels (view x).0 + outer ≤ 100)
 is_shallow view outer bytes (Ok x) le fits given = omega (arith, ((value_reads (100 - outer)).takes kinds.Document bytes (view x) fits given).depth)
 is_shallow view outer bytes (Err e) le fits given = tt
 
-pub is_only : (bytes front rest : List ℕ) (ps : Pairs) (r : Result (Pairs × ℕ) BsonFault) → Gives faults.Memory (λ x. x) r (document_at bytes) → Spells front ps → bytes ≡ front ++ rest → Gives faults.Memory (λ x. x) r (Ok (ps, length front))
-is_only bytes front rest ps r given s e = subst (λ (read : Result (Pairs × ℕ) BsonFault). Gives faults.Memory (λ x. x) r read) (ap document_at e ∙ document_again front ps rest s) given
+pub is_only : (bytes front rest : List ℕ) (ps : Pairs) (r : Result (Pairs × ℕ) BsonFault) → Gives faults.Memory (λ x. x) r (document_at bytes)
+    → Spells front ps → bytes ≡ front ++ rest → Gives faults.Memory (λ x. x) r (Ok (ps, length front))
+is_only bytes front rest ps r given s e =
+    subst (λ (read : Result (Pairs × ℕ) BsonFault). Gives faults.Memory (λ x. x) r read) (ap document_at e ∙ document_again front ps rest s) given
 
 -- a value has one spelling, and no document's spelling begins another's
 pub one_spelling : (a b x y : List ℕ) (ps qs : Pairs) → Spells a ps → Spells b qs → a ++ x ≡ b ++ y → (ps ≡ qs) × (a ≡ b)
@@ -443,7 +493,8 @@ one_spelling a b x y ps qs s u e =
     let same : ps ≡ qs = ap (λ (p : Pairs × ℕ). p.0) pair-is in
     (same, s.spelled ∙ ap (λ (p : Pairs). frame_of (pairs_bytes p)) same ∙ sym u.spelled)
 
-pub one_value : (t u : Tree) (x y : List ℕ) → IsTree t → IsTree u → levels t ≤ 99 → levels u ≤ 99 → length (tree_bytes t) < 2 ^ 31 → length (tree_bytes u) < 2 ^ 31 → kind t ≡ kind u → tree_bytes t ++ x ≡ tree_bytes u ++ y → (t ≡ u) × (x ≡ y)
+pub one_value : (t u : Tree) (x y : List ℕ) → IsTree t → IsTree u → levels t ≤ 99 → levels u ≤ 99 → length (tree_bytes t) < 2 ^ 31
+    → length (tree_bytes u) < 2 ^ 31 → kind t ≡ kind u → tree_bytes t ++ x ≡ tree_bytes u ++ y → (t ≡ u) × (x ≡ y)
 one_value t u x y t_lawful u_lawful t_deep u_deep t_short u_short same_kind e =
     let first = (value_reads 99).again t x t_lawful t_deep t_short in
     let second = (value_reads 99).again u y u_lawful u_deep u_short in

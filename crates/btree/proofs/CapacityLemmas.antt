@@ -1,5 +1,6 @@
 -- How many entries a tree may have, and how many pages.
-use Rattle.std.proofs.Common.{◌≡◌, ◌≢◌, ℕ, zero, suc, ◌+◌, ◌*◌, ◌<◌, ◌≤◌, List, [], ◌∷◌, length, map, Option, None, true, false, if◌then◌else◌, ◌==◌, refl, ap, arith, inl, inr, length-append}
+use Rattle.std.proofs.Common.{◌≡◌, ◌≢◌, ℕ, zero, suc, ◌+◌, ◌*◌, ◌<◌, ◌≤◌, List, [], ◌∷◌, length, map, Option, None, true, false, if◌then◌else◌, ◌==◌, refl, ap}
+use Rattle.std.proofs.Common.{arith, inl, inr, length-append}
 use Rattle.std.proofs.lemmas.Bool.{cases_eq}
 use Rattle.std.proofs.lemmas.Bool.Decides.{nat_tests}
 use Rattle.std.proofs.lemmas.List.{length-map}
@@ -52,7 +53,13 @@ body_few (suc d) low high twigs lies =
 pub entries_are_few : EntriesAreFew
 entries_are_few s root pages entries (inl none) = omega (arith, ap length none.1.1)
 entries_are_few s root pages entries (inr t) =
-    omega (arith, body_few t.d [] None t.body (t.tree.whole, t.tree.sound), ap length t.entries_are, length-map (pairs_of t.d t.body) entry_of, ap length t.pages_are)
+    omega (
+      arith,
+      body_few t.d [] None t.body (t.tree.whole, t.tree.sound),
+      ap length t.entries_are,
+      length-map (pairs_of t.d t.body) entry_of,
+      ap length t.pages_are,
+    )
 
 -- ---- pages
 

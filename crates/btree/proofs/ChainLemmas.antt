@@ -1,5 +1,6 @@
 -- A chain that is read page after page.
-use Rattle.std.proofs.Common.{◌≡◌, ℕ, zero, suc, ◌+◌, ◌-◌, ◌*◌, ◌<◌, ◌≤◌, List, [], ◌∷◌, ◌++◌, length, take, drop, min, Vec, Global, ◌⊎◌, inl, inr, refl, sym, ap, ◌∙◌, subst, arith, append_assoc, append-nil, length-drop, length-take}
+use Rattle.std.proofs.Common.{◌≡◌, ℕ, zero, suc, ◌+◌, ◌-◌, ◌*◌, ◌<◌, ◌≤◌, List, [], ◌∷◌, ◌++◌, length, take, drop, min, Vec, Global, ◌⊎◌, inl, inr, refl, sym}
+use Rattle.std.proofs.Common.{ap, ◌∙◌, subst, arith, append_assoc, append-nil, length-drop, length-take}
 use Rattle.page.specs.declared.page_content.PageContent.{PageContent}
 use Rattle.page.specs.declared.page_content.PageContent.TheVariants as P
 use Rattle.btree.specs.View.{content_in}
@@ -20,7 +21,8 @@ pub record IsRead (s : Store) (value bytes : List ℕ) (left page : ℕ) : Type 
   pub next : next_of links ≡ page
   pub has : HasLinks s links rest
 
-pub begun : (s : Store) (links value : List ℕ) (left page : ℕ) → HasLinks s links value → next_of links ≡ page → length value ≡ left → IsRead s value [] left page
+pub begun : (s : Store) (links value : List ℕ) (left page : ℕ) → HasLinks s links value → next_of links ≡ page → length value ≡ left
+    → IsRead s value [] left page
 begun s links value left page h n e = record { links = links; rest = value; is = refl; long = e; next = n; has = h }
 
 -- the page that is read next
@@ -37,7 +39,8 @@ next_page s value bytes left page pos r = go r.links r.next r.has
   where
     go : (links : List ℕ) → next_of links ≡ page → HasLinks s links r.rest → IsNext s value bytes left page
     go [] n h = absurd (omega (arith, r.long, ap length h))
-    go (p ∷ links) n h = record { links = links; rest = r.rest; is = r.is; long = r.long; at = subst (λ q. IsAt s q (chain (next_of links) (take 4076 r.rest))) n h.1; has = h.2 }
+    go (p ∷ links) n h = record
+        { links = links; rest = r.rest; is = r.is; long = r.long; at = subst (λ q. IsAt s q (chain (next_of links) (take 4076 r.rest))) n h.1; has = h.2 }
 
 long_front : (xs : List ℕ) → length (take 4076 xs) ≡ min (length xs) 4076
 long_front xs = omega (arith, length-take 4076 xs)
@@ -49,12 +52,14 @@ pub next_is : (next : ℕ) (part : List ℕ) (next' : ℕ) (part' : List ℕ) �
 next_is next part next' part' e = cc
 
 -- a page of another length
-pub part_long : (s : Store) (value bytes : List ℕ) (left page next : ℕ) (part : List ℕ) → 0 < left → IsRead s value bytes left page → s.page page ≡ chain next part → length part ≡ min left 4076
+pub part_long : (s : Store) (value bytes : List ℕ) (left page next : ℕ) (part : List ℕ) → 0 < left → IsRead s value bytes left page
+    → s.page page ≡ chain next part → length part ≡ min left 4076
 part_long s value bytes left page next part pos r e =
     let n = next_page s value bytes left page pos r in
     ap length (part_is next part _ _ (sym e ∙ n.at.holds)) ∙ long_front n.rest ∙ ap (λ k. min k 4076) n.long
 
-pub read_on : (old new : Store) (value bytes : List ℕ) (left left' page next : ℕ) (part : List ℕ) → Frame old new → 0 < left → IsRead old value bytes left page → old.page page ≡ chain next part
+pub read_on : (old new : Store) (value bytes : List ℕ) (left left' page next : ℕ) (part : List ℕ) → Frame old new → 0 < left → IsRead old value bytes left page
+    → old.page page ≡ chain next part
     → left' ≡ left - length part → IsRead new value (bytes ++ part) left' next
 read_on old new value bytes left left' page next part grows pos r e less =
     let n = next_page old value bytes left page pos r in
@@ -63,7 +68,8 @@ read_on old new value bytes left left' page next part grows pos r e less =
     record {
       links = n.links;
       rest = drop 4076 n.rest;
-      is = n.is ∙ ap (λ zs. bytes ++ zs) (sym (take_drop 4076 n.rest)) ∙ sym (append_assoc bytes (take 4076 n.rest) (drop 4076 n.rest)) ∙ ap (λ zs. (bytes ++ zs) ++ drop 4076 n.rest) (sym p);
+      is = n.is ∙ ap (λ zs. bytes ++ zs) (sym (take_drop 4076 n.rest)) ∙ sym (append_assoc bytes (take 4076 n.rest) (drop 4076 n.rest))
+          ∙ ap (λ zs. (bytes ++ zs) ++ drop 4076 n.rest) (sym p);
       long = length-drop 4076 n.rest ∙ cut n.rest n.long (ap length p ∙ long_front n.rest);
       next = sym (next_is next part _ _ same);
       has = links_kept old new grows n.links (drop 4076 n.rest) n.has;
@@ -127,11 +133,13 @@ pub record IsRetiring (old new : Store) (all : List ℕ) (left page : ℕ) : Typ
   pub retired : (n : ℕ) → times n new.retired ≡ times n gone + times n old.retired
   pub made : new.made ≡ old.made
 
-pub retiring : (s : Store) (links value : List ℕ) (left page : ℕ) → HasLinks s links value → next_of links ≡ page → length value ≡ left → IsRetiring s s links left page
+pub retiring : (s : Store) (links value : List ℕ) (left page : ℕ) → HasLinks s links value → next_of links ≡ page → length value ≡ left
+    → IsRetiring s s links left page
 retiring s links value left page h n e =
     record { gone = []; links = links; rest = value; is = refl; long = e; next = n; has = h; retired = λ n. omega arith; made = refl }
 
-pub retired_on : (start old read new : Store) (all : List ℕ) (left left' page next : ℕ) (part : List ℕ) → Frame old read → IsSame old read → IsRetired read new page → 0 < left → IsRetiring start old all left page
+pub retired_on : (start old read new : Store) (all : List ℕ) (left left' page next : ℕ) (part : List ℕ) → Frame old read → IsSame old read
+    → IsRetired read new page → 0 < left → IsRetiring start old all left page
     → old.page page ≡ chain next part → left' ≡ left - 4076 → IsRetiring start new all left' next
 retired_on start old read new all left left' page next part grows same gone pos r e less = go r.links refl r.has
   where
@@ -198,12 +206,17 @@ nothing_chained s value k le =
     none (x ∷ xs) zero le = absurd (omega arith)
     none (x ∷ xs) (suc k) le = none xs k (omega arith)
 
-pub chained_on : (old mid new : Store) (value rest bytes : List ℕ) (next page : ℕ) → IsChained old mid rest next → IsMade mid new page (chain next bytes) → 0 < length value → bytes ≡ take 4076 value → rest ≡ drop 4076 value
+pub chained_on : (old mid new : Store) (value rest bytes : List ℕ) (next page : ℕ) → IsChained old mid rest next → IsMade mid new page (chain next bytes)
+    → 0 < length value → bytes ≡ take 4076 value → rest ≡ drop 4076 value
     → IsChained old new value page
 chained_on old mid new value rest bytes next page c made pos b r =
     record {
       links = page ∷ c.links;
-      has = (pos, subst (IsAt new page) (ap (λ q. chain q bytes) (sym c.first) ∙ ap (chain (next_of c.links)) b) made.at, links_kept mid new made.frame c.links (drop 4076 value) (subst (HasLinks mid c.links) r c.has));
+      has = (
+        pos,
+        subst (IsAt new page) (ap (λ q. chain q bytes) (sym c.first) ∙ ap (chain (next_of c.links)) b) made.at,
+        links_kept mid new made.frame c.links (drop 4076 value) (subst (HasLinks mid c.links) r c.has),
+      );
       first = refl;
       made = λ n. omega (arith, c.made n, ap (times n) made.made);
       count = omega (arith, c.count, ap length made.made);
@@ -211,10 +224,12 @@ chained_on old mid new value rest bytes next page c made pos b r =
     }
 
 -- the bytes of one page
-pub bytes_here : (value : List ℕ) (start end : ℕ) → end ≡ min (length value) (start + 4076) → start ≤ length value → take (end - start) (drop start value) ≡ take 4076 (drop start value)
+pub bytes_here : (value : List ℕ) (start end : ℕ) → end ≡ min (length value) (start + 4076) → start ≤ length value
+    → take (end - start) (drop start value) ≡ take 4076 (drop start value)
 bytes_here value start end e le = go (drop start value) (end - start) (cut (length value) start end e le (length-drop start value))
   where
-    cut : (n start end : ℕ) → end ≡ min n (start + 4076) → start ≤ n → length (drop start value) ≡ n - start → end - start ≡ min (length (drop start value)) 4076
+    cut : (n start end : ℕ) → end ≡ min n (start + 4076) → start ≤ n → length (drop start value) ≡ n - start
+        → end - start ≡ min (length (drop start value)) 4076
     cut n start end e le d = omega arith
 
     take_long : (xs : List ℕ) (k : ℕ) → length xs ≤ k → take k xs ≡ xs
@@ -235,7 +250,8 @@ bytes_here value start end e le = go (drop start value) (end - start) (cut (leng
     ]
 
 pub drop_on : (value : List ℕ) (left : ℕ) → 0 < left → drop (4076 * left) value ≡ drop 4076 (drop (4076 * (left - 1)) value)
-drop_on value left pos = (let e : 4076 * left ≡ 4076 + 4076 * (left - 1) = omega arith in ap (λ n. drop n value) e) ∙ sym (drop_drop 4076 (4076 * (left - 1)) value)
+drop_on value left pos =
+    (let e : 4076 * left ≡ 4076 + 4076 * (left - 1) = omega arith in ap (λ n. drop n value) e) ∙ sym (drop_drop 4076 (4076 * (left - 1)) value)
   where
     none : (n : ℕ) → ◌≡◌ {A = List ℕ} (drop n []) []
     none zero = refl
@@ -246,7 +262,8 @@ drop_on value left pos = (let e : 4076 * left ≡ 4076 + 4076 * (left - 1) = ome
     drop_drop a (suc b) [] = none a ∙ sym (none (a + suc b))
     drop_drop a (suc b) (x ∷ xs) = let e : a + suc b ≡ suc (a + b) = omega arith in drop_drop a b xs ∙ ap (λ n. drop n (x ∷ xs)) (sym e)
 
-pub other_kind : (p : PageContent) → ((next : ℕ) (bytes : Vec ℕ Global) → p ≡ P.Chain next bytes → ⊥) → (next : ℕ) (bytes : List ℕ) → content_in p ≡ chain next bytes → ⊥
+pub other_kind : (p : PageContent) → ((next : ℕ) (bytes : Vec ℕ Global) → p ≡ P.Chain next bytes → ⊥) → (next : ℕ) (bytes : List ℕ)
+    → content_in p ≡ chain next bytes → ⊥
 other_kind (P.Leaf items) differs next bytes e = cc
 other_kind (P.Branch arms) differs next bytes e = cc
 other_kind (P.Chain n b) differs next bytes e = differs n b refl
@@ -255,7 +272,8 @@ other_kind (P.FreeList n b) differs next bytes e = cc
 pub start_is : (left : ℕ) → (left - 1) * 4076 ≡ 4076 * (left - 1)
 start_is left = omega arith
 
-pub first_of : (value bytes : List ℕ) (left end : ℕ) → 4076 * left < length value + 4076 → 0 < left → end ≡ min (length value) ((left - 1) * 4076 + 4076) → bytes ≡ take (end - (left - 1) * 4076) (drop ((left - 1) * 4076) value)
+pub first_of : (value bytes : List ℕ) (left end : ℕ) → 4076 * left < length value + 4076 → 0 < left → end ≡ min (length value) ((left - 1) * 4076 + 4076)
+    → bytes ≡ take (end - (left - 1) * 4076) (drop ((left - 1) * 4076) value)
     → bytes ≡ take 4076 (drop (4076 * (left - 1)) value)
 first_of value bytes left end room pos e b = b ∙ bytes_here value ((left - 1) * 4076) end e (omega arith) ∙ ap (λ n. take 4076 (drop n value)) (start_is left)
 

@@ -35,21 +35,25 @@ behind_under key [] h = refl
 behind_under key (x ∷ xs) h = ap (λ b. keep_if b x (behind key xs)) (not_less key x.key h.0) ∙ behind_under key xs h.1
 
 -- what lies below the key of an edit stays before, and what lies above it stays behind
-pub edit_between : (e : Edit) (xs ys zs : List Entry) → Each (λ y. IsUnder y.key e.key) xs → Each (λ y. IsUnder e.key y.key) zs → edit_map e (xs ++ (ys ++ zs)) ≡ xs ++ (edit_map e ys ++ zs)
+pub edit_between : (e : Edit) (xs ys zs : List Entry) → Each (λ y. IsUnder y.key e.key) xs → Each (λ y. IsUnder e.key y.key) zs
+    → edit_map e (xs ++ (ys ++ zs)) ≡ xs ++ (edit_map e ys ++ zs)
 edit_between e xs ys zs h g =
     let new : List Entry = entries_at e.key e.value in
     let b1 : before e.key (xs ++ (ys ++ zs)) ≡ xs ++ before e.key ys =
     before_append e.key xs (ys ++ zs) ∙ ap (λ ps. ps ++ before e.key (ys ++ zs)) (before_under e.key xs h)
-    ∙ ap (λ ps. xs ++ ps) (before_append e.key ys zs ∙ ap (λ ps. before e.key ys ++ ps) (before_over e.key zs (each_map _ _ (λ y u. not_both e.key y.key u) zs g)) ∙ append-nil (before e.key ys)) in
+    ∙ ap (λ ps. xs ++ ps) (before_append e.key ys zs
+    ∙ ap (λ ps. before e.key ys ++ ps) (before_over e.key zs (each_map _ _ (λ y u. not_both e.key y.key u) zs g)) ∙ append-nil (before e.key ys)) in
     let b2 : behind e.key (xs ++ (ys ++ zs)) ≡ behind e.key ys ++ zs =
     behind_append e.key xs (ys ++ zs) ∙ ap (λ ps. ps ++ behind e.key (ys ++ zs)) (behind_under e.key xs (each_map _ _ (λ y u. not_both y.key e.key u) xs h))
     ∙ behind_append e.key ys zs ∙ ap (λ ps. behind e.key ys ++ ps) (behind_over e.key zs g) in
     ap (λ ps. ps ++ (new ++ behind e.key (xs ++ (ys ++ zs)))) b1 ∙ ap (λ ps. (xs ++ before e.key ys) ++ (new ++ ps)) b2
     ∙ ap (λ ps. (xs ++ before e.key ys) ++ ps) (sym (append_assoc new (behind e.key ys) zs))
-    ∙ append_assoc xs (before e.key ys) ((new ++ behind e.key ys) ++ zs) ∙ ap (λ ps. xs ++ ps) (sym (append_assoc (before e.key ys) (new ++ behind e.key ys) zs))
+    ∙ append_assoc xs (before e.key ys) ((new ++ behind e.key ys) ++ zs)
+    ∙ ap (λ ps. xs ++ ps) (sym (append_assoc (before e.key ys) (new ++ behind e.key ys) zs))
 
 -- the same for edits that all lie between
-pub change_between : (es : List Edit) (xs ys zs : List Entry) → Each (λ e. Each (λ y. IsUnder y.key e.key) xs) es → Each (λ e. Each (λ y. IsUnder e.key y.key) zs) es
+pub change_between : (es : List Edit) (xs ys zs : List Entry) → Each (λ e. Each (λ y. IsUnder y.key e.key) xs) es
+    → Each (λ e. Each (λ y. IsUnder e.key y.key) zs) es
     → change es (xs ++ (ys ++ zs)) ≡ xs ++ (change es ys ++ zs)
 change_between [] xs ys zs h g = refl
 change_between (e ∷ es) xs ys zs h g = ap (change es) (edit_between e xs ys zs h.0 g.0) ∙ change_between es xs (edit_map e ys) zs h.1 g.1

@@ -1,5 +1,6 @@
 -- A change from a page down.
-use Rattle.std.proofs.Common.{◌≡◌, ℕ, zero, suc, ◌-◌, ◌<◌, ◌≤◌, drop, get_or, List, [], ◌∷◌, ◌++◌, length, map, Option, Some, None, Result, Ok, Err, refl, sym, ap, ◌∙◌, subst, arith, inl, inr, append-nil}
+use Rattle.std.proofs.Common.{◌≡◌, ℕ, zero, suc, ◌-◌, ◌<◌, ◌≤◌, drop, get_or, List, [], ◌∷◌, ◌++◌, length, map, Option, Some, None, Result, Ok, Err, refl, sym}
+use Rattle.std.proofs.Common.{ap, ◌∙◌, subst, arith, inl, inr, append-nil}
 use Rattle.btree.specs.declared.editing.Edit.{Edit as ProgramEdit}
 use Rattle.btree.specs.declared.loose.Loose.{Loose}
 use Rattle.btree.specs.declared.pages.TreeFault.{TreeFault}
@@ -18,42 +19,54 @@ use Rattle.btree.proofs.ListLemmas.{drop_more, map_map, times_append}
 use Rattle.btree.proofs.HeldLemmas.{IsTurn, glue_held, held_later}
 use Rattle.btree.proofs.JoinLemmas.{right_gone}
 
-pub behind_more : (es : List ProgramEdit) (n : ℕ) (key : List ℕ) (d : ProgramEdit) → 0 < n → n ≤ length es → IsNotUnder (get_or es (n - 1) d).key.now key → Each (λ (e : Edit). IsNotUnder e.key key) (drop n (map edit_in es))
+pub behind_more : (es : List ProgramEdit) (n : ℕ) (key : List ℕ) (d : ProgramEdit) → 0 < n → n ≤ length es → IsNotUnder (get_or es (n - 1) d).key.now key
+    → Each (λ (e : Edit). IsNotUnder e.key key) (drop n (map edit_in es))
     → Each (λ (e : Edit). IsNotUnder e.key key) (drop (n - 1) (map edit_in es))
 behind_more es n key d lt le one more =
     let same : n ≡ suc (n - 1) = omega arith in
-    subst (Each (λ (e : Edit). IsNotUnder e.key key)) (sym (drop_more edit_in es (n - 1) d (omega arith))) (one, subst (λ k. Each (λ (e : Edit). IsNotUnder e.key key) (drop k (map edit_in es))) same more)
+    subst (Each (λ (e : Edit). IsNotUnder e.key key)) (sym (drop_more edit_in es (n - 1) d (omega arith)))
+    (one, subst (λ k. Each (λ (e : Edit). IsNotUnder e.key key) (drop k (map edit_in es))) same more)
 
 -- what goes before what is held
-pub goes_before : (s : Store) (base : ℕ) (low mid : List ℕ) (high : Option (List ℕ)) (last : List Entry) (pages : List ℕ) (back : Sheaf) → IsHeld s base mid high last pages back → IsNotUnder mid low → IsUpTo mid high
+pub goes_before : (s : Store) (base : ℕ) (low mid : List ℕ) (high : Option (List ℕ)) (last : List Entry) (pages : List ℕ) (back : Sheaf)
+    → IsHeld s base mid high last pages back → IsNotUnder mid low → IsUpTo mid high
     → GoesBefore s base low (Some mid) high last pages back
-goes_before s base low mid high last pages back h over upto = λ t more reached sheaf grown g same. glue_held t base low mid high more last reached pages sheaf back g (held_later s t base mid high last pages back grown h) same over upto
+goes_before s base low mid high last pages back h over upto =
+    λ t more reached sheaf grown g same. glue_held t base low mid high more last reached pages sheaf back g
+    (held_later s t base mid high last pages back grown h) same over upto
 
 pub two_ready : (base : ℕ) (sheaf : Sheaf) → 2 ≤ length sheaf.stubs → IsReady base sheaf
 two_ready base sheaf two = (omega arith, inr two)
 
 -- nothing is behind
-pub behind_none : (s : Store) (base : ℕ) (low : List ℕ) (between high : Option (List ℕ)) (first last : List Entry) (left_pages right_pages : List ℕ) (left right : Sheaf) → IsHeld s base low between first left_pages left
-    → IsBehind s base between high last right_pages right → IsUpTo low between → length right.stubs ≡ 0 → IsTurned s s base low high (first ++ last) (left_pages ++ right_pages) left
+pub behind_none : (s : Store) (base : ℕ) (low : List ℕ) (between high : Option (List ℕ)) (first last : List Entry) (left_pages right_pages : List ℕ)
+    (left right : Sheaf) → IsHeld s base low between first left_pages left
+    → IsBehind s base between high last right_pages right → IsUpTo low between → length right.stubs ≡ 0
+    → IsTurned s s base low high (first ++ last) (left_pages ++ right_pages) left
 behind_none s base low between high first last left_pages right_pages left right h (inl e) upto none =
     record {
       after = left_pages;
-      held = subst (λ b. IsHeld s base low b (first ++ last) left_pages left) e.1 (subst (λ es. IsHeld s base low between es left_pages left) (sym (append-nil first) ∙ ap (λ es. first ++ es) (sym e.2)) h);
+      held = subst (λ b. IsHeld s base low b (first ++ last) left_pages left) e.1
+          (subst (λ es. IsHeld s base low between es left_pages left) (sym (append-nil first) ∙ ap (λ es. first ++ es) (sym e.2)) h);
       turned = λ n. omega (arith, e.3 n, times_append n left_pages right_pages);
     }
 behind_none s base low between high first last left_pages right_pages left right h (inr m) upto none =
-    right_gone s base low m.mid high first last left_pages right_pages left right (subst (λ b. IsHeld s base low b first left_pages left) m.is h) m.held (subst (IsUpTo low) m.is upto) m.within none
+    right_gone s base low m.mid high first last left_pages right_pages left right (subst (λ b. IsHeld s base low b first left_pages left) m.is h) m.held
+    (subst (IsUpTo low) m.is upto) m.within none
 
 -- something is
-pub behind_some : (s : Store) (base : ℕ) (between high : Option (List ℕ)) (last : List Entry) (pages : List ℕ) (right : Sheaf) → IsBehind s base between high last pages right → 0 < length right.stubs
+pub behind_some : (s : Store) (base : ℕ) (between high : Option (List ℕ)) (last : List Entry) (pages : List ℕ) (right : Sheaf)
+    → IsBehind s base between high last pages right → 0 < length right.stubs
     → IsHeldBehind s base between high last pages right
 behind_some s base between high last pages right (inl e) some = absurd (omega (arith, ap length e.0))
 behind_some s base between high last pages right (inr m) some = m
 
-pub behind_later : (old new : Store) (base : ℕ) (between high : Option (List ℕ)) (last : List Entry) (pages : List ℕ) (right : Sheaf) → Frame old new → IsBehind old base between high last pages right
+pub behind_later : (old new : Store) (base : ℕ) (between high : Option (List ℕ)) (last : List Entry) (pages : List ℕ) (right : Sheaf) → Frame old new
+    → IsBehind old base between high last pages right
     → IsBehind new base between high last pages right
 behind_later old new base between high last pages right grows (inl e) = inl e
-behind_later old new base between high last pages right grows (inr m) = inr (record { mid = m.mid; is = m.is; held = held_later old new base m.mid high last pages right grows m.held; within = m.within })
+behind_later old new base between high last pages right grows (inr m) =
+    inr (record { mid = m.mid; is = m.is; held = held_later old new base m.mid high last pages right grows m.held; within = m.within })
 
 -- ---- a leaf
 
@@ -65,7 +78,8 @@ pub each_of_all : (items : List Item) → AllByRecursion IsItem items → Each I
 each_of_all [] h = tt
 each_of_all (x ∷ xs) h = (h.0, each_of_all xs h.1)
 
-pub leaf_changed : (old new : Store) (base rank : ℕ) (low : List ℕ) (high : Option (List ℕ)) (edits : List Edit) (pairs : List Pair) (items : List Item) (stubs : List Stub) → rank ≡ base → IsEdited old new edits pairs items
+pub leaf_changed : (old new : Store) (base rank : ℕ) (low : List ℕ) (high : Option (List ℕ)) (edits : List Edit) (pairs : List Pair) (items : List Item)
+    (stubs : List Stub) → rank ≡ base → IsEdited old new edits pairs items
     → stubs ≡ map item_stub items → Each IsItem items → IsSound zero low high pairs → Each (λ e. IsBetween low high e.key) edits
     → IsTurned old new base low high (change edits (map entry_of pairs)) (pages_of zero pairs) (record { rank = rank; stubs = stubs })
 leaf_changed old new base rank low high edits pairs items stubs is h stubs_are small sound between =
@@ -87,12 +101,15 @@ leaf_changed old new base rank low high edits pairs items stubs is h stubs_are s
 
 -- ---- after a page was retired
 
-pub turned_on : (old mid new : Store) (base : ℕ) (low : List ℕ) (high : Option (List ℕ)) (entries : List Entry) (before between : List ℕ) (r : Result Loose TreeFault) → Frame old mid → AreTurned old mid before between
+pub turned_on : (old mid new : Store) (base : ℕ) (low : List ℕ) (high : Option (List ℕ)) (entries : List Entry) (before between : List ℕ)
+    (r : Result Loose TreeFault) → Frame old mid → AreTurned old mid before between
     → IsTurn mid new base low high entries between r → IsTurn old new base low high entries before r
-turned_on old mid new base low high entries before between (Ok l) grows t u = record { after = u.after; held = u.held; turned = λ n. omega (arith, t n, u.turned n) }
+turned_on old mid new base low high entries before between
+    (Ok l) grows t u = record { after = u.after; held = u.held; turned = λ n. omega (arith, t n, u.turned n) }
 turned_on old mid new base low high entries before between (Err e) grows t u = cause_later old mid new e grows u
 
-pub at_leaf : (C : (d : ℕ) → Body d → Type 0) (items : List Item) → ((pairs : List Pair) → items ≡ map item_of pairs → C zero pairs) → (d : ℕ) (body : Body d) → leaf items ≡ content_of d body → C d body
+pub at_leaf : (C : (d : ℕ) → Body d → Type 0) (items : List Item) → ((pairs : List Pair) → items ≡ map item_of pairs → C zero pairs) → (d : ℕ) (body : Body d)
+    → leaf items ≡ content_of d body → C d body
 at_leaf C items f zero pairs e = let same : items ≡ map item_of pairs = cc in f pairs same
 at_leaf C items f (suc d) twigs e = cc
 
@@ -100,6 +117,7 @@ pub branch_deep : (d : ℕ) (body : Body d) (arms : List Arm) → branch arms �
 branch_deep zero pairs arms e = cc
 branch_deep (suc d) twigs arms e = omega arith
 
-pub begins : (low : List ℕ) (arms : List Arm) (stubs : List Stub) → stubs ≡ map arm_stub (under_key low arms) → 0 < length stubs → first_or None stubs ≡ Some low
+pub begins : (low : List ℕ) (arms : List Arm) (stubs : List Stub) → stubs ≡ map arm_stub (under_key low arms) → 0 < length stubs
+    → first_or None stubs ≡ Some low
 begins low [] stubs e some = absurd (omega (arith, ap length e))
 begins low (a ∷ more) stubs e some = ap (first_or None) e

@@ -1,25 +1,30 @@
 -- Cells and children, cut into pages by bytes.
-use Rattle.std.proofs.Common.{◌≡◌, ℕ, zero, suc, ◌+◌, ◌-◌, ◌*◌, ◌<◌, ◌≤◌, List, [], ◌∷◌, length, map, take, drop, get_or, Option, Some, Bool, true, false, refl, sym, ap, ◌∙◌, arith, inl, inr}
+use Rattle.std.proofs.Common.{◌≡◌, ℕ, zero, suc, ◌+◌, ◌-◌, ◌*◌, ◌<◌, ◌≤◌, List, [], ◌∷◌, length, map, take, drop, get_or, Option, Some, Bool, true, false, refl}
+use Rattle.std.proofs.Common.{sym, ap, ◌∙◌, arith, inl, inr}
 use Rattle.btree.specs.declared.loose.Unit.{Unit}
 use Rattle.btree.specs.Keys.{Each, Rises}
 use Rattle.btree.specs.Loose.{GoBehind, IsOver, IsPart, IsStub, Stub, stub_keys, stub_size, stubs_size}
 use Rattle.btree.specs.LooseView.{stub_in}
 
 -- what stands at a place of a list, and behind it
-drop_next : (units : List Unit) (i : ℕ) (u d : Unit) → i < length units → u ≡ get_or units i d → drop i (map stub_in units) ≡ stub_in u ∷ drop (suc i) (map stub_in units)
+drop_next : (units : List Unit) (i : ℕ) (u d : Unit) → i < length units → u ≡ get_or units i d
+    → drop i (map stub_in units) ≡ stub_in u ∷ drop (suc i) (map stub_in units)
 drop_next [] i u d lt e = absurd (omega arith)
 drop_next (x ∷ xs) zero u d lt e = ap (λ y. stub_in y ∷ map stub_in xs) (sym e)
 drop_next (x ∷ xs) (suc i) u d lt e = drop_next xs i u d (omega arith) e
 
-pub drop_at : (units : List Unit) (i : ℕ) (u d : Unit) → i < length units → u ≡ get_or units i d → drop i (map stub_in units) ≡ stub_in u ∷ drop (i + 1) (map stub_in units)
+pub drop_at : (units : List Unit) (i : ℕ) (u d : Unit) → i < length units → u ≡ get_or units i d
+    → drop i (map stub_in units) ≡ stub_in u ∷ drop (i + 1) (map stub_in units)
 drop_at units i u d lt e = let n : suc i ≡ i + 1 = omega arith in drop_next units i u d lt e ∙ ap (λ k. stub_in u ∷ drop k (map stub_in units)) n
 
-take_next : (units : List Unit) (i : ℕ) (u d : Unit) → i < length units → u ≡ get_or units i d → stubs_size (take (suc i) (map stub_in units)) ≡ stubs_size (take i (map stub_in units)) + stub_size (stub_in u)
+take_next : (units : List Unit) (i : ℕ) (u d : Unit) → i < length units → u ≡ get_or units i d
+    → stubs_size (take (suc i) (map stub_in units)) ≡ stubs_size (take i (map stub_in units)) + stub_size (stub_in u)
 take_next [] i u d lt e = absurd (omega arith)
 take_next (x ∷ xs) zero u d lt e = omega (arith, ap (λ y. stub_size (stub_in y)) e)
 take_next (x ∷ xs) (suc i) u d lt e = omega (arith, take_next xs i u d (omega arith) e)
 
-pub take_at : (units : List Unit) (i : ℕ) (u d : Unit) → i < length units → u ≡ get_or units i d → stubs_size (take (i + 1) (map stub_in units)) ≡ stubs_size (take i (map stub_in units)) + stub_size (stub_in u)
+pub take_at : (units : List Unit) (i : ℕ) (u d : Unit) → i < length units → u ≡ get_or units i d
+    → stubs_size (take (i + 1) (map stub_in units)) ≡ stubs_size (take i (map stub_in units)) + stub_size (stub_in u)
 take_at units i u d lt e = let n : i + 1 ≡ suc i = omega arith in ap (λ k. stubs_size (take k (map stub_in units))) n ∙ take_next units i u d lt e
 
 pub at_stub : (units : List Unit) (i : ℕ) (u d : Unit) (s : Stub) → i < length units → u ≡ get_or units i d → get_or (map stub_in units) i s ≡ stub_in u
@@ -36,7 +41,8 @@ drop_end (x ∷ xs) (suc i) le = drop_end xs i (omega arith)
 
 -- ---- what ascends and finds room goes into a page
 
-pub go_all : (last : Option (List ℕ)) (used : ℕ) (stubs : List Stub) → Each IsStub stubs → Rises (stub_keys stubs) → Each (IsOver last) (stub_keys stubs) → used + stubs_size stubs ≤ 4080 → GoBehind last used stubs
+pub go_all : (last : Option (List ℕ)) (used : ℕ) (stubs : List Stub) → Each IsStub stubs → Rises (stub_keys stubs) → Each (IsOver last) (stub_keys stubs)
+    → used + stubs_size stubs ≤ 4080 → GoBehind last used stubs
 go_all last used [] h rise over room = tt
 go_all last used (s ∷ ss) h rise over room = (h.0, over.0, omega arith, go_all (Some s.key) (used + stub_size s) ss h.1 rise.1 rise.0 (omega arith))
 
@@ -112,10 +118,12 @@ module _ (stubs : List Stub) (d : Stub) where
   pub part_filled : (at : ℕ) → stubs_size (take at stubs) ≤ 4080 → IsPart true stubs at
   part_filled at room = record { room = room; many = λ f. cc }
 
-  pub none_fits : (fills : Bool) (limit : ℕ) → 0 < length stubs → 1360 ≤ limit → limit < stubs_size (take 0 stubs) + stub_size (get_or stubs 0 d) → Each IsStub stubs → IsPart fills stubs 1
+  pub none_fits : (fills : Bool) (limit : ℕ) → 0 < length stubs → 1360 ≤ limit → limit < stubs_size (take 0 stubs) + stub_size (get_or stubs 0 d)
+      → Each IsStub stubs → IsPart fills stubs 1
   none_fits fills limit some least next h = let one = each_at 0 stubs d some h in absurd (omega arith)
 
-  pub part_front : (whole behind : ℕ) → whole < length stubs → 4080 < stubs_size (take whole stubs) + stub_size (get_or stubs whole d) → stubs_size (take whole stubs) ≤ 4080 → whole + behind < length stubs
+  pub part_front : (whole behind : ℕ) → whole < length stubs → 4080 < stubs_size (take whole stubs) + stub_size (get_or stubs whole d)
+      → stubs_size (take whole stubs) ≤ 4080 → whole + behind < length stubs
       → 1360 < stubs_size (take behind (drop whole stubs)) + stub_size (get_or (drop whole stubs) behind d) → Each IsStub stubs → IsPart false stubs whole
   part_front whole behind lt full room more rest h =
       let one = each_at whole stubs d lt h in
@@ -125,7 +133,8 @@ module _ (stubs : List Stub) (d : Stub) where
       let fewer = small_take behind (drop whole stubs) (each_drop whole stubs h) in
       record { room = room; many = λ f two. (omega arith, inr (omega arith)) }
 
-  pub part_half : (whole half : ℕ) → whole < length stubs → 4080 < stubs_size (take whole stubs) + stub_size (get_or stubs whole d) → half ≤ length stubs → stubs_size (take half stubs) ≤ 2720
+  pub part_half : (whole half : ℕ) → whole < length stubs → 4080 < stubs_size (take whole stubs) + stub_size (get_or stubs whole d) → half ≤ length stubs
+      → stubs_size (take half stubs) ≤ 2720
       → (half < length stubs → 2720 < stubs_size (take half stubs) + stub_size (get_or stubs half d)) → Each IsStub stubs → IsPart false stubs half
   part_half whole half lt full le room next h =
       let total = size_next whole stubs d lt in

@@ -1,5 +1,6 @@
 -- Edits of a leaf's pairs.
-use Rattle.std.proofs.Common.{◌≡◌, ℕ, zero, suc, ◌+◌, ◌<◌, ◌≤◌, List, [], ◌∷◌, ◌++◌, length, map, take, get_or, true, false, Option, Some, None, Result, Ok, Err, refl, sym, ap, ◌∙◌, subst, arith, append-nil, inl, inr}
+use Rattle.std.proofs.Common.{◌≡◌, ℕ, zero, suc, ◌+◌, ◌<◌, ◌≤◌, List, [], ◌∷◌, ◌++◌, length, map, take, get_or, true, false, Option, Some, None, Result, Ok}
+use Rattle.std.proofs.Common.{Err, refl, sym, ap, ◌∙◌, subst, arith, append-nil, inl, inr}
 use Rattle.std.specs.List.{flat_map, insert, remove}
 use Rattle.std.specs.Result.{IsErrAnd}
 use Rattle.std.specs.Ordering.{is_eq}
@@ -17,7 +18,8 @@ use Rattle.btree.specs.EditView.{edit_in}
 use Rattle.btree.specs.View.{item_in, place_in}
 use Rattle.btree.specs.Calls.{AreRetired, IsAnswer, IsChained, IsEdited, IsSmallPlace, IsPutIn, IsStored, IsTakenOut}
 use Rattle.btree.proofs.KeyLemmas.{not_under_cases, not_under_itself, under_trans}
-use Rattle.btree.proofs.ListLemmas.{each_append, each_back, each_front, each_map, flat_append, map_append, long_map, at_place, rises_append, rises_back, rises_front, times_append}
+use Rattle.btree.proofs.ListLemmas.{each_append, each_back, each_front, each_map, flat_append, map_append, long_map, at_place, rises_append, rises_back}
+use Rattle.btree.proofs.ListLemmas.{rises_front, times_append}
 use Rattle.btree.proofs.StoreLemmas.{cause_later, frame_trans, shows_kept}
 use Rattle.btree.proofs.ChangeLemmas.{before_over, behind_under, change_append, edit_between}
 use Rattle.btree.proofs.ScanLemmas.{each_entry}
@@ -61,7 +63,8 @@ map_get [] i d lt = absurd (omega arith)
 map_get (x ∷ xs) zero d lt = refl
 map_get (x ∷ xs) (suc i) d lt = map_get xs i d (omega arith)
 
-module _ (items : List Item) (pairs : List Pair) (key : List ℕ) (i : ℕ) (e : items ≡ map item_of pairs) (rise : Rises (pair_keys pairs)) (place : IsPlace items key i) where
+module _ (items : List Item) (pairs : List Pair) (key : List ℕ) (i : ℕ) (e : items ≡ map item_of pairs) (rise : Rises (pair_keys pairs))
+    (place : IsPlace items key i) where
   parted : (it : Item) → i < length items → it ≡ get_or items i it → IsParted pairs key i it
   parted it lt h =
       let long : length items ≡ length pairs = ap length e ∙ long_map item_of pairs in
@@ -139,7 +142,8 @@ module _ (items : List Item) (pairs : List Pair) (key : List ℕ) (i : ℕ) (e :
         retired = subst (AreRetired old new) (sym (append-nil p.mid.links)) gone;
       }
 
-  pub failed_taken : {X : Type 0} (old new : Store) (it : Item) (P : X → Type 0) (r : Result X TreeFault) (f : TreeFault) → i < length items → it ≡ get_or items i it → Each (HasChain old) pairs → IsErrAnd r (λ g. g ≡ f)
+  pub failed_taken : {X : Type 0} (old new : Store) (it : Item) (P : X → Type 0) (r : Result X TreeFault) (f : TreeFault) → i < length items
+      → it ≡ get_or items i it → Each (HasChain old) pairs → IsErrAnd r (λ g. g ≡ f)
       → ((x : Pair) → it.place ≡ place_of x.links x.value → HasChain old x → HasCause old new f) → IsAnswer old new P r
   failed_taken old new it P (Ok v) f lt h shown is says = absurd is
   failed_taken old new it P (Err g) f lt h shown is says =
@@ -147,33 +151,42 @@ module _ (items : List Item) (pairs : List Pair) (key : List ℕ) (i : ℕ) (e :
       let chained : HasChain old p.mid = (each_back (HasChain old) p.front (p.mid ∷ p.back) (subst (Each (HasChain old)) p.is shown)).0 in
       subst (HasCause old new) (sym is) (says p.mid (ap (λ (x : Item). x.place) p.item) chained)
 
-module _ (cells : List Cell) (pairs : List Pair) (key : List ℕ) (i : ℕ) (e : map item_in cells ≡ map item_of pairs) (rise : Rises (pair_keys pairs)) (place : IsPlace (map item_in cells) key i) where
+module _ (cells : List Cell) (pairs : List Pair) (key : List ℕ) (i : ℕ) (e : map item_in cells ≡ map item_of pairs) (rise : Rises (pair_keys pairs))
+    (place : IsPlace (map item_in cells) key i) where
   there : (cell : Cell) → i < length cells → cell ≡ get_or cells i cell → item_in cell ≡ get_or (map item_in cells) i (item_in cell)
   there cell lt h = ap item_in h ∙ sym (map_get cells i cell lt)
 
   pub taken_past : (s : Store) → length cells ≤ i → IsTakenOut s s key pairs (map item_in cells) i
   taken_past s le = past_taken (map item_in cells) pairs key i e rise place s (omega (arith, long_map item_in cells))
 
-  pub taken_other : (s : Store) (cell : Cell) → i < length cells → cell ≡ get_or cells i cell → is_eq (key_cmp cell.key.now key) ≡ false → IsTakenOut s s key pairs (map item_in cells) i
-  taken_other s cell lt h differs = other_taken (map item_in cells) pairs key i e rise place s (item_in cell) (omega (arith, long_map item_in cells)) (there cell lt h) differs
+  pub taken_other : (s : Store) (cell : Cell) → i < length cells → cell ≡ get_or cells i cell → is_eq (key_cmp cell.key.now key) ≡ false
+      → IsTakenOut s s key pairs (map item_in cells) i
+  taken_other s cell lt h differs =
+      other_taken (map item_in cells) pairs key i e rise place s (item_in cell) (omega (arith, long_map item_in cells)) (there cell lt h) differs
 
-  pub taken_here : (old new : Store) (cell : Cell) → i < length cells → cell ≡ get_or cells i cell → is_eq (key_cmp cell.key.now key) ≡ true → Each (HasChain old) pairs
-      → ((x : Pair) → place_in cell.stored ≡ place_of x.links x.value → HasChain old x → AreRetired old new x.links) → IsTakenOut old new key pairs (map item_in (remove cells i)) i
+  pub taken_here : (old new : Store) (cell : Cell) → i < length cells → cell ≡ get_or cells i cell → is_eq (key_cmp cell.key.now key) ≡ true
+      → Each (HasChain old) pairs
+      → ((x : Pair) → place_in cell.stored ≡ place_of x.links x.value → HasChain old x → AreRetired old new x.links)
+      → IsTakenOut old new key pairs (map item_in (remove cells i)) i
   taken_here old new cell lt h hit shown says =
       subst (λ zs. IsTakenOut old new key pairs zs i) (sym (map_remove item_in cells i))
       (here_taken (map item_in cells) pairs key i e rise place old new (item_in cell) (omega (arith, long_map item_in cells)) (there cell lt h) hit shown says)
 
-  pub taken_failed : (old new : Store) (cell : Cell) (r : Result ℕ TreeFault) (f : TreeFault) (items : List Item) → i < length cells → cell ≡ get_or cells i cell → Each (HasChain old) pairs → IsErrAnd r (λ g. g ≡ f)
-      → ((x : Pair) → place_in cell.stored ≡ place_of x.links x.value → HasChain old x → HasCause old new f) → IsAnswer old new (λ at. IsTakenOut old new key pairs items at) r
+  pub taken_failed : (old new : Store) (cell : Cell) (r : Result ℕ TreeFault) (f : TreeFault) (items : List Item) → i < length cells
+      → cell ≡ get_or cells i cell → Each (HasChain old) pairs → IsErrAnd r (λ g. g ≡ f)
+      → ((x : Pair) → place_in cell.stored ≡ place_of x.links x.value → HasChain old x → HasCause old new f)
+      → IsAnswer old new (λ at. IsTakenOut old new key pairs items at) r
   taken_failed old new cell r f items lt h shown is says =
-      failed_taken (map item_in cells) pairs key i e rise place old new (item_in cell) (λ at. IsTakenOut old new key pairs items at) r f (omega (arith, long_map item_in cells)) (there cell lt h) shown is says
+      failed_taken (map item_in cells) pairs key i e rise place old new (item_in cell) (λ at. IsTakenOut old new key pairs items at) r f
+      (omega (arith, long_map item_in cells)) (there cell lt h) shown is says
 
 -- ---- a value's place
 
 pub inlined : (s : Store) (value : List ℕ) → IsStored s s value (inline value)
 inlined s value = record { links = []; is = refl; has = λ h. absurd (omega arith); made = λ n. omega arith; retired = refl }
 
-pub chained : (old new : Store) (value : List ℕ) (len first : ℕ) → 0 < length value → len ≡ length value → IsChained old new value first → IsStored old new value (spilled len first)
+pub chained : (old new : Store) (value : List ℕ) (len first : ℕ) → 0 < length value → len ≡ length value → IsChained old new value first
+    → IsStored old new value (spilled len first)
 chained old new value len first pos e c = go c.links refl
   where
     go : (links : List ℕ) → links ≡ c.links → IsStored old new value (spilled len first)
@@ -196,7 +209,8 @@ pub insert_here : {X : Type 0} (front : List X) (x : X) (back : List X) → inse
 insert_here [] x back = refl
 insert_here (f ∷ fs) x back = ap (λ zs. f ∷ zs) (insert_here fs x back)
 
-pub put_in : (old new : Store) (cells : List Cell) (at : ℕ) (cell : Cell) (value : List ℕ) → IsStored old new value (place_in cell.stored) → IsPutIn old new cell.key.now value at (map item_in cells) (map item_in (insert cells at cell))
+pub put_in : (old new : Store) (cells : List Cell) (at : ℕ) (cell : Cell) (value : List ℕ) → IsStored old new value (place_in cell.stored)
+    → IsPutIn old new cell.key.now value at (map item_in cells) (map item_in (insert cells at cell))
 put_in old new cells at cell value s =
     record {
       links = s.links;
@@ -217,12 +231,16 @@ same_not_over key [] h = tt
 same_not_over key (y ∷ ys) h = (subst (λ k. IsNotUnder key k) (sym h.0) (not_under_itself key), same_not_over key ys h.1)
 
 -- the map after an edit at the key of what was taken out
-changed : (key : List ℕ) (value : Option (List ℕ)) (pairs front mid back : List Pair) → pairs ≡ front ++ (mid ++ back) → Each (λ x. IsUnder x.key key) front → Each (λ x. x.key ≡ key) mid
-    → Each (λ x. IsUnder key x.key) back → edit_map (record { key = key; value = value }) (map entry_of pairs) ≡ map entry_of front ++ (entries_at key value ++ map entry_of back)
+changed : (key : List ℕ) (value : Option (List ℕ)) (pairs front mid back : List Pair) → pairs ≡ front ++ (mid ++ back) → Each (λ x. IsUnder x.key key) front
+    → Each (λ x. x.key ≡ key) mid
+    → Each (λ x. IsUnder key x.key) back
+    → edit_map (record { key = key; value = value }) (map entry_of pairs) ≡ map entry_of front ++ (entries_at key value ++ map entry_of back)
 changed key value pairs front mid back is under here over =
     let e : Edit = record { key = key; value = value } in
-    ap (λ ps. edit_map e (map entry_of ps)) is ∙ ap (edit_map e) (map_append entry_of front (mid ++ back) ∙ ap (λ es. map entry_of front ++ es) (map_append entry_of mid back))
-    ∙ edit_between e (map entry_of front) (map entry_of mid) (map entry_of back) (each_entry (λ k. IsUnder k key) front under) (each_entry (λ k. IsUnder key k) back over)
+    ap (λ ps. edit_map e (map entry_of ps)) is
+    ∙ ap (edit_map e) (map_append entry_of front (mid ++ back) ∙ ap (λ es. map entry_of front ++ es) (map_append entry_of mid back))
+    ∙ edit_between e (map entry_of front) (map entry_of mid) (map entry_of back) (each_entry (λ k. IsUnder k key) front under)
+    (each_entry (λ k. IsUnder key k) back over)
     ∙ ap (λ es. map entry_of front ++ (es ++ map entry_of back)) alone
   where
     alone : edit_map (record { key = key; value = value }) (map entry_of mid) ≡ entries_at key value
@@ -240,7 +258,8 @@ links_out n front mid back =
 -- any pairs in the place of what was taken out
 module _ (old out new : Store) (key : List ℕ) (value : Option (List ℕ)) (pairs : List Pair) (items items' : List Item) (at : ℕ) (new_pairs : List Pair)
     (grows : Frame old new) (t : IsTakenOut old out key pairs items at) (rise : Rises (pair_keys pairs)) (shown : Each (HasChain old) pairs)
-    (keys_are : Each (λ (x : Pair). x.key ≡ key) new_pairs) (few : Rises (pair_keys new_pairs)) (has : Each (HasChain new) new_pairs) (entries_are : map entry_of new_pairs ≡ entries_at key value)
+    (keys_are : Each (λ (x : Pair). x.key ≡ key) new_pairs) (few : Rises (pair_keys new_pairs)) (has : Each (HasChain new) new_pairs)
+    (entries_are : map entry_of new_pairs ≡ entries_at key value)
     (items_are : items' ≡ map item_of (t.front ++ (new_pairs ++ t.back)))
     (made : (n : ℕ) → times n new.made ≡ times n (flat_map (λ (x : Pair). x.links) new_pairs) + times n out.made) (retired : new.retired ≡ out.retired) where
   keys_apart : pair_keys pairs ≡ pair_keys t.front ++ (pair_keys t.mid ++ pair_keys t.back)
@@ -268,10 +287,13 @@ module _ (old out new : Store) (key : List ℕ) (value : Option (List ℕ)) (pai
         rise = subst Rises (sym keys_now) (rises_append (pair_keys t.front) (pair_keys new_pairs ++ pair_keys t.back) (rises_front _ _ keys)
             (rises_append (pair_keys new_pairs) (pair_keys t.back) few back_rise (all_at (λ k. Each (IsUnder k) (pair_keys t.back)) over))
             (keyed (λ k. Each (IsUnder k) (pair_keys new_pairs ++ pair_keys t.back)) t.front
-            (each_map _ _ (λ x u. each_append (IsUnder x.key) (pair_keys new_pairs) (pair_keys t.back) (all_at (IsUnder x.key) u) (each_map _ _ (λ k o. under_trans x.key key k u o) (pair_keys t.back) over)) t.front t.under)));
+            (each_map _ _
+            (λ x u. each_append (IsUnder x.key) (pair_keys new_pairs) (pair_keys t.back) (all_at (IsUnder x.key) u)
+            (each_map _ _ (λ k o. under_trans x.key key k u o) (pair_keys t.back) over)) t.front t.under)));
         shown = each_append (HasChain new) t.front (new_pairs ++ t.back) (each_front (HasChain new) t.front _ all)
             (each_append (HasChain new) new_pairs t.back has (each_back (HasChain new) t.mid _ (each_back (HasChain new) t.front _ all)));
-        entries = map_append entry_of t.front (new_pairs ++ t.back) ∙ ap (λ es. map entry_of t.front ++ es) (map_append entry_of new_pairs t.back ∙ ap (λ es. es ++ map entry_of t.back) entries_are)
+        entries = map_append entry_of t.front (new_pairs ++ t.back)
+            ∙ ap (λ es. map entry_of t.front ++ es) (map_append entry_of new_pairs t.back ∙ ap (λ es. es ++ map entry_of t.back) entries_are)
             ∙ sym (changed key value pairs t.front t.mid t.back t.is t.under t.here t.over);
         pages = λ n. omega (
           arith,
@@ -284,27 +306,35 @@ module _ (old out new : Store) (key : List ℕ) (value : Option (List ℕ)) (pai
           ap (λ ps. times n (flat_map (λ (x : Pair). x.links) ps)) t.is,
         );
         between = λ low high h e. subst (Each (IsBetween low high)) (sym keys_now)
-            (let was : Each (IsBetween low high) (pair_keys t.front ++ (pair_keys t.mid ++ pair_keys t.back)) = subst (Each (IsBetween low high)) keys_apart h in
-            each_append (IsBetween low high) (pair_keys t.front) (pair_keys new_pairs ++ pair_keys t.back) (each_front (IsBetween low high) (pair_keys t.front) _ was)
-            (each_append (IsBetween low high) (pair_keys new_pairs) (pair_keys t.back) (all_at (IsBetween low high) e.0) (each_back (IsBetween low high) (pair_keys t.mid) _ (each_back (IsBetween low high) (pair_keys t.front) _ was))));
+            (let was : Each (IsBetween low high) (pair_keys t.front ++ (pair_keys t.mid ++ pair_keys t.back)) =
+            subst (Each (IsBetween low high)) keys_apart h in
+            each_append (IsBetween low high) (pair_keys t.front) (pair_keys new_pairs ++ pair_keys t.back)
+            (each_front (IsBetween low high) (pair_keys t.front) _ was)
+            (each_append (IsBetween low high) (pair_keys new_pairs) (pair_keys t.back) (all_at (IsBetween low high) e.0)
+            (each_back (IsBetween low high) (pair_keys t.mid) _ (each_back (IsBetween low high) (pair_keys t.front) _ was))));
       }
 
 -- a key that was removed, and one that was put in
-pub removed_key : (old new : Store) (key : List ℕ) (pairs : List Pair) (items : List Item) (at : ℕ) → Frame old new → IsTakenOut old new key pairs items at → Rises (pair_keys pairs) → Each (HasChain old) pairs
+pub removed_key : (old new : Store) (key : List ℕ) (pairs : List Pair) (items : List Item) (at : ℕ) → Frame old new → IsTakenOut old new key pairs items at
+    → Rises (pair_keys pairs) → Each (HasChain old) pairs
     → IsEdited old new (record { key = key; value = None } ∷ []) pairs items
-removed_key old new key pairs items at grows t rise shown = edited old new new key None pairs items items at [] grows t rise shown tt tt tt refl t.items_are (λ n. omega arith) refl
+removed_key old new key pairs items at grows t rise shown =
+    edited old new new key None pairs items items at [] grows t rise shown tt tt tt refl t.items_are (λ n. omega arith) refl
 
-pub put_key : (old out new : Store) (key value : List ℕ) (pairs : List Pair) (items items' : List Item) (at : ℕ) → Frame old new → IsTakenOut old out key pairs items at → IsPutIn out new key value at items items'
+pub put_key : (old out new : Store) (key value : List ℕ) (pairs : List Pair) (items items' : List Item) (at : ℕ) → Frame old new
+    → IsTakenOut old out key pairs items at → IsPutIn out new key value at items items'
     → Rises (pair_keys pairs) → Each (HasChain old) pairs → IsEdited old new (record { key = key; value = Some value } ∷ []) pairs items'
 put_key old out new key value pairs items items' at grows t p rise shown =
     let x : Pair = record { key = key; value = value; links = p.links } in
     edited old out new key (Some value) pairs items items' at (x ∷ []) grows t rise shown (refl, tt) (tt, tt) (p.has, tt) refl
-    (p.is ∙ ap (λ zs. insert zs at (item_of x)) (t.items_are ∙ map_append item_of t.front t.back) ∙ ap (λ n. insert (map item_of t.front ++ map item_of t.back) n (item_of x)) (sym t.place ∙ sym (long_map item_of t.front))
+    (p.is ∙ ap (λ zs. insert zs at (item_of x)) (t.items_are ∙ map_append item_of t.front t.back)
+    ∙ ap (λ n. insert (map item_of t.front ++ map item_of t.back) n (item_of x)) (sym t.place ∙ sym (long_map item_of t.front))
     ∙ insert_here (map item_of t.front) (item_of x) (map item_of t.back) ∙ sym (map_append item_of t.front (x ∷ t.back)))
     (λ n. omega (arith, p.made n, ap (times n) (append-nil p.links))) p.retired
 
 -- one edit after others
-pub edited_on : (old mid new : Store) (es : List Edit) (e : Edit) (pairs : List Pair) (items items' : List Item) (h : IsEdited old mid es pairs items) → IsEdited mid new (e ∷ []) h.pairs items'
+pub edited_on : (old mid new : Store) (es : List Edit) (e : Edit) (pairs : List Pair) (items items' : List Item) (h : IsEdited old mid es pairs items)
+    → IsEdited mid new (e ∷ []) h.pairs items'
     → IsEdited old new (es ++ e ∷ []) pairs items'
 edited_on old mid new es e pairs items items' h g =
     record {
@@ -317,21 +347,27 @@ edited_on old mid new es e pairs items items' h g =
       between = λ low high b s. g.between low high (h.between low high b (each_front _ es (e ∷ []) s)) (each_back _ es (e ∷ []) s);
     }
 
-pub edits_done : {X : Type 0} (old out new : Store) (e : Edit) (value : List ℕ) (pairs : List Pair) (items items' : List Item) (at : ℕ) (r : Result X TreeFault) → e.value ≡ Some value → Frame old out → Frame out new
-    → IsTakenOut old out e.key pairs items at → IsAnswer out new (λ done. IsPutIn out new e.key value at items items') r → Rises (pair_keys pairs) → Each (HasChain old) pairs → IsAnswer old new (λ done. IsEdited old new (e ∷ []) pairs items') r
+pub edits_done : {X : Type 0} (old out new : Store) (e : Edit) (value : List ℕ) (pairs : List Pair) (items items' : List Item) (at : ℕ)
+    (r : Result X TreeFault) → e.value ≡ Some value → Frame old out → Frame out new
+    → IsTakenOut old out e.key pairs items at → IsAnswer out new (λ done. IsPutIn out new e.key value at items items') r → Rises (pair_keys pairs)
+    → Each (HasChain old) pairs → IsAnswer old new (λ done. IsEdited old new (e ∷ []) pairs items') r
 edits_done old out new e value pairs items items' at (Ok v) is g1 g2 t p rise shown =
-    subst (λ (o : Option (List ℕ)). IsEdited old new (record { key = e.key; value = o } ∷ []) pairs items') (sym is) (put_key old out new e.key value pairs items items' at (frame_trans old out new g1 g2) t p rise shown)
+    subst (λ (o : Option (List ℕ)). IsEdited old new (record { key = e.key; value = o } ∷ []) pairs items') (sym is)
+    (put_key old out new e.key value pairs items items' at (frame_trans old out new g1 g2) t p rise shown)
 edits_done old out new e value pairs items items' at (Err f) is g1 g2 t p rise shown = cause_later old out new f g1 p
 
-pub not_edited : (s : Store) (pairs : List Pair) (items : List Item) → items ≡ map item_of pairs → Rises (pair_keys pairs) → Each (HasChain s) pairs → IsEdited s s [] pairs items
+pub not_edited : (s : Store) (pairs : List Pair) (items : List Item) → items ≡ map item_of pairs → Rises (pair_keys pairs) → Each (HasChain s) pairs
+    → IsEdited s s [] pairs items
 not_edited s pairs items e rise shown =
     record { pairs = pairs; items_are = e; rise = rise; shown = shown; entries = refl; pages = λ n. refl; between = λ low high h g. h }
 
 -- the edits so far, with one more
-pub edits_more : (es : List ProgramEdit) (i : ℕ) (d : ProgramEdit) → i < length es → take (i + 1) (map edit_in es) ≡ take i (map edit_in es) ++ edit_in (get_or es i d) ∷ []
+pub edits_more : (es : List ProgramEdit) (i : ℕ) (d : ProgramEdit) → i < length es
+    → take (i + 1) (map edit_in es) ≡ take i (map edit_in es) ++ edit_in (get_or es i d) ∷ []
 edits_more [] i d lt = absurd (omega arith)
 edits_more (x ∷ xs) zero d lt = refl
-edits_more (x ∷ xs) (suc i) d lt = (let n : suc i + 1 ≡ suc (i + 1) = omega arith in ap (λ k. take k (map edit_in (x ∷ xs))) n) ∙ ap (λ zs. edit_in x ∷ zs) (edits_more xs i d (omega arith))
+edits_more (x ∷ xs) (suc i) d lt =
+    (let n : suc i + 1 ≡ suc (i + 1) = omega arith in ap (λ k. take k (map edit_in (x ∷ xs))) n) ∙ ap (λ zs. edit_in x ∷ zs) (edits_more xs i d (omega arith))
 
 pub each_removed : (cells : List Cell) (i : ℕ) → Each IsItem (map item_in cells) → Each IsItem (map item_in (remove cells i))
 each_removed [] zero h = tt

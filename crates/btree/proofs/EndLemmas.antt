@@ -1,5 +1,6 @@
 -- The last and the first child of what was taken out of its page.
-use Rattle.std.proofs.Common.{◌≡◌, ℕ, zero, suc, ◌+◌, ◌<◌, ◌≤◌, List, [], ◌∷◌, ◌++◌, length, map, take, drop, get_or, Option, Some, None, Result, Ok, Err, refl, sym, ap, ◌∙◌, subst, arith, append-nil}
+use Rattle.std.proofs.Common.{◌≡◌, ℕ, zero, suc, ◌+◌, ◌<◌, ◌≤◌, List, [], ◌∷◌, ◌++◌, length, map, take, drop, get_or, Option, Some, None, Result, Ok, Err, refl}
+use Rattle.std.proofs.Common.{sym, ap, ◌∙◌, subst, arith, append-nil}
 use Rattle.std.specs.Result.{IsErrAnd}
 use Rattle.btree.specs.declared.loose.Loose.{Loose}
 use Rattle.btree.specs.declared.loose.Unit.{Unit}
@@ -42,7 +43,8 @@ one_of (w ∷ []) t e = record { w = w; is = refl; stub = cc }
 one_of (w ∷ v ∷ vs) t e = cc
 
 -- the last child, apart
-pub record IsLastOff (s : Store) (base : ℕ) (low : List ℕ) (high : Option (List ℕ)) (entries : List Entry) (reached : List ℕ) (rank : ℕ) (front : List Stub) (t : Stub) (page : ℕ) : Type 0 where
+pub record IsLastOff (s : Store) (base : ℕ) (low : List ℕ) (high : Option (List ℕ)) (entries : List Entry) (reached : List ℕ) (rank : ℕ) (front : List Stub)
+    (t : Stub) (page : ℕ) : Type 0 where
   pub d : ℕ
   pub twigs : Body (suc d)
   pub body : Body d
@@ -59,11 +61,15 @@ pub record IsLastOff (s : Store) (base : ℕ) (low : List ℕ) (high : Option (L
   pub front_small : Each IsStub front
   pub little : 6 + length t.key ≤ 1360
 
-pub last_off : (s : Store) (base : ℕ) (low : List ℕ) (high : Option (List ℕ)) (entries : List Entry) (reached : List ℕ) (sheaf : Sheaf) (front : List Stub) (t : Stub) (page : ℕ) → IsHeld s base low high entries reached sheaf
-    → sheaf.stubs ≡ front ++ t ∷ [] → base < sheaf.rank → 0 < length sheaf.stubs → t.load ≡ child page → IsLastOff s base low high entries reached sheaf.rank front t page
-last_off s base low high entries reached sheaf front t page h is deep some load = go h.d h.body (h.rank_is some) (sym is ∙ h.stubs_are) h.spread h.shown h.entries_are h.pages_are
+pub last_off : (s : Store) (base : ℕ) (low : List ℕ) (high : Option (List ℕ)) (entries : List Entry) (reached : List ℕ) (sheaf : Sheaf) (front : List Stub)
+    (t : Stub) (page : ℕ) → IsHeld s base low high entries reached sheaf
+    → sheaf.stubs ≡ front ++ t ∷ [] → base < sheaf.rank → 0 < length sheaf.stubs → t.load ≡ child page
+    → IsLastOff s base low high entries reached sheaf.rank front t page
+last_off s base low high entries reached sheaf front t page h is deep some load =
+    go h.d h.body (h.rank_is some) (sym is ∙ h.stubs_are) h.spread h.shown h.entries_are h.pages_are
   where
-    go : (d : ℕ) (body : Body d) → sheaf.rank ≡ base + d → front ++ t ∷ [] ≡ stubs_of d body → IsSpread d low high body → Shows s d body → entries_of d body ≡ entries → ((n : ℕ) → times n (pages_of d body) ≡ times n reached)
+    go : (d : ℕ) (body : Body d) → sheaf.rank ≡ base + d → front ++ t ∷ [] ≡ stubs_of d body → IsSpread d low high body → Shows s d body
+        → entries_of d body ≡ entries → ((n : ℕ) → times n (pages_of d body) ≡ times n reached)
         → IsLastOff s base low high entries reached sheaf.rank front t page
     go zero body rank e spread shown ee pp = absurd (omega arith)
     go (suc d) body rank e spread shown ee pp =
@@ -88,16 +94,26 @@ last_off s base low high entries reached sheaf front t page h is deep some load 
           lies = subst (λ k. Lies d k high one.w.body) key spreads.1.0.0;
           spread = subst (λ k. IsSpread (suc d) low (Some k) p.front) key spreads.0;
           front_shown = parts.0;
-          entries_are = ap (λ es. entries_of (suc d) p.front ++ es) (sym (ap (map _) (append-nil _))) ∙ sym (entries_joined (suc d) p.front (one.w ∷ [])) ∙ ap (entries_of (suc d)) (sym body_is) ∙ ee;
-          pages_are = λ n. omega (arith, pages_joined (suc d) p.front (one.w ∷ []) n, ap (times n) (append-nil (one.w.page ∷ pages_of d one.w.body)), ap (λ k. times n (k ∷ pages_of d one.w.body)) page_is, ap (λ b. times n (pages_of (suc d) b)) body_is, pp n);
+          entries_are = ap (λ es. entries_of (suc d) p.front ++ es) (sym (ap (map _) (append-nil _))) ∙ sym (entries_joined (suc d) p.front (one.w ∷ []))
+              ∙ ap (entries_of (suc d)) (sym body_is) ∙ ee;
+          pages_are = λ n. omega (
+            arith,
+            pages_joined (suc d) p.front (one.w ∷ []) n,
+            ap (times n) (append-nil (one.w.page ∷ pages_of d one.w.body)),
+            ap (λ k. times n (k ∷ pages_of d one.w.body)) page_is,
+            ap (λ b. times n (pages_of (suc d) b)) body_is,
+            pp n,
+          );
           between = subst (IsBetween low high) key spreads.1.2.0;
           front_small = each_front IsStub front (t ∷ []) small;
           little = omega arith;
         }
 
 -- what it opens to
-pub last_parted : (old new : Store) (base : ℕ) (low : List ℕ) (high : Option (List ℕ)) (entries : List Entry) (reached : List ℕ) (rank : ℕ) (front : List Stub) (t : Stub) (page : ℕ) (sheaf : Sheaf)
-    (o : IsLastOff old base low high entries reached rank front t page) → Frame old new → IsTurned old new base t.key high (entries_of o.d o.body) (page ∷ pages_of o.d o.body) sheaf
+pub last_parted : (old new : Store) (base : ℕ) (low : List ℕ) (high : Option (List ℕ)) (entries : List Entry) (reached : List ℕ) (rank : ℕ) (front : List Stub)
+    (t : Stub) (page : ℕ) (sheaf : Sheaf)
+    (o : IsLastOff old base low high entries reached rank front t page) → Frame old new
+    → IsTurned old new base t.key high (entries_of o.d o.body) (page ∷ pages_of o.d o.body) sheaf
     → AreParted old new base low high entries reached (record { rank = rank; stubs = front }) sheaf
 last_parted old new base low high entries reached rank front t page sheaf o grows turned =
     record {
@@ -125,7 +141,8 @@ last_parted old new base low high entries reached rank front t page sheaf o grow
     }
 
 -- the first child, apart
-pub record IsFirstOff (s : Store) (base : ℕ) (low : List ℕ) (high : Option (List ℕ)) (entries : List Entry) (reached : List ℕ) (rank : ℕ) (t : Stub) (rest : List Stub) (page : ℕ) : Type 0 where
+pub record IsFirstOff (s : Store) (base : ℕ) (low : List ℕ) (high : Option (List ℕ)) (entries : List Entry) (reached : List ℕ) (rank : ℕ) (t : Stub)
+    (rest : List Stub) (page : ℕ) : Type 0 where
   pub d : ℕ
   pub twigs : Body (suc d)
   pub body : Body d
@@ -143,11 +160,15 @@ pub record IsFirstOff (s : Store) (base : ℕ) (low : List ℕ) (high : Option (
   pub rest_small : Each IsStub rest
   pub little : 6 + length t.key ≤ 1360
 
-pub first_off : (s : Store) (base : ℕ) (low : List ℕ) (high : Option (List ℕ)) (entries : List Entry) (reached : List ℕ) (sheaf : Sheaf) (t : Stub) (rest : List Stub) (page : ℕ) → IsHeld s base low high entries reached sheaf
-    → sheaf.stubs ≡ t ∷ rest → base < sheaf.rank → 0 < length sheaf.stubs → t.load ≡ child page → IsFirstOff s base low high entries reached sheaf.rank t rest page
-first_off s base low high entries reached sheaf t rest page h is deep some load = go h.d h.body (h.rank_is some) (sym is ∙ h.stubs_are) h.spread h.shown h.entries_are h.pages_are
+pub first_off : (s : Store) (base : ℕ) (low : List ℕ) (high : Option (List ℕ)) (entries : List Entry) (reached : List ℕ) (sheaf : Sheaf) (t : Stub)
+    (rest : List Stub) (page : ℕ) → IsHeld s base low high entries reached sheaf
+    → sheaf.stubs ≡ t ∷ rest → base < sheaf.rank → 0 < length sheaf.stubs → t.load ≡ child page
+    → IsFirstOff s base low high entries reached sheaf.rank t rest page
+first_off s base low high entries reached sheaf t rest page h is deep some load =
+    go h.d h.body (h.rank_is some) (sym is ∙ h.stubs_are) h.spread h.shown h.entries_are h.pages_are
   where
-    go : (d : ℕ) (body : Body d) → sheaf.rank ≡ base + d → t ∷ rest ≡ stubs_of d body → IsSpread d low high body → Shows s d body → entries_of d body ≡ entries → ((n : ℕ) → times n (pages_of d body) ≡ times n reached)
+    go : (d : ℕ) (body : Body d) → sheaf.rank ≡ base + d → t ∷ rest ≡ stubs_of d body → IsSpread d low high body → Shows s d body → entries_of d body ≡ entries
+        → ((n : ℕ) → times n (pages_of d body) ≡ times n reached)
         → IsFirstOff s base low high entries reached sheaf.rank t rest page
     go zero body rank e spread shown ee pp = absurd (omega arith)
     go (suc d) [] rank e spread shown ee pp = cc
@@ -170,14 +191,17 @@ first_off s base low high entries reached sheaf t rest page h is deep some load 
           above = subst (λ k. Each (IsUnder k) (twig_keys ws)) key spread.1.0;
           rest_shown = shown.1;
           entries_are = sym (map_append entry_of (pairs_of d w.body) (pairs_of (suc d) ws)) ∙ ee;
-          pages_are = λ n. omega (arith, times_append n (w.page ∷ pages_of d w.body) (pages_of (suc d) ws), ap (λ k. times n (k ∷ pages_of d w.body)) page_is, pp n);
+          pages_are = λ n. omega
+              (arith, times_append n (w.page ∷ pages_of d w.body) (pages_of (suc d) ws), ap (λ k. times n (k ∷ pages_of d w.body)) page_is, pp n);
           between = subst (IsBetween low high) key spread.2.0;
           rest_small = small.1;
           little = omega arith;
         }
 
-rest_glued : (s : Store) (base : ℕ) (low low' : List ℕ) (high : Option (List ℕ)) (d rank : ℕ) (ws : Body (suc d)) (rest : List Stub) (more : List Entry) (pages : List ℕ) (other : Sheaf) → rest ≡ stubs_of (suc d) ws
-    → Each IsStub rest → IsSpread (suc d) low high ws → Shows s (suc d) ws → rank ≡ base + suc d → IsHeld s base low' (high_of high ws) more pages other → other.rank ≡ rank → IsNotUnder low low'
+rest_glued : (s : Store) (base : ℕ) (low low' : List ℕ) (high : Option (List ℕ)) (d rank : ℕ) (ws : Body (suc d)) (rest : List Stub) (more : List Entry)
+    (pages : List ℕ) (other : Sheaf) → rest ≡ stubs_of (suc d) ws
+    → Each IsStub rest → IsSpread (suc d) low high ws → Shows s (suc d) ws → rank ≡ base + suc d → IsHeld s base low' (high_of high ws) more pages other
+    → other.rank ≡ rank → IsNotUnder low low'
     → IsHeld s base low' high (more ++ entries_of (suc d) ws) (pages ++ pages_of (suc d) ws) (both_of other (record { rank = rank; stubs = rest }))
 rest_glued s base low low' high d rank [] rest more pages other is small spread shown rank_is h same over =
     let same_s : other.stubs ++ rest ≡ other.stubs = ap (λ ss. other.stubs ++ ss) is ∙ append-nil other.stubs in
@@ -211,8 +235,10 @@ rest_glued s base low low' high d rank (w ∷ ws) rest more pages other is small
     later [] u b = tt
     later (k ∷ ks) u b = ((not_both w.key k u.0, b.0.1), later ks u.1 b.1)
 
-pub first_parted : (old new : Store) (base : ℕ) (low : List ℕ) (high : Option (List ℕ)) (entries : List Entry) (reached : List ℕ) (rank : ℕ) (t : Stub) (rest : List Stub) (page : ℕ) (sheaf : Sheaf)
-    (o : IsFirstOff old base low high entries reached rank t rest page) → Frame old new → IsUpTo low high → IsTurned old new base t.key (high_of high o.twigs) (entries_of o.d o.body) (page ∷ pages_of o.d o.body) sheaf
+pub first_parted : (old new : Store) (base : ℕ) (low : List ℕ) (high : Option (List ℕ)) (entries : List Entry) (reached : List ℕ) (rank : ℕ) (t : Stub)
+    (rest : List Stub) (page : ℕ) (sheaf : Sheaf)
+    (o : IsFirstOff old base low high entries reached rank t rest page) → Frame old new → IsUpTo low high
+    → IsTurned old new base t.key (high_of high o.twigs) (entries_of o.d o.body) (page ∷ pages_of o.d o.body) sheaf
     → IsFirstCut old new base low high entries reached sheaf (record { rank = rank; stubs = rest })
 first_parted old new base low high entries reached rank t rest page sheaf o grows upto turned =
     record {
@@ -225,7 +251,8 @@ first_parted old new base low high entries reached rank t rest page sheaf o grow
       front_held = held_low new base t.key low (high_of high o.twigs) _ _ sheaf o.between.0 turned.held;
       within = lower o.twigs o.above;
       turned = λ n. omega (arith, turned.turned n, o.pages_are n, times_append n turned.after (pages_of (suc o.d) o.twigs));
-      glue = λ low' over s more pages other grown h same. rest_glued s base low low' high o.d rank o.twigs rest more pages other o.rest_are o.rest_small o.spread (shows_kept old s (frame_trans old new s grows grown) (suc o.d) o.twigs o.rest_shown) o.rank_is h same over;
+      glue = λ low' over s more pages other grown h same. rest_glued s base low low' high o.d rank o.twigs rest more pages other o.rest_are o.rest_small
+          o.spread (shows_kept old s (frame_trans old new s grows grown) (suc o.d) o.twigs o.rest_shown) o.rank_is h same over;
     }
   where
     lower : (ws : List (Twig (Body o.d))) → Each (IsUnder t.key) (twig_keys ws) → IsUpTo low (high_of high ws)
@@ -234,20 +261,27 @@ first_parted old new base low high entries reached rank t rest page sheaf o grow
 
 -- ---- the program's cases
 
-module _ (old new : Store) (base : ℕ) (low : List ℕ) (high : Option (List ℕ)) (entries : List Entry) (reached : List ℕ) (rank page : ℕ) (t : Stub) (sheaf : Sheaf) (below : ℕ)
+module _ (old new : Store) (base : ℕ) (low : List ℕ) (high : Option (List ℕ)) (entries : List Entry) (reached : List ℕ) (rank page : ℕ) (t : Stub)
+    (sheaf : Sheaf) (below : ℕ)
     (grows : Frame old new) (below_is : below + 1 ≡ rank)
-    (opens : (base d : ℕ) (high : Option (List ℕ)) (body : Body d) → below ≡ base + d → IsAt old page (content_of d body) → Shows old d body → IsWhole d body → IsSound d t.key high body → 6 + length t.key ≤ 1360
+    (opens : (base d : ℕ) (high : Option (List ℕ)) (body : Body d) → below ≡ base + d → IsAt old page (content_of d body) → Shows old d body → IsWhole d body
+    → IsSound d t.key high body → 6 + length t.key ≤ 1360
     → IsTurned old new base t.key high (entries_of d body) (page ∷ pages_of d body) sheaf × IsReady base sheaf) where
-  pub took_last : (front : List Stub) → IsLastOff old base low high entries reached rank front t page → AreParted old new base low high entries reached (record { rank = rank; stubs = front }) sheaf × IsReady base sheaf
+  pub took_last : (front : List Stub) → IsLastOff old base low high entries reached rank front t page
+      → AreParted old new base low high entries reached (record { rank = rank; stubs = front }) sheaf × IsReady base sheaf
   took_last front o =
-      let r = opens base o.d high o.body (omega (arith, o.rank_is)) o.at o.shown o.lies.0 o.lies.1 o.little in (last_parted old new base low high entries reached rank front t page sheaf o grows r.0, r.1)
+      let r = opens base o.d high o.body (omega (arith, o.rank_is)) o.at o.shown o.lies.0 o.lies.1 o.little in
+      (last_parted old new base low high entries reached rank front t page sheaf o grows r.0, r.1)
 
-  pub took_first : (rest : List Stub) → IsUpTo low high → IsFirstOff old base low high entries reached rank t rest page → IsFirstCut old new base low high entries reached sheaf (record { rank = rank; stubs = rest }) × IsReady base sheaf
+  pub took_first : (rest : List Stub) → IsUpTo low high → IsFirstOff old base low high entries reached rank t rest page
+      → IsFirstCut old new base low high entries reached sheaf (record { rank = rank; stubs = rest }) × IsReady base sheaf
   took_first rest upto o =
-      let r = opens base o.d (high_of high o.twigs) o.body (omega (arith, o.rank_is)) o.at o.shown o.lies.0 o.lies.1 o.little in (first_parted old new base low high entries reached rank t rest page sheaf o grows upto r.0, r.1)
+      let r = opens base o.d (high_of high o.twigs) o.body (omega (arith, o.rank_is)) o.at o.shown o.lies.0 o.lies.1 o.little in
+      (first_parted old new base low high entries reached rank t rest page sheaf o grows upto r.0, r.1)
 
 -- above the leaves there are children
-children_only : (s : Store) (base : ℕ) (low : List ℕ) (high : Option (List ℕ)) (entries : List Entry) (reached : List ℕ) (sheaf : Sheaf) → IsHeld s base low high entries reached sheaf → base < sheaf.rank
+children_only : (s : Store) (base : ℕ) (low : List ℕ) (high : Option (List ℕ)) (entries : List Entry) (reached : List ℕ) (sheaf : Sheaf)
+    → IsHeld s base low high entries reached sheaf → base < sheaf.rank
     → 0 < length sheaf.stubs → Each (λ t. IsChild t.load) sheaf.stubs
 children_only s base low high entries reached sheaf h deep some = go h.d h.body (h.rank_is some) h.stubs_are
   where
@@ -259,27 +293,38 @@ children_only s base low high entries reached sheaf h deep some = go h.d h.body 
     go zero body rank e = absurd (omega arith)
     go (suc d) body rank e = subst (Each (λ t. IsChild t.load)) (sym e) (all body)
 
-pub last_is_child : (s : Store) (base : ℕ) (low : List ℕ) (high : Option (List ℕ)) (entries : List Entry) (reached : List ℕ) (sheaf : Sheaf) (front : List Stub) (t : Stub) → IsHeld s base low high entries reached sheaf → base < sheaf.rank
+pub last_is_child : (s : Store) (base : ℕ) (low : List ℕ) (high : Option (List ℕ)) (entries : List Entry) (reached : List ℕ) (sheaf : Sheaf)
+    (front : List Stub) (t : Stub) → IsHeld s base low high entries reached sheaf → base < sheaf.rank
     → 0 < length sheaf.stubs → sheaf.stubs ≡ front ++ t ∷ [] → IsChild t.load
-last_is_child s base low high entries reached sheaf front t h deep some is = (each_back (λ u. IsChild u.load) front (t ∷ []) (subst (Each (λ u. IsChild u.load)) is (children_only s base low high entries reached sheaf h deep some))).0
+last_is_child s base low high entries reached sheaf front t h deep some is =
+    (each_back (λ u. IsChild u.load) front (t ∷ []) (subst (Each (λ u. IsChild u.load)) is (children_only s base low high entries reached sheaf h deep some))).0
 
-pub first_is_child : (s : Store) (base : ℕ) (low : List ℕ) (high : Option (List ℕ)) (entries : List Entry) (reached : List ℕ) (sheaf : Sheaf) (t : Stub) (rest : List Stub) → IsHeld s base low high entries reached sheaf → base < sheaf.rank
+pub first_is_child : (s : Store) (base : ℕ) (low : List ℕ) (high : Option (List ℕ)) (entries : List Entry) (reached : List ℕ) (sheaf : Sheaf) (t : Stub)
+    (rest : List Stub) → IsHeld s base low high entries reached sheaf → base < sheaf.rank
     → 0 < length sheaf.stubs → sheaf.stubs ≡ t ∷ rest → IsChild t.load
-first_is_child s base low high entries reached sheaf t rest h deep some is = (subst (Each (λ u. IsChild u.load)) is (children_only s base low high entries reached sheaf h deep some)).0
+first_is_child s base low high entries reached sheaf t rest h deep some is =
+    (subst (Each (λ u. IsChild u.load)) is (children_only s base low high entries reached sheaf h deep some)).0
 
-pub last_units : (old new : List Unit) (u : Unit) (key : List ℕ) → old ≡ new ++ u ∷ [] → key ≡ u.key.items → map stub_in old ≡ map stub_in new ++ record { key = key; load = hold_in u.hold } ∷ []
-last_units old new u key e k = ap (map stub_in) e ∙ map_append stub_in new (u ∷ []) ∙ ap (λ i. map stub_in new ++ record { key = i; load = hold_in u.hold } ∷ []) (sym k)
+pub last_units : (old new : List Unit) (u : Unit) (key : List ℕ) → old ≡ new ++ u ∷ [] → key ≡ u.key.items
+    → map stub_in old ≡ map stub_in new ++ record { key = key; load = hold_in u.hold } ∷ []
+last_units old new u key e k =
+    ap (map stub_in) e ∙ map_append stub_in new (u ∷ []) ∙ ap (λ i. map stub_in new ++ record { key = i; load = hold_in u.hold } ∷ []) (sym k)
 
-pub first_units : (old new : List Unit) (u : Unit) (key : List ℕ) → 0 < length old → u ≡ get_or old 0 u → new ≡ remove old 0 → key ≡ u.key.items → map stub_in old ≡ record { key = key; load = hold_in u.hold } ∷ map stub_in new
+pub first_units : (old new : List Unit) (u : Unit) (key : List ℕ) → 0 < length old → u ≡ get_or old 0 u → new ≡ remove old 0 → key ≡ u.key.items
+    → map stub_in old ≡ record { key = key; load = hold_in u.hold } ∷ map stub_in new
 first_units [] new u key lt e r k = absurd (omega arith)
-first_units (x ∷ xs) new u key lt e r k = ap (λ y. stub_in y ∷ map stub_in xs) (sym e) ∙ ap (λ zs. stub_in u ∷ map stub_in zs) (sym r) ∙ ap (λ i. record { key = i; load = hold_in u.hold } ∷ map stub_in new) (sym k)
+first_units (x ∷ xs) new u key lt e r k =
+    ap (λ y. stub_in y ∷ map stub_in xs) (sym e) ∙ ap (λ zs. stub_in u ∷ map stub_in zs) (sym r)
+    ∙ ap (λ i. record { key = i; load = hold_in u.hold } ∷ map stub_in new) (sym k)
 
-pub last_failed : (old new : Store) (base : ℕ) (low : List ℕ) (high : Option (List ℕ)) (entries : List Entry) (reached : List ℕ) (r : Result (Loose × Loose) TreeFault) (f : TreeFault) → IsErrAnd r (λ g. g ≡ f) → HasCause old new f
+pub last_failed : (old new : Store) (base : ℕ) (low : List ℕ) (high : Option (List ℕ)) (entries : List Entry) (reached : List ℕ)
+    (r : Result (Loose × Loose) TreeFault) (f : TreeFault) → IsErrAnd r (λ g. g ≡ f) → HasCause old new f
     → IsAnswer old new (λ parts. AreParted old new base low high entries reached (sheaf_in parts.0) (sheaf_in parts.1) × IsReady base (sheaf_in parts.1)) r
 last_failed old new base low high entries reached (Ok v) f h c = absurd h
 last_failed old new base low high entries reached (Err g) f h c = subst (HasCause old new) (sym h) c
 
-pub first_failed : (old new : Store) (base : ℕ) (low : List ℕ) (high : Option (List ℕ)) (entries : List Entry) (reached : List ℕ) (r : Result (Loose × Loose) TreeFault) (f : TreeFault) → IsErrAnd r (λ g. g ≡ f) → HasCause old new f
+pub first_failed : (old new : Store) (base : ℕ) (low : List ℕ) (high : Option (List ℕ)) (entries : List Entry) (reached : List ℕ)
+    (r : Result (Loose × Loose) TreeFault) (f : TreeFault) → IsErrAnd r (λ g. g ≡ f) → HasCause old new f
     → IsAnswer old new (λ parts. IsFirstCut old new base low high entries reached (sheaf_in parts.0) (sheaf_in parts.1) × IsReady base (sheaf_in parts.0)) r
 first_failed old new base low high entries reached (Ok v) f h c = absurd h
 first_failed old new base low high entries reached (Err g) f h c = subst (HasCause old new) (sym h) c

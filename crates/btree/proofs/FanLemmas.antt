@@ -41,8 +41,10 @@ module _ {B : Type 0} (Lies : List ℕ → Option (List ℕ) → B → Type 0) w
   fan_append high (x ∷ y ∷ xs) ys h g = (h.0, fan_append high (y ∷ xs) ys h.1 g)
 
   -- a fan's pairs lie from its first key to its high bound, if each child's lie so
-  pub fan_between : (pairs : B → List Pair) → ((low : List ℕ) (high : Option (List ℕ)) (body : B) → Lies low high body → Each (λ x. IsBetween low high x.key) (pairs body))
-      → (high : Option (List ℕ)) (w : Twig B) (ws : List (Twig B)) → IsFan Lies high (w ∷ ws) → Rises (twig_keys (w ∷ ws)) → Each (IsWithin high) (twig_keys (w ∷ ws))
+  pub fan_between : (pairs : B → List Pair)
+      → ((low : List ℕ) (high : Option (List ℕ)) (body : B) → Lies low high body → Each (λ x. IsBetween low high x.key) (pairs body))
+      → (high : Option (List ℕ)) (w : Twig B) (ws : List (Twig B)) → IsFan Lies high (w ∷ ws) → Rises (twig_keys (w ∷ ws))
+      → Each (IsWithin high) (twig_keys (w ∷ ws))
       → Each (λ x. IsBetween w.key high x.key) (flat_map (λ w. pairs w.body) (w ∷ ws))
   fan_between pairs sub high w [] fan rise within = each_append _ (pairs w.body) [] (sub w.key high w.body fan.0) tt
   fan_between pairs sub high w (v ∷ ws) fan rise within =
@@ -74,27 +76,32 @@ module _ {B : Type 0} (Lies : List ℕ → Option (List ℕ) → B → Type 0) (
   front_under : (from low : List ℕ) (front : List (Twig B)) → IsFan Lies (Some from) (with_low low front) → Rises (twig_keys (with_low low front))
       → Each (IsWithin (Some from)) (twig_keys (with_low low front)) → Each (λ x. IsUnder x.key from) (flat_map (λ w. pairs w.body) front)
   front_under from low [] fan rise within = tt
-  front_under from low (f ∷ fs) fan rise within = each_map _ _ (λ x b. b.1) _ (fan_between Lies pairs sub (Some from) (record { key = low; page = f.page; body = f.body }) fs fan rise within)
+  front_under from low (f ∷ fs) fan rise within =
+      each_map _ _ (λ x b. b.1) _ (fan_between Lies pairs sub (Some from) (record { key = low; page = f.page; body = f.body }) fs fan rise within)
 
   back_past : (high : Option (List ℕ)) (back : List (Twig B)) → IsFan Lies high back → Rises (twig_keys back) → Each (IsWithin high) (twig_keys back)
       → Each (λ x. IsPast (high_of high back) x.key) (flat_map (λ w. pairs w.body) back)
   back_past high [] fan rise within = tt
   back_past high (v ∷ vs) fan rise within = each_map _ _ (λ x b. b.0) _ (fan_between Lies pairs sub high v vs fan rise within)
 
-  pub fans_around : (high : Option (List ℕ)) (low : List ℕ) (front : List (Twig B)) (w : Twig B) (back : List (Twig B)) → IsFan Lies high (with_low low (front ++ w ∷ back))
-      → IsFan Lies (Some (low_of low front w.key)) (with_low low front) × IsFan Lies high (record { key = low_of low front w.key; page = w.page; body = w.body } ∷ back)
+  pub fans_around : (high : Option (List ℕ)) (low : List ℕ) (front : List (Twig B)) (w : Twig B) (back : List (Twig B))
+      → IsFan Lies high (with_low low (front ++ w ∷ back))
+      → IsFan Lies (Some (low_of low front w.key)) (with_low low front)
+      × IsFan Lies high (record { key = low_of low front w.key; page = w.page; body = w.body } ∷ back)
   fans_around high low [] w back h = (tt, h)
   fans_around high low (f ∷ fs) w back h =
       let f' : Twig B = record { key = low; page = f.page; body = f.body } in
       (fan_front Lies high (f' ∷ fs) (w ∷ back) h, fan_back Lies high (f' ∷ fs) (w ∷ back) h)
 
   pub around : (low : List ℕ) (high : Option (List ℕ)) (front : List (Twig B)) (w : Twig B) (back : List (Twig B))
-      → IsFan Lies high (with_low low (front ++ w ∷ back)) → Rises (twig_keys (with_low low (front ++ w ∷ back))) → Each (IsWithin high) (twig_keys (with_low low (front ++ w ∷ back)))
+      → IsFan Lies high (with_low low (front ++ w ∷ back)) → Rises (twig_keys (with_low low (front ++ w ∷ back)))
+      → Each (IsWithin high) (twig_keys (with_low low (front ++ w ∷ back)))
       → IsAround Lies pairs low high front w back (low_of low front w.key) (high_of high back)
   around low high front w back fan rise within =
       let from : List ℕ = low_of low front w.key in
       let r : Rises (twig_keys (with_low low front) ++ from ∷ twig_keys back) = subst Rises (keys_around low front w back) rise in
-      let i : Each (IsWithin high) (twig_keys (with_low low front) ++ from ∷ twig_keys back) = subst (Each (IsWithin high)) (keys_around low front w back) within in
+      let i : Each (IsWithin high) (twig_keys (with_low low front) ++ from ∷ twig_keys back) =
+      subst (Each (IsWithin high)) (keys_around low front w back) within in
       let fans = fans_around high low front w back fan in
       let across = rises_across (twig_keys (with_low low front)) (from ∷ twig_keys back) r in
       record {
@@ -106,7 +113,8 @@ module _ {B : Type 0} (Lies : List ℕ → Option (List ℕ) → B → Type 0) (
       }
 
 -- the pairs of a sound body lie between its bounds
-pub pairs_between : (d : ℕ) (low : List ℕ) (high : Option (List ℕ)) (body : Body d) → IsSound d low high body → Each (λ x. IsBetween low high x.key) (pairs_of d body)
+pub pairs_between : (d : ℕ) (low : List ℕ) (high : Option (List ℕ)) (body : Body d) → IsSound d low high body
+    → Each (λ x. IsBetween low high x.key) (pairs_of d body)
 pairs_between zero low high pairs h = each_of_map (IsBetween low high) (λ x. x.key) pairs h.1
 pairs_between (suc d) low high [] h = tt
 pairs_between (suc d) low high (w ∷ ws) h =

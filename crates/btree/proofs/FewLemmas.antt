@@ -1,5 +1,6 @@
 -- How many pages cells and children take.
-use Rattle.std.proofs.Common.{◌≡◌, ℕ, zero, suc, ◌+◌, ◌-◌, ◌*◌, ◌/◌, ◌^◌, ◌<◌, ◌≤◌, ◌⊎◌, List, [], ◌∷◌, ◌++◌, length, map, take, drop, get_or, Vec, Global, Result, Ok, Err, refl, sym, ap, ◌∙◌, subst, arith, append_assoc, if◌then◌else◌, inl, inr}
+use Rattle.std.proofs.Common.{◌≡◌, ℕ, zero, suc, ◌+◌, ◌-◌, ◌*◌, ◌/◌, ◌^◌, ◌<◌, ◌≤◌, ◌⊎◌, List, [], ◌∷◌, ◌++◌, length, map, take, drop, get_or, Vec, Global}
+use Rattle.std.proofs.Common.{Result, Ok, Err, refl, sym, ap, ◌∙◌, subst, arith, append_assoc, if◌then◌else◌, inl, inr}
 use Rattle.std.specs.List.{AllByRecursion, insert, remove}
 use Rattle.std.proofs.lemmas.Bool.{lt-leb}
 use Rattle.std.proofs.lemmas.List.{length-drop}
@@ -16,7 +17,8 @@ use Rattle.btree.specs.Tree.{HasLinks}
 use Rattle.btree.specs.Change.{edit_keys}
 use Rattle.btree.specs.Keys.{Each, Edit, Entry, IsNotUnder, IsUnder, Rises, sum_of}
 use Rattle.btree.specs.Loose.{IsChild, IsStub, Stub, arm_stub, item_stub, stub_size, stubs_size, under_key}
-use Rattle.btree.specs.Few.{AreFewJoined, AreFewPages, IsFew, IsFewOrOne, IsFullPart, IsLittle, IsOnePage, IsFewTop, IsOneChild, MakesUpTo, chain_pages, edit_pages, levels_of}
+use Rattle.btree.specs.Few.{AreFewJoined, AreFewPages, IsFew, IsFewOrOne, IsFullPart, IsLittle, IsOnePage, IsFewTop, IsOneChild, MakesUpTo, chain_pages}
+use Rattle.btree.specs.Few.{edit_pages, levels_of}
 use Rattle.btree.specs.Reach.{HasMap, HasTree}
 use Rattle.btree.specs.Store.{IsMade, Store}
 use Rattle.btree.specs.Turn.{Sheaf, sheaf_in}
@@ -34,13 +36,15 @@ use Rattle.btree.proofs.PartLemmas.{first_here}
 
 module _ (stubs : List Stub) (d : Stub) where
   -- what fills a page but for one that found no room
-  pub full_whole : (whole : ℕ) → whole < length stubs → 4080 < stubs_size (take whole stubs) + stub_size (get_or stubs whole d) → Each IsStub stubs → IsFullPart stubs whole
+  pub full_whole : (whole : ℕ) → whole < length stubs → 4080 < stubs_size (take whole stubs) + stub_size (get_or stubs whole d) → Each IsStub stubs
+      → IsFullPart stubs whole
   full_whole whole lt full h =
       let one = each_at whole stubs d lt h in
       let next = size_next whole stubs d lt in
       inr (omega arith, inl (omega arith))
 
-  pub full_half : (whole behind half : ℕ) → whole < length stubs → 4080 < stubs_size (take whole stubs) + stub_size (get_or stubs whole d) → stubs_size (take whole stubs) ≤ 4080
+  pub full_half : (whole behind half : ℕ) → whole < length stubs → 4080 < stubs_size (take whole stubs) + stub_size (get_or stubs whole d)
+      → stubs_size (take whole stubs) ≤ 4080
       → length (drop whole stubs) ≤ behind → stubs_size (take behind (drop whole stubs)) ≤ 1360
       → (half < length stubs → 2720 < stubs_size (take half stubs) + stub_size (get_or stubs half d)) → Each IsStub stubs → IsFullPart stubs half
   full_half whole behind half lt full room all few next h =
@@ -72,8 +76,10 @@ none_left (suc at) [] le = (refl, refl)
 none_left zero (s ∷ ss) le = absurd (omega arith)
 none_left (suc at) (s ∷ ss) le = none_left at ss (omega arith)
 
-pub one_more : (bytes pages at : ℕ) (rest : List Stub) → 0 < length rest → AreSoFar bytes pages rest → IsFullPart rest at → AreSoFar bytes (pages + 1) (drop at rest)
-one_more bytes pages at rest some (inl h) (inl all) = let n = none_left at rest all in let s = some_size rest some in inr (omega (arith, n.1), inr (n.0, omega arith))
+pub one_more : (bytes pages at : ℕ) (rest : List Stub) → 0 < length rest → AreSoFar bytes pages rest → IsFullPart rest at
+    → AreSoFar bytes (pages + 1) (drop at rest)
+one_more bytes pages at rest some (inl h) (inl all) = let n = none_left at rest all in let s = some_size rest some in
+    inr (omega (arith, n.1), inr (n.0, omega arith))
 one_more bytes pages at rest some (inr (e, inl h)) (inl all) = let n = none_left at rest all in inr (omega (arith, n.1), inr (n.0, omega arith))
 one_more bytes pages at rest some (inr (e, inr h)) f = absurd (omega (arith, h.0))
 one_more bytes pages at rest some (inl h) (inr (more, inl two)) = let s = size_split at rest in inl (omega arith)
@@ -114,7 +120,8 @@ small_arms (x ∷ xs) h = (record { size = omega (arith, h.0.size); load = h.0.c
 pub leaf_few : (items : List Item) (stubs : List Stub) → stubs ≡ map item_stub items → IsLeaf items → Each IsStub stubs × (stubs_size stubs ≤ 5440)
 leaf_few items stubs e h = (subst (Each IsStub) (sym e) (small_items items h.each), omega (arith, ap stubs_size e, items_size items, h.room))
 
-pub branch_few : (low : List ℕ) (arms : List Arm) (stubs : List Stub) → stubs ≡ map arm_stub (under_key low arms) → IsBranch arms → 6 + length low ≤ 1360 → Each IsStub stubs × (stubs_size stubs ≤ 5440)
+pub branch_few : (low : List ℕ) (arms : List Arm) (stubs : List Stub) → stubs ≡ map arm_stub (under_key low arms) → IsBranch arms → 6 + length low ≤ 1360
+    → Each IsStub stubs × (stubs_size stubs ≤ 5440)
 branch_few low [] stubs e h little = absurd (omega (arith, h.some))
 branch_few low (x ∷ xs) stubs e h little =
     let size : 4 + total arm_size xs ≤ 4080 = h.room in
@@ -123,13 +130,15 @@ branch_few low (x ∷ xs) stubs e h little =
 
 -- ---- pages that are written
 
-pub one_page : (old new : Store) (units : List Unit) (first unit : Unit) (key : List ℕ) (page : ℕ) (content : Content) → IsMade old new page content → 0 < length units → first ≡ get_or units 0 first → key ≡ first.key.items
+pub one_page : (old new : Store) (units : List Unit) (first unit : Unit) (key : List ℕ) (page : ℕ) (content : Content) → IsMade old new page content
+    → 0 < length units → first ≡ get_or units 0 first → key ≡ first.key.items
     → stub_in unit ≡ arm_stub (record { key = key; child = page }) → page < 4294967296 → IsOnePage old new (map stub_in units) (stub_in unit)
 one_page old new units first unit key page content m some here same is range =
     record {
       made = omega (arith, ap length m.made);
       child = subst (λ (s : Stub). IsChild s.load) (sym is) tt;
-      small = λ h. subst IsStub (sym is) (record { size = (let one : IsStub (stub_in first) = (subst (Each IsStub) (first_here units first some here) h).0 in omega (arith, one.size, ap length same)); load = range });
+      small = λ h. subst IsStub (sym is)
+          (record { size = (let one : IsStub (stub_in first) = (subst (Each IsStub) (first_here units first some here) h).0 in omega (arith, one.size, ap length same)); load = range });
     }
 
 pub record AreFewSoFar (old new : Store) (bytes : ℕ) (above rest : List Stub) : Type 0 where
@@ -147,44 +156,56 @@ each_take zero ss h = tt
 each_take (suc n) [] h = tt
 each_take (suc n) (s ∷ ss) h = (h.0, each_take n ss h.1)
 
-pub few_step : (old mid new : Store) (bytes at : ℕ) (above above' rest part behind : List Unit) (unit : Unit) → 0 < length rest → AreFewSoFar old mid bytes (map stub_in above) (map stub_in rest)
-    → (Each IsStub (map stub_in rest) → IsFullPart (map stub_in rest) at) → part ≡ take at rest → behind ≡ drop at rest → IsOnePage mid new (map stub_in part) (stub_in unit)
+pub few_step : (old mid new : Store) (bytes at : ℕ) (above above' rest part behind : List Unit) (unit : Unit) → 0 < length rest
+    → AreFewSoFar old mid bytes (map stub_in above) (map stub_in rest)
+    → (Each IsStub (map stub_in rest) → IsFullPart (map stub_in rest) at) → part ≡ take at rest → behind ≡ drop at rest
+    → IsOnePage mid new (map stub_in part) (stub_in unit)
     → map stub_in above' ≡ map stub_in above ++ stub_in unit ∷ [] → AreFewSoFar old new bytes (map stub_in above') (map stub_in behind)
 few_step old mid new bytes at above above' rest part behind unit some p full part_is behind_is one pushed =
     let parts : map stub_in part ≡ take at (map stub_in rest) = ap (map stub_in) part_is ∙ map_take stub_in at rest in
     let others : map stub_in behind ≡ drop at (map stub_in rest) = ap (map stub_in) behind_is ∙ map_behind stub_in at rest in
-    let longer : length (map stub_in above') ≡ length (map stub_in above) + 1 = omega (arith, ap length pushed, long_append (map stub_in above) (stub_in unit ∷ [])) in
+    let longer : length (map stub_in above') ≡ length (map stub_in above) + 1 =
+    omega (arith, ap length pushed, long_append (map stub_in above) (stub_in unit ∷ [])) in
     record {
       made = omega (arith, one.made, p.made);
       so_far = subst (λ n. AreSoFar bytes n (map stub_in behind)) (sym longer) (subst (AreSoFar bytes (length (map stub_in above) + 1)) (sym others)
           (one_more bytes (length (map stub_in above)) at (map stub_in rest) (omega (arith, long_map stub_in rest)) p.so_far (full p.small)));
-      children = subst (Each (λ s. IsChild s.load)) (sym pushed) (each_append (λ s. IsChild s.load) (map stub_in above) (stub_in unit ∷ []) p.children (one.child, tt));
-      small_above = subst (Each IsStub) (sym pushed) (each_append IsStub (map stub_in above) (stub_in unit ∷ []) p.small_above (one.small (subst (Each IsStub) (sym parts) (each_take at (map stub_in rest) p.small)), tt));
+      children = subst (Each (λ s. IsChild s.load)) (sym pushed)
+          (each_append (λ s. IsChild s.load) (map stub_in above) (stub_in unit ∷ []) p.children (one.child, tt));
+      small_above =
+          subst (Each IsStub) (sym pushed)
+          (each_append IsStub (map stub_in above) (stub_in unit ∷ []) p.small_above
+          (one.small (subst (Each IsStub) (sym parts) (each_take at (map stub_in rest) p.small)), tt));
       small = subst (Each IsStub) (sym others) (each_drop at (map stub_in rest) p.small);
     }
 
 pub few_done : (old new : Store) (bytes : ℕ) (above rest : List Stub) → AreFewSoFar old new bytes above rest → length rest ≡ 0 → AreFewPages old new bytes above
-few_done old new bytes above rest p none = record { made = p.made; few = all_written bytes (length above) rest none p.so_far; children = p.children; small = p.small_above }
+few_done old new bytes above rest p none = record
+    { made = p.made; few = all_written bytes (length above) rest none p.so_far; children = p.children; small = p.small_above }
 
 pub few_of_leaf : (r : Result (Vec Unit Global) TreeFault) (items : List Item) → IfOk r (λ units. map stub_in units.items ≡ map item_stub items) → IsLeaf items
     → IfOk r (λ units. Each IsStub (map stub_in units.items) × (stubs_size (map stub_in units.items) ≤ 5440))
 few_of_leaf (Ok units) items e h = leaf_few items (map stub_in units.items) e h
 few_of_leaf (Err f) items e h = tt
 
-pub few_of_branch : (r : Result (Vec Unit Global) TreeFault) (low : List ℕ) (arms : List Arm) → IfOk r (λ units. map stub_in units.items ≡ map arm_stub (under_key low arms)) → IsBranch arms → 6 + length low ≤ 1360
+pub few_of_branch : (r : Result (Vec Unit Global) TreeFault) (low : List ℕ) (arms : List Arm)
+    → IfOk r (λ units. map stub_in units.items ≡ map arm_stub (under_key low arms)) → IsBranch arms → 6 + length low ≤ 1360
     → IfOk r (λ units. Each IsStub (map stub_in units.items) × (stubs_size (map stub_in units.items) ≤ 5440))
 few_of_branch (Ok units) low arms e h little = branch_few low arms (map stub_in units.items) e h little
 few_of_branch (Err f) low arms e h little = tt
 
 -- ---- what is joined
 
-pub few_parts : (old new : Store) (bytes : ℕ) (above : List Stub) → AreFewPages old new bytes above → bytes ≤ 10880 → (length above ≤ 4) × (stubs_size above ≤ 5440)
+pub few_parts : (old new : Store) (bytes : ℕ) (above : List Stub) → AreFewPages old new bytes above → bytes ≤ 10880
+    → (length above ≤ 4) × (stubs_size above ≤ 5440)
 few_parts old new bytes above f le =
     let few : length above ≤ 4 = omega (arith, f.few) in
     (few, omega (arith, size_many above f.small))
 
-pub few_concat : (old new : Store) (rank bytes pages : ℕ) (a b : Sheaf) (r : Result Loose TreeFault) → a.rank ≡ rank → IfOk r (λ l. l.rank ≡ a.rank) → IfOk r (λ l. map stub_in l.units.items ≡ a.stubs ++ b.stubs)
-    → Each IsStub a.stubs → Each IsStub b.stubs → stubs_size a.stubs + stubs_size b.stubs ≤ bytes → MakesUpTo old new pages → IfOk r (λ l. IsFew old new rank bytes pages (sheaf_in l))
+pub few_concat : (old new : Store) (rank bytes pages : ℕ) (a b : Sheaf) (r : Result Loose TreeFault) → a.rank ≡ rank → IfOk r (λ l. l.rank ≡ a.rank)
+    → IfOk r (λ l. map stub_in l.units.items ≡ a.stubs ++ b.stubs)
+    → Each IsStub a.stubs → Each IsStub b.stubs → stubs_size a.stubs + stubs_size b.stubs ≤ bytes → MakesUpTo old new pages
+    → IfOk r (λ l. IsFew old new rank bytes pages (sheaf_in l))
 few_concat old new rank bytes pages a b (Err e) at same both ha hb le made = tt
 few_concat old new rank bytes pages a b (Ok l) at same both ha hb le made =
     record {
@@ -210,22 +231,28 @@ off_first all back s e h =
     let one : stub_size s ≤ 1360 = parts.0.size in
     (parts.1, omega (arith, ap stubs_size e), omega arith)
 
-pub few_on : (old mid new : Store) (rank rank' bytes bytes' pages pages' more : ℕ) (r : Result Loose TreeFault) → MakesUpTo old mid more → IfOk r (λ l. IsFew mid new rank bytes pages (sheaf_in l)) → rank ≡ rank' → bytes ≤ bytes'
+pub few_on : (old mid new : Store) (rank rank' bytes bytes' pages pages' more : ℕ) (r : Result Loose TreeFault) → MakesUpTo old mid more
+    → IfOk r (λ l. IsFew mid new rank bytes pages (sheaf_in l)) → rank ≡ rank' → bytes ≤ bytes'
     → more + pages ≤ pages' → IfOk r (λ l. IsFew old new rank' bytes' pages' (sheaf_in l))
 few_on old mid new rank rank' bytes bytes' pages pages' more (Err e) m f same wide le = tt
-few_on old mid new rank rank' bytes bytes' pages pages' more (Ok l) m f same wide le = record { rank_is = f.rank_is ∙ same; small = f.small; size = omega (arith, f.size); made = omega (arith, m, f.made) }
+few_on old mid new rank rank' bytes bytes' pages pages' more
+    (Ok l) m f same wide le = record { rank_is = f.rank_is ∙ same; small = f.small; size = omega (arith, f.size); made = omega (arith, m, f.made) }
 
-pub few_or_one_on : (old mid new : Store) (rank bytes bytes' pages pages' more : ℕ) (r : Result Loose TreeFault) → MakesUpTo old mid more → IfOk r (λ l. IsFewOrOne mid new rank bytes pages (sheaf_in l)) → bytes ≤ bytes' → more + pages ≤ pages'
+pub few_or_one_on : (old mid new : Store) (rank bytes bytes' pages pages' more : ℕ) (r : Result Loose TreeFault) → MakesUpTo old mid more
+    → IfOk r (λ l. IsFewOrOne mid new rank bytes pages (sheaf_in l)) → bytes ≤ bytes' → more + pages ≤ pages'
     → IfOk r (λ l. IsFewOrOne old new rank bytes' pages' (sheaf_in l))
 few_or_one_on old mid new rank bytes bytes' pages pages' more (Err e) m f wide le = tt
-few_or_one_on old mid new rank bytes bytes' pages pages' more (Ok l) m (inl f) wide le = inl (record { rank_is = f.rank_is; small = f.small; size = omega (arith, f.size); made = omega (arith, m, f.made) })
-few_or_one_on old mid new rank bytes bytes' pages pages' more (Ok l) m (inr f) wide le = inr (record { rank_is = f.rank_is; small = f.small; size = f.size; made = omega (arith, m, f.made) })
+few_or_one_on old mid new rank bytes bytes' pages pages' more (Ok l) m (inl f) wide le =
+    inl (record { rank_is = f.rank_is; small = f.small; size = omega (arith, f.size); made = omega (arith, m, f.made) })
+few_or_one_on old mid new rank bytes bytes' pages pages' more (Ok l) m (inr f) wide le =
+    inr (record { rank_is = f.rank_is; small = f.small; size = f.size; made = omega (arith, m, f.made) })
 
 pub few_small : (old new : Store) (rank bytes pages : ℕ) (sheaf : Sheaf) → IsFewOrOne old new rank bytes pages sheaf → Each IsStub sheaf.stubs
 few_small old new rank bytes pages sheaf (inl f) = f.small
 few_small old new rank bytes pages sheaf (inr f) = f.small
 
-pub few_alone : (old new : Store) (rank bytes pages : ℕ) (r : Result Loose TreeFault) → IfOk r (λ l. IsFew old new rank bytes pages (sheaf_in l)) → IfOk r (λ l. IsFewOrOne old new rank bytes pages (sheaf_in l))
+pub few_alone : (old new : Store) (rank bytes pages : ℕ) (r : Result Loose TreeFault) → IfOk r (λ l. IsFew old new rank bytes pages (sheaf_in l))
+    → IfOk r (λ l. IsFewOrOne old new rank bytes pages (sheaf_in l))
 few_alone old new rank bytes pages (Err e) f = tt
 few_alone old new rank bytes pages (Ok l) f = inl f
 
@@ -246,22 +273,27 @@ few_right_gone s bytes left right none h =
     }
 
 module _ (old new : Store) (bytes : ℕ) (left right : Sheaf) where
-  pub few_level : (r : Result Loose TreeFault) → left.rank ≡ right.rank → IfOk r (λ l. IsFew old new left.rank (stubs_size left.stubs + stubs_size right.stubs) 0 (sheaf_in l)) → IfOk r (λ l. AreFewJoined old new bytes left right (sheaf_in l))
+  pub few_level : (r : Result Loose TreeFault) → left.rank ≡ right.rank
+      → IfOk r (λ l. IsFew old new left.rank (stubs_size left.stubs + stubs_size right.stubs) 0 (sheaf_in l))
+      → IfOk r (λ l. AreFewJoined old new bytes left right (sheaf_in l))
   few_level (Err e) at f = tt
   few_level (Ok l) at f = record { level = λ e. f; behind = λ e some le. absurd (omega arith); before = λ e some le. absurd (omega arith) }
 
-  pub few_behind : (r : Result Loose TreeFault) → right.rank < left.rank → (left.rank ≡ right.rank + 1 → stubs_size right.stubs ≤ bytes → IfOk r (λ l. IsFew old new left.rank (stubs_size left.stubs + 5440) 4 (sheaf_in l)))
+  pub few_behind : (r : Result Loose TreeFault) → right.rank < left.rank
+      → (left.rank ≡ right.rank + 1 → stubs_size right.stubs ≤ bytes → IfOk r (λ l. IsFew old new left.rank (stubs_size left.stubs + 5440) 4 (sheaf_in l)))
       → IfOk r (λ l. AreFewJoined old new bytes left right (sheaf_in l))
   few_behind (Err e) at f = tt
   few_behind (Ok l) at f = record { level = λ e. absurd (omega arith); behind = λ e some le. f e le; before = λ e some le. absurd (omega arith) }
 
-  pub few_before : (r : Result Loose TreeFault) → left.rank < right.rank → (left.rank + 1 ≡ right.rank → stubs_size left.stubs ≤ bytes → IfOk r (λ l. IsFew old new right.rank (stubs_size right.stubs + 5440) 4 (sheaf_in l)))
+  pub few_before : (r : Result Loose TreeFault) → left.rank < right.rank
+      → (left.rank + 1 ≡ right.rank → stubs_size left.stubs ≤ bytes → IfOk r (λ l. IsFew old new right.rank (stubs_size right.stubs + 5440) 4 (sheaf_in l)))
       → IfOk r (λ l. AreFewJoined old new bytes left right (sheaf_in l))
   few_before (Err e) at f = tt
   few_before (Ok l) at f = record { level = λ e. absurd (omega arith); behind = λ e some le. absurd (omega arith); before = λ e some le. f e le }
 
 -- what is less than a page of its own
-pub few_wider : (old new : Store) (left right : Sheaf) (r : Result Loose TreeFault) → (left.rank ≡ right.rank + 1 → stubs_size right.stubs ≤ 1360) → (left.rank + 1 ≡ right.rank → stubs_size left.stubs ≤ 1360)
+pub few_wider : (old new : Store) (left right : Sheaf) (r : Result Loose TreeFault) → (left.rank ≡ right.rank + 1 → stubs_size right.stubs ≤ 1360)
+    → (left.rank + 1 ≡ right.rank → stubs_size left.stubs ≤ 1360)
     → IfOk r (λ l. AreFewJoined old new 1360 left right (sheaf_in l)) → IfOk r (λ l. AreFewJoined old new 10880 left right (sheaf_in l))
 few_wider old new left right (Err e) a b f = tt
 few_wider old new left right (Ok l) a b f = record { level = f.level; behind = λ e some le. f.behind e some (a e); before = λ e some le. f.before e some (b e) }
@@ -274,7 +306,8 @@ removed_size [] (suc i) = omega arith
 removed_size (x ∷ xs) zero = omega arith
 removed_size (x ∷ xs) (suc i) = omega (arith, removed_size xs i)
 
-pub inserted_size : (cells : List Cell) (i : ℕ) (c : Cell) → total item_size (map item_in (insert cells i c)) ≤ total item_size (map item_in cells) + item_size (item_in c)
+pub inserted_size : (cells : List Cell) (i : ℕ) (c : Cell)
+    → total item_size (map item_in (insert cells i c)) ≤ total item_size (map item_in cells) + item_size (item_in c)
 inserted_size [] zero c = omega arith
 inserted_size [] (suc i) c = omega arith
 inserted_size (x ∷ xs) zero c = omega arith
@@ -290,11 +323,13 @@ chain_few old new value page long c =
     let no = lt-leb (length value) 330 long in
     subst (λ b. length new.made ≤ length old.made + (if b then 0 else (length value + 4075) / 4076)) (sym no) (omega (arith, c.count, many))
 
-pub costs_on : {X : Type 0} (old mid new : Store) (a b pages : ℕ) (r : Result X TreeFault) → MakesUpTo old mid a → IfOk r (λ done. MakesUpTo mid new b) → a + b ≤ pages → IfOk r (λ done. MakesUpTo old new pages)
+pub costs_on : {X : Type 0} (old mid new : Store) (a b pages : ℕ) (r : Result X TreeFault) → MakesUpTo old mid a → IfOk r (λ done. MakesUpTo mid new b)
+    → a + b ≤ pages → IfOk r (λ done. MakesUpTo old new pages)
 costs_on old mid new a b pages (Err e) m f le = tt
 costs_on old mid new a b pages (Ok x) m f le = omega (arith, m, f)
 
-pub grown_on : {X : Type 0} (before between after : ℕ) (r : Result X TreeFault) → between ≤ before → IfOk r (λ done. after ≤ between + 1360) → IfOk r (λ done. after ≤ before + 1360)
+pub grown_on : {X : Type 0} (before between after : ℕ) (r : Result X TreeFault) → between ≤ before → IfOk r (λ done. after ≤ between + 1360)
+    → IfOk r (λ done. after ≤ before + 1360)
 grown_on before between after (Err e) le f = tt
 grown_on before between after (Ok x) le f = omega (arith, f)
 
@@ -302,17 +337,21 @@ sum_more : {X : Type 0} (f : X → ℕ) (xs : List X) (x : X) → sum_of f (xs +
 sum_more f [] x = omega arith
 sum_more f (y ∷ ys) x = omega (arith, sum_more f ys x)
 
-pub edits_few : (old mid new : Store) (es : List ProgramEdit) (i : ℕ) (d : ProgramEdit) → i < length es → MakesUpTo old mid (sum_of edit_pages (take i (map edit_in es))) → MakesUpTo mid new (edit_pages (edit_in (get_or es i d)))
+pub edits_few : (old mid new : Store) (es : List ProgramEdit) (i : ℕ) (d : ProgramEdit) → i < length es
+    → MakesUpTo old mid (sum_of edit_pages (take i (map edit_in es))) → MakesUpTo mid new (edit_pages (edit_in (get_or es i d)))
     → MakesUpTo old new (sum_of edit_pages (take (i + 1) (map edit_in es)))
-edits_few old mid new es i d lt before more = omega (arith, before, more, ap (sum_of edit_pages) (edits_more es i d lt), sum_more edit_pages (take i (map edit_in es)) (edit_in (get_or es i d)))
+edits_few old mid new es i d lt before more =
+    omega (arith, before, more, ap (sum_of edit_pages) (edits_more es i d lt), sum_more edit_pages (take i (map edit_in es)) (edit_in (get_or es i d)))
 
 stubs_of_items : (items : List Item) → Each IsItem items → Each IsStub (map item_stub items)
 stubs_of_items [] h = tt
 stubs_of_items (x ∷ xs) h = (record { size = h.0.size; load = h.0.place }, stubs_of_items xs h.1)
 
-pub cells_few : (items cells leaf : List Item) (stubs : List Stub) (n : ℕ) → stubs ≡ map item_stub items → Each IsItem items → cells ≡ leaf → total item_size items ≤ total item_size cells + 1360 * n → total item_size leaf ≤ 4080 → n ≤ 1
+pub cells_few : (items cells leaf : List Item) (stubs : List Stub) (n : ℕ) → stubs ≡ map item_stub items → Each IsItem items → cells ≡ leaf
+    → total item_size items ≤ total item_size cells + 1360 * n → total item_size leaf ≤ 4080 → n ≤ 1
     → Each IsStub stubs × (stubs_size stubs ≤ 5440)
-cells_few items cells leaf stubs n e h same grown room one = (subst (Each IsStub) (sym e) (stubs_of_items items h), omega (arith, ap stubs_size e, items_size items, ap (total item_size) same))
+cells_few items cells leaf stubs n e h same grown room one =
+    (subst (Each IsStub) (sym e) (stubs_of_items items h), omega (arith, ap stubs_size e, items_size items, ap (total item_size) same))
 
 pub branch_two : (low : List ℕ) (arms : List Arm) (units : List Unit) → map stub_in units ≡ map arm_stub (under_key low arms) → IsBranch arms → 2 ≤ length units
 branch_two low arms units e h = omega (arith, h.some, under_long low arms, ap length e, long_map stub_in units)
@@ -325,20 +364,26 @@ pub record IsMine (es theirs mine : List ProgramEdit) : Type 0 where
   pub one : length mine ≡ 1
   pub same : map edit_in es ≡ map edit_in mine
 
-pub all_mine : (es theirs mine : List ProgramEdit) (units all : List Unit) (left right : List Stub) (unit : Stub) (key : List ℕ) (at : ℕ) (d : ProgramEdit) → length es ≡ 1 → map edit_in es ≡ map edit_in theirs ++ map edit_in mine
-    → (Rises (edit_keys (map edit_in es)) → Each (λ (e : Edit). IsUnder e.key key) (map edit_in theirs)) → units ≡ all → map stub_in all ≡ (left ++ unit ∷ []) ++ right → key ≡ unit.key → length left ≡ at
-    → ((s : Stub) → 0 < at → IsNotUnder (get_or es (length es - 1) d).key.now (get_or (map stub_in units) at s).key) → (0 < length theirs → 0 < at) → IsMine es theirs mine
+pub all_mine : (es theirs mine : List ProgramEdit) (units all : List Unit) (left right : List Stub) (unit : Stub) (key : List ℕ) (at : ℕ) (d : ProgramEdit)
+    → length es ≡ 1 → map edit_in es ≡ map edit_in theirs ++ map edit_in mine
+    → (Rises (edit_keys (map edit_in es)) → Each (λ (e : Edit). IsUnder e.key key) (map edit_in theirs)) → units ≡ all
+    → map stub_in all ≡ (left ++ unit ∷ []) ++ right → key ≡ unit.key → length left ≡ at
+    → ((s : Stub) → 0 < at → IsNotUnder (get_or es (length es - 1) d).key.now (get_or (map stub_in units) at s).key) → (0 < length theirs → 0 < at)
+    → IsMine es theirs mine
 all_mine [] theirs mine units all left right unit key at d one e before same_units parts key_is long here some = absurd (omega arith)
 all_mine (x ∷ y ∷ ys) theirs mine units all left right unit key at d one e before same_units parts key_is long here some = absurd (omega arith)
-all_mine (x ∷ []) [] mine units all left right unit key at d one e before same_units parts key_is long here some = record { none = refl; one = omega (arith, ap length e, long_map edit_in mine); same = e }
+all_mine (x ∷ []) [] mine units all left right unit key at d one e before same_units parts key_is long here some = record
+    { none = refl; one = omega (arith, ap length e, long_map edit_in mine); same = e }
 all_mine (x ∷ []) (t ∷ ts) mine units all left right unit key at d one e before same_units parts key_is long here some =
     let under : IsUnder t.key.now key = (before (tt, tt)).0 in
     let same : t.key.now ≡ x.key.now = sym (ap (λ (zs : List Edit). (get_or zs 0 (edit_in t)).key) e) in
     let parts' : map stub_in units ≡ left ++ unit ∷ right = ap (map stub_in) same_units ∙ parts ∙ append_assoc left (unit ∷ []) right in
-    let there : get_or (map stub_in units) at unit ≡ unit = ap (λ ss. get_or ss at unit) parts' ∙ ap (λ n. get_or (left ++ unit ∷ right) n unit) (sym long) ∙ get_here left unit right unit in
+    let there : get_or (map stub_in units) at unit ≡ unit =
+    ap (λ ss. get_or ss at unit) parts' ∙ ap (λ n. get_or (left ++ unit ∷ right) n unit) (sym long) ∙ get_here left unit right unit in
     absurd (here unit (some (omega arith)) (subst (IsUnder x.key.now) (key_is ∙ ap (λ (s : Stub). s.key) (sym there)) (subst (λ k. IsUnder k key) same under)))
 
-pub unit_little : (all left right : List Stub) (unit : Stub) (key : List ℕ) → all ≡ (left ++ unit ∷ []) ++ right → Each IsStub all → key ≡ unit.key → 6 + length key ≤ 1360
+pub unit_little : (all left right : List Stub) (unit : Stub) (key : List ℕ) → all ≡ (left ++ unit ∷ []) ++ right → Each IsStub all → key ≡ unit.key
+    → 6 + length key ≤ 1360
 unit_little all left right unit key parts h same =
     let one : stub_size unit ≤ 1360 = (each_back IsStub left (unit ∷ []) (each_front IsStub (left ++ unit ∷ []) right (subst (Each IsStub) parts h))).0.size in
     omega (arith, ap length same)
@@ -348,9 +393,11 @@ zero_or zero = inl refl
 zero_or (suc n) = inr (omega arith)
 
 -- the children of a branch, of which one was changed
-module _ (old a b c new : Store) (loose left right below front back : Sheaf) (unit : Stub) (pages : ℕ) (parts : loose.stubs ≡ (left.stubs ++ unit ∷ []) ++ right.stubs) (left_rank : left.rank ≡ loose.rank) (right_rank : right.rank ≡ loose.rank)
+module _ (old a b c new : Store) (loose left right below front back : Sheaf) (unit : Stub) (pages : ℕ)
+    (parts : loose.stubs ≡ (left.stubs ++ unit ∷ []) ++ right.stubs) (left_rank : left.rank ≡ loose.rank) (right_rank : right.rank ≡ loose.rank)
     (deep : 0 < loose.rank) (little : IsLittle 5440 loose) (two : 2 ≤ length loose.stubs) (front_is : front ≡ left) (same : MakesUpTo a b 0)
-    (some_behind : 0 < length right.stubs → Each IsStub right.stubs → AreFewJoined b c 10880 below right back) (none_behind : length right.stubs ≡ 0 → (back ≡ below) × MakesUpTo b c 0) where
+    (some_behind : 0 < length right.stubs → Each IsStub right.stubs → AreFewJoined b c 10880 below right back) (none_behind : length right.stubs ≡ 0
+    → (back ≡ below) × MakesUpTo b c 0) where
   parts_size : stubs_size left.stubs + (stub_size unit + stubs_size right.stubs) ≡ stubs_size loose.stubs
   parts_size = omega (arith, ap stubs_size parts, both_size (left.stubs ++ unit ∷ []) right.stubs, both_size left.stubs (unit ∷ []))
 
@@ -368,75 +415,92 @@ module _ (old a b c new : Store) (loose left right below front back : Sheaf) (un
 
   -- what is below stands in no page
   module _ (few : IsFew old a (left.rank - 1) 10880 (4 * (left.rank - 1) + pages) below) where
-    last_few : (l : Loose) → length right.stubs ≡ 0 → AreFewJoined c new 10880 left below (sheaf_in l) → MakesUpTo b c 0 → IsFew old new loose.rank 10880 (4 * loose.rank + pages) (sheaf_in l)
+    last_few : (l : Loose) → length right.stubs ≡ 0 → AreFewJoined c new 10880 left below (sheaf_in l) → MakesUpTo b c 0
+        → IsFew old new loose.rank 10880 (4 * loose.rank + pages) (sheaf_in l)
     last_few l none j m =
         let f = j.behind (omega (arith, few.rank_is)) (omega (arith, parts_long)) few.size in
         record { rank_is = f.rank_is ∙ left_rank; small = f.small; size = omega (arith, f.size, parts_size, little.1); made = omega (arith, few.made, same, m, f.made) }
 
-    mid_few : (l : Loose) → AreFewJoined c new 10880 left back (sheaf_in l) → IsFew b c right.rank (stubs_size right.stubs + 5440) 4 back → IsFew old new loose.rank 10880 (4 * loose.rank + pages) (sheaf_in l)
+    mid_few : (l : Loose) → AreFewJoined c new 10880 left back (sheaf_in l) → IsFew b c right.rank (stubs_size right.stubs + 5440) 4 back
+        → IsFew old new loose.rank 10880 (4 * loose.rank + pages) (sheaf_in l)
     mid_few l j m =
         let f = j.level (omega (arith, m.rank_is)) in
         record { rank_is = f.rank_is ∙ left_rank; small = f.small; size = omega (arith, f.size, m.size, parts_size, little.1); made = omega (arith, few.made, same, m.made, f.made) }
 
-    below_few : (r : Result Loose TreeFault) → (Each IsStub front.stubs → Each IsStub back.stubs → IfOk r (λ l. AreFewJoined c new 10880 front back (sheaf_in l))) → IfOk r (λ l. IsFew old new loose.rank 10880 (4 * loose.rank + pages) (sheaf_in l))
+    below_few : (r : Result Loose TreeFault)
+        → (Each IsStub front.stubs → Each IsStub back.stubs → IfOk r (λ l. AreFewJoined c new 10880 front back (sheaf_in l)))
+        → IfOk r (λ l. IsFew old new loose.rank 10880 (4 * loose.rank + pages) (sheaf_in l))
     below_few (Err e) j = tt
     below_few (Ok l) j = elim (zero_or (length right.stubs)) [
       | inl none ↦ (let n = none_behind none in
           last_few l none (subst (λ x. AreFewJoined c new 10880 x below (sheaf_in l)) front_is (subst (λ x. AreFewJoined c new 10880 front x (sheaf_in l)) n.0
           (j (subst (λ (x : Sheaf). Each IsStub x.stubs) (sym front_is) left_small) (subst (λ (x : Sheaf). Each IsStub x.stubs) (sym n.0) few.small)))) n.1)
       | inr some ↦ (let m = (some_behind some right_small).before (omega (arith, few.rank_is)) some few.size in
-          mid_few l (subst (λ x. AreFewJoined c new 10880 x back (sheaf_in l)) front_is (j (subst (λ (x : Sheaf). Each IsStub x.stubs) (sym front_is) left_small) m.small)) m)
+          mid_few l (subst (λ x. AreFewJoined c new 10880 x back (sheaf_in l)) front_is
+          (j (subst (λ (x : Sheaf). Each IsStub x.stubs) (sym front_is) left_small) m.small)) m)
     ]
 
   -- it was written to one page
   module _ (one : IsFew old a (left.rank - 1 + 1) 1360 (4 * (left.rank - 1) + pages + 1) below) where
-    end_few : (l : Loose) → AreFewJoined c new 10880 left below (sheaf_in l) → MakesUpTo b c 0 → IsFew old new loose.rank 10880 (4 * loose.rank + pages) (sheaf_in l)
+    end_few : (l : Loose) → AreFewJoined c new 10880 left below (sheaf_in l) → MakesUpTo b c 0
+        → IsFew old new loose.rank 10880 (4 * loose.rank + pages) (sheaf_in l)
     end_few l j m =
         let f = j.level (omega (arith, one.rank_is)) in
         record { rank_is = f.rank_is ∙ left_rank; small = f.small; size = omega (arith, f.size, one.size, parts_size, little.1); made = omega (arith, one.made, same, m, f.made) }
 
-    amid_few : (l : Loose) → AreFewJoined c new 10880 left back (sheaf_in l) → IsFew b c below.rank (stubs_size below.stubs + stubs_size right.stubs) 0 back → IsFew old new loose.rank 10880 (4 * loose.rank + pages) (sheaf_in l)
+    amid_few : (l : Loose) → AreFewJoined c new 10880 left back (sheaf_in l) → IsFew b c below.rank (stubs_size below.stubs + stubs_size right.stubs) 0 back
+        → IsFew old new loose.rank 10880 (4 * loose.rank + pages) (sheaf_in l)
     amid_few l j m =
         let f = j.level (omega (arith, m.rank_is, one.rank_is)) in
         record { rank_is = f.rank_is ∙ left_rank; small = f.small; size = omega (arith, f.size, m.size, one.size, parts_size, little.1); made = omega (arith, one.made, same, m.made, f.made) }
 
-    one_below_few : (r : Result Loose TreeFault) → (Each IsStub front.stubs → Each IsStub back.stubs → IfOk r (λ l. AreFewJoined c new 10880 front back (sheaf_in l))) → IfOk r (λ l. IsFew old new loose.rank 10880 (4 * loose.rank + pages) (sheaf_in l))
+    one_below_few : (r : Result Loose TreeFault)
+        → (Each IsStub front.stubs → Each IsStub back.stubs → IfOk r (λ l. AreFewJoined c new 10880 front back (sheaf_in l)))
+        → IfOk r (λ l. IsFew old new loose.rank 10880 (4 * loose.rank + pages) (sheaf_in l))
     one_below_few (Err e) j = tt
     one_below_few (Ok l) j = elim (zero_or (length right.stubs)) [
       | inl none ↦ (let n = none_behind none in
           end_few l (subst (λ x. AreFewJoined c new 10880 x below (sheaf_in l)) front_is (subst (λ x. AreFewJoined c new 10880 front x (sheaf_in l)) n.0
           (j (subst (λ (x : Sheaf). Each IsStub x.stubs) (sym front_is) left_small) (subst (λ (x : Sheaf). Each IsStub x.stubs) (sym n.0) one.small)))) n.1)
       | inr some ↦ (let m = (some_behind some right_small).level (omega (arith, one.rank_is)) in
-          amid_few l (subst (λ x. AreFewJoined c new 10880 x back (sheaf_in l)) front_is (j (subst (λ (x : Sheaf). Each IsStub x.stubs) (sym front_is) left_small) m.small)) m)
+          amid_few l (subst (λ x. AreFewJoined c new 10880 x back (sheaf_in l)) front_is
+          (j (subst (λ (x : Sheaf). Each IsStub x.stubs) (sym front_is) left_small) m.small)) m)
     ]
 
   pub children_few : IsFewOrOne old a (left.rank - 1) 10880 (4 * (left.rank - 1) + pages) below → (r : Result Loose TreeFault)
-      → (Each IsStub front.stubs → Each IsStub back.stubs → IfOk r (λ l. AreFewJoined c new 10880 front back (sheaf_in l))) → IfOk r (λ l. IsFew old new loose.rank 10880 (4 * loose.rank + pages) (sheaf_in l))
+      → (Each IsStub front.stubs → Each IsStub back.stubs → IfOk r (λ l. AreFewJoined c new 10880 front back (sheaf_in l)))
+      → IfOk r (λ l. IsFew old new loose.rank 10880 (4 * loose.rank + pages) (sheaf_in l))
   children_few (inl few) r j = below_few few r j
   children_few (inr one) r j = one_below_few one r j
 
 -- ---- the whole tree
 
-pub root_few : (old mid new : Store) (halvings : ℕ) (top above : List Stub) (r : Result ℕ TreeFault) → stubs_size top ≤ 2720 * 2 ^ halvings → 0 < length above → AreFewPages old mid (stubs_size top) above
-    → ((h : ℕ) → Each IsStub above × (stubs_size above ≤ 2720 * 2 ^ h) → IfOk r (λ done. MakesUpTo mid new (2 * 2 ^ h - 1))) → (IsOneChild above → IfOk r (λ done. MakesUpTo mid new 0)) → IfOk r (λ done. MakesUpTo old new (2 * 2 ^ halvings - 1))
+pub root_few : (old mid new : Store) (halvings : ℕ) (top above : List Stub) (r : Result ℕ TreeFault) → stubs_size top ≤ 2720 * 2 ^ halvings → 0 < length above
+    → AreFewPages old mid (stubs_size top) above
+    → ((h : ℕ) → Each IsStub above × (stubs_size above ≤ 2720 * 2 ^ h) → IfOk r (λ done. MakesUpTo mid new (2 * 2 ^ h - 1)))
+    → (IsOneChild above → IfOk r (λ done. MakesUpTo mid new 0)) → IfOk r (λ done. MakesUpTo old new (2 * 2 ^ halvings - 1))
 root_few old mid new zero top above r le some f more alone =
     let one : length above ≤ 1 = omega (arith, f.few) in
     costs_on old mid new 1 0 (2 * 2 ^ zero - 1) r (omega (arith, f.made)) (alone (omega arith, f.children)) (omega arith)
 root_few old mid new (suc h) top above r le some f more alone =
     let few : length above ≤ 2 * 2 ^ h = omega (arith, f.few) in
-    costs_on old mid new (2 * 2 ^ h) (2 * 2 ^ h - 1) (2 * 2 ^ suc h - 1) r (omega (arith, f.made)) (more h (f.small, omega (arith, size_many above f.small))) (omega arith)
+    costs_on old mid new (2 * 2 ^ h) (2 * 2 ^ h - 1) (2 * 2 ^ suc h - 1) r (omega (arith, f.made)) (more h (f.small, omega (arith, size_many above f.small)))
+    (omega arith)
 
 pub not_alone : (ss : List Stub) → IsOneChild ss → ((s : Stub) → ss ≡ s ∷ [] → IsChild s.load → ⊥) → ⊥
 not_alone [] one none = omega (arith, one.0)
 not_alone (s ∷ t ∷ ts) one none = omega (arith, one.0)
 not_alone (s ∷ []) one none = none s refl one.1.0
 
-pub first_few : (old new : Store) (n chain : ℕ) (r : Result Loose TreeFault) → IfOk r (λ l. IsFew old new 0 5440 chain (sheaf_in l)) → IfOk r (λ l. IsFewTop old new (4 * n + 3 + chain) (sheaf_in l))
+pub first_few : (old new : Store) (n chain : ℕ) (r : Result Loose TreeFault) → IfOk r (λ l. IsFew old new 0 5440 chain (sheaf_in l))
+    → IfOk r (λ l. IsFewTop old new (4 * n + 3 + chain) (sheaf_in l))
 first_few old new n chain (Err e) f = tt
 first_few old new n chain (Ok l) f = record { halvings = 1; pages = chain; little = (f.small, f.size); made = f.made; enough = omega arith }
 
-pub levels_few : (old new : Store) (root : ℕ) (pages : List ℕ) (entries : List Entry) (tree : HasMap old root pages entries) (below chain : ℕ) (r : Result Loose TreeFault) → (root ≡ 0 → ⊥)
-    → ((t : HasTree old root pages entries) → below ≡ t.d) → IfOk r (λ l. IsFewOrOne old new below 10880 (4 * below + chain) (sheaf_in l)) → IfOk r (λ l. IsFewTop old new (4 * levels_of tree + 3 + chain) (sheaf_in l))
+pub levels_few : (old new : Store) (root : ℕ) (pages : List ℕ) (entries : List Entry) (tree : HasMap old root pages entries) (below chain : ℕ)
+    (r : Result Loose TreeFault) → (root ≡ 0 → ⊥)
+    → ((t : HasTree old root pages entries) → below ≡ t.d) → IfOk r (λ l. IsFewOrOne old new below 10880 (4 * below + chain) (sheaf_in l))
+    → IfOk r (λ l. IsFewTop old new (4 * levels_of tree + 3 + chain) (sheaf_in l))
 levels_few old new root pages entries tree below chain (Err e) some is f = tt
 levels_few old new root pages entries (inl none) below chain (Ok l) some is f = absurd (some none.0)
 levels_few old new root pages entries (inr t) below chain (Ok l) some is (inr f) =

@@ -1,12 +1,14 @@
 -- One step down a tree, and the look into a leaf.
-use Rattle.std.proofs.Common.{if◌then◌else◌, ◌≡◌, ℕ, zero, suc, ◌+◌, ◌<◌, ◌≤◌, List, [], ◌∷◌, ◌++◌, length, map, get_or, Option, Some, None, Result, Ok, Err, Bool, true, false, refl, sym, ap, ◌∙◌, subst, arith, ◌⊎◌, inl, inr}
+use Rattle.std.proofs.Common.{if◌then◌else◌, ◌≡◌, ℕ, zero, suc, ◌+◌, ◌<◌, ◌≤◌, List, [], ◌∷◌, ◌++◌, length, map, get_or, Option, Some, None, Result, Ok, Err}
+use Rattle.std.proofs.Common.{Bool, true, false, refl, sym, ap, ◌∙◌, subst, arith, ◌⊎◌, inl, inr}
 use Rattle.std.specs.Ordering.{is_eq}
 use Rattle.std.specs.List.{flat_map}
 use Rattle.btree.specs.Keys.{Entry, Pair, entry_of, value_at, Each, Rises, IsUnder, IsNotUnder, IsWithin, IsPast, IsBetween, key_cmp, find}
 use Rattle.page.specs.Content.{Item, Arm, Content, leaf, branch, chain, free_list, item_keys}
 use Rattle.btree.specs.Store.{Store, Frame, HasCause}
 use Rattle.btree.specs.Search.{IsPlace, IsChildPlace, AreBounds, LieBetween}
-use Rattle.btree.specs.Tree.{Twig, Body, IsTree, high_of, twig_keys, pair_keys, pairs_of, entries_of, IsSound, Shows, HasChain, content_of, item_of, arm_of, place_of}
+use Rattle.btree.specs.Tree.{Twig, Body, IsTree, high_of, twig_keys, pair_keys, pairs_of, entries_of, IsSound, Shows, HasChain, content_of, item_of, arm_of}
+use Rattle.btree.specs.Tree.{place_of}
 use Rattle.btree.specs.Calls.{IsAnswer, IsPart, IsPlaceOf}
 use Rattle.page.specs.declared.cells.Stored.{Stored}
 use Rattle.btree.specs.declared.pages.TreeFault.{TreeFault}
@@ -17,7 +19,8 @@ use Rattle.btree.specs.View.{place_in, content_in}
 use Rattle.std.specs.Option.{option_map}
 use Rattle.std.specs.Result.{IsErrAnd}
 use Rattle.btree.proofs.KeyLemmas.{under_trans, not_both, up_to_then_under, under_then_up_to, differs_under, differs_over}
-use Rattle.btree.proofs.ListLemmas.{each_back, each_map, each_of_map, map_append, flat_append, rises_front, rises_back, at_place, get_here, get_next, get_front, long_map, long_append}
+use Rattle.btree.proofs.ListLemmas.{each_back, each_map, each_of_map, map_append, flat_append, rises_front, rises_back, at_place, get_here, get_next, get_front}
+use Rattle.btree.proofs.ListLemmas.{long_map, long_append}
 use Rattle.btree.proofs.FanLemmas.{find_skip, find_none, find_stop, low_of, around_child}
 
 -- ---- bounds of a page
@@ -45,7 +48,8 @@ pub record Step (s : Store) (child level : ℕ) (from : List ℕ) (to : Option (
   pub between : IsBetween from to key
   pub found : find key pairs ≡ find key (pairs_of d body)
 
-pub from_is : {B : Type 0} (low : List ℕ) (high : Option (List ℕ)) (front : List (Twig B)) (w : Twig B) (back : List (Twig B)) (from : List ℕ) (to : Option (List ℕ))
+pub from_is : {B : Type 0} (low : List ℕ) (high : Option (List ℕ)) (front : List (Twig B)) (w : Twig B) (back : List (Twig B)) (from : List ℕ)
+    (to : Option (List ℕ))
     → AreBounds low high (map arm_of (front ++ w ∷ back)) (length front) from to → from ≡ low_of low front w.key
 from_is low high [] w back from to h = h.first refl
 from_is low high (f ∷ fs) w back from to h =
@@ -53,36 +57,44 @@ from_is low high (f ∷ fs) w back from to h =
     ∙ ap (λ n. (get_or (map arm_of (f ∷ fs) ++ arm_of w ∷ map arm_of back) n (arm_of w)).key) (sym (long_map arm_of (f ∷ fs)))
     ∙ ap (λ a. a.key) (get_here (map arm_of (f ∷ fs)) (arm_of w) (map arm_of back) (arm_of w))
 
-place_next : {B : Type 0} (front : List (Twig B)) (w v : Twig B) (back : List (Twig B)) (e : Arm) → get_or (map arm_of (front ++ w ∷ v ∷ back)) (length front + 1) e ≡ arm_of v
+place_next : {B : Type 0} (front : List (Twig B)) (w v : Twig B) (back : List (Twig B)) (e : Arm)
+    → get_or (map arm_of (front ++ w ∷ v ∷ back)) (length front + 1) e ≡ arm_of v
 place_next front w v back e =
     ap (λ xs. get_or xs (length front + 1) e) (map_append arm_of front (w ∷ v ∷ back))
     ∙ ap (λ n. get_or (map arm_of front ++ arm_of w ∷ arm_of v ∷ map arm_of back) (n + 1) e) (sym (long_map arm_of front))
     ∙ get_next (map arm_of front) (arm_of w) (arm_of v) (map arm_of back) e
 
-pub place_here : {B : Type 0} (front : List (Twig B)) (w : Twig B) (back : List (Twig B)) (e : Arm) → get_or (map arm_of (front ++ w ∷ back)) (length front) e ≡ arm_of w
+pub place_here : {B : Type 0} (front : List (Twig B)) (w : Twig B) (back : List (Twig B)) (e : Arm)
+    → get_or (map arm_of (front ++ w ∷ back)) (length front) e ≡ arm_of w
 place_here front w back e =
     ap (λ xs. get_or xs (length front) e) (map_append arm_of front (w ∷ back))
     ∙ ap (λ n. get_or (map arm_of front ++ arm_of w ∷ map arm_of back) n e) (sym (long_map arm_of front))
     ∙ get_here (map arm_of front) (arm_of w) (map arm_of back) e
 
-arms_long : {B : Type 0} (front : List (Twig B)) (w : Twig B) (back : List (Twig B)) → length (map arm_of (front ++ w ∷ back)) ≡ length front + suc (length back)
+arms_long : {B : Type 0} (front : List (Twig B)) (w : Twig B) (back : List (Twig B))
+    → length (map arm_of (front ++ w ∷ back)) ≡ length front + suc (length back)
 arms_long [] w back = omega (arith, long_map arm_of back)
 arms_long (f ∷ fs) w back = omega (arith, arms_long fs w back)
 
-pub to_is : {B : Type 0} (low : List ℕ) (high : Option (List ℕ)) (front : List (Twig B)) (w : Twig B) (back : List (Twig B)) (from : List ℕ) (to : Option (List ℕ))
+pub to_is : {B : Type 0} (low : List ℕ) (high : Option (List ℕ)) (front : List (Twig B)) (w : Twig B) (back : List (Twig B)) (from : List ℕ)
+    (to : Option (List ℕ))
     → AreBounds low high (map arm_of (front ++ w ∷ back)) (length front) from to → to ≡ high_of high back
 to_is low high front w [] from to h = h.last (omega (arith, arms_long front w []))
-to_is low high front w (v ∷ vs) from to h = h.inner (arm_of v) (omega (arith, arms_long front w (v ∷ vs))) ∙ ap (λ a. Some a.key) (place_next front w v vs (arm_of v))
+to_is low high front w (v ∷ vs) from to h =
+    h.inner (arm_of v) (omega (arith, arms_long front w (v ∷ vs))) ∙ ap (λ a. Some a.key) (place_next front w v vs (arm_of v))
 
-not_equal_before : (from key : List ℕ) (xs : List Pair) → IsNotUnder key from → Each (λ x. IsUnder x.key from) xs → Each (λ x. is_eq (key_cmp x.key key) ≡ false) xs
+not_equal_before : (from key : List ℕ) (xs : List Pair) → IsNotUnder key from → Each (λ x. IsUnder x.key from) xs
+    → Each (λ x. is_eq (key_cmp x.key key) ≡ false) xs
 not_equal_before from key xs h = each_map _ _ (λ x u. differs_under x.key key (under_then_up_to x.key from key u h)) xs
 
-not_equal_after : (to : Option (List ℕ)) (key : List ℕ) (xs : List Pair) → IsWithin to key → Each (λ x. IsPast to x.key) xs → Each (λ x. is_eq (key_cmp x.key key) ≡ false) xs
+not_equal_after : (to : Option (List ℕ)) (key : List ℕ) (xs : List Pair) → IsWithin to key → Each (λ x. IsPast to x.key) xs
+    → Each (λ x. is_eq (key_cmp x.key key) ≡ false) xs
 not_equal_after None key xs h = each_map _ _ (λ x u. absurd u) xs
 not_equal_after (Some high) key xs h = each_map _ _ (λ x u. differs_over x.key key (under_then_up_to key high x.key h u)) xs
 
 -- in bounds, the child at its place
-pub child_bounds : (d : ℕ) (low : List ℕ) (high : Option (List ℕ)) (front : List (Twig (Body d))) (w : Twig (Body d)) (back : List (Twig (Body d))) (key : List ℕ)
+pub child_bounds : (d : ℕ) (low : List ℕ) (high : Option (List ℕ)) (front : List (Twig (Body d))) (w : Twig (Body d)) (back : List (Twig (Body d)))
+    (key : List ℕ)
     → IsChildPlace (map arm_of (front ++ w ∷ back)) key (length front) → IsBetween low high key → IsBetween (low_of low front w.key) (high_of high back) key
 child_bounds d low high front w back key place h = (from_below front place, to_above back place)
   where
@@ -92,7 +104,8 @@ child_bounds d low high front w back key place h = (from_below front place, to_a
 
     to_above : (back : List (Twig (Body d))) → IsChildPlace (map arm_of (front ++ w ∷ back)) key (length front) → IsWithin (high_of high back) key
     to_above [] p = h.1
-    to_above (v ∷ vs) p = subst (λ (a : Arm). IsUnder key a.key) (place_next front w v vs (arm_of v)) (p.above (arm_of v) (omega (arith, arms_long front w (v ∷ vs))))
+    to_above (v ∷ vs) p =
+        subst (λ (a : Arm). IsUnder key a.key) (place_next front w v vs (arm_of v)) (p.above (arm_of v) (omega (arith, arms_long front w (v ∷ vs))))
 
 -- the same where the child is known
 pub record StepAt (s : Store) (level d : ℕ) (w : Twig (Body d)) (from : List ℕ) (to : Option (List ℕ)) (key : List ℕ) (pairs : List Pair) : Type 0 where
@@ -100,9 +113,12 @@ pub record StepAt (s : Store) (level d : ℕ) (w : Twig (Body d)) (from : List �
   pub between : IsBetween from to key
   pub found : find key pairs ≡ find key (pairs_of d w.body)
 
-pub descend_at : (s : Store) (page level d : ℕ) (low : List ℕ) (high : Option (List ℕ)) (front : List (Twig (Body d))) (w : Twig (Body d)) (back : List (Twig (Body d)))
-    (from : List ℕ) (to : Option (List ℕ)) (key : List ℕ) → IsPart s page level (suc d) low high (front ++ w ∷ back) → IsChildPlace (map arm_of (front ++ w ∷ back)) key (length front)
-    → AreBounds low high (map arm_of (front ++ w ∷ back)) (length front) from to → IsBetween low high key → StepAt s (level + 1) d w from to key (pairs_of (suc d) (front ++ w ∷ back))
+pub descend_at : (s : Store) (page level d : ℕ) (low : List ℕ) (high : Option (List ℕ)) (front : List (Twig (Body d))) (w : Twig (Body d))
+    (back : List (Twig (Body d)))
+    (from : List ℕ) (to : Option (List ℕ)) (key : List ℕ) → IsPart s page level (suc d) low high (front ++ w ∷ back)
+    → IsChildPlace (map arm_of (front ++ w ∷ back)) key (length front)
+    → AreBounds low high (map arm_of (front ++ w ∷ back)) (length front) from to → IsBetween low high key
+    → StepAt s (level + 1) d w from to key (pairs_of (suc d) (front ++ w ∷ back))
 descend_at s page level d low high front w back from to key part place bounds within =
     let a = around_child d low high front w back part.sound in
     let shown = each_back _ front (w ∷ back) part.shown in
@@ -110,7 +126,8 @@ descend_at s page level d low high front w back from to key part place bounds wi
     let et : to ≡ high_of high back = to_is low high front w back from to bounds in
     let here : IsBetween (low_of low front w.key) (high_of high back) key = child_bounds d low high front w back key place within in
     let deep : suc d + level < 32 = part.depth in
-    let sound : IsSound d from to w.body = subst (λ f. IsSound d f to w.body) (sym ef) (subst (λ t. IsSound d (low_of low front w.key) t w.body) (sym et) a.mid.1) in
+    let sound : IsSound d from to w.body =
+    subst (λ f. IsSound d f to w.body) (sym ef) (subst (λ t. IsSound d (low_of low front w.key) t w.body) (sym et) a.mid.1) in
     record {
       part = record { at = shown.0.0; shown = shown.0.1; whole = a.mid.0; sound = sound; depth = omega arith };
       between = subst (λ f. IsBetween f to key) (sym ef) (subst (λ t. IsBetween (low_of low front w.key) t key) (sym et) here);
@@ -122,7 +139,8 @@ descend_at s page level d low high front w back from to key part place bounds wi
 
 pub descend : (s : Store) (page level d : ℕ) (low : List ℕ) (high : Option (List ℕ)) (body : Body d) (arms : List Arm) (i child : ℕ)
     (from : List ℕ) (to : Option (List ℕ)) (key : List ℕ) → branch arms ≡ content_of d body → IsPart s page level d low high body → IsChildPlace arms key i
-    → AreBounds low high arms i from to → ((e : Arm) → (get_or arms i e).child ≡ child) → IsBetween low high key → Step s child (level + 1) from to key (pairs_of d body)
+    → AreBounds low high arms i from to → ((e : Arm) → (get_or arms i e).child ≡ child) → IsBetween low high key
+    → Step s child (level + 1) from to key (pairs_of d body)
 descend s page level zero low high pairs arms i child from to key e part place bounds is within = cc
 descend s page level (suc d) low high twigs arms i child from to key e part place bounds is within =
     let same : arms ≡ map arm_of twigs = cc in
@@ -132,11 +150,15 @@ descend s page level (suc d) low high twigs arms i child from to key e part plac
     let arms_are : arms ≡ map arm_of (c.front ++ c.mid ∷ c.back) = same ∙ ap (map arm_of) c.is in
     let P : List Arm → ℕ → Type 0 = λ zs n. IsChildPlace zs key n in
     let Q : List Arm → ℕ → Type 0 = λ zs n. AreBounds low high zs n from to in
-    let place' : IsChildPlace (map arm_of (c.front ++ c.mid ∷ c.back)) key (length c.front) = subst (λ n. P (map arm_of (c.front ++ c.mid ∷ c.back)) n) (sym c.place) (subst (λ zs. P zs i) arms_are place) in
-    let bounds' : AreBounds low high (map arm_of (c.front ++ c.mid ∷ c.back)) (length c.front) from to = subst (λ n. Q (map arm_of (c.front ++ c.mid ∷ c.back)) n) (sym c.place) (subst (λ zs. Q zs i) arms_are bounds) in
-    let part' : IsPart s page level (suc d) low high (c.front ++ c.mid ∷ c.back) = subst (λ (ts : List (Twig (Body d))). IsPart s page level (suc d) low high ts) c.is part in
+    let place' : IsChildPlace (map arm_of (c.front ++ c.mid ∷ c.back)) key (length c.front) =
+    subst (λ n. P (map arm_of (c.front ++ c.mid ∷ c.back)) n) (sym c.place) (subst (λ zs. P zs i) arms_are place) in
+    let bounds' : AreBounds low high (map arm_of (c.front ++ c.mid ∷ c.back)) (length c.front) from to =
+    subst (λ n. Q (map arm_of (c.front ++ c.mid ∷ c.back)) n) (sym c.place) (subst (λ zs. Q zs i) arms_are bounds) in
+    let part' : IsPart s page level (suc d) low high (c.front ++ c.mid ∷ c.back) =
+    subst (λ (ts : List (Twig (Body d))). IsPart s page level (suc d) low high ts) c.is part in
     let page_is : c.mid.page ≡ child =
-    sym (ap (λ a. a.child) (place_here c.front c.mid c.back (arm_of c.mid))) ∙ ap (λ n. (get_or (map arm_of (c.front ++ c.mid ∷ c.back)) n (arm_of c.mid)).child) c.place
+    sym (ap (λ a. a.child) (place_here c.front c.mid c.back (arm_of c.mid)))
+    ∙ ap (λ n. (get_or (map arm_of (c.front ++ c.mid ∷ c.back)) n (arm_of c.mid)).child) c.place
     ∙ ap (λ zs. (get_or zs i (arm_of c.mid)).child) (sym arms_are) ∙ is (arm_of c.mid) in
     let t = descend_at s page level d low high c.front c.mid c.back from to key part' place' bounds' within in
     record {
@@ -149,7 +171,8 @@ descend s page level (suc d) low high twigs arms i child from to key e part plac
 
 -- ---- in a leaf
 
-pub all_under : (key : List ℕ) (xs : List Pair) → Rises (pair_keys xs) → ((k : ℕ) (d : Item) → k + 1 ≡ length xs → IsUnder (get_or (map item_of xs) k d).key key) → Each (λ x. IsUnder x.key key) xs
+pub all_under : (key : List ℕ) (xs : List Pair) → Rises (pair_keys xs)
+    → ((k : ℕ) (d : Item) → k + 1 ≡ length xs → IsUnder (get_or (map item_of xs) k d).key key) → Each (λ x. IsUnder x.key key) xs
 all_under key [] rise last = tt
 all_under key (x ∷ []) rise last = (last zero (item_of x) (omega arith), tt)
 all_under key (x ∷ y ∷ xs) rise last =
@@ -167,7 +190,8 @@ item_here front x back e =
     ∙ get_here (map item_of front) (item_of x) (map item_of back) e
 
 -- what stands before the place is below the key
-pub front_is_under : (key : List ℕ) (front back : List Pair) → Rises (pair_keys (front ++ back)) → IsPlace (map item_of (front ++ back)) key (length front) → Each (λ x. IsUnder x.key key) front
+pub front_is_under : (key : List ℕ) (front back : List Pair) → Rises (pair_keys (front ++ back)) → IsPlace (map item_of (front ++ back)) key (length front)
+    → Each (λ x. IsUnder x.key key) front
 front_is_under key front back rise place =
     all_under key front (rises_front (pair_keys front) (pair_keys back) (subst Rises (map_append (λ x. x.key) front back) rise))
     (λ k d e. subst (λ (x : Item). IsUnder x.key key) (item_front front back k d (omega arith)) (place.below k d e))
@@ -175,18 +199,21 @@ front_is_under key front back rise place =
 each_key : (P : List ℕ → Type 0) (pairs : List Pair) → Each P (pair_keys pairs) → Each (λ x. P x.key) pairs
 each_key P pairs h = each_of_map P (λ x. x.key) pairs h
 
-pub mid_not_under : (key : List ℕ) (front : List Pair) (x : Pair) (back : List Pair) → IsPlace (map item_of (front ++ x ∷ back)) key (length front) → IsNotUnder x.key key
+pub mid_not_under : (key : List ℕ) (front : List Pair) (x : Pair) (back : List Pair) → IsPlace (map item_of (front ++ x ∷ back)) key (length front)
+    → IsNotUnder x.key key
 mid_not_under key front x back place =
     subst (λ (i : Item). IsNotUnder i.key key) (item_here front x back (item_of x))
     (place.above (item_of x) (omega (arith, long_map item_of (front ++ x ∷ back), long_append front (x ∷ back))))
 
-pub back_is_over : (key : List ℕ) (front : List Pair) (x : Pair) (back : List Pair) → Rises (pair_keys (front ++ x ∷ back)) → IsPlace (map item_of (front ++ x ∷ back)) key (length front)
+pub back_is_over : (key : List ℕ) (front : List Pair) (x : Pair) (back : List Pair) → Rises (pair_keys (front ++ x ∷ back))
+    → IsPlace (map item_of (front ++ x ∷ back)) key (length front)
     → Each (λ y. IsUnder key y.key) back
 back_is_over key front x back rise place =
     each_map _ _ (λ y u. up_to_then_under key x.key y.key (mid_not_under key front x back place) u) back
     (each_key (IsUnder x.key) back ((rises_back (pair_keys front) (pair_keys (x ∷ back)) (subst Rises (map_append (λ x. x.key) front (x ∷ back)) rise)).0))
 
-find_at : (key : List ℕ) (front : List Pair) (x : Pair) (back : List Pair) → Rises (pair_keys (front ++ x ∷ back)) → IsPlace (map item_of (front ++ x ∷ back)) key (length front)
+find_at : (key : List ℕ) (front : List Pair) (x : Pair) (back : List Pair) → Rises (pair_keys (front ++ x ∷ back))
+    → IsPlace (map item_of (front ++ x ∷ back)) key (length front)
     → find key (front ++ x ∷ back) ≡ find key (x ∷ [])
 find_at key front x back rise place =
     find_skip key front (x ∷ back) (each_map _ _ (λ y u. differs_under y.key key u) front (front_is_under key front (x ∷ back) rise place))
@@ -198,7 +225,8 @@ pub record Looked (it : Item) (pairs : List Pair) (key : List ℕ) : Type 0 wher
   pub is : it ≡ item_of pair
   pub found : find key pairs ≡ find key (pair ∷ [])
 
-pub look : (items : List Item) (pairs : List Pair) (key : List ℕ) (i : ℕ) (it : Item) → items ≡ map item_of pairs → Rises (pair_keys pairs) → IsPlace items key i
+pub look : (items : List Item) (pairs : List Pair) (key : List ℕ) (i : ℕ) (it : Item) → items ≡ map item_of pairs → Rises (pair_keys pairs)
+    → IsPlace items key i
     → i < length items → ((d : Item) → it ≡ get_or items i d) → Looked it pairs key
 look items pairs key i it e rise place lt here =
     let c = at_place pairs i (omega (arith, ap length e, long_map item_of pairs)) in
@@ -213,15 +241,18 @@ look items pairs key i it e rise place lt here =
       found = ap (find key) c.is ∙ find_at key c.front c.mid c.back (subst (λ ps. Rises (pair_keys ps)) c.is rise) place';
     }
 
-pub look_found : (items : List Item) (pairs : List Pair) (key : List ℕ) (i : ℕ) (it : Item) (stored : Stored) → items ≡ map item_of pairs → Rises (pair_keys pairs) → IsPlace items key i
-    → i < length items → ((d : Item) → it ≡ get_or items i d) → it.place ≡ place_in stored → is_eq (key_cmp it.key key) ≡ true → IsPlaceOf (find key pairs) (Some stored)
+pub look_found : (items : List Item) (pairs : List Pair) (key : List ℕ) (i : ℕ) (it : Item) (stored : Stored) → items ≡ map item_of pairs
+    → Rises (pair_keys pairs) → IsPlace items key i
+    → i < length items → ((d : Item) → it ≡ get_or items i d) → it.place ≡ place_in stored → is_eq (key_cmp it.key key) ≡ true
+    → IsPlaceOf (find key pairs) (Some stored)
 look_found items pairs key i it stored e rise place lt here at hit =
     let l = look items pairs key i it e rise place lt here in
     let hits : is_eq (key_cmp l.pair.key key) ≡ true = ap (λ (x : Item). is_eq (key_cmp x.key key)) (sym l.is) ∙ hit in
     let found : find key pairs ≡ Some l.pair = l.found ∙ ap (λ b. if b then Some l.pair else None) hits in
     subst (λ o. IsPlaceOf o (Some stored)) (sym found) (sym at ∙ ap (λ (x : Item). x.place) l.is)
 
-pub look_other : (items : List Item) (pairs : List Pair) (key : List ℕ) (i : ℕ) (it : Item) → items ≡ map item_of pairs → Rises (pair_keys pairs) → IsPlace items key i
+pub look_other : (items : List Item) (pairs : List Pair) (key : List ℕ) (i : ℕ) (it : Item) → items ≡ map item_of pairs → Rises (pair_keys pairs)
+    → IsPlace items key i
     → i < length items → ((d : Item) → it ≡ get_or items i d) → is_eq (key_cmp it.key key) ≡ false → IsPlaceOf (find key pairs) None
 look_other items pairs key i it e rise place lt here miss =
     let l = look items pairs key i it e rise place lt here in
@@ -233,7 +264,8 @@ pub look_past : (items : List Item) (pairs : List Pair) (key : List ℕ) (i : �
     → length items ≤ i → IsPlaceOf (find key pairs) None
 look_past items pairs key i e rise place le =
     let same : i ≡ length pairs = omega (arith, place.within, ap length e, long_map item_of pairs) in
-    let under : Each (λ x. IsUnder x.key key) pairs = all_under key pairs rise (λ k d h. subst (λ zs. IsUnder (get_or zs k d).key key) e (place.below k d (h ∙ sym same))) in
+    let under : Each (λ x. IsUnder x.key key) pairs =
+    all_under key pairs rise (λ k d h. subst (λ zs. IsUnder (get_or zs k d).key key) e (place.below k d (h ∙ sym same))) in
     let found : find key pairs ≡ None = find_none key pairs (each_map _ _ (λ x u. differs_under x.key key u) pairs under) in
     subst (λ o. IsPlaceOf o None) (sym found) tt
 
@@ -241,7 +273,8 @@ look_past items pairs key i e rise place le =
 pub value_found : (key : List ℕ) (pairs : List Pair) → value_at key (map entry_of pairs) ≡ option_map (λ (x : Pair). x.value) (find key pairs)
 value_found key [] = refl
 value_found key (x ∷ xs) =
-    elim (is_eq (key_cmp x.key key)) as (λ b. (if b then Some x.value else value_at key (map entry_of xs)) ≡ option_map (λ (x : Pair). x.value) (if b then Some x else find key xs))
+    elim (is_eq (key_cmp x.key key)) as
+    (λ b. (if b then Some x.value else value_at key (map entry_of xs)) ≡ option_map (λ (x : Pair). x.value) (if b then Some x else find key xs))
     [ true ↦ refl | false ↦ value_found key xs ]
 
 pub find_each : (P : Pair → Type 0) (key : List ℕ) (pairs : List Pair) (x : Pair) → Each P pairs → find key pairs ≡ Some x → P x
@@ -255,23 +288,28 @@ abbrev pub IsLooked : {V : Type 0} → (V → List ℕ) → Store → Store → 
 IsLooked bytes old new key entries result = IsAnswer old new (λ answer. option_map bytes answer ≡ value_at key entries) result
 
 -- a value that lies where it was found
-pub none_found : {V : Type 0} (bytes : V → List ℕ) (old new : Store) (key : List ℕ) (pairs : List Pair) → IsPlaceOf (find key pairs) None → IsLooked bytes old new key (map entry_of pairs) (Ok None)
+pub none_found : {V : Type 0} (bytes : V → List ℕ) (old new : Store) (key : List ℕ) (pairs : List Pair) → IsPlaceOf (find key pairs) None
+    → IsLooked bytes old new key (map entry_of pairs) (Ok None)
 none_found bytes old new key pairs h = go (find key pairs) refl h
   where
     go : (o : Option Pair) → o ≡ find key pairs → IsPlaceOf o None → None ≡ value_at key (map entry_of pairs)
     go None e h = ap (option_map (λ (x : Pair). x.value)) e ∙ sym (value_found key pairs)
     go (Some x) e h = absurd h
 
-pub some_found : {V : Type 0} (bytes : V → List ℕ) (old new : Store) (key : List ℕ) (pairs : List Pair) (stored : Stored) (v : V) → Shows old zero pairs → IsPlaceOf (find key pairs) (Some stored)
-    → ((x : Pair) → place_in stored ≡ place_of x.links x.value → HasChain old x → bytes v ≡ x.value) → IsLooked bytes old new key (map entry_of pairs) (Ok (Some v))
+pub some_found : {V : Type 0} (bytes : V → List ℕ) (old new : Store) (key : List ℕ) (pairs : List Pair) (stored : Stored) (v : V) → Shows old zero pairs
+    → IsPlaceOf (find key pairs) (Some stored)
+    → ((x : Pair) → place_in stored ≡ place_of x.links x.value → HasChain old x → bytes v ≡ x.value)
+    → IsLooked bytes old new key (map entry_of pairs) (Ok (Some v))
 some_found bytes old new key pairs stored v shown h says = go (find key pairs) refl h
   where
     go : (o : Option Pair) → o ≡ find key pairs → IsPlaceOf o (Some stored) → Some (bytes v) ≡ value_at key (map entry_of pairs)
     go None e h = absurd h
     go (Some x) e h =
-        ap (λ (b : List ℕ). Some b) (says x h (find_each (HasChain old) key pairs x shown (sym e))) ∙ ap (option_map (λ (x : Pair). x.value)) e ∙ sym (value_found key pairs)
+        ap (λ (b : List ℕ). Some b) (says x h (find_each (HasChain old) key pairs x shown (sym e))) ∙ ap (option_map (λ (x : Pair). x.value)) e
+        ∙ sym (value_found key pairs)
 
-pub some_failed : {V : Type 0} (bytes : V → List ℕ) (old new : Store) (key : List ℕ) (pairs : List Pair) (stored : Stored) (r : Result (Option V) TreeFault) (e : TreeFault) → Shows old zero pairs
+pub some_failed : {V : Type 0} (bytes : V → List ℕ) (old new : Store) (key : List ℕ) (pairs : List Pair) (stored : Stored) (r : Result (Option V) TreeFault)
+    (e : TreeFault) → Shows old zero pairs
     → IsPlaceOf (find key pairs) (Some stored) → IsErrAnd r (λ f. f ≡ e)
     → ((x : Pair) → place_in stored ≡ place_of x.links x.value → HasChain old x → HasCause old new e) → IsLooked bytes old new key (map entry_of pairs) r
 some_failed bytes old new key pairs stored (Ok v) e shown h is says = absurd is
@@ -289,16 +327,19 @@ leaf_pairs zero low high pairs items e h = ((cc), h.0)
 leaf_pairs (suc d) low high twigs items e h = cc
 
 -- what holds of every branch with these arms holds of a body whose page has them
-pub open_branch : (C : (d : ℕ) → Body d → Type 0) (arms : List Arm) → ((d : ℕ) (twigs : Body (suc d)) → arms ≡ map arm_of twigs → C (suc d) twigs) → (d : ℕ) (body : Body d) → branch arms ≡ content_of d body → C d body
+pub open_branch : (C : (d : ℕ) → Body d → Type 0) (arms : List Arm) → ((d : ℕ) (twigs : Body (suc d)) → arms ≡ map arm_of twigs → C (suc d) twigs)
+    → (d : ℕ) (body : Body d) → branch arms ≡ content_of d body → C d body
 open_branch C arms says zero pairs e = cc
 open_branch C arms says (suc d) twigs e = let same : arms ≡ map arm_of twigs = cc in says d twigs same
 
-pub open_leaf : (C : (d : ℕ) → Body d → Type 0) (items : List Item) → ((pairs : List Pair) → items ≡ map item_of pairs → C zero pairs) → (d : ℕ) (body : Body d) → leaf items ≡ content_of d body → C d body
+pub open_leaf : (C : (d : ℕ) → Body d → Type 0) (items : List Item) → ((pairs : List Pair) → items ≡ map item_of pairs → C zero pairs)
+    → (d : ℕ) (body : Body d) → leaf items ≡ content_of d body → C d body
 open_leaf C items says zero pairs e = let same : items ≡ map item_of pairs = cc in says pairs same
 open_leaf C items says (suc d) twigs e = cc
 
 -- a child is a part of its own
-pub child_part : (s : Store) (page level d : ℕ) (low : List ℕ) (high : Option (List ℕ)) (front : List (Twig (Body d))) (w : Twig (Body d)) (back : List (Twig (Body d)))
+pub child_part : (s : Store) (page level d : ℕ) (low : List ℕ) (high : Option (List ℕ)) (front : List (Twig (Body d))) (w : Twig (Body d))
+    (back : List (Twig (Body d)))
     (from : List ℕ) (to : Option (List ℕ)) → IsPart s page level (suc d) low high (front ++ w ∷ back)
     → AreBounds low high (map arm_of (front ++ w ∷ back)) (length front) from to → IsPart s w.page (level + 1) d from to w.body
 child_part s page level d low high front w back from to part bounds =
@@ -307,10 +348,12 @@ child_part s page level d low high front w back from to part bounds =
     let ef : from ≡ low_of low front w.key = from_is low high front w back from to bounds in
     let et : to ≡ high_of high back = to_is low high front w back from to bounds in
     let deep : suc d + level < 32 = part.depth in
-    let sound : IsSound d from to w.body = subst (λ f. IsSound d f to w.body) (sym ef) (subst (λ t. IsSound d (low_of low front w.key) t w.body) (sym et) a.mid.1) in
+    let sound : IsSound d from to w.body =
+    subst (λ f. IsSound d f to w.body) (sym ef) (subst (λ t. IsSound d (low_of low front w.key) t w.body) (sym et) a.mid.1) in
     record { at = shown.0.0; shown = shown.0.1; whole = a.mid.0; sound = sound; depth = omega arith }
 
-pub branch_room : (s : Store) (page level d : ℕ) (low : List ℕ) (high : Option (List ℕ)) (body : Body d) (arms : List Arm) → branch arms ≡ content_of d body → IsPart s page level d low high body
+pub branch_room : (s : Store) (page level d : ℕ) (low : List ℕ) (high : Option (List ℕ)) (body : Body d) (arms : List Arm) → branch arms ≡ content_of d body
+    → IsPart s page level d low high body
     → (level < 31) × (1 < length arms)
 branch_room s page level zero low high pairs arms e p = cc
 branch_room s page level (suc d) low high twigs arms e p =
@@ -318,7 +361,8 @@ branch_room s page level (suc d) low high twigs arms e p =
     let deep : suc d + level < 32 = p.depth in
     (omega arith, omega (arith, ap (λ (zs : List Arm). length zs) same, p.whole.some))
 
-pub looks_later : {V : Type 0} (bytes : V → List ℕ) (old mid new : Store) (key : List ℕ) (pairs below : List Pair) (r : Result (Option V) TreeFault) → Frame old mid → find key pairs ≡ find key below
+pub looks_later : {V : Type 0} (bytes : V → List ℕ) (old mid new : Store) (key : List ℕ) (pairs below : List Pair) (r : Result (Option V) TreeFault)
+    → Frame old mid → find key pairs ≡ find key below
     → IsLooked bytes mid new key (map entry_of below) r → IsLooked bytes old new key (map entry_of pairs) r
 looks_later bytes old mid new key pairs below (Ok answer) g e h =
     h ∙ value_found key below ∙ ap (option_map (λ (x : Pair). x.value)) (sym e) ∙ sym (value_found key pairs)
@@ -338,7 +382,8 @@ module _ (old : Store) (page level : ℕ) (low : List ℕ) (high : Option (List 
       let r = branch_room old page level d low high body arms (sym holds ∙ part.at.holds) part in
       elim why [ inl deep ↦ omega (arith, r.0) | inr none ↦ omega (arith, r.1) ]
 
-  pub in_leaf : {V : Type 0} (bytes : V → List ℕ) (mid new : Store) (items : List Item) (key : List ℕ) (r : Result (Option V) TreeFault) → Frame old mid → old.page page ≡ leaf items
+  pub in_leaf : {V : Type 0} (bytes : V → List ℕ) (mid new : Store) (items : List Item) (key : List ℕ) (r : Result (Option V) TreeFault) → Frame old mid
+      → old.page page ≡ leaf items
       → ((pairs : List Pair) → items ≡ map item_of pairs → Rises (pair_keys pairs) → Shows mid zero pairs → IsLooked bytes mid new key (map entry_of pairs) r)
       → (d : ℕ) (body : Body d) → IsPart old page level d low high body → IsLooked bytes old new key (entries_of d body) r
   in_leaf bytes mid new items key r grows holds says zero pairs part =
@@ -349,16 +394,19 @@ module _ (old : Store) (page level : ℕ) (low : List ℕ) (high : Option (List 
       no_leaf : leaf items ≡ branch (map arm_of twigs) → IsLooked bytes old new key (entries_of (suc d) twigs) r
       no_leaf h = cc
 
-  pub in_child : {V : Type 0} (bytes : V → List ℕ) (mid new : Store) (arms : List Arm) (i : ℕ) (from : List ℕ) (to : Option (List ℕ)) (child : ℕ) (key : List ℕ) (r : Result (Option V) TreeFault)
+  pub in_child : {V : Type 0} (bytes : V → List ℕ) (mid new : Store) (arms : List Arm) (i : ℕ) (from : List ℕ) (to : Option (List ℕ)) (child : ℕ)
+      (key : List ℕ) (r : Result (Option V) TreeFault)
       → old.page page ≡ branch arms → Frame old mid → IsChildPlace arms key i → AreBounds low high arms i from to
       → ((e : Arm) → (get_or arms i e).child ≡ child)
       → ((d : ℕ) (body : Body d) → IsPart mid child (level + 1) d from to body → IsBetween from to key → IsLooked bytes mid new key (entries_of d body) r)
       → (d : ℕ) (body : Body d) → IsPart old page level d low high body → IsBetween low high key → IsLooked bytes old new key (entries_of d body) r
   in_child bytes mid new arms i from to child key r holds grows place bounds here says d body part within =
       let s = descend old page level d low high body arms i child from to key (sym holds ∙ part.at.holds) part place bounds here within in
-      looks_later bytes old mid new key (pairs_of d body) (pairs_of s.d s.body) r grows s.found (says s.d s.body (part_kept old mid grows child (level + 1) s.d from to s.body s.part) s.between)
+      looks_later bytes old mid new key (pairs_of d body) (pairs_of s.d s.body) r grows s.found
+      (says s.d s.body (part_kept old mid grows child (level + 1) s.d from to s.body s.part) s.between)
 
-  pub no_kind : (content : PageContent) → old.page page ≡ content_in content → ((l : List Item) → content ≡ P.Leaf l → ⊥) → ((b : List Arm) → content ≡ P.Branch b → ⊥)
+  pub no_kind : (content : PageContent) → old.page page ≡ content_in content → ((l : List Item) → content ≡ P.Leaf l → ⊥)
+      → ((b : List Arm) → content ≡ P.Branch b → ⊥)
       → (d : ℕ) (body : Body d) → IsPart old page level d low high body → ⊥
   no_kind content holds no_leaf no_branch d body part = go content (sym holds ∙ part.at.holds) no_leaf no_branch
     where

@@ -1,5 +1,6 @@
 -- Cells and children out of their pages, and the part of the tree that they stand for.
-use Rattle.std.proofs.Common.{◌≡◌, ℕ, zero, suc, ◌+◌, ◌<◌, ◌≤◌, List, [], ◌∷◌, ◌++◌, length, map, get_or, Option, Some, Result, Ok, Err, Bool, refl, sym, ap, ◌∙◌, subst, arith, ◌⊎◌, inl, inr, append-nil}
+use Rattle.std.proofs.Common.{◌≡◌, ℕ, zero, suc, ◌+◌, ◌<◌, ◌≤◌, List, [], ◌∷◌, ◌++◌, length, map, get_or, Option, Some, Result, Ok, Err, Bool, refl, sym, ap}
+use Rattle.std.proofs.Common.{◌∙◌, subst, arith, ◌⊎◌, inl, inr, append-nil}
 use Rattle.std.specs.Result.{IfErr, IfOk, IsErrAnd, MatchResult}
 use Rattle.btree.specs.declared.pages.TreeFault.TheVariants.{Memory}
 use Rattle.page.specs.Content.{Arm, Item, IsArm, IsItem, branch, leaf}
@@ -20,16 +21,20 @@ use Rattle.btree.proofs.StoreLemmas.{memory_cause, shows_kept}
 use Rattle.btree.proofs.WideLemmas.{sound_spread, spread_high, spread_low, up_to_wider}
 
 -- a child under its bound
-pub arm_there : (low : List ℕ) (arms : List Arm) (i : ℕ) (key : List ℕ) (page : ℕ) → i < length arms → (i ≡ 0 → key ≡ low) → ((d : Arm) → 0 < i → key ≡ (get_or arms i d).key)
+pub arm_there : (low : List ℕ) (arms : List Arm) (i : ℕ) (key : List ℕ) (page : ℕ) → i < length arms → (i ≡ 0 → key ≡ low)
+    → ((d : Arm) → 0 < i → key ≡ (get_or arms i d).key)
     → ((d : Arm) → page ≡ (get_or arms i d).child) → (d : Stub) → get_or (map arm_stub (under_key low arms)) i d ≡ arm_stub (record { key = key; child = page })
 arm_there low [] i key page lt first later is d = absurd (omega arith)
-arm_there low (a ∷ more) zero key page lt first later is d = ap (λ k. arm_stub (record { key = k; child = a.child })) (sym (first refl)) ∙ ap (λ p. arm_stub (record { key = key; child = p })) (sym (is a))
+arm_there low (a ∷ more) zero key page lt first later is d =
+    ap (λ k. arm_stub (record { key = k; child = a.child })) (sym (first refl)) ∙ ap (λ p. arm_stub (record { key = key; child = p })) (sym (is a))
 arm_there low (a ∷ more) (suc i) key page lt first later is d =
-    get_mapped arm_stub more i d a (omega arith) ∙ ap (λ k. arm_stub (record { key = k; child = (get_or more i a).child })) (sym (later a (omega arith))) ∙ ap (λ p. arm_stub (record { key = key; child = p })) (sym (is a))
+    get_mapped arm_stub more i d a (omega arith) ∙ ap (λ k. arm_stub (record { key = k; child = (get_or more i a).child })) (sym (later a (omega arith)))
+    ∙ ap (λ p. arm_stub (record { key = key; child = p })) (sym (is a))
 
 -- ---- later stores
 
-pub held_later : (old new : Store) (base : ℕ) (low : List ℕ) (high : Option (List ℕ)) (entries : List Entry) (pages : List ℕ) (sheaf : Sheaf) → Frame old new → IsHeld old base low high entries pages sheaf
+pub held_later : (old new : Store) (base : ℕ) (low : List ℕ) (high : Option (List ℕ)) (entries : List Entry) (pages : List ℕ) (sheaf : Sheaf) → Frame old new
+    → IsHeld old base low high entries pages sheaf
     → IsHeld new base low high entries pages sheaf
 held_later old new base low high entries pages sheaf grows h =
     record {
@@ -46,13 +51,17 @@ held_later old new base low high entries pages sheaf grows h =
 
 -- ---- two beside each other
 
-high_first : (high : Option (List ℕ)) (mid : List ℕ) (ss : List Stub) → 0 < length ss → ((s : Stub) (rest : List Stub) → ss ≡ s ∷ rest → IsNotUnder s.key mid) → (k : List ℕ) → IsUnder k mid → IsWithin (first_or high ss) k
+high_first : (high : Option (List ℕ)) (mid : List ℕ) (ss : List Stub) → 0 < length ss → ((s : Stub) (rest : List Stub) → ss ≡ s ∷ rest → IsNotUnder s.key mid)
+    → (k : List ℕ) → IsUnder k mid → IsWithin (first_or high ss) k
 high_first high mid [] some over k u = absurd (omega arith)
 high_first high mid (s ∷ ss) some over k u = under_then_up_to k mid s.key u (over s ss refl)
 
-glue_both : (s : Store) (base : ℕ) (low mid : List ℕ) (high : Option (List ℕ)) (e1 e2 : List Entry) (p1 p2 : List ℕ) (a b : Sheaf) (d : ℕ) (x y : Body d) → 0 < length a.stubs → 0 < length b.stubs
-    → a.rank ≡ base + d → a.stubs ≡ stubs_of d x → b.stubs ≡ stubs_of d y → Each IsStub a.stubs → Each IsStub b.stubs → IsSpread d low (Some mid) x → IsSpread d mid high y → Shows s d x → Shows s d y
-    → entries_of d x ≡ e1 → entries_of d y ≡ e2 → ((n : ℕ) → times n (pages_of d x) ≡ times n p1) → ((n : ℕ) → times n (pages_of d y) ≡ times n p2) → IsNotUnder mid low
+glue_both : (s : Store) (base : ℕ) (low mid : List ℕ) (high : Option (List ℕ)) (e1 e2 : List Entry) (p1 p2 : List ℕ) (a b : Sheaf) (d : ℕ) (x y : Body d)
+    → 0 < length a.stubs → 0 < length b.stubs
+    → a.rank ≡ base + d → a.stubs ≡ stubs_of d x → b.stubs ≡ stubs_of d y → Each IsStub a.stubs → Each IsStub b.stubs → IsSpread d low (Some mid) x
+    → IsSpread d mid high y → Shows s d x → Shows s d y
+    → entries_of d x ≡ e1 → entries_of d y ≡ e2 → ((n : ℕ) → times n (pages_of d x) ≡ times n p1) → ((n : ℕ) → times n (pages_of d y) ≡ times n p2)
+    → IsNotUnder mid low
     → IsHeld s base low high (e1 ++ e2) (p1 ++ p2) (both_of a b)
 glue_both s base low mid high e1 e2 p1 p2 a b d x y some some' rank ea eb small small' spread spread' shown shown' ee ee' pp pp' over =
     record {
@@ -83,9 +92,12 @@ no_stubs [] e = refl
 no_stubs (s ∷ ss) e = absurd (omega arith)
 
 -- what was held in two parts
-pub glue_held : (s : Store) (base : ℕ) (low mid : List ℕ) (high : Option (List ℕ)) (e1 e2 : List Entry) (p1 p2 : List ℕ) (a b : Sheaf) → IsHeld s base low (Some mid) e1 p1 a → IsHeld s base mid high e2 p2 b
+pub glue_held : (s : Store) (base : ℕ) (low mid : List ℕ) (high : Option (List ℕ)) (e1 e2 : List Entry) (p1 p2 : List ℕ) (a b : Sheaf)
+    → IsHeld s base low (Some mid) e1 p1 a → IsHeld s base mid high e2 p2 b
     → a.rank ≡ b.rank → IsNotUnder mid low → IsUpTo mid high → IsHeld s base low high (e1 ++ e2) (p1 ++ p2) (both_of a b)
-glue_held s base low mid high e1 e2 p1 p2 a b h g same over within = elim (some_or (length a.stubs)) [ inl none ↦ left_none none | inr some ↦ elim (some_or (length b.stubs)) [ inl none ↦ right_none none | inr more ↦ both some more ] ]
+glue_held s base low mid high e1 e2 p1 p2 a b h g same over within =
+    elim (some_or (length a.stubs))
+    [ inl none ↦ left_none none | inr some ↦ elim (some_or (length b.stubs)) [ inl none ↦ right_none none | inr more ↦ both some more ] ]
   where
     left_none : length a.stubs ≡ 0 → IsHeld s base low high (e1 ++ e2) (p1 ++ p2) (both_of a b)
     left_none none =
@@ -125,9 +137,11 @@ glue_held s base low mid high e1 e2 p1 p2 a b h g same over within = elim (some_
     both : 0 < length a.stubs → 0 < length b.stubs → IsHeld s base low high (e1 ++ e2) (p1 ++ p2) (both_of a b)
     both some more =
         let depth : h.d ≡ g.d = omega (arith, h.rank_is some, g.rank_is more, same) in
-        subst (λ k. (y : Body k) → b.stubs ≡ stubs_of k y → IsSpread k mid high y → Shows s k y → entries_of k y ≡ e2 → ((n : ℕ) → times n (pages_of k y) ≡ times n p2) → IsHeld s base low high (e1 ++ e2) (p1 ++ p2) (both_of a b)) depth
+        subst (λ k. (y : Body k) → b.stubs ≡ stubs_of k y → IsSpread k mid high y → Shows s k y → entries_of k y ≡ e2
+        → ((n : ℕ) → times n (pages_of k y) ≡ times n p2) → IsHeld s base low high (e1 ++ e2) (p1 ++ p2) (both_of a b)) depth
         (λ y eb spread shown ee pp.
-        glue_both s base low mid high e1 e2 p1 p2 a b h.d h.body y some more (h.rank_is some) h.stubs_are eb h.small g.small h.spread spread h.shown shown h.entries_are ee h.pages_are pp over)
+        glue_both s base low mid high e1 e2 p1 p2 a b h.d h.body y some more
+        (h.rank_is some) h.stubs_are eb h.small g.small h.spread spread h.shown shown h.entries_are ee h.pages_are pp over)
         g.body g.stubs_are g.spread g.shown g.entries_are g.pages_are
 
 -- ---- one level up
@@ -136,7 +150,8 @@ pub ready_enough : (base d : ℕ) (sheaf : Sheaf) → sheaf.rank ≡ base + d �
 ready_enough base zero sheaf e ready = ready.0
 ready_enough base (suc d) sheaf e ready = elim ready.1 [ inl low ↦ absurd (omega arith) | inr two ↦ two ]
 
-pub raised : (old new : Store) (base : ℕ) (low : List ℕ) (high : Option (List ℕ)) (entries : List Entry) (pages : List ℕ) (sheaf above : Sheaf) (h : IsHeld old base low high entries pages sheaf)
+pub raised : (old new : Store) (base : ℕ) (low : List ℕ) (high : Option (List ℕ)) (entries : List Entry) (pages : List ℕ) (sheaf above : Sheaf)
+    (h : IsHeld old base low high entries pages sheaf)
     → IsReady base sheaf → AreWritten old new h.d low high h.body above.stubs → above.rank ≡ sheaf.rank + 1 → IsTurned old new base low high entries pages above
 raised old new base low high entries pages sheaf above h ready w rank =
     record {
@@ -170,7 +185,8 @@ whole_small zero low pairs h little = leaf_small pairs h.each
 whole_small (suc d) low [] h little = tt
 whole_small (suc d) low (w ∷ ws) h little = (record { size = omega arith; load = h.each.0.child }, arms_small ws h.each.1)
 
-whole_ready : (base d rank : ℕ) (low : List ℕ) (body : Body d) → rank ≡ base + d → IsWhole d body → IsReady base (record { rank = rank; stubs = stubs_of d (lowered d low body) })
+whole_ready : (base d rank : ℕ) (low : List ℕ) (body : Body d) → rank ≡ base + d → IsWhole d body
+    → IsReady base (record { rank = rank; stubs = stubs_of d (lowered d low body) })
 whole_ready base zero rank low pairs e h = (omega (arith, h.some, long_map pair_stub pairs, long_map item_of pairs), inl (omega arith))
 whole_ready base (suc d) rank low [] e h = let two : 2 ≤ 0 = h.some in absurd (omega arith)
 whole_ready base (suc d) rank low (w ∷ ws) e h =
@@ -191,9 +207,11 @@ lowered_shows s zero low body h = h
 lowered_shows s (suc d) low [] h = h
 lowered_shows s (suc d) low (w ∷ ws) h = h
 
-pub opened : (old new : Store) (base d rank page : ℕ) (low : List ℕ) (high : Option (List ℕ)) (body : Body d) (stubs : List Stub) → rank ≡ base + d → Shows old d body → IsWhole d body → IsSound d low high body
+pub opened : (old new : Store) (base d rank page : ℕ) (low : List ℕ) (high : Option (List ℕ)) (body : Body d) (stubs : List Stub) → rank ≡ base + d
+    → Shows old d body → IsWhole d body → IsSound d low high body
     → 6 + length low ≤ 1360 → stubs ≡ stubs_of d (lowered d low body) → Frame old new → new.made ≡ old.made → new.retired ≡ page ∷ old.retired
-    → IsTurned old new base low high (entries_of d body) (page ∷ pages_of d body) (record { rank = rank; stubs = stubs }) × IsReady base (record { rank = rank; stubs = stubs })
+    → IsTurned old new base low high (entries_of d body) (page ∷ pages_of d body) (record { rank = rank; stubs = stubs })
+    × IsReady base (record { rank = rank; stubs = stubs })
 opened old new base d rank page low high body stubs e shown whole sound little is grows made retired = (
   record {
     after = pages_of d body;
@@ -213,7 +231,8 @@ opened old new base d rank page low high body stubs e shown whole sound little i
   subst (λ ss. IsReady base (record { rank = rank; stubs = ss })) (sym is) (whole_ready base d rank low body e whole),
 )
 
-pub leaf_stubs : (d : ℕ) (low : List ℕ) (body : Body d) (items : List Item) (stubs : List Stub) → leaf items ≡ content_of d body → stubs ≡ map item_stub items → stubs ≡ stubs_of d (lowered d low body)
+pub leaf_stubs : (d : ℕ) (low : List ℕ) (body : Body d) (items : List Item) (stubs : List Stub) → leaf items ≡ content_of d body → stubs ≡ map item_stub items
+    → stubs ≡ stubs_of d (lowered d low body)
 leaf_stubs zero low pairs items stubs e is = let same : items ≡ map item_of pairs = cc in is ∙ ap (map item_stub) same ∙ map_map item_of item_stub pairs
 leaf_stubs (suc d) low twigs items stubs e is = cc
 
@@ -221,22 +240,27 @@ under_twigs : {B : Type 0} (low : List ℕ) (twigs : List (Twig B)) → map arm_
 under_twigs low [] = refl
 under_twigs low (w ∷ ws) = ap (λ ss. arm_stub (record { key = low; child = w.page }) ∷ ss) (map_map arm_of arm_stub ws)
 
-pub branch_stubs : (d : ℕ) (low : List ℕ) (body : Body d) (arms : List Arm) (stubs : List Stub) → branch arms ≡ content_of d body → stubs ≡ map arm_stub (under_key low arms) → stubs ≡ stubs_of d (lowered d low body)
+pub branch_stubs : (d : ℕ) (low : List ℕ) (body : Body d) (arms : List Arm) (stubs : List Stub) → branch arms ≡ content_of d body
+    → stubs ≡ map arm_stub (under_key low arms) → stubs ≡ stubs_of d (lowered d low body)
 branch_stubs zero low pairs arms stubs e is = cc
-branch_stubs (suc d) low twigs arms stubs e is = let same : arms ≡ map arm_of twigs = cc in is ∙ ap (λ a. map arm_stub (under_key low a)) same ∙ under_twigs low twigs
+branch_stubs (suc d) low twigs arms stubs e is = let same : arms ≡ map arm_of twigs = cc in
+    is ∙ ap (λ a. map arm_stub (under_key low a)) same ∙ under_twigs low twigs
 
-pub leaf_or_not : (d : ℕ) (body : Body d) (s : Stub) (ss : List Stub) (fills : Bool) → ((page : ℕ) → s.load ≡ child page → ⊥) → s ∷ ss ≡ stubs_of d body → MayFill d fills
+pub leaf_or_not : (d : ℕ) (body : Body d) (s : Stub) (ss : List Stub) (fills : Bool) → ((page : ℕ) → s.load ≡ child page → ⊥) → s ∷ ss ≡ stubs_of d body
+    → MayFill d fills
 leaf_or_not zero body s ss fills none e = inl refl
 leaf_or_not (suc d) [] s ss fills none e = cc
 leaf_or_not (suc d) (w ∷ ws) s ss fills none e = let same : s.load ≡ child w.page = cc in absurd (none w.page same)
 
 -- what was taken out of a page, or a fault
-pub taken : (d : ℕ) (low : List ℕ) (body : Body d) {V : Type 0} (stubs : V → List Stub) (r : Result V TreeFault) (want : List Stub) → IfOk r (λ v. stubs v ≡ want) → IfErr r (λ e. e ≡ Memory) → want ≡ stubs_of d (lowered d low body)
+pub taken : (d : ℕ) (low : List ℕ) (body : Body d) {V : Type 0} (stubs : V → List Stub) (r : Result V TreeFault) (want : List Stub)
+    → IfOk r (λ v. stubs v ≡ want) → IfErr r (λ e. e ≡ Memory) → want ≡ stubs_of d (lowered d low body)
     → MatchResult r (λ v. stubs v ≡ stubs_of d (lowered d low body)) (λ e. e ≡ Memory)
 taken d low body stubs (Ok v) want ok err e = ok ∙ e
 taken d low body stubs (Err f) want ok err e = err
 
-pub held_low : (s : Store) (base : ℕ) (low low' : List ℕ) (high : Option (List ℕ)) (entries : List Entry) (pages : List ℕ) (sheaf : Sheaf) → IsNotUnder low low' → IsHeld s base low high entries pages sheaf
+pub held_low : (s : Store) (base : ℕ) (low low' : List ℕ) (high : Option (List ℕ)) (entries : List Entry) (pages : List ℕ) (sheaf : Sheaf)
+    → IsNotUnder low low' → IsHeld s base low high entries pages sheaf
     → IsHeld s base low' high entries pages sheaf
 held_low s base low low' high entries pages sheaf over h =
     record {
@@ -255,19 +279,23 @@ held_low s base low low' high entries pages sheaf over h =
 abbrev pub IsTurn : Store → Store → ℕ → List ℕ → Option (List ℕ) → List Entry → List ℕ → Result Loose TreeFault → Type 0
 IsTurn old new base low high entries before r = IsAnswer old new (λ loose. IsTurned old new base low high entries before (sheaf_in loose)) r
 
-pub turns_failed : (old new : Store) (base : ℕ) (low : List ℕ) (high : Option (List ℕ)) (entries : List Entry) (pages : List ℕ) (r : Result Loose TreeFault) (f : TreeFault) → IsErrAnd r (λ g. g ≡ f) → HasCause old new f
+pub turns_failed : (old new : Store) (base : ℕ) (low : List ℕ) (high : Option (List ℕ)) (entries : List Entry) (pages : List ℕ) (r : Result Loose TreeFault)
+    (f : TreeFault) → IsErrAnd r (λ g. g ≡ f) → HasCause old new f
     → IsTurn old new base low high entries pages r
 turns_failed old new base low high entries pages (Ok v) f h c = absurd h
 turns_failed old new base low high entries pages (Err g) f h c = subst (HasCause old new) (sym h) c
 
 -- what a call without pages gives at the end
-pub concat_turns : (old new : Store) (base : ℕ) (low : List ℕ) (high : Option (List ℕ)) (entries : List Entry) (before after : List ℕ) (a b : Sheaf) (r : Result Loose TreeFault)
-    → IsHeld new base low high entries after (both_of a b) → AreTurned old new before after → IfOk r (λ l. l.rank ≡ a.rank) → IfOk r (λ l. (sheaf_in l).stubs ≡ a.stubs ++ b.stubs) → IfErr r (λ e. e ≡ Memory)
+pub concat_turns : (old new : Store) (base : ℕ) (low : List ℕ) (high : Option (List ℕ)) (entries : List Entry) (before after : List ℕ) (a b : Sheaf)
+    (r : Result Loose TreeFault)
+    → IsHeld new base low high entries after (both_of a b) → AreTurned old new before after → IfOk r (λ l. l.rank ≡ a.rank)
+    → IfOk r (λ l. (sheaf_in l).stubs ≡ a.stubs ++ b.stubs) → IfErr r (λ e. e ≡ Memory)
     → IsTurn old new base low high entries before r
 concat_turns old new base low high entries before after a b (Ok l) h turned rank stubs err =
     record {
       after = after;
-      held = subst (IsHeld new base low high entries after) (ap (λ (n : ℕ). record { rank = n; stubs = a.stubs ++ b.stubs }) (sym rank) ∙ ap (λ ss. record { rank = l.rank; stubs = ss }) (sym stubs)) h;
+      held = subst (IsHeld new base low high entries after)
+          (ap (λ (n : ℕ). record { rank = n; stubs = a.stubs ++ b.stubs }) (sym rank) ∙ ap (λ ss. record { rank = l.rank; stubs = ss }) (sym stubs)) h;
       turned = turned;
     }
 concat_turns old new base low high entries before after a b (Err f) h turned rank stubs err = memory_cause old new f err

@@ -1,5 +1,6 @@
 -- Edits of a leaf that stays one page.
-use Rattle.std.proofs.Common.{◌≡◌, ℕ, zero, suc, ◌+◌, ◌^◌, ◌<◌, ◌≤◌, Bool, true, false, List, [], ◌∷◌, ◌++◌, length, map, take, get_or, Option, Some, Result, Ok, Err, refl, sym, ap, ◌∙◌, subst, arith, append-nil, inl, inr}
+use Rattle.std.proofs.Common.{◌≡◌, ℕ, zero, suc, ◌+◌, ◌^◌, ◌<◌, ◌≤◌, Bool, true, false, List, [], ◌∷◌, ◌++◌, length, map, take, get_or, Option, Some, Result}
+use Rattle.std.proofs.Common.{Ok, Err, refl, sym, ap, ◌∙◌, subst, arith, append-nil, inl, inr}
 use Rattle.std.specs.Prelude.{◌&&◌}
 use Rattle.std.specs.List.{AllByRecursion, insert, remove}
 use Rattle.std.specs.Ordering.{is_eq, is_lt, nat_cmp}
@@ -23,7 +24,8 @@ use Rattle.btree.proofs.ChangingLemmas.{turned_on}
 use Rattle.btree.proofs.EditLemmas.{edits_more, insert_here, put_key, remove_here}
 use Rattle.btree.proofs.HeldLemmas.{IsTurn}
 use Rattle.btree.proofs.KeyLemmas.{not_under_cases, under_trans, up_to_then_under}
-use Rattle.btree.proofs.ListLemmas.{At, at_place, each_map, each_of_map, get_front, get_here, long_append, map_append, rises_across, rises_append, rises_back, rises_front}
+use Rattle.btree.proofs.ListLemmas.{At, at_place, each_map, each_of_map, get_front, get_here, long_append, map_append, rises_across, rises_append, rises_back}
+use Rattle.btree.proofs.ListLemmas.{rises_front}
 use Rattle.btree.proofs.SplitLemmas.{spread_up}
 use Rattle.btree.proofs.StoreLemmas.{cause_later, frame_trans, shows_kept}
 
@@ -60,7 +62,8 @@ all_rise [] h = refl
 all_rise (key ∷ keys) h = above_rises key keys h.0 h.1
 
 -- what is below the key, where the last is
-all_under : (key : List ℕ) (xs : List Item) → Rises (item_keys xs) → ((k : ℕ) (d : Item) → k + 1 ≡ length xs → IsUnder (get_or xs k d).key key) → Each (λ (x : Item). IsUnder x.key key) xs
+all_under : (key : List ℕ) (xs : List Item) → Rises (item_keys xs) → ((k : ℕ) (d : Item) → k + 1 ≡ length xs → IsUnder (get_or xs k d).key key)
+    → Each (λ (x : Item). IsUnder x.key key) xs
 all_under key [] rise last = tt
 all_under key (x ∷ []) rise last = (last zero x (omega arith), tt)
 all_under key (x ∷ y ∷ xs) rise last =
@@ -117,7 +120,8 @@ module _ (items : List Item) (sound : IsLeaf items) where
         let over : Each (IsUnder x.key) (item_keys gap.back) = on_keys (IsUnder x.key) gap.back gap.over in
         let rises : Rises (item_keys gap.front ++ x.key ∷ item_keys gap.back) =
         rises_append (item_keys gap.front) (x.key ∷ item_keys gap.back) (rises_front _ _ keys) (over, rises_back (item_keys gap.front) _ keys)
-        (each_map _ _ (λ k u. (u, each_map _ _ (λ k' o. under_trans k x.key k' u o) (item_keys gap.back) over)) (item_keys gap.front) (on_keys (λ k. IsUnder k x.key) gap.front gap.under)) in
+        (each_map _ _ (λ k u. (u, each_map _ _ (λ k' o. under_trans k x.key k' u o) (item_keys gap.back) over)) (item_keys gap.front)
+        (on_keys (λ k. IsUnder k x.key) gap.front gap.under)) in
         subst IsLeaf (sym put_is) (record {
           some = omega (arith, long_append gap.front (x ∷ gap.back));
           each = all_append gap.front (x ∷ gap.back) (all_front gap.front gap.back each) (one, all_back gap.front gap.back each);
@@ -158,13 +162,15 @@ module _ (items : List Item) (sound : IsLeaf items) where
     module _ (key : List ℕ) (place : IsPlace items key at) where
       not_under : IsNotUnder c.mid.key key
       not_under =
-          subst (λ (x : Item). IsNotUnder x.key key) (ap (λ zs. get_or zs at c.mid) c.is ∙ ap (λ n. get_or (c.front ++ c.mid ∷ c.back) n c.mid) (sym c.place) ∙ get_here c.front c.mid c.back c.mid)
+          subst (λ (x : Item). IsNotUnder x.key key)
+          (ap (λ zs. get_or zs at c.mid) c.is ∙ ap (λ n. get_or (c.front ++ c.mid ∷ c.back) n c.mid) (sym c.place) ∙ get_here c.front c.mid c.back c.mid)
           (place.above c.mid within)
 
       front_under : Each (λ (x : Item). IsUnder x.key key) c.front
       front_under =
           all_under key c.front (rises_front _ _ keys_there)
-          (λ k d e. subst (λ (x : Item). IsUnder x.key key) (ap (λ zs. get_or zs k d) c.is ∙ get_front c.front (c.mid ∷ c.back) k d (omega arith)) (place.below k d (e ∙ c.place)))
+          (λ k d e. subst (λ (x : Item). IsUnder x.key key) (ap (λ zs. get_or zs k d) c.is ∙ get_front c.front (c.mid ∷ c.back) k d (omega arith))
+          (place.below k d (e ∙ c.place)))
 
       back_over : Each (λ (x : Item). IsUnder key x.key) c.back
       back_over =
@@ -173,7 +179,8 @@ module _ (items : List Item) (sound : IsLeaf items) where
 
       pub gap_other : (it : Item) → it ≡ get_or items at it → is_eq (key_cmp it.key key) ≡ false → IsGap items key at
       gap_other it h differs =
-          let this : it ≡ c.mid = h ∙ ap (λ zs. get_or zs at it) c.is ∙ ap (λ n. get_or (c.front ++ c.mid ∷ c.back) n it) (sym c.place) ∙ get_here c.front c.mid c.back it in
+          let this : it ≡ c.mid =
+          h ∙ ap (λ zs. get_or zs at it) c.is ∙ ap (λ n. get_or (c.front ++ c.mid ∷ c.back) n it) (sym c.place) ∙ get_here c.front c.mid c.back it in
           let miss : is_eq (key_cmp c.mid.key key) ≡ false = ap (λ (x : Item). is_eq (key_cmp x.key key)) (sym this) ∙ differs in
           let over : IsUnder key c.mid.key = elim (not_under_cases c.mid.key key not_under) [ inl equal ↦ cc | inr over ↦ over ] in
           record { front = c.front; back = c.mid ∷ c.back; is = c.is; place = c.place; under = front_under; over = (over, back_over) }
@@ -195,19 +202,24 @@ module _ (items : List Item) (sound : IsLeaf items) where
 
 -- ---- edits
 
-pub put_in_leaf : (old new : Store) (items made : List Item) (at : ℕ) (x : Item) (value : List ℕ) → IsStored old new value x.place → made ≡ insert items at x → IsPutIn old new x.key value at items made
+pub put_in_leaf : (old new : Store) (items made : List Item) (at : ℕ) (x : Item) (value : List ℕ) → IsStored old new value x.place → made ≡ insert items at x
+    → IsPutIn old new x.key value at items made
 put_in_leaf old new items made at x value s is =
     record { links = s.links; is = is ∙ ap (λ p. insert items at (record { key = x.key; place = p })) s.is; has = s.has; made = s.made; retired = s.retired }
 
 -- a cell that was put in where the key's was taken out
-pub leaf_edited : (old out new : Store) (e : Edit) (value : List ℕ) (pairs : List Pair) (items : List Item) (at : ℕ) (r : Result (List Item) TreeFault) → e.value ≡ Some value → Frame old out → Frame out new
-    → IsTakenOut old out e.key pairs items at → IsAnswer out new (λ made. IsPutIn out new e.key value at items made) r → Rises (pair_keys pairs) → Each (HasChain old) pairs → IsAnswer old new (λ made. IsEdited old new (e ∷ []) pairs made) r
+pub leaf_edited : (old out new : Store) (e : Edit) (value : List ℕ) (pairs : List Pair) (items : List Item) (at : ℕ) (r : Result (List Item) TreeFault)
+    → e.value ≡ Some value → Frame old out → Frame out new
+    → IsTakenOut old out e.key pairs items at → IsAnswer out new (λ made. IsPutIn out new e.key value at items made) r → Rises (pair_keys pairs)
+    → Each (HasChain old) pairs → IsAnswer old new (λ made. IsEdited old new (e ∷ []) pairs made) r
 leaf_edited old out new e value pairs items at (Ok made) is g1 g2 t p rise shown =
-    subst (λ (o : Option (List ℕ)). IsEdited old new (record { key = e.key; value = o } ∷ []) pairs made) (sym is) (put_key old out new e.key value pairs items made at (frame_trans old out new g1 g2) t p rise shown)
+    subst (λ (o : Option (List ℕ)). IsEdited old new (record { key = e.key; value = o } ∷ []) pairs made) (sym is)
+    (put_key old out new e.key value pairs items made at (frame_trans old out new g1 g2) t p rise shown)
 leaf_edited old out new e value pairs items at (Err f) is g1 g2 t p rise shown = cause_later old out new f g1 p
 
 -- what the edits so far took, and what is left of the room
-pub room_more : (es : List ProgramEdit) (i : ℕ) (d : ProgramEdit) → i < length es → sum_of edit_room (take (i + 1) (map edit_in es)) ≡ sum_of edit_room (take i (map edit_in es)) + edit_room (edit_in (get_or es i d))
+pub room_more : (es : List ProgramEdit) (i : ℕ) (d : ProgramEdit) → i < length es
+    → sum_of edit_room (take (i + 1) (map edit_in es)) ≡ sum_of edit_room (take i (map edit_in es)) + edit_room (edit_in (get_or es i d))
 room_more es i d lt = ap (sum_of edit_room) (edits_more es i d lt) ∙ sum_more (take i (map edit_in es)) (edit_in (get_or es i d))
   where
     sum_more : (xs : List Edit) (x : Edit) → sum_of edit_room (xs ++ x ∷ []) ≡ sum_of edit_room xs + edit_room x
@@ -219,16 +231,19 @@ room_within es zero = omega arith
 room_within [] (suc n) = omega arith
 room_within (e ∷ es) (suc n) = omega (arith, room_within es n)
 
-pub used_more : (es : List ProgramEdit) (i : ℕ) (d : ProgramEdit) → i < length es → (size used more : ℕ) → used ≡ size + sum_of edit_room (take i (map edit_in es)) → more ≡ edit_room (edit_in (get_or es i d))
+pub used_more : (es : List ProgramEdit) (i : ℕ) (d : ProgramEdit) → i < length es → (size used more : ℕ)
+    → used ≡ size + sum_of edit_room (take i (map edit_in es)) → more ≡ edit_room (edit_in (get_or es i d))
     → used + more ≡ size + sum_of edit_room (take (i + 1) (map edit_in es))
 used_more es i d lt size used more is more_is = omega (arith, is, more_is, room_more es i d lt)
 
 -- the next edit finds room
-pub room_next : (es : List ProgramEdit) (i : ℕ) (d : ProgramEdit) → i < length es → (size now : ℕ) → now ≤ size + sum_of edit_room (take i (map edit_in es)) → size + sum_of edit_room (map edit_in es) ≤ 4080
+pub room_next : (es : List ProgramEdit) (i : ℕ) (d : ProgramEdit) → i < length es → (size now : ℕ) → now ≤ size + sum_of edit_room (take i (map edit_in es))
+    → size + sum_of edit_room (map edit_in es) ≤ 4080
     → now + edit_room (edit_in (get_or es i d)) ≤ 4080
 room_next es i d lt size now le room = omega (arith, le, room, room_more es i d lt, room_within (map edit_in es) (i + 1))
 
-pub room_after : (es : List ProgramEdit) (i : ℕ) (d : ProgramEdit) → i < length es → (size now new : ℕ) → now ≤ size + sum_of edit_room (take i (map edit_in es)) → new ≤ now + edit_room (edit_in (get_or es i d))
+pub room_after : (es : List ProgramEdit) (i : ℕ) (d : ProgramEdit) → i < length es → (size now new : ℕ)
+    → now ≤ size + sum_of edit_room (take i (map edit_in es)) → new ≤ now + edit_room (edit_in (get_or es i d))
     → new ≤ size + sum_of edit_room (take (i + 1) (map edit_in es))
 room_after es i d lt size now new le more = omega (arith, le, more, room_more es i d lt)
 
@@ -237,10 +252,13 @@ room_after es i d lt size now new le more = omega (arith, le, more, room_more es
 abbrev pub none : List ℕ → Item
 none key = record { key = key; place = inline [] }
 
-pub leaf_written : (old new : Store) (base rank page : ℕ) (low key : List ℕ) (high : Option (List ℕ)) (items : List Item) (pairs : List Pair) (stubs : List Stub) → rank ≡ base → items ≡ map item_of pairs → IsLeaf items
+pub leaf_written : (old new : Store) (base rank page : ℕ) (low key : List ℕ) (high : Option (List ℕ)) (items : List Item) (pairs : List Pair)
+    (stubs : List Stub) → rank ≡ base → items ≡ map item_of pairs → IsLeaf items
     → IsSound zero low high pairs → Shows old zero pairs → IsMade old new page (leaf items) → key ≡ (get_or items 0 (none key)).key → page < 2 ^ 32
-    → stubs ≡ arm_stub (record { key = key; child = page }) ∷ [] → IsTurned old new base low high (map entry_of pairs) (pages_of zero pairs) (record { rank = rank + 1; stubs = stubs })
-leaf_written old new base rank page low key high items [] stubs is same sound lies shown m first range stubs_are = absurd (omega (arith, sound.some, ap length same))
+    → stubs ≡ arm_stub (record { key = key; child = page }) ∷ []
+    → IsTurned old new base low high (map entry_of pairs) (pages_of zero pairs) (record { rank = rank + 1; stubs = stubs })
+leaf_written old new base rank page low key high items [] stubs is same sound lies shown m first range stubs_are =
+    absurd (omega (arith, sound.some, ap length same))
 leaf_written old new base rank page low key high items (x ∷ xs) stubs is same sound lies shown m first range stubs_are =
     let key_is : key ≡ x.key = first ∙ ap (λ (zs : List Item). (get_or zs 0 (none key)).key) same in
     let whole : IsLeaf (map item_of (x ∷ xs)) = subst IsLeaf same sound in
@@ -251,7 +269,8 @@ leaf_written old new base rank page low key high items (x ∷ xs) stubs is same 
         body = record { key = x.key; page = page; body = x ∷ xs } ∷ [];
         rank_is = λ lt. omega arith;
         stubs_are = stubs_are ∙ ap (λ k. arm_stub (record { key = k; child = page }) ∷ []) key_is;
-        small = subst (Each IsStub) (sym (stubs_are ∙ ap (λ k. arm_stub (record { key = k; child = page }) ∷ []) key_is)) (record { size = (let one = whole.each.0.size in omega arith); load = range }, tt);
+        small = subst (Each IsStub) (sym (stubs_are ∙ ap (λ k. arm_stub (record { key = k; child = page }) ∷ []) key_is))
+            (record { size = (let one = whole.each.0.size in omega arith); load = range }, tt);
         spread = (((whole, spread_up zero low high (x ∷ xs) (pair_stub x) (map pair_stub xs) refl lies), tt), (tt, tt), (lies.1.0, tt));
         shown = ((subst (λ zs. IsAt new page (leaf zs)) same m.at, shows_kept old new m.frame zero (x ∷ xs) shown), tt);
         entries_are = ap (map entry_of) (append-nil (x ∷ xs));
@@ -261,7 +280,8 @@ leaf_written old new base rank page low key high items (x ∷ xs) stubs is same 
     }
 
 -- where it was written, one page was made
-pub one_few : (old new : Store) (rank page : ℕ) (key : List ℕ) (items : List Item) (stubs : List Stub) → IsLeaf items → IsMade old new page (leaf items) → key ≡ (get_or items 0 (none key)).key → page < 2 ^ 32
+pub one_few : (old new : Store) (rank page : ℕ) (key : List ℕ) (items : List Item) (stubs : List Stub) → IsLeaf items → IsMade old new page (leaf items)
+    → key ≡ (get_or items 0 (none key)).key → page < 2 ^ 32
     → stubs ≡ arm_stub (record { key = key; child = page }) ∷ [] → IsFew old new (rank + 1) 1360 1 (record { rank = rank + 1; stubs = stubs })
 one_few old new rank page key [] stubs sound m first range stubs_are = absurd (omega (arith, sound.some))
 one_few old new rank page key (x ∷ xs) stubs sound m first range stubs_are =
@@ -274,7 +294,10 @@ one_few old new rank page key (x ∷ xs) stubs sound m first range stubs_are =
     }
 
 -- what was edited and then written, or taken apart
-pub edited_turns : (old mid new : Store) (base : ℕ) (low : List ℕ) (high : Option (List ℕ)) (edits : List Edit) (pairs : List Pair) (items : List Item) (r : Result Loose TreeFault) → Frame old mid → (h : IsEdited old mid edits pairs items)
-    → IsTurn mid new base low high (map entry_of h.pairs) (pages_of zero h.pairs) r → IsTurn old new base low high (change edits (map entry_of pairs)) (pages_of zero pairs) r
+pub edited_turns : (old mid new : Store) (base : ℕ) (low : List ℕ) (high : Option (List ℕ)) (edits : List Edit) (pairs : List Pair) (items : List Item)
+    (r : Result Loose TreeFault) → Frame old mid → (h : IsEdited old mid edits pairs items)
+    → IsTurn mid new base low high (map entry_of h.pairs) (pages_of zero h.pairs) r
+    → IsTurn old new base low high (change edits (map entry_of pairs)) (pages_of zero pairs) r
 edited_turns old mid new base low high edits pairs items r grows h u =
-    subst (λ es. IsTurn old new base low high es (pages_of zero pairs) r) h.entries (turned_on old mid new base low high (map entry_of h.pairs) (pages_of zero pairs) (pages_of zero h.pairs) r grows h.pages u)
+    subst (λ es. IsTurn old new base low high es (pages_of zero pairs) r) h.entries
+    (turned_on old mid new base low high (map entry_of h.pairs) (pages_of zero pairs) (pages_of zero h.pairs) r grows h.pages u)

@@ -1,5 +1,6 @@
 -- Joining what was taken out of neighbouring pages.
-use Rattle.std.proofs.Common.{◌≡◌, ℕ, ◌≤◌, List, [], ◌++◌, length, Option, Some, None, Result, Ok, Err, sym, ap, ◌∙◌, subst, arith, inl, inr, append-nil, append_assoc}
+use Rattle.std.proofs.Common.{◌≡◌, ℕ, ◌≤◌, List, [], ◌++◌, length, Option, Some, None, Result, Ok, Err, sym, ap, ◌∙◌, subst, arith, inl, inr, append-nil}
+use Rattle.std.proofs.Common.{append_assoc}
 use Rattle.btree.specs.declared.loose.Loose.{Loose}
 use Rattle.btree.specs.declared.pages.TreeFault.{TreeFault}
 use Rattle.btree.specs.Keys.{Entry, IsNotUnder}
@@ -12,7 +13,8 @@ use Rattle.btree.proofs.RaiseLemmas.{no_entries}
 use Rattle.btree.proofs.StoreLemmas.{cause_later, frame_trans}
 use Rattle.btree.proofs.WideLemmas.{spread_high, spread_low, up_to_wider}
 
-module _ (s : Store) (base : ℕ) (low mid : List ℕ) (high : Option (List ℕ)) (first last : List Entry) (left_pages right_pages : List ℕ) (left right : Sheaf) (h : IsHeld s base low (Some mid) first left_pages left)
+module _ (s : Store) (base : ℕ) (low mid : List ℕ) (high : Option (List ℕ)) (first last : List Entry) (left_pages right_pages : List ℕ) (left right : Sheaf)
+    (h : IsHeld s base low (Some mid) first left_pages left)
     (g : IsHeld s base mid high last right_pages right) (over : IsNotUnder mid low) (within : IsUpTo mid high) where
   pub left_gone : length left.stubs ≡ 0 → IsTurned s s base low high (first ++ last) (left_pages ++ right_pages) right
   left_gone none =
@@ -62,27 +64,55 @@ pub ready_joined : (base : ℕ) (part both : Sheaf) → IsReady base part → bo
 ready_joined base part both ready rank long = (omega (arith, ready.0), elim ready.1 [ inl low ↦ inl (rank ∙ low) | inr two ↦ inr (omega arith) ])
 
 -- the left one's last child was taken apart
-pub turned_left : (old a b new : Store) (base : ℕ) (low mid : List ℕ) (high : Option (List ℕ)) (first last : List Entry) (left_pages right_pages : List ℕ) (front back below : Sheaf) (r : Result Loose TreeFault)
-    → Frame old a → Frame a b → (p : AreParted old a base low (Some mid) first left_pages front back) → (t : IsTurned a b base p.mid high (p.back_entries ++ last) (p.back_pages ++ right_pages) below)
-    → IsTurn b new base low high (p.front_entries ++ (p.back_entries ++ last)) (p.front_pages ++ t.after) r → IsTurn old new base low high (first ++ last) (left_pages ++ right_pages) r
+pub turned_left : (old a b new : Store) (base : ℕ) (low mid : List ℕ) (high : Option (List ℕ)) (first last : List Entry) (left_pages right_pages : List ℕ)
+    (front back below : Sheaf) (r : Result Loose TreeFault)
+    → Frame old a → Frame a b → (p : AreParted old a base low (Some mid) first left_pages front back)
+    → (t : IsTurned a b base p.mid high (p.back_entries ++ last) (p.back_pages ++ right_pages) below)
+    → IsTurn b new base low high (p.front_entries ++ (p.back_entries ++ last)) (p.front_pages ++ t.after) r
+    → IsTurn old new base low high (first ++ last) (left_pages ++ right_pages) r
 turned_left old a b new base low mid high first last left_pages right_pages front back below (Ok l) g1 g2 p t u =
-    let same : p.front_entries ++ (p.back_entries ++ last) ≡ first ++ last = sym (append_assoc p.front_entries p.back_entries last) ∙ ap (λ es. es ++ last) p.entries_are in
+    let same : p.front_entries ++ (p.back_entries ++ last) ≡ first ++ last =
+    sym (append_assoc p.front_entries p.back_entries last) ∙ ap (λ es. es ++ last) p.entries_are in
     record {
       after = u.after;
       held = subst (λ es. IsHeld new base low high es u.after (sheaf_in l)) same u.held;
-      turned = λ n. omega (arith, u.turned n, t.turned n, p.turned n, times_append n p.front_pages t.after, times_append n p.back_pages right_pages, times_append n p.front_pages p.back_pages, times_append n left_pages right_pages);
+      turned = λ n. omega (
+        arith,
+        u.turned n,
+        t.turned n,
+        p.turned n,
+        times_append n p.front_pages t.after,
+        times_append n p.back_pages right_pages,
+        times_append n p.front_pages p.back_pages,
+        times_append n left_pages right_pages,
+      );
     }
-turned_left old a b new base low mid high first last left_pages right_pages front back below (Err e) g1 g2 p t u = cause_later old b new e (frame_trans old a b g1 g2) u
+turned_left old a b new base low mid high first last left_pages right_pages front back below (Err e) g1 g2 p t u =
+    cause_later old b new e (frame_trans old a b g1 g2) u
 
 -- the right one's first child was taken apart
-pub turned_right : (old a b new : Store) (base : ℕ) (low mid : List ℕ) (high : Option (List ℕ)) (first last : List Entry) (left_pages right_pages : List ℕ) (front back below : Sheaf) (r : Result Loose TreeFault)
-    → Frame old a → Frame a b → (p : IsFirstCut old a base mid high last right_pages front back) → (t : IsTurned a b base low p.between (first ++ p.front_entries) (left_pages ++ p.front_pages) below)
-    → IsTurn b new base low high ((first ++ p.front_entries) ++ p.back_entries) (t.after ++ p.back_pages) r → IsTurn old new base low high (first ++ last) (left_pages ++ right_pages) r
+pub turned_right : (old a b new : Store) (base : ℕ) (low mid : List ℕ) (high : Option (List ℕ)) (first last : List Entry) (left_pages right_pages : List ℕ)
+    (front back below : Sheaf) (r : Result Loose TreeFault)
+    → Frame old a → Frame a b → (p : IsFirstCut old a base mid high last right_pages front back)
+    → (t : IsTurned a b base low p.between (first ++ p.front_entries) (left_pages ++ p.front_pages) below)
+    → IsTurn b new base low high ((first ++ p.front_entries) ++ p.back_entries) (t.after ++ p.back_pages) r
+    → IsTurn old new base low high (first ++ last) (left_pages ++ right_pages) r
 turned_right old a b new base low mid high first last left_pages right_pages front back below (Ok l) g1 g2 p t u =
-    let same : (first ++ p.front_entries) ++ p.back_entries ≡ first ++ last = append_assoc first p.front_entries p.back_entries ∙ ap (λ es. first ++ es) p.entries_are in
+    let same : (first ++ p.front_entries) ++ p.back_entries ≡ first ++ last =
+    append_assoc first p.front_entries p.back_entries ∙ ap (λ es. first ++ es) p.entries_are in
     record {
       after = u.after;
       held = subst (λ es. IsHeld new base low high es u.after (sheaf_in l)) same u.held;
-      turned = λ n. omega (arith, u.turned n, t.turned n, p.turned n, times_append n t.after p.back_pages, times_append n left_pages p.front_pages, times_append n p.front_pages p.back_pages, times_append n left_pages right_pages);
+      turned = λ n. omega (
+        arith,
+        u.turned n,
+        t.turned n,
+        p.turned n,
+        times_append n t.after p.back_pages,
+        times_append n left_pages p.front_pages,
+        times_append n p.front_pages p.back_pages,
+        times_append n left_pages right_pages,
+      );
     }
-turned_right old a b new base low mid high first last left_pages right_pages front back below (Err e) g1 g2 p t u = cause_later old b new e (frame_trans old a b g1 g2) u
+turned_right old a b new base low mid high first last left_pages right_pages front back below (Err e) g1 g2 p t u =
+    cause_later old b new e (frame_trans old a b g1 g2) u

@@ -121,7 +121,8 @@ take_next_map f [] i d lt = absurd (omega arith)
 take_next_map f (x ∷ xs) zero d lt = refl
 take_next_map f (x ∷ xs) (suc i) d lt = ap (λ zs. f x ∷ zs) (take_next_map f xs i d (omega arith))
 
-pub take_more_map : {X Y : Type 0} (f : X → Y) (xs : List X) (i : ℕ) (d : X) → i < length xs → take (i + 1) (map f xs) ≡ take i (map f xs) ++ f (get_or xs i d) ∷ []
+pub take_more_map : {X Y : Type 0} (f : X → Y) (xs : List X) (i : ℕ) (d : X) → i < length xs
+    → take (i + 1) (map f xs) ≡ take i (map f xs) ++ f (get_or xs i d) ∷ []
 take_more_map f xs i d lt = let n : i + 1 ≡ suc i = omega arith in ap (λ k. take k (map f xs)) n ∙ take_next_map f xs i d lt
 
 pub map_map : {X Y Z : Type 0} (f : X → Y) (g : Y → Z) (xs : List X) → map g (map f xs) ≡ map (λ x. g (f x)) xs

@@ -49,42 +49,58 @@ high_is : {B : Type 0} (high : Option (List ℕ)) (ws : List (Twig B)) → first
 high_is high [] = refl
 high_is high (w ∷ ws) = refl
 
-keys_split : (low : List ℕ) (high : Option (List ℕ)) (xs : List (List ℕ)) (k : List ℕ) (ks : List (List ℕ)) → Rises (xs ++ k ∷ ks) → Each (IsBetween low high) (xs ++ k ∷ ks) → Each (IsBetween low (Some k)) xs
+keys_split : (low : List ℕ) (high : Option (List ℕ)) (xs : List (List ℕ)) (k : List ℕ) (ks : List (List ℕ)) → Rises (xs ++ k ∷ ks)
+    → Each (IsBetween low high) (xs ++ k ∷ ks) → Each (IsBetween low (Some k)) xs
 keys_split low high [] k ks rise between = tt
 keys_split low high (x ∷ xs) k ks rise between = ((between.0.0, (each_back _ xs (k ∷ ks) rise.0).0), keys_split low high xs k ks rise.1 between.1)
 
-keys_glue : (low : List ℕ) (high : Option (List ℕ)) (xs : List (List ℕ)) (k : List ℕ) (ks : List (List ℕ)) → Rises xs → Each (IsBetween low (Some k)) xs → Rises (k ∷ ks) → Each (IsBetween low high) (k ∷ ks)
+keys_glue : (low : List ℕ) (high : Option (List ℕ)) (xs : List (List ℕ)) (k : List ℕ) (ks : List (List ℕ)) → Rises xs → Each (IsBetween low (Some k)) xs
+    → Rises (k ∷ ks) → Each (IsBetween low high) (k ∷ ks)
     → Rises (xs ++ k ∷ ks) × Each (IsBetween low high) (xs ++ k ∷ ks)
 keys_glue low high xs k ks rise between rise' between' = (
   rises_append xs (k ∷ ks) rise rise' (each_map _ _ (λ x b. (b.1, each_map _ _ (λ y u. under_trans x k y b.1 u) ks rise'.0)) xs between),
   each_append _ xs (k ∷ ks) (each_map _ _ (λ x b. (b.0, within_wider high k x between'.0.1 b.1)) xs between) between',
 )
 
-pub spread_split : (d : ℕ) (low : List ℕ) (high : Option (List ℕ)) (a b : Body d) → IsSpread d low high (joined d a b) → IsSpread d low (first_or high (stubs_of d b)) a × IsSpread d low high b
-spread_split zero low high a [] h = let keys = map_append (λ x. x.key) a [] in ((rises_front _ _ (subst Rises keys h.0), each_front _ (pair_keys a) _ (subst (Each (IsBetween low high)) keys h.1)), (tt, tt))
+pub spread_split : (d : ℕ) (low : List ℕ) (high : Option (List ℕ)) (a b : Body d) → IsSpread d low high (joined d a b)
+    → IsSpread d low (first_or high (stubs_of d b)) a × IsSpread d low high b
+spread_split zero low high a [] h = let keys = map_append (λ x. x.key) a [] in
+    ((rises_front _ _ (subst Rises keys h.0), each_front _ (pair_keys a) _ (subst (Each (IsBetween low high)) keys h.1)), (tt, tt))
 spread_split zero low high a (y ∷ ys) h =
     let keys = map_append (λ x. x.key) a (y ∷ ys) in
     let r = subst Rises keys h.0 in
-    let b = subst (Each (IsBetween low high)) keys h.1 in ((rises_front _ _ r, keys_split low high (pair_keys a) y.key (pair_keys ys) r b), (rises_back (pair_keys a) _ r, each_back _ (pair_keys a) _ b))
+    let b = subst (Each (IsBetween low high)) keys h.1 in
+    ((rises_front _ _ r, keys_split low high (pair_keys a) y.key (pair_keys ys) r b), (rises_back (pair_keys a) _ r, each_back _ (pair_keys a) _ b))
 spread_split (suc d) low high a [] h =
-    let keys = map_append (λ w. w.key) a [] in
-    ((fan_front (Lies d) high a [] h.0, rises_front _ _ (subst Rises keys h.1), each_front _ (twig_keys a) _ (subst (Each (IsBetween low high)) keys h.2)), (tt, tt, tt))
+    let keys = map_append (λ w. w.key) a [] in (
+      (fan_front (Lies d) high a [] h.0, rises_front _ _ (subst Rises keys h.1), each_front _ (twig_keys a) _ (subst (Each (IsBetween low high)) keys h.2)),
+      (tt, tt, tt),
+    )
 spread_split (suc d) low high a (y ∷ ys) h =
     let keys = map_append (λ w. w.key) a (y ∷ ys) in
     let r = subst Rises keys h.1 in
-    let b = subst (Each (IsBetween low high)) keys h.2 in
-    ((fan_front (Lies d) high a (y ∷ ys) h.0, rises_front _ _ r, keys_split low high (twig_keys a) y.key (twig_keys ys) r b), (fan_back (Lies d) high a (y ∷ ys) h.0, rises_back (twig_keys a) _ r, each_back _ (twig_keys a) _ b))
+    let b = subst (Each (IsBetween low high)) keys h.2 in (
+      (fan_front (Lies d) high a (y ∷ ys) h.0, rises_front _ _ r, keys_split low high (twig_keys a) y.key (twig_keys ys) r b),
+      (fan_back (Lies d) high a (y ∷ ys) h.0, rises_back (twig_keys a) _ r, each_back _ (twig_keys a) _ b),
+    )
 
-pub spread_glue : (d : ℕ) (low : List ℕ) (high : Option (List ℕ)) (a b : Body d) → IsSpread d low (first_or high (stubs_of d b)) a → IsSpread d low high b → IsSpread d low high (joined d a b)
+pub spread_glue : (d : ℕ) (low : List ℕ) (high : Option (List ℕ)) (a b : Body d) → IsSpread d low (first_or high (stubs_of d b)) a → IsSpread d low high b
+    → IsSpread d low high (joined d a b)
 spread_glue zero low high a [] h g =
-    let keys = map_append (λ x. x.key) a [] in
-    (subst Rises (sym keys) (rises_append (pair_keys a) [] h.0 tt (each_map _ _ (λ x b. tt) (pair_keys a) h.1)), subst (Each (IsBetween low high)) (sym keys) (each_append _ (pair_keys a) [] h.1 tt))
+    let keys = map_append (λ x. x.key) a [] in (
+      subst Rises (sym keys) (rises_append (pair_keys a) [] h.0 tt (each_map _ _ (λ x b. tt) (pair_keys a) h.1)),
+      subst (Each (IsBetween low high)) (sym keys) (each_append _ (pair_keys a) [] h.1 tt),
+    )
 spread_glue zero low high a (y ∷ ys) h g =
     let keys = map_append (λ x. x.key) a (y ∷ ys) in
-    let k = keys_glue low high (pair_keys a) y.key (pair_keys ys) h.0 h.1 g.0 g.1 in (subst Rises (sym keys) k.0, subst (Each (IsBetween low high)) (sym keys) k.1)
+    let k = keys_glue low high (pair_keys a) y.key (pair_keys ys) h.0 h.1 g.0 g.1 in
+    (subst Rises (sym keys) k.0, subst (Each (IsBetween low high)) (sym keys) k.1)
 spread_glue (suc d) low high a [] h g =
-    let keys = map_append (λ w. w.key) a [] in
-    (fan_append (Lies d) high a [] h.0 tt, subst Rises (sym keys) (rises_append (twig_keys a) [] h.1 tt (each_map _ _ (λ x b. tt) (twig_keys a) h.2)), subst (Each (IsBetween low high)) (sym keys) (each_append _ (twig_keys a) [] h.2 tt))
+    let keys = map_append (λ w. w.key) a [] in (
+      fan_append (Lies d) high a [] h.0 tt,
+      subst Rises (sym keys) (rises_append (twig_keys a) [] h.1 tt (each_map _ _ (λ x b. tt) (twig_keys a) h.2)),
+      subst (Each (IsBetween low high)) (sym keys) (each_append _ (twig_keys a) [] h.2 tt),
+    )
 spread_glue (suc d) low high a (y ∷ ys) h g =
     let keys = map_append (λ w. w.key) a (y ∷ ys) in
     let k = keys_glue low high (twig_keys a) y.key (twig_keys ys) h.1 h.2 g.1 g.2 in
@@ -115,8 +131,10 @@ map_behind f (suc n) [] = refl
 map_behind f (suc n) (x ∷ xs) = map_behind f n xs
 
 pub split_body : (d : ℕ) (body : Body d) (at : ℕ) → IsSplit d body at
-split_body zero body at = record { front = take at body; back = drop at body; is = take_drop at body; front_are = map_take pair_stub at body; back_are = map_behind pair_stub at body }
-split_body (suc d) body at = record { front = take at body; back = drop at body; is = take_drop at body; front_are = map_take twig_stub at body; back_are = map_behind twig_stub at body }
+split_body zero body at = record
+    { front = take at body; back = drop at body; is = take_drop at body; front_are = map_take pair_stub at body; back_are = map_behind pair_stub at body }
+split_body (suc d) body at = record
+    { front = take at body; back = drop at body; is = take_drop at body; front_are = map_take twig_stub at body; back_are = map_behind twig_stub at body }
 
 -- ---- as a page has it
 
@@ -136,7 +154,8 @@ bare_shows s (suc d) [] h = h
 bare_shows s (suc d) (w ∷ ws) h = h
 
 -- what is spread, under its first key
-pub bare_sound : (d : ℕ) (low : List ℕ) (high : Option (List ℕ)) (body : Body d) (s : Stub) (ss : List Stub) → stubs_of d body ≡ s ∷ ss → IsSpread d low high body → IsSound d s.key high (bare d body)
+pub bare_sound : (d : ℕ) (low : List ℕ) (high : Option (List ℕ)) (body : Body d) (s : Stub) (ss : List Stub) → stubs_of d body ≡ s ∷ ss
+    → IsSpread d low high body → IsSound d s.key high (bare d body)
 bare_sound zero low high [] s ss e h = cc
 bare_sound zero low high (x ∷ xs) s ss e h =
     let same : x.key ≡ s.key = cc in

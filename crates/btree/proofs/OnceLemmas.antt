@@ -1,5 +1,6 @@
 -- Each page of a changed tree is reached once, and old trees stay.
-use Rattle.std.proofs.Common.{◌≡◌, ◌≢◌, ℕ, zero, suc, ◌<◌, ◌≤◌, List, [], ◌∷◌, length, drop, Bool, true, false, refl, sym, ap, ◌∙◌, subst, arith, inl, inr, ◌==◌}
+use Rattle.std.proofs.Common.{◌≡◌, ◌≢◌, ℕ, zero, suc, ◌<◌, ◌≤◌, List, [], ◌∷◌, length, drop, Bool, true, false, refl, sym, ap, ◌∙◌, subst, arith, inl, inr}
+use Rattle.std.proofs.Common.{◌==◌}
 use Rattle.std.proofs.lemmas.Bool.Decides.{nat_tests}
 use Rattle.btree.specs.Keys.{Each, Entry, times}
 use Rattle.btree.specs.Laws.{OldTreesStay, PagesStayOnce}
@@ -15,7 +16,8 @@ old_trees_stay old new root pages entries g (inr t) =
     inr (record {
       d = t.d;
       body = t.body;
-      tree = record { at = g.kept root _ t.tree.at; shown = shows_kept old new g t.d t.body t.tree.shown; whole = t.tree.whole; sound = t.tree.sound; depth = t.tree.depth };
+      tree = record
+          { at = g.kept root _ t.tree.at; shown = shows_kept old new g t.d t.body t.tree.shown; whole = t.tree.whole; sound = t.tree.sound; depth = t.tree.depth };
       pages_are = t.pages_are;
       entries_are = t.entries_are;
     })
@@ -37,7 +39,8 @@ shows_live : (s : Store) (d : ℕ) (body : Body d) → Shows s d body → Each (
 shows_live s zero [] h = tt
 shows_live s zero (x ∷ xs) h = each_append (IsLive s) x.links (pages_of zero xs) (chain_live s x.links x.value h.0) (shows_live s zero xs h.1)
 shows_live s (suc d) [] h = tt
-shows_live s (suc d) (w ∷ ws) h = each_append (IsLive s) (w.page ∷ pages_of d w.body) (pages_of (suc d) ws) (h.0.0.live, shows_live s d w.body h.0.1) (shows_live s (suc d) ws h.1)
+shows_live s (suc d) (w ∷ ws) h =
+    each_append (IsLive s) (w.page ∷ pages_of d w.body) (pages_of (suc d) ws) (h.0.0.live, shows_live s d w.body h.0.1) (shows_live s (suc d) ws h.1)
 
 pub map_live : (s : Store) (root : ℕ) (pages : List ℕ) (entries : List Entry) → HasMap s root pages entries → Each (IsLive s) pages
 map_live s root pages entries (inl none) = subst (Each (IsLive s)) (sym none.1.0) tt
@@ -59,5 +62,7 @@ pages_stay_once old new root before after entries g map once turned n = go (old.
     go : (was : Bool) → was ≡ old.live n → (is : Bool) → is ≡ new.live n → times n after ≤ 1
     go true was true is = omega (arith, turned n, g.made n, less, once n, ap flag was, ap flag is)
     go true was false is = omega (arith, turned n, g.made n, less, once n, ap flag was, ap flag is)
-    go false was true is = omega (arith, turned n, g.made n, less, none_there old n before (map_live old root before entries map) (sym was), ap flag was, ap flag is)
-    go false was false is = omega (arith, turned n, g.made n, less, none_there old n before (map_live old root before entries map) (sym was), ap flag was, ap flag is)
+    go false was true is =
+        omega (arith, turned n, g.made n, less, none_there old n before (map_live old root before entries map) (sym was), ap flag was, ap flag is)
+    go false was false is =
+        omega (arith, turned n, g.made n, less, none_there old n before (map_live old root before entries map) (sym was), ap flag was, ap flag is)

@@ -1,11 +1,13 @@
 -- What goes into a page is the content of one.
-use Rattle.std.proofs.Common.{◌≡◌, ℕ, zero, suc, ◌+◌, ◌<◌, ◌≤◌, List, [], ◌∷◌, ◌++◌, length, map, take, drop, get_or, slice_set, Some, None, Result, Ok, Err, true, ◌&&◌, refl, sym, ap, ◌∙◌, subst, arith}
+use Rattle.std.proofs.Common.{◌≡◌, ℕ, zero, suc, ◌+◌, ◌<◌, ◌≤◌, List, [], ◌∷◌, ◌++◌, length, map, take, drop, get_or, slice_set, Some, None, Result, Ok, Err}
+use Rattle.std.proofs.Common.{true, ◌&&◌, refl, sym, ap, ◌∙◌, subst, arith}
 use Rattle.std.specs.List.{AllByRecursion}
 use Rattle.std.specs.Result.{IfErr, IsErrAnd, MatchResult}
 use Rattle.btree.specs.declared.pages.TreeFault.{TreeFault}
 use Rattle.btree.specs.declared.pages.TreeFault.TheVariants.{Memory}
 use Rattle.std.specs.Ordering.{is_lt}
-use Rattle.page.specs.Content.{Item, Arm, IsArm, IsBranch, IsItem, IsLeaf, arm_keys, arm_size, item_keys, item_size, Place, inline, leaf, branch, rise_above, total}
+use Rattle.page.specs.Content.{Item, Arm, IsArm, IsBranch, IsItem, IsLeaf, arm_keys, arm_size, item_keys, item_size, Place, inline, leaf, branch, rise_above}
+use Rattle.page.specs.Content.{total}
 use Rattle.btree.specs.Keys.{Pair, IsUnder, IsNotUnder}
 use Rattle.btree.specs.Loose.{GoBehind, IsChild, IsEnough, Stub, arm_stub, bare, bare_arms, item_stub, pair_stub, stubs_of, twig_stub, Load, value, child}
 use Rattle.btree.specs.Tree.{Body, Twig, IsWhole, arm_of, content_of, item_of, place_of, with_low}
@@ -30,7 +32,8 @@ behind_arms last used [] le h = (tt, refl, omega arith)
 behind_arms last used (x ∷ xs) le h =
     let small : 6 + length x.key + 0 ≤ 1360 = h.0.size in
     let room : used + (6 + length x.key + 0) ≤ 4080 = h.2 in
-    let rest : GoBehind (Some x.key) (used + arm_size x) (map arm_stub xs) = (let n : 6 + length x.key + 0 ≡ arm_size x = omega arith in subst (λ k. GoBehind (Some x.key) (used + k) (map arm_stub xs)) n h.3) in
+    let rest : GoBehind (Some x.key) (used + arm_size x) (map arm_stub xs) =
+    (let n : 6 + length x.key + 0 ≡ arm_size x = omega arith in subst (λ k. GoBehind (Some x.key) (used + k) (map arm_stub xs)) n h.3) in
     let r = behind_arms x.key (used + arm_size x) xs (omega arith) rest in
     ((record { size = omega arith; child = h.0.load }, r.0), ap (λ o. is_lt o && rise_above x.key (arm_keys xs)) h.1 ∙ r.1, omega (arith, r.2))
 
@@ -42,7 +45,8 @@ pub leaf_whole : (items : List Item) → GoBehind None 0 (map item_stub items) �
 leaf_whole [] h some = absurd (omega arith)
 leaf_whole (x ∷ xs) h some =
     let room : item_size x ≤ 4080 = omega (arith, h.2) in
-    let r = behind_items x.key (item_size x) xs room (let n : 0 + item_size x ≡ item_size x = omega arith in subst (λ k. GoBehind (Some x.key) k (map item_stub xs)) n h.3) in
+    let r = behind_items x.key (item_size x) xs room
+    (let n : 0 + item_size x ≡ item_size x = omega arith in subst (λ k. GoBehind (Some x.key) k (map item_stub xs)) n h.3) in
     record { some = omega arith; each = (record { size = h.0.size; place = h.0.load }, r.0); ascending = r.1; room = r.2 }
 
 pub branch_whole : (arms : List Arm) → GoBehind None 0 (map arm_stub arms) → 2 ≤ length arms → IsBranch (bare_arms arms)
@@ -50,10 +54,12 @@ branch_whole [] h two = absurd (omega arith)
 branch_whole (x ∷ []) h two = absurd (omega arith)
 branch_whole (x ∷ y ∷ ys) h two =
     let small : 6 + length x.key + 0 ≤ 1360 = h.0.size in
-    let rest : GoBehind (Some x.key) (arm_size x) (map arm_stub (y ∷ ys)) = (let n : 0 + (6 + length x.key + 0) ≡ arm_size x = omega arith in subst (λ k. GoBehind (Some x.key) k (map arm_stub (y ∷ ys))) n h.3) in
+    let rest : GoBehind (Some x.key) (arm_size x) (map arm_stub (y ∷ ys)) =
+    (let n : 0 + (6 + length x.key + 0) ≡ arm_size x = omega arith in subst (λ k. GoBehind (Some x.key) k (map arm_stub (y ∷ ys))) n h.3) in
     let small' : 6 + length y.key + 0 ≤ 1360 = rest.0.size in
     let room : arm_size x + (6 + length y.key + 0) ≤ 4080 = rest.2 in
-    let rest' : GoBehind (Some y.key) (arm_size x + arm_size y) (map arm_stub ys) = (let n : 6 + length y.key + 0 ≡ arm_size y = omega arith in subst (λ k. GoBehind (Some y.key) (arm_size x + k) (map arm_stub ys)) n rest.3) in
+    let rest' : GoBehind (Some y.key) (arm_size x + arm_size y) (map arm_stub ys) =
+    (let n : 6 + length y.key + 0 ≡ arm_size y = omega arith in subst (λ k. GoBehind (Some y.key) (arm_size x + k) (map arm_stub ys)) n rest.3) in
     let r = behind_arms y.key (arm_size x + arm_size y) ys (omega arith) rest' in
     let over : IsUnder [] y.key = up_to_then_under [] x.key y.key (nothing_under x.key) rest.1 in
     record {
@@ -96,7 +102,8 @@ pub record IsMapped {X Y : Type 0} (f : X → Y) (y : Y) : Type 0 where
   pub x : X
   pub is : y ≡ f x
 
-pub mapped_at : {U X Y : Type 0} (g : U → Y) (f : X → Y) (us : List U) (xs : List X) (i : ℕ) (u d : U) → i < length us → u ≡ get_or us i d → map g us ≡ map f xs → IsMapped f (g u)
+pub mapped_at : {U X Y : Type 0} (g : U → Y) (f : X → Y) (us : List U) (xs : List X) (i : ℕ) (u d : U) → i < length us → u ≡ get_or us i d
+    → map g us ≡ map f xs → IsMapped f (g u)
 mapped_at g f [] xs i u d lt is e = absurd (omega arith)
 mapped_at g f (v ∷ vs) [] i u d lt is e = cc
 mapped_at g f (v ∷ vs) (x ∷ xs) zero u d lt is e = let h : g v ≡ f x = cc in record { x = x; is = ap g is ∙ h }
@@ -106,10 +113,12 @@ pub is_memory : {X : Type 0} (r : Result X TreeFault) (f : TreeFault) → IsErrA
 is_memory (Ok v) f h e = absurd h
 is_memory (Err g) f h e = h ∙ e
 
-pub next_mapped : {X Y Z : Type 0} (f : X → Z) (g : Y → Z) (xs xs' : List X) (x : X) (ys : List Y) (i : ℕ) (y d : Y) → xs' ≡ xs ++ x ∷ [] → map f xs ≡ take i (map g ys) → f x ≡ g y → i < length ys → y ≡ get_or ys i d
+pub next_mapped : {X Y Z : Type 0} (f : X → Z) (g : Y → Z) (xs xs' : List X) (x : X) (ys : List Y) (i : ℕ) (y d : Y) → xs' ≡ xs ++ x ∷ []
+    → map f xs ≡ take i (map g ys) → f x ≡ g y → i < length ys → y ≡ get_or ys i d
     → map f xs' ≡ take (i + 1) (map g ys)
 next_mapped f g xs xs' x ys i y d e so one lt is =
-    ap (map f) e ∙ map_append f xs (x ∷ []) ∙ ap (λ zs. zs ++ f x ∷ []) so ∙ ap (λ z. take i (map g ys) ++ z ∷ []) (one ∙ ap g is) ∙ sym (take_more_map g ys i d lt)
+    ap (map f) e ∙ map_append f xs (x ∷ []) ∙ ap (λ zs. zs ++ f x ∷ []) so ∙ ap (λ z. take i (map g ys) ++ z ∷ []) (one ∙ ap g is)
+    ∙ sym (take_more_map g ys i d lt)
 
 -- ---- a body's page
 
@@ -124,26 +133,33 @@ bare_are [] = refl
 bare_are (w ∷ ws) = refl
 
 pub body_whole : (d : ℕ) (body : Body d) → GoBehind None 0 (stubs_of d body) → IsEnough d (stubs_of d body) → IsWhole d (bare d body)
-body_whole zero pairs h some = leaf_whole (map item_of pairs) (subst (GoBehind None 0) (sym (pairs_are pairs)) h) (omega (arith, long_map pair_stub pairs, long_map item_of pairs))
+body_whole zero pairs h some =
+    leaf_whole (map item_of pairs) (subst (GoBehind None 0) (sym (pairs_are pairs)) h) (omega (arith, long_map pair_stub pairs, long_map item_of pairs))
 body_whole (suc d) twigs h two =
-    subst IsBranch (bare_are twigs) (branch_whole (map arm_of twigs) (subst (GoBehind None 0) (sym (twigs_are twigs)) h) (omega (arith, long_map twig_stub twigs, long_map arm_of twigs)))
+    subst IsBranch (bare_are twigs)
+    (branch_whole (map arm_of twigs) (subst (GoBehind None 0) (sym (twigs_are twigs)) h) (omega (arith, long_map twig_stub twigs, long_map arm_of twigs)))
 
 -- a page whose first stub is no child is a leaf's, and any other a branch's
-pub as_leaf : (d : ℕ) (body : Body d) (s : Stub) (ss : List Stub) (r : Result PageContent TreeFault) → ((page : ℕ) → s.load ≡ child page → ⊥) → s ∷ ss ≡ stubs_of d body
-    → ((items : List Item) → s ∷ ss ≡ map item_stub items → MatchResult r (λ c. content_in c ≡ leaf items) (λ e. e ≡ Memory)) → MatchResult r (λ c. content_in c ≡ content_of d (bare d body)) (λ e. e ≡ Memory)
+pub as_leaf : (d : ℕ) (body : Body d) (s : Stub) (ss : List Stub) (r : Result PageContent TreeFault) → ((page : ℕ) → s.load ≡ child page → ⊥)
+    → s ∷ ss ≡ stubs_of d body
+    → ((items : List Item) → s ∷ ss ≡ map item_stub items → MatchResult r (λ c. content_in c ≡ leaf items) (λ e. e ≡ Memory))
+    → MatchResult r (λ c. content_in c ≡ content_of d (bare d body)) (λ e. e ≡ Memory)
 as_leaf zero pairs s ss r none e says = says (map item_of pairs) (e ∙ sym (pairs_are pairs))
 as_leaf (suc d) [] s ss r none e says = cc
 as_leaf (suc d) (w ∷ ws) s ss r none e says = let same : s.load ≡ child w.page = cc in absurd (none w.page same)
 
-pub as_branch : (d : ℕ) (body : Body d) (s : Stub) (ss : List Stub) (page : ℕ) (r : Result PageContent TreeFault) → s.load ≡ child page → s ∷ ss ≡ stubs_of d body
-    → ((arms : List Arm) → s ∷ ss ≡ map arm_stub arms → MatchResult r (λ c. content_in c ≡ branch (bare_arms arms)) (λ e. e ≡ Memory)) → MatchResult r (λ c. content_in c ≡ content_of d (bare d body)) (λ e. e ≡ Memory)
+pub as_branch : (d : ℕ) (body : Body d) (s : Stub) (ss : List Stub) (page : ℕ) (r : Result PageContent TreeFault) → s.load ≡ child page
+    → s ∷ ss ≡ stubs_of d body
+    → ((arms : List Arm) → s ∷ ss ≡ map arm_stub arms → MatchResult r (λ c. content_in c ≡ branch (bare_arms arms)) (λ e. e ≡ Memory))
+    → MatchResult r (λ c. content_in c ≡ content_of d (bare d body)) (λ e. e ≡ Memory)
 as_branch zero [] s ss page r is e says = cc
 as_branch zero (x ∷ xs) s ss page r is e says = let same : s.load ≡ value (place_of x.links x.value) = cc in cc
 as_branch (suc d) twigs s ss page r is e says =
     subst (λ arms. MatchResult r (λ c. content_in c ≡ branch arms) (λ e. e ≡ Memory)) (bare_are twigs) (says (map arm_of twigs) (e ∙ sym (twigs_are twigs)))
 
 -- the first of a branch's children, without its key
-pub first_bare : (children : List Child) (child' : Child) → 0 < length children → arm_in child' ≡ record { key = []; child = (get_or children 0 child').page } → map arm_in (slice_set children 0 child') ≡ bare_arms (map arm_in children)
+pub first_bare : (children : List Child) (child' : Child) → 0 < length children → arm_in child' ≡ record { key = []; child = (get_or children 0 child').page }
+    → map arm_in (slice_set children 0 child') ≡ bare_arms (map arm_in children)
 first_bare [] c some e = absurd (omega arith)
 first_bare (x ∷ xs) c some e = ap (λ a. a ∷ map arm_in xs) e
 
@@ -152,7 +168,8 @@ first_here [] u lt e = absurd (omega arith)
 first_here (x ∷ xs) u lt e = ap (λ y. stub_in y ∷ map stub_in xs) (sym e)
 
 -- where there are too few children for a branch
-pub too_few : (d : ℕ) (body : Body d) (s : Stub) (ss : List Stub) (units : List Unit) → IsChild s.load → s ∷ ss ≡ stubs_of d body → length units < 2 → IsEnough d (map stub_in units) → ⊥
+pub too_few : (d : ℕ) (body : Body d) (s : Stub) (ss : List Stub) (units : List Unit) → IsChild s.load → s ∷ ss ≡ stubs_of d body → length units < 2
+    → IsEnough d (map stub_in units) → ⊥
 too_few zero [] s ss units is e lt enough = cc
 too_few zero (x ∷ xs) s ss units is e lt enough = let same : s.load ≡ value (place_of x.links x.value) = cc in subst IsChild same is
 too_few (suc d) twigs s ss units is e lt enough = let two : 2 ≤ length (map stub_in units) = enough in omega (arith, long_map stub_in units)

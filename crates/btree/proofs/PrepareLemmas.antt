@@ -1,5 +1,6 @@
 -- Edits of children: the child that the last edits belong to, what is before it and what is behind it.
-use Rattle.std.proofs.Common.{◌≡◌, ℕ, zero, suc, ◌+◌, ◌-◌, ◌<◌, ◌≤◌, take, get_or, List, [], ◌∷◌, ◌++◌, length, map, Option, Some, None, Result, Ok, Err, refl, sym, ap, ◌∙◌, subst, arith, inl, inr, append_assoc}
+use Rattle.std.proofs.Common.{◌≡◌, ℕ, zero, suc, ◌+◌, ◌-◌, ◌<◌, ◌≤◌, take, get_or, List, [], ◌∷◌, ◌++◌, length, map, Option, Some, None, Result, Ok, Err, refl}
+use Rattle.std.proofs.Common.{sym, ap, ◌∙◌, subst, arith, inl, inr, append_assoc}
 use Rattle.btree.specs.declared.loose.Loose.{Loose}
 use Rattle.btree.specs.declared.editing.Edit.{Edit as ProgramEdit}
 use Rattle.btree.specs.EditView.{edit_in}
@@ -14,7 +15,8 @@ use Rattle.btree.specs.Store.{Store, Frame}
 use Rattle.btree.proofs.HeldLemmas.{IsTurn}
 use Rattle.btree.specs.Tree.{entries_of, pages_of}
 use Rattle.btree.specs.Turn.{IsHeld, IsTurned, IsUpTo, Sheaf, sheaf_in}
-use Rattle.btree.proofs.ListLemmas.{each_append, each_back, each_front, each_map, get_here, get_mapped, long_append, long_map, map_append, rises_back, rises_front, times_append}
+use Rattle.btree.proofs.ListLemmas.{each_append, each_back, each_front, each_map, get_here, get_mapped, long_append, long_map, map_append, rises_back}
+use Rattle.btree.proofs.ListLemmas.{rises_front, times_append}
 use Rattle.btree.proofs.EndLemmas.{IsLastOff, last_off, within_up_to}
 use Rattle.btree.proofs.SplitLemmas.{take_under, IsTwo, apart, apart_over, change_parts, held_between, two_parts}
 use Rattle.btree.proofs.StoreLemmas.{cause_later, frame_trans}
@@ -23,7 +25,8 @@ use Rattle.btree.proofs.KeyLemmas.{not_under_trans}
 use Rattle.btree.proofs.ScanLemmas.{each_entry}
 use Rattle.btree.proofs.FanLemmas.{pairs_between}
 
-pub record IsPrepared (s : Store) (base : ℕ) (low : List ℕ) (high : Option (List ℕ)) (entries : List Entry) (reached : List ℕ) (rank : ℕ) (left right : List Stub) (t : Stub) (page : ℕ) (theirs mine : List Edit) : Type 0 where
+pub record IsPrepared (s : Store) (base : ℕ) (low : List ℕ) (high : Option (List ℕ)) (entries : List Entry) (reached : List ℕ) (rank : ℕ)
+    (left right : List Stub) (t : Stub) (page : ℕ) (theirs mine : List Edit) : Type 0 where
   pub two : IsTwo s base low high entries reached rank (left ++ t ∷ []) right
   pub off : IsLastOff s base low two.between two.front_entries two.front_pages rank left t page
   pub theirs_rise : Rises (edit_keys theirs)
@@ -37,25 +40,34 @@ both : (P Q : List ℕ → Type 0) (es : List Edit) → Each (λ e. P e.key) es 
 both P Q [] h g = tt
 both P Q (e ∷ es) h g = ((h.0, g.0), both P Q es h.1 g.1)
 
-upto_of : (key : List ℕ) (high between : Option (List ℕ)) (s : Store) (base : ℕ) (last : List Entry) (pages : List ℕ) (sheaf : Sheaf) → IsWithin between key → IsBehind s base between high last pages sheaf → IsUpTo key high
+upto_of : (key : List ℕ) (high between : Option (List ℕ)) (s : Store) (base : ℕ) (last : List Entry) (pages : List ℕ) (sheaf : Sheaf) → IsWithin between key
+    → IsBehind s base between high last pages sheaf → IsUpTo key high
 upto_of key high between s base last pages sheaf w (inl e) = subst (IsUpTo key) e.1 (within_up_to key between w)
 upto_of key high between s base last pages sheaf w (inr m) = up_to_trans key m.mid high (subst (IsUpTo key) m.is (within_up_to key between w)) m.within
 
-pub prepared : (s : Store) (base : ℕ) (low : List ℕ) (high : Option (List ℕ)) (entries : List Entry) (reached : List ℕ) (sheaf : Sheaf) (left right : List Stub) (t : Stub) (page : ℕ) (theirs mine : List Edit)
-    → IsHeld s base low high entries reached sheaf → sheaf.stubs ≡ (left ++ t ∷ []) ++ right → base < sheaf.rank → t.load ≡ child page → Rises (edit_keys (theirs ++ mine)) → Each (λ e. IsBetween low high e.key) (theirs ++ mine)
-    → ((f : Stub) (rest : List Stub) → right ≡ f ∷ rest → Each (λ e. IsUnder e.key f.key) mine) → Each (λ e. IsUnder e.key t.key) theirs → Each (λ e. IsNotUnder e.key t.key) mine
+pub prepared : (s : Store) (base : ℕ) (low : List ℕ) (high : Option (List ℕ)) (entries : List Entry) (reached : List ℕ) (sheaf : Sheaf)
+    (left right : List Stub) (t : Stub) (page : ℕ) (theirs mine : List Edit)
+    → IsHeld s base low high entries reached sheaf → sheaf.stubs ≡ (left ++ t ∷ []) ++ right → base < sheaf.rank → t.load ≡ child page
+    → Rises (edit_keys (theirs ++ mine)) → Each (λ e. IsBetween low high e.key) (theirs ++ mine)
+    → ((f : Stub) (rest : List Stub) → right ≡ f ∷ rest → Each (λ e. IsUnder e.key f.key) mine) → Each (λ e. IsUnder e.key t.key) theirs
+    → Each (λ e. IsNotUnder e.key t.key) mine
     → IsPrepared s base low high entries reached sheaf.rank left right t page theirs mine
 prepared s base low high entries reached sheaf left right t page theirs mine h parts deep load rise between next before behind =
     let two = two_parts s base low high entries reached sheaf (left ++ t ∷ []) right h parts (omega (arith, long_append left (t ∷ []))) in
-    let off = last_off s base low two.between two.front_entries two.front_pages (record { rank = sheaf.rank; stubs = left ++ t ∷ [] }) left t page two.front_held refl deep (omega (arith, long_append left (t ∷ []))) load in
+    let off = last_off s base low two.between two.front_entries two.front_pages
+    (record { rank = sheaf.rank; stubs = left ++ t ∷ [] }) left t page two.front_held refl deep (omega (arith, long_append left (t ∷ []))) load in
     let keys : Rises (edit_keys theirs ++ edit_keys mine) = subst Rises (map_append (λ (e : Edit). e.key) theirs mine) rise in
     record {
       two = two;
       off = off;
       theirs_rise = rises_front (edit_keys theirs) (edit_keys mine) keys;
       mine_rise = rises_back (edit_keys theirs) (edit_keys mine) keys;
-      theirs_between = both (λ k. IsNotUnder k low) (λ k. IsUnder k t.key) theirs (each_map _ _ (λ e b. b.0) theirs (each_front (λ e. IsBetween low high e.key) theirs mine between)) before;
-      mine_between = both (λ k. IsNotUnder k t.key) (IsWithin two.between) mine behind (under right two.between two.between_is next (each_back (λ e. IsBetween low high e.key) theirs mine between));
+      theirs_between =
+          both (λ k. IsNotUnder k low) (λ k. IsUnder k t.key) theirs
+          (each_map _ _ (λ e b. b.0) theirs (each_front (λ e. IsBetween low high e.key) theirs mine between)) before;
+      mine_between =
+          both (λ k. IsNotUnder k t.key) (IsWithin two.between) mine behind
+          (under right two.between two.between_is next (each_back (λ e. IsBetween low high e.key) theirs mine between));
       within = upto_of t.key high two.between s base two.back_entries two.back_pages _ off.between.1 two.behind;
       left_held = record {
         d = suc off.d;
@@ -70,73 +82,92 @@ prepared s base low high entries reached sheaf left right t page theirs mine h p
       };
     }
   where
-    under : (right : List Stub) (b : Option (List ℕ)) → b ≡ first_or high right → ((f : Stub) (rest : List Stub) → right ≡ f ∷ rest → Each (λ e. IsUnder e.key f.key) mine) → Each (λ e. IsBetween low high e.key) mine → Each (λ e. IsWithin b e.key) mine
+    under : (right : List Stub) (b : Option (List ℕ)) → b ≡ first_or high right
+        → ((f : Stub) (rest : List Stub) → right ≡ f ∷ rest → Each (λ e. IsUnder e.key f.key) mine) → Each (λ e. IsBetween low high e.key) mine
+        → Each (λ e. IsWithin b e.key) mine
     under [] b is next among = subst (λ x. Each (λ e. IsWithin x e.key) mine) (sym is) (each_map _ _ (λ e b. b.1) mine among)
     under (f ∷ rest) b is next among = subst (λ x. Each (λ e. IsWithin x e.key) mine) (sym is) (next f rest refl)
 
 -- what is behind is past the bound
-behind_past : (s : Store) (base : ℕ) (between high : Option (List ℕ)) (last : List Entry) (pages : List ℕ) (sheaf : Sheaf) (mine : List Edit) → IsBehind s base between high last pages sheaf
+behind_past : (s : Store) (base : ℕ) (between high : Option (List ℕ)) (last : List Entry) (pages : List ℕ) (sheaf : Sheaf) (mine : List Edit)
+    → IsBehind s base between high last pages sheaf
     → Each (λ e. IsWithin between e.key) mine → Each (λ e. Each (λ (y : Entry). IsUnder e.key y.key) last) mine
-behind_past s base between high last pages sheaf mine (inl e) w = subst (λ es. Each (λ f. Each (λ (y : Entry). IsUnder f.key y.key) es) mine) (sym e.2) (nothing mine)
+behind_past s base between high last pages sheaf mine (inl e) w =
+    subst (λ es. Each (λ f. Each (λ (y : Entry). IsUnder f.key y.key) es) mine) (sym e.2) (nothing mine)
   where
     nothing : (fs : List Edit) → Each (λ f. Each (λ (y : Entry). IsUnder f.key y.key) []) fs
     nothing [] = tt
     nothing (f ∷ fs) = (tt, nothing fs)
 behind_past s base between high last pages sheaf mine (inr m) w =
-    apart (λ (y : Entry). y.key) m.mid mine last (subst (λ b. Each (λ e. IsWithin b e.key) mine) m.is w) (each_map _ _ (λ y b. b.0) last (held_between s base m.mid high last pages sheaf m.held))
+    apart (λ (y : Entry). y.key) m.mid mine last (subst (λ b. Each (λ e. IsWithin b e.key) mine) m.is w)
+    (each_map _ _ (λ y b. b.0) last (held_between s base m.mid high last pages sheaf m.held))
 
-behind_over : (s : Store) (base : ℕ) (key : List ℕ) (between high : Option (List ℕ)) (last : List Entry) (pages : List ℕ) (sheaf : Sheaf) → IsBehind s base between high last pages sheaf → IsUpTo key between
+behind_over : (s : Store) (base : ℕ) (key : List ℕ) (between high : Option (List ℕ)) (last : List Entry) (pages : List ℕ) (sheaf : Sheaf)
+    → IsBehind s base between high last pages sheaf → IsUpTo key between
     → Each (λ (y : Entry). IsNotUnder y.key key) last
 behind_over s base key between high last pages sheaf (inl e) u = subst (Each (λ (y : Entry). IsNotUnder y.key key)) (sym e.2) tt
 behind_over s base key between high last pages sheaf (inr m) u =
     each_map _ _ (λ y b. not_under_trans key m.mid y.key (subst (IsUpTo key) m.is u) b.0) last (held_between s base m.mid high last pages sheaf m.held)
 
 -- the map after all edits
-pub prepared_entries : (s front_store : Store) (base : ℕ) (low : List ℕ) (high : Option (List ℕ)) (entries : List Entry) (reached : List ℕ) (rank : ℕ) (left right : List Stub) (t : Stub) (page : ℕ) (theirs mine : List Edit)
+pub prepared_entries : (s front_store : Store) (base : ℕ) (low : List ℕ) (high : Option (List ℕ)) (entries : List Entry) (reached : List ℕ) (rank : ℕ)
+    (left right : List Stub) (t : Stub) (page : ℕ) (theirs mine : List Edit)
     (p : IsPrepared s base low high entries reached rank left right t page theirs mine) (pages : List ℕ) (front : Sheaf)
     → IsHeld front_store base low (Some t.key) (change theirs (entries_of (suc p.off.d) p.off.twigs)) pages front
-    → change theirs (entries_of (suc p.off.d) p.off.twigs) ++ (change mine (entries_of p.off.d p.off.body) ++ p.two.back_entries) ≡ change (theirs ++ mine) entries
+    → change theirs (entries_of (suc p.off.d) p.off.twigs)
+    ++ (change mine (entries_of p.off.d p.off.body) ++ p.two.back_entries) ≡ change (theirs ++ mine) entries
 prepared_entries s front_store base low high entries reached rank left right t page theirs mine p pages front h =
     let el : List Entry = entries_of (suc p.off.d) p.off.twigs in
     let ew : List Entry = entries_of p.off.d p.off.body in
     let er : List Entry = p.two.back_entries in
     let inside : Each (λ (y : Entry). IsBetween t.key p.two.between y.key) ew =
-    subst (Each (λ (y : Entry). IsBetween t.key p.two.between y.key)) refl (each_entry (IsBetween t.key p.two.between) _ (pairs_between p.off.d t.key p.two.between p.off.body p.off.lies.1)) in
+    subst (Each (λ (y : Entry). IsBetween t.key p.two.between y.key)) refl
+    (each_entry (IsBetween t.key p.two.between) _ (pairs_between p.off.d t.key p.two.between p.off.body p.off.lies.1)) in
     let over : Each (λ (y : Entry). IsNotUnder y.key t.key) (ew ++ er) =
-    each_append _ ew er (each_map _ _ (λ y b. b.0) ew inside) (behind_over s base t.key p.two.between high er p.two.back_pages _ p.two.behind (within_up_to t.key p.two.between p.off.between.1)) in
+    each_append _ ew er (each_map _ _ (λ y b. b.0) ew inside)
+    (behind_over s base t.key p.two.between high er p.two.back_pages _ p.two.behind (within_up_to t.key p.two.between p.off.between.1)) in
     sym (change_parts theirs mine el ew er
     (apart (λ (y : Entry). y.key) t.key theirs (ew ++ er) (each_map _ _ (λ e b. b.1) theirs p.theirs_between) over)
-    (apart_over (λ (y : Entry). y.key) t.key mine (change theirs el) (each_map _ _ (λ e b. b.0) mine p.mine_between) (each_map _ _ (λ y b. b.1) _ (held_between front_store base low (Some t.key) _ pages front h)))
+    (apart_over (λ (y : Entry). y.key) t.key mine (change theirs el) (each_map _ _ (λ e b. b.0) mine p.mine_between)
+    (each_map _ _ (λ y b. b.1) _ (held_between front_store base low (Some t.key) _ pages front h)))
     (behind_past s base p.two.between high er p.two.back_pages _ mine p.two.behind (each_map _ _ (λ e b. b.1) mine p.mine_between)))
     ∙ ap (change (theirs ++ mine)) (sym (append_assoc el ew er) ∙ ap (λ es. es ++ er) p.off.entries_are ∙ p.two.entries_are)
 
 -- ---- the program's parts
 
-pub place_next : (key : List ℕ) (stubs left right : List Stub) (t : Stub) (at n : ℕ) → n ≡ length stubs → stubs ≡ (left ++ t ∷ []) ++ right → length left ≡ at → ((s : Stub) → at + 1 < n → IsUnder key (get_or stubs (at + 1) s).key)
+pub place_next : (key : List ℕ) (stubs left right : List Stub) (t : Stub) (at n : ℕ) → n ≡ length stubs → stubs ≡ (left ++ t ∷ []) ++ right → length left ≡ at
+    → ((s : Stub) → at + 1 < n → IsUnder key (get_or stubs (at + 1) s).key)
     → (f : Stub) (rest : List Stub) → right ≡ f ∷ rest → IsUnder key f.key
 place_next key stubs left right t at n same e long next f rest is =
     let whole : stubs ≡ (left ++ t ∷ []) ++ f ∷ rest = e ∙ ap (λ r. (left ++ t ∷ []) ++ r) is in
     let front : length (left ++ t ∷ []) ≡ at + 1 = omega (arith, long_append left (t ∷ [])) in
-    let here : get_or stubs (at + 1) f ≡ f = ap (λ ss. get_or ss (at + 1) f) whole ∙ ap (λ k. get_or ((left ++ t ∷ []) ++ f ∷ rest) k f) (sym front) ∙ get_here (left ++ t ∷ []) f rest f in
+    let here : get_or stubs (at + 1) f ≡ f =
+    ap (λ ss. get_or ss (at + 1) f) whole ∙ ap (λ k. get_or ((left ++ t ∷ []) ++ f ∷ rest) k f) (sym front) ∙ get_here (left ++ t ∷ []) f rest f in
     subst (λ (s : Stub). IsUnder key s.key) here (next f (omega (arith, ap length whole, long_append (left ++ t ∷ []) (f ∷ rest))))
 
-pub all_up_to_last : (es : List ProgramEdit) (key : List ℕ) (d : ProgramEdit) → 0 < length es → Rises (edit_keys (map edit_in es)) → IsUnder (get_or es (length es - 1) d).key.now key → Each (λ (e : Edit). IsUnder e.key key) (map edit_in es)
+pub all_up_to_last : (es : List ProgramEdit) (key : List ℕ) (d : ProgramEdit) → 0 < length es → Rises (edit_keys (map edit_in es))
+    → IsUnder (get_or es (length es - 1) d).key.now key → Each (λ (e : Edit). IsUnder e.key key) (map edit_in es)
 all_up_to_last es key d some rise last =
     subst (Each (λ (e : Edit). IsUnder e.key key)) (take_over (length es) (map edit_in es) (omega (arith, long_map edit_in es)))
     (take_under (map edit_in es) (length es) key (omega (arith, long_map edit_in es)) rise
-    (λ k f is. let same : k ≡ length es - 1 = omega arith in subst (λ (e : Edit). IsUnder e.key key) (sym (ap (λ i. get_or (map edit_in es) i f) same ∙ get_mapped edit_in es (length es - 1) f d (omega arith))) last))
+    (λ k f is. let same : k ≡ length es - 1 = omega arith in
+    subst (λ (e : Edit). IsUnder e.key key) (sym (ap (λ i. get_or (map edit_in es) i f) same ∙ get_mapped edit_in es (length es - 1) f d (omega arith))) last))
 
-pub children_done : (old a b c new : Store) (base : ℕ) (low : List ℕ) (high : Option (List ℕ)) (entries : List Entry) (reached : List ℕ) (rank : ℕ) (left right : List Stub) (t : Stub) (page : ℕ) (theirs mine : List Edit)
-    (p : IsPrepared old base low high entries reached rank left right t page theirs mine) (below front back : Sheaf) (r : Result Loose TreeFault) → Frame old a → Frame a b → Frame b c
+pub children_done : (old a b c new : Store) (base : ℕ) (low : List ℕ) (high : Option (List ℕ)) (entries : List Entry) (reached : List ℕ) (rank : ℕ)
+    (left right : List Stub) (t : Stub) (page : ℕ) (theirs mine : List Edit)
+    (p : IsPrepared old base low high entries reached rank left right t page theirs mine) (below front back : Sheaf) (r : Result Loose TreeFault) → Frame old a
+    → Frame a b → Frame b c
     → (u1 : IsTurned old a base t.key p.two.between (change mine (entries_of p.off.d p.off.body)) (page ∷ pages_of p.off.d p.off.body) below)
     → (u2 : IsTurned a b base low (Some t.key) (change theirs (entries_of (suc p.off.d) p.off.twigs)) (pages_of (suc p.off.d) p.off.twigs) front)
     → (u3 : IsTurned b c base t.key high (change mine (entries_of p.off.d p.off.body) ++ p.two.back_entries) (u1.after ++ p.two.back_pages) back)
-    → IsTurn c new base low high (change theirs (entries_of (suc p.off.d) p.off.twigs) ++ (change mine (entries_of p.off.d p.off.body) ++ p.two.back_entries)) (u2.after ++ u3.after) r
+    → IsTurn c new base low high (change theirs (entries_of (suc p.off.d) p.off.twigs) ++ (change mine (entries_of p.off.d p.off.body) ++ p.two.back_entries))
+    (u2.after ++ u3.after) r
     → IsTurn old new base low high (change (theirs ++ mine) entries) reached r
 children_done old a b c new base low high entries reached rank left right t page theirs mine p below front back (Ok l) g1 g2 g3 u1 u2 u3 u4 =
     record {
       after = u4.after;
-      held = subst (λ es. IsHeld new base low high es u4.after (sheaf_in l)) (prepared_entries old b base low high entries reached rank left right t page theirs mine p u2.after front u2.held) u4.held;
+      held = subst (λ es. IsHeld new base low high es u4.after (sheaf_in l))
+          (prepared_entries old b base low high entries reached rank left right t page theirs mine p u2.after front u2.held) u4.held;
       turned = λ n. omega (
         arith,
         u1.turned n,
@@ -149,9 +180,11 @@ children_done old a b c new base low high entries reached rank left right t page
         times_append n u1.after p.two.back_pages,
       );
     }
-children_done old a b c new base low high entries reached rank left right t page theirs mine p below front back (Err e) g1 g2 g3 u1 u2 u3 u4 = cause_later old c new e (frame_trans old b c (frame_trans old a b g1 g2) g3) u4
+children_done old a b c new base low high entries reached rank left right t page theirs mine p below front back (Err e) g1 g2 g3 u1 u2 u3 u4 =
+    cause_later old c new e (frame_trans old b c (frame_trans old a b g1 g2) g3) u4
 
-pub begins_left : (low : List ℕ) (edits theirs : List Edit) (stubs left right : List Stub) (t : Stub) → stubs ≡ (left ++ t ∷ []) ++ right → BeginsAt low edits stubs → 0 < length edits
+pub begins_left : (low : List ℕ) (edits theirs : List Edit) (stubs left right : List Stub) (t : Stub) → stubs ≡ (left ++ t ∷ []) ++ right
+    → BeginsAt low edits stubs → 0 < length edits
     → Each (λ e. IsBetween low (Some t.key) e.key) theirs → BeginsAt low theirs left
 begins_left low edits theirs stubs left right t e (inl none) some h = absurd (omega arith)
 begins_left low edits [] stubs [] right t e (inr f) some h = inl refl
@@ -160,32 +193,46 @@ begins_left low edits (x ∷ xs) stubs [] right t e (inr f) some h =
     let same : t.key ≡ low = cc in absurd (h.0.0 (subst (IsUnder x.key) same h.0.1))
 begins_left low edits theirs stubs (s ∷ left) right t e (inr f) some h = inr (sym (ap (first_or None) e) ∙ f)
 
-module _ (old : Store) (loose left right : Loose) (unit : Unit) (units : List Unit) (key : List ℕ) (page at : ℕ) (es theirs mine : List ProgramEdit) (d : ProgramEdit)
-    (parts : map stub_in loose.units.items ≡ (map stub_in left.units.items ++ stub_in unit ∷ []) ++ map stub_in right.units.items) (key_is : key ≡ unit.key.items) (load : hold_in unit.hold ≡ child page)
-    (edits_are : map edit_in es ≡ map edit_in theirs ++ map edit_in mine) (before : Rises (edit_keys (map edit_in es)) → Each (λ (e : Edit). IsUnder e.key key) (map edit_in theirs))
+module _ (old : Store) (loose left right : Loose) (unit : Unit) (units : List Unit) (key : List ℕ) (page at : ℕ) (es theirs mine : List ProgramEdit)
+    (d : ProgramEdit)
+    (parts : map stub_in loose.units.items ≡ (map stub_in left.units.items ++ stub_in unit ∷ []) ++ map stub_in right.units.items)
+    (key_is : key ≡ unit.key.items) (load : hold_in unit.hold ≡ child page)
+    (edits_are : map edit_in es ≡ map edit_in theirs ++ map edit_in mine) (before : Rises (edit_keys (map edit_in es))
+    → Each (λ (e : Edit). IsUnder e.key key) (map edit_in theirs))
     (behind : Each (λ (e : Edit). IsNotUnder e.key key) (map edit_in mine)) (units_are : units ≡ loose.units.items) (long : length left.units.items ≡ at)
-    (next : (s : Stub) → at + 1 < length units → IsUnder (get_or es (length es - 1) d).key.now (get_or (map stub_in units) (at + 1) s).key) (some : 0 < length es) where
-  parts_are : map stub_in loose.units.items ≡ (map stub_in left.units.items ++ record { key = key; load = hold_in unit.hold } ∷ []) ++ map stub_in right.units.items
-  parts_are = parts ∙ ap (λ k. (map stub_in left.units.items ++ record { key = k; load = hold_in unit.hold } ∷ []) ++ map stub_in right.units.items) (sym key_is)
+    (next : (s : Stub) → at + 1 < length units → IsUnder (get_or es (length es - 1) d).key.now (get_or (map stub_in units) (at + 1) s).key)
+    (some : 0 < length es) where
+  parts_are : map stub_in loose.units.items ≡ (map stub_in left.units.items ++ record { key = key; load = hold_in unit.hold } ∷ [])
+      ++ map stub_in right.units.items
+  parts_are = parts
+      ∙ ap (λ k. (map stub_in left.units.items ++ record { key = k; load = hold_in unit.hold } ∷ []) ++ map stub_in right.units.items) (sym key_is)
 
-  pub prepare : (base : ℕ) (low : List ℕ) (high : Option (List ℕ)) (entries : List Entry) (reached : List ℕ) → IsHeld old base low high entries reached (sheaf_in loose) → base < loose.rank → Rises (edit_keys (map edit_in es))
+  pub prepare : (base : ℕ) (low : List ℕ) (high : Option (List ℕ)) (entries : List Entry) (reached : List ℕ)
+      → IsHeld old base low high entries reached (sheaf_in loose) → base < loose.rank → Rises (edit_keys (map edit_in es))
       → Each (λ e. IsBetween low high e.key) (map edit_in es)
-      → IsPrepared old base low high entries reached loose.rank (map stub_in left.units.items) (map stub_in right.units.items) (record { key = key; load = hold_in unit.hold }) page (map edit_in theirs) (map edit_in mine)
+      → IsPrepared old base low high entries reached loose.rank (map stub_in left.units.items) (map stub_in right.units.items)
+      (record { key = key; load = hold_in unit.hold }) page (map edit_in theirs) (map edit_in mine)
   prepare base low high entries reached h deep rise between =
-      prepared old base low high entries reached (sheaf_in loose) (map stub_in left.units.items) (map stub_in right.units.items) (record { key = key; load = hold_in unit.hold }) page (map edit_in theirs) (map edit_in mine) h parts_are deep load
+      prepared old base low high entries reached (sheaf_in loose) (map stub_in left.units.items) (map stub_in right.units.items)
+      (record { key = key; load = hold_in unit.hold }) page (map edit_in theirs) (map edit_in mine) h parts_are deep load
       (subst (λ fs. Rises (edit_keys fs)) edits_are rise) (subst (Each (λ e. IsBetween low high e.key)) edits_are between)
       (λ f rest is. each_back (λ e. IsUnder e.key f.key) (map edit_in theirs) (map edit_in mine) (subst (Each (λ e. IsUnder e.key f.key)) edits_are
       (all_up_to_last es f.key d some rise
-      (place_next (get_or es (length es - 1) d).key.now (map stub_in loose.units.items) (map stub_in left.units.items) (map stub_in right.units.items) (record { key = key; load = hold_in unit.hold }) at (length units)
+      (place_next (get_or es (length es - 1) d).key.now (map stub_in loose.units.items) (map stub_in left.units.items) (map stub_in right.units.items)
+      (record { key = key; load = hold_in unit.hold }) at (length units)
       (omega (arith, ap length units_are, long_map stub_in loose.units.items)) parts_are (omega (arith, long, long_map stub_in left.units.items))
       (λ s lt. subst (λ us. IsUnder (get_or es (length es - 1) d).key.now (get_or (map stub_in us) (at + 1) s).key) units_are (next s lt)) f rest is))))
       (before rise) behind
 
-  pub begins_there : (base : ℕ) (low : List ℕ) → BeginsAt low (map edit_in es) (map stub_in loose.units.items) → Each (λ e. IsBetween low (Some key) e.key) (map edit_in theirs)
+  pub begins_there : (base : ℕ) (low : List ℕ) → BeginsAt low (map edit_in es) (map stub_in loose.units.items)
+      → Each (λ e. IsBetween low (Some key) e.key) (map edit_in theirs)
       → BeginsAt low (map edit_in theirs) (map stub_in left.units.items)
-  begins_there base low b h = begins_left low (map edit_in es) (map edit_in theirs) (map stub_in loose.units.items) (map stub_in left.units.items) (map stub_in right.units.items) (record { key = key; load = hold_in unit.hold }) parts_are b (omega (arith, long_map edit_in es)) h
+  begins_there base low b h =
+      begins_left low (map edit_in es) (map edit_in theirs) (map stub_in loose.units.items) (map stub_in left.units.items) (map stub_in right.units.items)
+      (record { key = key; load = hold_in unit.hold }) parts_are b (omega (arith, long_map edit_in es)) h
 
-pub before_under : (es : List ProgramEdit) (r : ℕ) (key : List ℕ) → r ≤ length es → Rises (edit_keys (map edit_in es)) → ((k : ℕ) (d : ProgramEdit) → k + 1 ≡ r → IsUnder (get_or es k d).key.now key)
+pub before_under : (es : List ProgramEdit) (r : ℕ) (key : List ℕ) → r ≤ length es → Rises (edit_keys (map edit_in es))
+    → ((k : ℕ) (d : ProgramEdit) → k + 1 ≡ r → IsUnder (get_or es k d).key.now key)
     → Each (λ (e : Edit). IsUnder e.key key) (take r (map edit_in es))
 before_under [] zero key le rise last = tt
 before_under [] (suc r) key le rise last = absurd (omega arith)

@@ -1,14 +1,17 @@
 -- A body that is cut and written stands one level up.
-use Rattle.std.proofs.Common.{◌≡◌, ℕ, zero, suc, ◌+◌, ◌<◌, ◌≤◌, List, [], ◌∷◌, ◌++◌, length, map, take, drop, Option, Some, None, Result, Ok, Err, Bool, refl, sym, ap, ◌∙◌, subst, arith, ◌⊎◌, inl, inr, append-nil, append_assoc}
+use Rattle.std.proofs.Common.{◌≡◌, ℕ, zero, suc, ◌+◌, ◌<◌, ◌≤◌, List, [], ◌∷◌, ◌++◌, length, map, take, drop, Option, Some, None, Result, Ok, Err, Bool, refl}
+use Rattle.std.proofs.Common.{sym, ap, ◌∙◌, subst, arith, ◌⊎◌, inl, inr, append-nil, append_assoc}
 use Rattle.btree.specs.Keys.{Each, IsBetween, Rises, entry_of, times}
-use Rattle.btree.specs.Loose.{load_size, stub_size, IsLoad, GoBehind, IsEnough, IsOver, IsPart, IsSpread, IsStub, Stub, bare, first_or, pair_stub, stub_keys, stubs_of, twig_stub}
+use Rattle.btree.specs.Loose.{load_size, stub_size, IsLoad, GoBehind, IsEnough, IsOver, IsPart, IsSpread, IsStub, Stub, bare, first_or, pair_stub, stub_keys}
+use Rattle.btree.specs.Loose.{stubs_of, twig_stub}
 use Rattle.btree.specs.Store.{Store, Frame, HasCause}
 use Rattle.btree.specs.Tree.{Body, Twig, IsSound, Shows, entries_of, pages_of, pairs_of}
 use Rattle.btree.specs.Turn.{AreWritten, IsWritten, MayFill}
 use Rattle.std.specs.Result.{IsErrAnd}
 use Rattle.btree.proofs.CuttingLemmas.{behind_long, go_all}
 use Rattle.btree.proofs.ListLemmas.{each_append, long_map, map_append, map_map}
-use Rattle.btree.proofs.LooseLemmas.{Lies, bare_pages, bare_pairs, bare_shows, bare_sound, entries_joined, pages_joined, shows_joined, map_behind, map_take, shows_parts, split_body, spread_glue, spread_split}
+use Rattle.btree.proofs.LooseLemmas.{Lies, bare_pages, bare_pairs, bare_shows, bare_sound, entries_joined, pages_joined, shows_joined, map_behind, map_take}
+use Rattle.btree.proofs.LooseLemmas.{shows_parts, split_body, spread_glue, spread_split}
 use Rattle.btree.proofs.PartLemmas.{body_whole}
 use Rattle.btree.proofs.StoreLemmas.{cause_later, shows_kept}
 use Rattle.btree.specs.declared.loose.Unit.{Unit}
@@ -37,7 +40,8 @@ spread_rises : (d : ℕ) (low : List ℕ) (high : Option (List ℕ)) (body : Bod
 spread_rises zero low high body h = subst Rises (sym (map_map pair_stub (λ s. s.key) body)) h.0
 spread_rises (suc d) low high body h = subst Rises (sym (map_map twig_stub (λ s. s.key) body)) h.1
 
-pub spread_first : (d : ℕ) (low : List ℕ) (high : Option (List ℕ)) (body : Body d) (s : Stub) (ss : List Stub) → stubs_of d body ≡ s ∷ ss → IsSpread d low high body → IsBetween low high s.key
+pub spread_first : (d : ℕ) (low : List ℕ) (high : Option (List ℕ)) (body : Body d) (s : Stub) (ss : List Stub) → stubs_of d body ≡ s ∷ ss
+    → IsSpread d low high body → IsBetween low high s.key
 spread_first zero low high [] s ss e h = cc
 spread_first zero low high (x ∷ xs) s ss e h = let same : x.key ≡ s.key = cc in subst (IsBetween low high) same h.1.0
 spread_first (suc d) low high [] s ss e h = cc
@@ -78,12 +82,14 @@ first_take (suc n) [] a b lt some = absurd (omega arith)
 first_take (suc n) (s ∷ ss) a b lt some = refl
 
 -- a part in front, and what is behind it
-enough_front : (d : ℕ) (fills : Bool) (rest : List Stub) (at : ℕ) → MayFill d fills → IsPart fills rest at → 0 < at → at ≤ length rest → IsEnough d rest → IsEnough d (take at rest)
+enough_front : (d : ℕ) (fills : Bool) (rest : List Stub) (at : ℕ) → MayFill d fills → IsPart fills rest at → 0 < at → at ≤ length rest → IsEnough d rest
+    → IsEnough d (take at rest)
 enough_front zero fills rest at may part lt le enough = omega (arith, long_take at rest le)
 enough_front (suc d) fills rest at (inl none) part lt le enough = absurd (omega arith)
 enough_front (suc d) fills rest at (inr f) part lt le enough = let two : 2 ≤ at = (part.many f enough).0 in omega (arith, long_take at rest le)
 
-enough_back : (d : ℕ) (fills : Bool) (rest : List Stub) (at : ℕ) → MayFill d fills → IsPart fills rest at → at ≤ length rest → IsEnough d rest → (length (drop at rest) ≡ 0) ⊎ IsEnough d (drop at rest)
+enough_back : (d : ℕ) (fills : Bool) (rest : List Stub) (at : ℕ) → MayFill d fills → IsPart fills rest at → at ≤ length rest → IsEnough d rest
+    → (length (drop at rest) ≡ 0) ⊎ IsEnough d (drop at rest)
 enough_back zero fills rest at may part le enough = some (length (drop at rest)) refl
   where
     some : (n : ℕ) → n ≡ length (drop at rest) → (length (drop at rest) ≡ 0) ⊎ (0 < length (drop at rest))
@@ -95,7 +101,8 @@ enough_back (suc d) fills rest at (inr f) part le enough = elim ((part.many f en
   | inr more ↦ inr (omega (arith, behind_long at rest le))
 ]
 
-pub partly_more : (old mid new : Store) (d : ℕ) (low : List ℕ) (high : Option (List ℕ)) (body : Body d) (above rest : List Stub) (at : ℕ) (fills : Bool) (stub : Stub) (p : ArePartly old mid d low high body above rest)
+pub partly_more : (old mid new : Store) (d : ℕ) (low : List ℕ) (high : Option (List ℕ)) (body : Body d) (above rest : List Stub) (at : ℕ) (fills : Bool)
+    (stub : Stub) (p : ArePartly old mid d low high body above rest)
     → MayFill d fills → IsPart fills rest at → 0 < at → at ≤ length rest → Frame mid new
     → ((b : Body d) → take at rest ≡ stubs_of d b → IsEnough d (take at rest) → GoBehind None 0 (take at rest) → IsWritten mid new d b stub)
     → ArePartly old new d low high body (above ++ stub ∷ []) (drop at rest)
@@ -109,7 +116,8 @@ partly_more old mid new d low high body above rest at fills stub p may part lt l
     let whole : IsEnough d rest = elim p.enough [ inl none ↦ absurd (omega arith) | inr some ↦ some ] in
     let enough = enough_front d fills rest at may part lt le whole in
     let rises : Rises (stub_keys (take at rest)) = subst (λ ss. Rises (stub_keys ss)) (sym front_are) (spread_rises d low high' s.front front_spread) in
-    let go : GoBehind None 0 (take at rest) = go_all None 0 (take at rest) (each_take at rest p.small) rises (over_none (stub_keys (take at rest))) (omega (arith, part.room)) in
+    let go : GoBehind None 0 (take at rest) =
+    go_all None 0 (take at rest) (each_take at rest p.small) rises (over_none (stub_keys (take at rest))) (omega (arith, part.room)) in
     let w = says s.front front_are enough go in
     let twig : Twig (Body d) = record { key = stub.key; page = w.page; body = bare d s.front } in
     let is_stub : stub ≡ twig_stub twig = ap (λ l. record { key = stub.key; load = l }) w.load in
@@ -117,9 +125,12 @@ partly_more old mid new d low high body above rest at fills stub p may part lt l
     let first : stubs_of d s.front ≡ head.s ∷ head.rest = sym front_are ∙ head.is in
     let key_is : head.s.key ≡ stub.key = (let e : Some head.s.key ≡ Some stub.key = ap (first_or None) (sym first) ∙ w.key in cc) in
     let rest_first : first_or high rest ≡ Some stub.key = sym (first_take at rest None high lt (omega arith)) ∙ ap (first_or None) front_are ∙ w.key in
-    let lies : Lies d stub.key high' (bare d s.front) =
-    (body_whole d s.front (subst (GoBehind None 0) front_are go) (subst (IsEnough d) front_are enough), subst (λ k. IsSound d k high' (bare d s.front)) key_is (bare_sound d low high' s.front head.s head.rest first front_spread)) in
-    let single : IsSpread (suc d) low high' (twig ∷ []) = ((lies, tt), (tt, tt), (subst (IsBetween low high') key_is (spread_first d low high' s.front head.s head.rest first front_spread), tt)) in
+    let lies : Lies d stub.key high' (bare d s.front) = (
+      body_whole d s.front (subst (GoBehind None 0) front_are go) (subst (IsEnough d) front_are enough),
+      subst (λ k. IsSound d k high' (bare d s.front)) key_is (bare_sound d low high' s.front head.s head.rest first front_spread),
+    ) in
+    let single : IsSpread (suc d) low high' (twig ∷ []) =
+    ((lies, tt), (tt, tt), (subst (IsBetween low high') key_is (spread_first d low high' s.front head.s head.rest first front_spread), tt)) in
     let head_small : IsStub head.s = (subst (Each IsStub) head.is (each_take at rest p.small)).0 in
     let head_size : stub_size head.s ≤ 1360 = head_small.size in
     let is_small : IsStub stub = record { size = omega (arith, ap length key_is, ap load_size w.load); load = subst IsLoad (sym w.load) w.range } in
@@ -128,16 +139,20 @@ partly_more old mid new d low high body above rest at fills stub p may part lt l
     record {
       twigs = p.twigs ++ twig ∷ [];
       left = s.back;
-      above_are = ap (λ ss. ss ++ stub ∷ []) p.above_are ∙ ap (λ x. stubs_of (suc d) p.twigs ++ x ∷ []) is_stub ∙ sym (map_append twig_stub p.twigs (twig ∷ []));
+      above_are = ap (λ ss. ss ++ stub ∷ []) p.above_are ∙ ap (λ x. stubs_of (suc d) p.twigs ++ x ∷ []) is_stub
+          ∙ sym (map_append twig_stub p.twigs (twig ∷ []));
       rest_are = back_are;
       small_above = each_append IsStub above (stub ∷ []) p.small_above (is_small, tt);
       small = each_drop at rest p.small;
       spread = spread_glue (suc d) low high' p.twigs (twig ∷ []) (subst (λ h. IsSpread (suc d) low h p.twigs) rest_first p.spread) single;
       left_spread = spreads.1;
-      shown = shows_joined new (suc d) p.twigs (twig ∷ []) (shows_kept mid new grows (suc d) p.twigs p.shown) ((w.at, bare_shows new d s.front (shows_kept mid new grows d s.front shown_parts.0)), tt);
+      shown = shows_joined new (suc d) p.twigs (twig ∷ []) (shows_kept mid new grows (suc d) p.twigs p.shown)
+          ((w.at, bare_shows new d s.front (shows_kept mid new grows d s.front shown_parts.0)), tt);
       left_shown = shows_kept mid new grows d s.back shown_parts.1;
-      entries = ap (λ es. es ++ entries_of d s.back) (entries_joined (suc d) p.twigs (twig ∷ [])) ∙ append_assoc (entries_of (suc d) p.twigs) (entries_of (suc d) (twig ∷ [])) (entries_of d s.back)
-          ∙ ap (λ es. entries_of (suc d) p.twigs ++ (es ++ entries_of d s.back)) alone ∙ ap (λ es. entries_of (suc d) p.twigs ++ es) (sym (entries_joined d s.front s.back) ∙ ap (entries_of d) (sym s.is)) ∙ p.entries;
+      entries = ap (λ es. es ++ entries_of d s.back) (entries_joined (suc d) p.twigs (twig ∷ []))
+          ∙ append_assoc (entries_of (suc d) p.twigs) (entries_of (suc d) (twig ∷ [])) (entries_of d s.back)
+          ∙ ap (λ es. entries_of (suc d) p.twigs ++ (es ++ entries_of d s.back)) alone
+          ∙ ap (λ es. entries_of (suc d) p.twigs ++ es) (sym (entries_joined d s.front s.back) ∙ ap (entries_of d) (sym s.is)) ∙ p.entries;
       pages = λ n. omega (
         arith,
         pages_joined (suc d) p.twigs (twig ∷ []) n,
@@ -152,7 +167,8 @@ partly_more old mid new d low high body above rest at fills stub p may part lt l
       enough = enough_back d fills rest at may part le whole;
     }
 
-pub partly_none : (s : Store) (d : ℕ) (low : List ℕ) (high : Option (List ℕ)) (body : Body d) (stubs : List Stub) → stubs ≡ stubs_of d body → IsEnough d stubs → Each IsStub stubs → IsSpread d low high body → Shows s d body
+pub partly_none : (s : Store) (d : ℕ) (low : List ℕ) (high : Option (List ℕ)) (body : Body d) (stubs : List Stub) → stubs ≡ stubs_of d body → IsEnough d stubs
+    → Each IsStub stubs → IsSpread d low high body → Shows s d body
     → ArePartly s s d low high body [] stubs
 partly_none s d low high body stubs e enough small spread shown =
     record {
@@ -182,7 +198,8 @@ pub no_first : (high : Option (List ℕ)) (ss : List Stub) → length ss ≡ 0 �
 no_first high [] e = refl
 no_first high (s ∷ ss) e = absurd (omega arith)
 
-pub partly_done : (old new : Store) (d : ℕ) (low : List ℕ) (high : Option (List ℕ)) (body : Body d) (above rest : List Stub) → ArePartly old new d low high body above rest → length rest ≡ 0 → AreWritten old new d low high body above
+pub partly_done : (old new : Store) (d : ℕ) (low : List ℕ) (high : Option (List ℕ)) (body : Body d) (above rest : List Stub)
+    → ArePartly old new d low high body above rest → length rest ≡ 0 → AreWritten old new d low high body above
 partly_done old new d low high body above rest p e =
     let none = no_entries d p.left (omega (arith, ap length p.rest_are)) in
     record {
@@ -203,7 +220,8 @@ record IsNext (d : ℕ) (rest : List Stub) (at : ℕ) : Type 0 where
   pub enough : IsEnough d (take at rest)
   pub go : GoBehind None 0 (take at rest)
 
-next_part : (old mid : Store) (d : ℕ) (low : List ℕ) (high : Option (List ℕ)) (body : Body d) (above rest : List Stub) (at : ℕ) (fills : Bool) (p : ArePartly old mid d low high body above rest)
+next_part : (old mid : Store) (d : ℕ) (low : List ℕ) (high : Option (List ℕ)) (body : Body d) (above rest : List Stub) (at : ℕ) (fills : Bool)
+    (p : ArePartly old mid d low high body above rest)
     → MayFill d fills → IsPart fills rest at → 0 < at → at ≤ length rest → IsNext d rest at
 next_part old mid d low high body above rest at fills p may part lt le =
     let s = split_body d p.left at in
@@ -220,7 +238,8 @@ next_part old mid d low high body above rest at fills p may part lt le =
 
 -- the program's step
 module _ (old mid new : Store) (d : ℕ) (low : List ℕ) (high : Option (List ℕ)) (body : Body d) (above rest part : List Unit) (at : ℕ) (fills : Bool)
-    (p : ArePartly old mid d low high body (map stub_in above) (map stub_in rest)) (may : MayFill d fills) (is_part : Each IsStub (map stub_in rest) → IsPart fills (map stub_in rest) at) (lt : 0 < at) (le : at ≤ length rest)
+    (p : ArePartly old mid d low high body (map stub_in above) (map stub_in rest)) (may : MayFill d fills) (is_part : Each IsStub (map stub_in rest)
+    → IsPart fills (map stub_in rest) at) (lt : 0 < at) (le : at ≤ length rest)
     (part_is : part ≡ take at rest) (grows : Frame mid new) where
   same_part : take at (map stub_in rest) ≡ map stub_in part
   same_part = sym (map_take stub_in at rest) ∙ ap (map stub_in) (sym part_is)
@@ -229,20 +248,25 @@ module _ (old mid new : Store) (d : ℕ) (low : List ℕ) (high : Option (List �
   le' = omega (arith, long_map stub_in rest, le)
 
   pub partly_step : (behind above' : List Unit) (unit : Unit) → behind ≡ drop at rest
-      → ((b : Body d) → map stub_in part ≡ stubs_of d b → IsEnough d (map stub_in part) → GoBehind None 0 (map stub_in part) → IsWritten mid new d b (stub_in unit))
+      → ((b : Body d) → map stub_in part ≡ stubs_of d b → IsEnough d (map stub_in part) → GoBehind None 0 (map stub_in part)
+      → IsWritten mid new d b (stub_in unit))
       → map stub_in above' ≡ map stub_in above ++ stub_in unit ∷ [] → ArePartly old new d low high body (map stub_in above') (map stub_in behind)
   partly_step behind above' unit behind_is says pushed =
       let q = partly_more old mid new d low high body (map stub_in above) (map stub_in rest) at fills (stub_in unit) p may (is_part p.small) lt le' grows
       (λ b e enough go. says b (sym same_part ∙ e) (subst (IsEnough d) same_part enough) (subst (GoBehind None 0) same_part go)) in
       subst (λ ss. ArePartly old new d low high body ss (map stub_in behind)) (sym pushed)
-      (subst (ArePartly old new d low high body (map stub_in above ++ stub_in unit ∷ [])) (sym (map_behind stub_in at rest) ∙ ap (map stub_in) (sym behind_is)) q)
+      (subst (ArePartly old new d low high body (map stub_in above ++ stub_in unit ∷ []))
+      (sym (map_behind stub_in at rest) ∙ ap (map stub_in) (sym behind_is)) q)
 
-  pub partly_failed : (e : TreeFault) → ((b : Body d) → map stub_in part ≡ stubs_of d b → IsEnough d (map stub_in part) → GoBehind None 0 (map stub_in part) → HasCause mid new e) → Frame old mid → HasCause old new e
+  pub partly_failed : (e : TreeFault)
+      → ((b : Body d) → map stub_in part ≡ stubs_of d b → IsEnough d (map stub_in part) → GoBehind None 0 (map stub_in part) → HasCause mid new e)
+      → Frame old mid → HasCause old new e
   partly_failed e says before =
       let n = next_part old mid d low high body (map stub_in above) (map stub_in rest) at fills p may (is_part p.small) lt le' in
       cause_later old mid new e before (says n.part (sym same_part ∙ n.are) (subst (IsEnough d) same_part n.enough) (subst (GoBehind None 0) same_part n.go))
 
-pub writes_failed : {V : Type 0} (stubs : V → List Stub) (old new : Store) (d : ℕ) (low : List ℕ) (high : Option (List ℕ)) (body : Body d) (r : Result V TreeFault) (f : TreeFault) → IsErrAnd r (λ g. g ≡ f)
+pub writes_failed : {V : Type 0} (stubs : V → List Stub) (old new : Store) (d : ℕ) (low : List ℕ) (high : Option (List ℕ)) (body : Body d)
+    (r : Result V TreeFault) (f : TreeFault) → IsErrAnd r (λ g. g ≡ f)
     → HasCause old new f → IsAnswer old new (λ units. AreWritten old new d low high body (stubs units)) r
 writes_failed stubs old new d low high body (Ok v) f h c = absurd h
 writes_failed stubs old new d low high body (Err g) f h c = subst (HasCause old new) (sym h) c

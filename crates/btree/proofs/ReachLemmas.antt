@@ -37,7 +37,8 @@ tree_moved s t root d body moves h = record {
   depth = h.depth;
 }
 
-pub map_moved : (s t : Store) (root : ℕ) (pages : List ℕ) (entries : List Entry) → Each (Moves s t) pages → HasMap s root pages entries → HasMap t root pages entries
+pub map_moved : (s t : Store) (root : ℕ) (pages : List ℕ) (entries : List Entry) → Each (Moves s t) pages → HasMap s root pages entries
+    → HasMap t root pages entries
 map_moved s t root pages entries moves (inl none) = inl none
 map_moved s t root pages entries moves (inr has) = inr (record {
   d = has.d;

@@ -1,5 +1,6 @@
 -- The root of a tree after a change.
-use Rattle.std.proofs.Common.{◌≡◌, ℕ, zero, suc, ◌+◌, ◌^◌, ◌<◌, ◌≤◌, List, [], ◌∷◌, ◌++◌, length, map, get_or, Option, None, Result, Ok, Err, refl, sym, ap, ◌∙◌, subst, arith, ◌⊎◌, inl, inr, append-nil}
+use Rattle.std.proofs.Common.{◌≡◌, ℕ, zero, suc, ◌+◌, ◌^◌, ◌<◌, ◌≤◌, List, [], ◌∷◌, ◌++◌, length, map, get_or, Option, None, Result, Ok, Err, refl, sym, ap}
+use Rattle.std.proofs.Common.{◌∙◌, subst, arith, ◌⊎◌, inl, inr, append-nil}
 use Rattle.std.specs.List.{flat_map}
 use Rattle.std.specs.Result.{IsErrAnd, MatchResult}
 use Rattle.std.proofs.Math.Pow.{pow_mono}
@@ -29,13 +30,15 @@ long_both : {X : Type 0} (xs ys : List X) (m n : ℕ) → m ≤ length xs → n 
 long_both xs ys m n a b = omega (arith, a, b, length-append xs ys)
 
 -- of two children each has so many pairs
-fan_two : (d n : ℕ) (high : Option (List ℕ)) (w v : Twig (Body d)) (vs : List (Twig (Body d))) → ((low : List ℕ) (to : Option (List ℕ)) (b : Body d) → Lies d low to b → n ≤ length (pairs_of d b))
+fan_two : (d n : ℕ) (high : Option (List ℕ)) (w v : Twig (Body d)) (vs : List (Twig (Body d)))
+    → ((low : List ℕ) (to : Option (List ℕ)) (b : Body d) → Lies d low to b → n ≤ length (pairs_of d b))
     → IsFan (Lies d) high (w ∷ v ∷ vs) → n + n ≤ length (pairs_of (suc d) (w ∷ v ∷ vs))
 fan_two d n high w v vs many h =
     long_both (pairs_of d w.body) (pairs_of d v.body ++ flat_map (λ (t : Twig (Body d)). pairs_of d t.body) vs) n n (many _ _ w.body h.0)
     (omega (arith, many _ _ v.body h.1.0, length-append (pairs_of d v.body) (flat_map (λ (t : Twig (Body d)). pairs_of d t.body) vs)))
 
-fan_one : (d n : ℕ) (high : Option (List ℕ)) (w : Twig (Body d)) (ws : List (Twig (Body d))) → ((low : List ℕ) (to : Option (List ℕ)) (b : Body d) → Lies d low to b → n ≤ length (pairs_of d b))
+fan_one : (d n : ℕ) (high : Option (List ℕ)) (w : Twig (Body d)) (ws : List (Twig (Body d)))
+    → ((low : List ℕ) (to : Option (List ℕ)) (b : Body d) → Lies d low to b → n ≤ length (pairs_of d b))
     → IsFan (Lies d) high (w ∷ ws) → n ≤ length (pairs_of (suc d) (w ∷ ws))
 fan_one d n high w ws many h = omega (arith, many _ _ w.body h.0, length-append (pairs_of d w.body) (flat_map (λ (t : Twig (Body d)). pairs_of d t.body) ws))
 
@@ -46,7 +49,8 @@ whole_many (suc d) low high (w ∷ []) h s = let two : 2 ≤ 1 = h.some in absur
 whole_many (suc d) low high (w ∷ v ∷ vs) h s =
     omega (arith, fan_two d (2 ^ d) high (record { key = low; page = w.page; body = w.body }) v vs (λ from to b l. whole_many d from to b l.0 l.1) s.0)
 
-held_many : (d : ℕ) (low : List ℕ) (high : Option (List ℕ)) (twigs : Body (suc d)) → IsSpread (suc d) low high twigs → ((32 ≤ d) × (0 < length twigs)) ⊎ ((31 ≤ d) × (2 ≤ length twigs)) → 4294967296 ≤ length (pairs_of (suc d) twigs)
+held_many : (d : ℕ) (low : List ℕ) (high : Option (List ℕ)) (twigs : Body (suc d)) → IsSpread (suc d) low high twigs
+    → ((32 ≤ d) × (0 < length twigs)) ⊎ ((31 ≤ d) × (2 ≤ length twigs)) → 4294967296 ≤ length (pairs_of (suc d) twigs)
 held_many d low high [] s (inl e) = absurd (omega (arith, e.1))
 held_many d low high [] s (inr e) = absurd (omega (arith, e.1))
 held_many d low high (w ∷ []) s (inr e) = absurd (omega (arith, e.1))
@@ -56,18 +60,23 @@ held_many d low high (w ∷ v ∷ vs) s (inr e) =
     let large : 2147483648 ≤ 2 ^ d = pow_mono e.0 in omega (arith, large, fan_two d (2 ^ d) high w v vs (λ from to b l. whole_many d from to b l.0 l.1) s.0)
 
 -- what stands too high has too many entries for 32 levels
-too_many : (d rank : ℕ) (low : List ℕ) (high : Option (List ℕ)) (body : Body d) (stubs : List Stub) → rank ≡ d → stubs ≡ stubs_of d body → IsSpread d low high body
+too_many : (d rank : ℕ) (low : List ℕ) (high : Option (List ℕ)) (body : Body d) (stubs : List Stub) → rank ≡ d → stubs ≡ stubs_of d body
+    → IsSpread d low high body
     → ((32 < rank) × (0 < length stubs)) ⊎ ((rank ≡ 32) × (2 ≤ length stubs)) → 4294967296 ≤ length (pairs_of d body)
 too_many zero rank low high body stubs e is spread (inl w) = absurd (omega (arith, w.0))
 too_many zero rank low high body stubs e is spread (inr w) = absurd (omega (arith, w.0))
-too_many (suc d) rank low high twigs stubs e is spread (inl w) = held_many d low high twigs spread (inl (omega (arith, w.0), omega (arith, w.1, ap length is, long_map twig_stub twigs)))
-too_many (suc d) rank low high twigs stubs e is spread (inr w) = held_many d low high twigs spread (inr (omega (arith, w.0), omega (arith, w.1, ap length is, long_map twig_stub twigs)))
+too_many (suc d) rank low high twigs stubs e is spread (inl w) =
+    held_many d low high twigs spread (inl (omega (arith, w.0), omega (arith, w.1, ap length is, long_map twig_stub twigs)))
+too_many (suc d) rank low high twigs stubs e is spread (inr w) =
+    held_many d low high twigs spread (inr (omega (arith, w.0), omega (arith, w.1, ap length is, long_map twig_stub twigs)))
 
-pub too_high : (s : Store) (low : List ℕ) (high : Option (List ℕ)) (entries : List Entry) (reached : List ℕ) (sheaf : Sheaf) → IsHeld s 0 low high entries reached sheaf
+pub too_high : (s : Store) (low : List ℕ) (high : Option (List ℕ)) (entries : List Entry) (reached : List ℕ) (sheaf : Sheaf)
+    → IsHeld s 0 low high entries reached sheaf
     → ((32 < sheaf.rank) × (0 < length sheaf.stubs)) ⊎ ((sheaf.rank ≡ 32) × (2 ≤ length sheaf.stubs)) → IsTooHigh entries Full
 too_high s low high entries reached sheaf h why =
     let some : 0 < length sheaf.stubs = elim why [ inl w ↦ w.1 | inr w ↦ omega (arith, w.1) ] in
-    let many : 4294967296 ≤ length (pairs_of h.d h.body) = too_many h.d sheaf.rank low high h.body sheaf.stubs (omega (arith, h.rank_is some)) h.stubs_are h.spread why in
+    let many : 4294967296 ≤ length (pairs_of h.d h.body) =
+    too_many h.d sheaf.rank low high h.body sheaf.stubs (omega (arith, h.rank_is some)) h.stubs_are h.spread why in
     (refl, omega (arith, many, long_map entry_of (pairs_of h.d h.body), ap length h.entries_are))
 
 -- ---- one child alone
@@ -78,10 +87,13 @@ pub record IsHead (s : Store) (page : ℕ) (entries : List Entry) (reached : Lis
   pub map : HasMap s page after entries
   pub same : (n : ℕ) → times n after ≡ times n reached
 
-headed : (s : Store) (d : ℕ) (body : Body d) (rank page : ℕ) (t : Stub) (stubs : List Stub) (entries : List Entry) (reached : List ℕ) → rank ≡ d → rank ≤ 32 → stubs ≡ t ∷ [] → t.load ≡ child page → stubs ≡ stubs_of d body
-    → IsSpread d [] None body → Shows s d body → entries_of d body ≡ entries → ((n : ℕ) → times n (pages_of d body) ≡ times n reached) → IsHead s page entries reached
+headed : (s : Store) (d : ℕ) (body : Body d) (rank page : ℕ) (t : Stub) (stubs : List Stub) (entries : List Entry) (reached : List ℕ) → rank ≡ d → rank ≤ 32
+    → stubs ≡ t ∷ [] → t.load ≡ child page → stubs ≡ stubs_of d body
+    → IsSpread d [] None body → Shows s d body → entries_of d body ≡ entries → ((n : ℕ) → times n (pages_of d body) ≡ times n reached)
+    → IsHead s page entries reached
 headed s zero [] rank page t stubs entries reached e le one load is spread shown es ps = (let none : t ∷ [] ≡ [] = sym one ∙ is in cc)
-headed s zero (x ∷ xs) rank page t stubs entries reached e le one load is spread shown es ps = (let same : t ∷ [] ≡ pair_stub x ∷ map pair_stub xs = sym one ∙ is in cc)
+headed s zero (x ∷ xs) rank page t stubs entries reached e le one load is spread shown es ps =
+    (let same : t ∷ [] ≡ pair_stub x ∷ map pair_stub xs = sym one ∙ is in cc)
 headed s (suc d) [] rank page t stubs entries reached e le one load is spread shown es ps = (let none : t ∷ [] ≡ [] = sym one ∙ is in cc)
 headed s (suc d) (w ∷ v ∷ vs) rank page t stubs entries reached e le one load is spread shown es ps = absurd (omega (arith, ap length (sym one ∙ is)))
 headed s (suc d) (w ∷ []) rank page t stubs entries reached e le one load is spread shown es ps =
@@ -105,12 +117,15 @@ headed s (suc d) (w ∷ []) rank page t stubs entries reached e le one load is s
       same = λ n. sym (ap (times n) (append-nil (w.page ∷ pages_of d w.body))) ∙ ps n;
     })
 
-pub head_of_one : (s : Store) (entries : List Entry) (reached : List ℕ) (sheaf : Sheaf) (page : ℕ) (t : Stub) → IsHeld s 0 [] None entries reached sheaf → sheaf.rank ≤ 32 → sheaf.stubs ≡ t ∷ [] → t.load ≡ child page → IsHead s page entries reached
+pub head_of_one : (s : Store) (entries : List Entry) (reached : List ℕ) (sheaf : Sheaf) (page : ℕ) (t : Stub) → IsHeld s 0 [] None entries reached sheaf
+    → sheaf.rank ≤ 32 → sheaf.stubs ≡ t ∷ [] → t.load ≡ child page → IsHead s page entries reached
 head_of_one s entries reached sheaf page t h le one load =
-    headed s h.d h.body sheaf.rank page t sheaf.stubs entries reached (omega (arith, h.rank_is (omega (arith, ap length one)))) le one load h.stubs_are h.spread h.shown h.entries_are h.pages_are
+    headed s h.d h.body sheaf.rank page t sheaf.stubs entries reached
+    (omega (arith, h.rank_is (omega (arith, ap length one)))) le one load h.stubs_are h.spread h.shown h.entries_are h.pages_are
 
 -- what was turned so far, and stands below one page
-pub changed_head : (old new : Store) (page : ℕ) (entries : List Entry) (before reached : List ℕ) → AreTurned old new before reached → IsHead new page entries reached → IsChanged old new page entries before
+pub changed_head : (old new : Store) (page : ℕ) (entries : List Entry) (before reached : List ℕ) → AreTurned old new before reached
+    → IsHead new page entries reached → IsChanged old new page entries before
 changed_head old new page entries before reached turned h = record { after = h.after; map = h.map; turned = λ n. omega (arith, turned n, h.same n) }
 
 pub itself : (s : Store) (pages : List ℕ) → AreTurned s s pages pages
@@ -118,40 +133,48 @@ itself s pages = λ n. omega arith
 
 -- ---- nothing is left
 
-pub changed_none : (s : Store) (entries : List Entry) (reached : List ℕ) (sheaf : Sheaf) → IsHeld s 0 [] None entries reached sheaf → length sheaf.stubs ≡ 0 → IsChanged s s 0 entries reached
+pub changed_none : (s : Store) (entries : List Entry) (reached : List ℕ) (sheaf : Sheaf) → IsHeld s 0 [] None entries reached sheaf → length sheaf.stubs ≡ 0
+    → IsChanged s s 0 entries reached
 changed_none s entries reached sheaf h none =
     let empty = no_entries h.d h.body (omega (arith, ap length h.stubs_are)) in
     record { after = []; map = inl (refl, (refl, sym h.entries_are ∙ empty.0)); turned = λ n. omega (arith, empty.1 n, h.pages_are n) }
 
 -- ---- one change behind another
 
-pub changed_on : (old mid new : Store) (root : ℕ) (entries : List Entry) (before between : List ℕ) → AreTurned old mid before between → IsChanged mid new root entries between → IsChanged old new root entries before
+pub changed_on : (old mid new : Store) (root : ℕ) (entries : List Entry) (before between : List ℕ) → AreTurned old mid before between
+    → IsChanged mid new root entries between → IsChanged old new root entries before
 changed_on old mid new root entries before between t h = record { after = h.after; map = h.map; turned = λ n. omega (arith, t n, h.turned n) }
 
 abbrev pub IsChange : Store → Store → List Entry → List ℕ → Result ℕ TreeFault → Type 0
 IsChange old new entries before result = MatchResult result (λ root. IsChanged old new root entries before) (λ e. HasCause old new e ⊎ IsTooHigh entries e)
 
-pub change_on : (old mid new : Store) (entries : List Entry) (before between : List ℕ) (r : Result ℕ TreeFault) → Frame old mid → AreTurned old mid before between → IsChange mid new entries between r → IsChange old new entries before r
+pub change_on : (old mid new : Store) (entries : List Entry) (before between : List ℕ) (r : Result ℕ TreeFault) → Frame old mid
+    → AreTurned old mid before between → IsChange mid new entries between r → IsChange old new entries before r
 change_on old mid new entries before between (Ok root) g t h = changed_on old mid new root entries before between t h
 change_on old mid new entries before between (Err e) g t (inl cause) = inl (cause_later old mid new e g cause)
 change_on old mid new entries before between (Err e) g t (inr high) = inr high
 
-pub change_failed : (old new : Store) (entries : List Entry) (before : List ℕ) (r : Result ℕ TreeFault) (f : TreeFault) → IsErrAnd r (λ g. g ≡ f) → HasCause old new f → IsChange old new entries before r
+pub change_failed : (old new : Store) (entries : List Entry) (before : List ℕ) (r : Result ℕ TreeFault) (f : TreeFault) → IsErrAnd r (λ g. g ≡ f)
+    → HasCause old new f → IsChange old new entries before r
 change_failed old new entries before (Ok root) f h c = absurd h
 change_failed old new entries before (Err e) f h c = inl (subst (HasCause old new) (sym h) c)
 
 -- more than one child, or a cell
-pub ready_top : (s : Store) (entries : List Entry) (reached : List ℕ) (sheaf : Sheaf) → IsHeld s 0 [] None entries reached sheaf → 0 < length sheaf.stubs → ((t : Stub) → sheaf.stubs ≡ t ∷ [] → IsChild t.load → ⊥) → IsReady 0 sheaf
+pub ready_top : (s : Store) (entries : List Entry) (reached : List ℕ) (sheaf : Sheaf) → IsHeld s 0 [] None entries reached sheaf → 0 < length sheaf.stubs
+    → ((t : Stub) → sheaf.stubs ≡ t ∷ [] → IsChild t.load → ⊥) → IsReady 0 sheaf
 ready_top s entries reached sheaf h some other = go h.d h.body sheaf.stubs (omega (arith, h.rank_is some)) some h.stubs_are other
   where
-    go : (d : ℕ) (body : Body d) (stubs : List Stub) → sheaf.rank ≡ d → 0 < length stubs → stubs ≡ stubs_of d body → ((t : Stub) → stubs ≡ t ∷ [] → IsChild t.load → ⊥) → (0 < length stubs) × ((sheaf.rank ≡ 0) ⊎ (2 ≤ length stubs))
+    go : (d : ℕ) (body : Body d) (stubs : List Stub) → sheaf.rank ≡ d → 0 < length stubs → stubs ≡ stubs_of d body
+        → ((t : Stub) → stubs ≡ t ∷ [] → IsChild t.load → ⊥) → (0 < length stubs) × ((sheaf.rank ≡ 0) ⊎ (2 ≤ length stubs))
     go zero body stubs e lt is no_child = (lt, inl e)
     go (suc d) [] stubs e lt is no_child = absurd (omega (arith, ap length is))
     go (suc d) (w ∷ []) stubs e lt is no_child = absurd (no_child (twig_stub w) is tt)
     go (suc d) (w ∷ v ∷ vs) stubs e lt is no_child = (lt, inr (omega (arith, ap length is)))
 
-pub many_stubs : (s : Store) (entries : List Entry) (reached : List ℕ) (sheaf : Sheaf) → IsHeld s 0 [] None entries reached sheaf → sheaf.rank ≡ 32 → 0 < length sheaf.stubs → ((t : Stub) → sheaf.stubs ≡ t ∷ [] → IsChild t.load → ⊥) → 2 ≤ length sheaf.stubs
-many_stubs s entries reached sheaf h high some other = elim (ready_top s entries reached sheaf h some other).1 [ inl low ↦ absurd (omega arith) | inr two ↦ two ]
+pub many_stubs : (s : Store) (entries : List Entry) (reached : List ℕ) (sheaf : Sheaf) → IsHeld s 0 [] None entries reached sheaf → sheaf.rank ≡ 32
+    → 0 < length sheaf.stubs → ((t : Stub) → sheaf.stubs ≡ t ∷ [] → IsChild t.load → ⊥) → 2 ≤ length sheaf.stubs
+many_stubs s entries reached sheaf h high some other =
+    elim (ready_top s entries reached sheaf h some other).1 [ inl low ↦ absurd (omega arith) | inr two ↦ two ]
 
 -- ---- edits of the empty tree, and of a tree
 
@@ -170,7 +193,8 @@ pub record IsFirst (s : Store) (page level d : ℕ) : Type 0 where
   pub part : IsPart s page level below low high body
   pub one_less : d ≡ below + 1
 
-pub first_part : (s : Store) (page level below d : ℕ) (low : List ℕ) (high : Option (List ℕ)) (body : Body d) (arms : List Arm) → branch arms ≡ content_of d body → ((e : Arm) → (get_or arms 0 e).child ≡ below) → IsPart s page level d low high body
+pub first_part : (s : Store) (page level below d : ℕ) (low : List ℕ) (high : Option (List ℕ)) (body : Body d) (arms : List Arm)
+    → branch arms ≡ content_of d body → ((e : Arm) → (get_or arms 0 e).child ≡ below) → IsPart s page level d low high body
     → IsFirst s below (level + 1) d
 first_part s page level below zero low high body arms e here p = cc
 first_part s page level below (suc d) low high [] arms e here p = let two : 2 ≤ 0 = p.whole.some in absurd (omega arith)
@@ -188,8 +212,10 @@ first_part s page level below (suc d) low high (w ∷ ws) arms e here p =
     })
 
 -- what was turned after calls that only read
-pub turned_behind : (old mid new : Store) (edits : List Edit) (entries of : List Entry) (before pages : List ℕ) (r : Result Loose TreeFault) → IsSame old mid → entries ≡ of → before ≡ pages
-    → IsAnswer mid new (λ loose. IsTurned mid new 0 [] None (change edits of) pages (sheaf_in loose)) r → IsAnswer old new (λ loose. IsTurned old new 0 [] None (change edits entries) before (sheaf_in loose)) r
+pub turned_behind : (old mid new : Store) (edits : List Edit) (entries of : List Entry) (before pages : List ℕ) (r : Result Loose TreeFault) → IsSame old mid
+    → entries ≡ of → before ≡ pages
+    → IsAnswer mid new (λ loose. IsTurned mid new 0 [] None (change edits of) pages (sheaf_in loose)) r
+    → IsAnswer old new (λ loose. IsTurned old new 0 [] None (change edits entries) before (sheaf_in loose)) r
 turned_behind old mid new edits entries of before pages (Ok loose) same es ps u =
     record {
       after = u.after;

@@ -1,5 +1,6 @@
 -- Entries of a range, part after part.
-use Rattle.std.proofs.Common.{◌≡◌, ℕ, zero, suc, ◌+◌, ◌<◌, ◌≤◌, List, [], ◌∷◌, ◌++◌, ◌&&◌, not, length, map, take, get_or, Option, Some, None, is_some, Vec, Global, Result, Ok, Err, Bool, true, false, refl, sym, ap, ◌∙◌, subst, arith, append_assoc, append-nil}
+use Rattle.std.proofs.Common.{◌≡◌, ℕ, zero, suc, ◌+◌, ◌<◌, ◌≤◌, List, [], ◌∷◌, ◌++◌, ◌&&◌, not, length, map, take, get_or, Option, Some, None, is_some, Vec}
+use Rattle.std.proofs.Common.{Global, Result, Ok, Err, Bool, true, false, refl, sym, ap, ◌∙◌, subst, arith, append_assoc, append-nil}
 use Rattle.std.specs.declared.cmp.Ordering.TheVariants.{Less, Equal, Greater}
 use Rattle.std.specs.Ordering.{is_lt}
 use Rattle.std.specs.Option.{option_map}
@@ -22,7 +23,8 @@ use Rattle.btree.proofs.FanLemmas.{around_child, fan_between, fans_around, keys_
 pub window_append : (from : List ℕ) (to : Option (List ℕ)) (xs ys : List Entry) → window from to (xs ++ ys) ≡ window from to xs ++ window from to ys
 window_append from to [] ys = refl
 window_append from to (x ∷ xs) ys =
-    elim (not (is_lt (key_cmp x.key from)) && is_within to x.key) as (λ b. keep_if b x (window from to (xs ++ ys)) ≡ keep_if b x (window from to xs) ++ window from to ys)
+    elim (not (is_lt (key_cmp x.key from)) && is_within to x.key) as
+    (λ b. keep_if b x (window from to (xs ++ ys)) ≡ keep_if b x (window from to xs) ++ window from to ys)
     [ true ↦ ap (λ zs. x ∷ zs) (window_append from to xs ys) | false ↦ window_append from to xs ys ]
 
 pub not_less : (a b : List ℕ) → IsNotUnder a b → is_lt (key_cmp a b) ≡ false
@@ -44,7 +46,8 @@ both_false false = refl
 pub window_past : (from : List ℕ) (to : Option (List ℕ)) (xs : List Entry) → Each (λ x. IsPast to x.key) xs → window from to xs ≡ []
 window_past from to [] h = refl
 window_past from to (x ∷ xs) h =
-    ap (λ b. keep_if (not (is_lt (key_cmp x.key from)) && b) x (window from to xs)) (is_past to x.key h.0) ∙ ap (λ b. keep_if b x (window from to xs)) (both_false (not (is_lt (key_cmp x.key from)))) ∙ window_past from to xs h.1
+    ap (λ b. keep_if (not (is_lt (key_cmp x.key from)) && b) x (window from to xs)) (is_past to x.key h.0)
+    ∙ ap (λ b. keep_if b x (window from to xs)) (both_false (not (is_lt (key_cmp x.key from)))) ∙ window_past from to xs h.1
 
 pub window_one : (from : List ℕ) (to : Option (List ℕ)) (x : Entry) → IsNotUnder x.key from → IsWithin to x.key → window from to (x ∷ []) ≡ x ∷ []
 window_one from to x h w = ap (λ b. keep_if (not b && is_within to x.key) x []) (not_less x.key from h) ∙ ap (λ b. keep_if b x []) (within to w)
@@ -98,12 +101,14 @@ pub record IsHere (items : List Item) (pairs : List Pair) (from : List ℕ) (i :
   pub over : Each (λ y. IsUnder pair.key y.key) back
   pub chained : (s : Store) → Each (HasChain s) pairs → HasChain s pair
 
-not_under_from : (from : List ℕ) (pairs : List Pair) (start i : ℕ) (d : Pair) → start ≤ i → i < length pairs → Rises (pair_keys pairs) → IsNotUnder (get_or pairs start d).key from
+not_under_from : (from : List ℕ) (pairs : List Pair) (start i : ℕ) (d : Pair) → start ≤ i → i < length pairs → Rises (pair_keys pairs)
+    → IsNotUnder (get_or pairs start d).key from
     → IsNotUnder (get_or pairs i d).key from
 not_under_from from [] start i d le lt rise h = absurd (omega arith)
 not_under_from from (x ∷ xs) zero zero d le lt rise h = h
 not_under_from from (x ∷ xs) zero (suc i) d le lt rise h =
-    λ u. h (under_trans x.key (get_or xs i d).key from (each_get (λ (y : Pair). IsUnder x.key y.key) xs i d (omega arith) (each_of_map (IsUnder x.key) (λ (y : Pair). y.key) xs rise.0)) u)
+    λ u. h (under_trans x.key (get_or xs i d).key from
+    (each_get (λ (y : Pair). IsUnder x.key y.key) xs i d (omega arith) (each_of_map (IsUnder x.key) (λ (y : Pair). y.key) xs rise.0)) u)
 not_under_from from (x ∷ xs) (suc start) zero d le lt rise h = absurd (omega arith)
 not_under_from from (x ∷ xs) (suc start) (suc i) d le lt rise h = not_under_from from xs start i d (omega arith) (omega arith) rise.1 h
 
@@ -112,7 +117,8 @@ map_get [] i d lt = absurd (omega arith)
 map_get (x ∷ xs) zero d lt = refl
 map_get (x ∷ xs) (suc i) d lt = map_get xs i d (omega arith)
 
-module _ (from : List ℕ) (to : Option (List ℕ)) (items : List Item) (pairs : List Pair) (start : ℕ) (e : items ≡ map item_of pairs) (rise : Rises (pair_keys pairs)) (place : IsPlace items from start) where
+module _ (from : List ℕ) (to : Option (List ℕ)) (items : List Item) (pairs : List Pair) (start : ℕ) (e : items ≡ map item_of pairs)
+    (rise : Rises (pair_keys pairs)) (place : IsPlace items from start) where
   pub first_none : window from to (map entry_of (take start pairs)) ≡ []
   first_none =
       let c = cut_at pairs start (omega (arith, place.within, ap length e, long_map item_of pairs)) in
@@ -120,7 +126,8 @@ module _ (from : List ℕ) (to : Option (List ℕ)) (items : List Item) (pairs :
       subst (λ n. IsPlace (map item_of (c.front ++ c.back)) from n) (sym c.place) (subst (λ zs. IsPlace zs from start) (e ∙ ap (map item_of) c.is) place) in
       let under : Each (λ (x : Pair). IsUnder x.key from) c.front = front_is_under from c.front c.back (subst (λ ps. Rises (pair_keys ps)) c.is rise) place' in
       ap (λ ps. window from to (map entry_of (take start ps))) c.is ∙ ap (λ n. window from to (map entry_of (take n (c.front ++ c.back)))) (sym c.place)
-      ∙ ap (λ ps. window from to (map entry_of ps)) (take_here c.front c.back) ∙ window_under from to (map entry_of c.front) (each_entry (λ k. IsUnder k from) c.front under)
+      ∙ ap (λ ps. window from to (map entry_of ps)) (take_here c.front c.back)
+      ∙ window_under from to (map entry_of c.front) (each_entry (λ k. IsUnder k from) c.front under)
     where
       take_here : (xs ys : List Pair) → take (length xs) (xs ++ ys) ≡ xs
       take_here [] ys = refl
@@ -131,7 +138,8 @@ module _ (from : List ℕ) (to : Option (List ℕ)) (items : List Item) (pairs :
       let long : length items ≡ length pairs = ap length e ∙ long_map item_of pairs in
       let s = split_at pairs i (omega arith) in
       let low : IsNotUnder (get_or pairs start s.mid).key from =
-      subst (λ (x : Item). IsNotUnder x.key from) (ap (λ zs. get_or zs start (item_of s.mid)) e ∙ map_get pairs start s.mid (omega arith)) (place.above (item_of s.mid) (omega arith)) in
+      subst (λ (x : Item). IsNotUnder x.key from) (ap (λ zs. get_or zs start (item_of s.mid)) e ∙ map_get pairs start s.mid (omega arith))
+      (place.above (item_of s.mid) (omega arith)) in
       record {
         pair = s.mid;
         back = s.back;
@@ -140,42 +148,52 @@ module _ (from : List ℕ) (to : Option (List ℕ)) (items : List Item) (pairs :
         more = ap (map entry_of) s.more ∙ map_append entry_of (take i pairs) (s.mid ∷ []);
         whole = ap (map entry_of) s.is ∙ map_append entry_of (take i pairs) (s.mid ∷ s.back);
         over = each_of_map (IsUnder s.mid.key) (λ (y : Pair). y.key) s.back
-            ((rises_back (pair_keys (take i pairs)) (pair_keys (s.mid ∷ s.back)) (subst Rises (ap pair_keys s.is ∙ map_append (λ (y : Pair). y.key) (take i pairs) (s.mid ∷ s.back)) rise)).0);
+            ((rises_back (pair_keys (take i pairs)) (pair_keys (s.mid ∷ s.back))
+            (subst Rises (ap pair_keys s.is ∙ map_append (λ (y : Pair). y.key) (take i pairs) (s.mid ∷ s.back)) rise)).0);
         chained = λ st h. (each_back (HasChain st) (take i pairs) (s.mid ∷ s.back) (subst (Each (HasChain st)) s.is h)).0;
       }
 
   module _ (i : ℕ) (it : Item) (h : IsHere items pairs from i it) (all : List Entry) where
-    pub goes_on : IsWithin to h.pair.key → (all ++ window from to (map entry_of (take i pairs))) ++ entry_of h.pair ∷ [] ≡ all ++ window from to (map entry_of (take (i + 1) pairs))
+    pub goes_on : IsWithin to h.pair.key
+        → (all ++ window from to (map entry_of (take i pairs))) ++ entry_of h.pair ∷ [] ≡ all ++ window from to (map entry_of (take (i + 1) pairs))
     goes_on w =
         append_assoc all (window from to (map entry_of (take i pairs))) (entry_of h.pair ∷ [])
         ∙ ap (λ zs. all ++ (window from to (map entry_of (take i pairs)) ++ zs)) (sym (window_one from to (entry_of h.pair) h.not_under w))
         ∙ ap (λ zs. all ++ zs) (sym (window_append from to (map entry_of (take i pairs)) (entry_of h.pair ∷ [])) ∙ ap (window from to) (sym h.more))
 
-    pub ends_full : IsWithin to h.pair.key → (all ++ window from to (map entry_of (take i pairs))) ++ entry_of h.pair ∷ window from to (map entry_of h.back) ≡ all ++ window from to (map entry_of pairs)
+    pub ends_full : IsWithin to h.pair.key
+        → (all ++ window from to (map entry_of (take i pairs))) ++ entry_of h.pair ∷ window from to (map entry_of h.back) ≡ all
+        ++ window from to (map entry_of pairs)
     ends_full w =
         append_assoc all (window from to (map entry_of (take i pairs))) (entry_of h.pair ∷ window from to (map entry_of h.back))
         ∙ ap (λ zs. all ++ (window from to (map entry_of (take i pairs)) ++ zs))
-        (ap (λ zs. zs ++ window from to (map entry_of h.back)) (sym (window_one from to (entry_of h.pair) h.not_under w)) ∙ sym (window_append from to (entry_of h.pair ∷ []) (map entry_of h.back)))
-        ∙ ap (λ zs. all ++ zs) (sym (window_append from to (map entry_of (take i pairs)) (entry_of h.pair ∷ map entry_of h.back)) ∙ ap (window from to) (sym h.whole))
+        (ap (λ zs. zs ++ window from to (map entry_of h.back)) (sym (window_one from to (entry_of h.pair) h.not_under w))
+        ∙ sym (window_append from to (entry_of h.pair ∷ []) (map entry_of h.back)))
+        ∙ ap (λ zs. all ++ zs)
+        (sym (window_append from to (map entry_of (take i pairs)) (entry_of h.pair ∷ map entry_of h.back)) ∙ ap (window from to) (sym h.whole))
 
     pub ends_past : IsPast to h.pair.key → all ++ window from to (map entry_of (take i pairs)) ≡ all ++ window from to (map entry_of pairs)
     ends_past p =
         ap (λ zs. all ++ zs) (sym (append-nil (window from to (map entry_of (take i pairs))))
         ∙ ap (λ zs. window from to (map entry_of (take i pairs)) ++ zs)
-        (sym (window_past from to (entry_of h.pair ∷ map entry_of h.back) (p, each_entry (IsPast to) h.back (each_map _ _ (λ y u. past_on to h.pair.key y.key p (not_both h.pair.key y.key u)) h.back h.over))))
+        (sym (window_past from to (entry_of h.pair ∷ map entry_of h.back)
+        (p, each_entry (IsPast to) h.back (each_map _ _ (λ y u. past_on to h.pair.key y.key p (not_both h.pair.key y.key u)) h.back h.over))))
         ∙ sym (window_append from to (map entry_of (take i pairs)) (entry_of h.pair ∷ map entry_of h.back)) ∙ ap (window from to) (sym h.whole))
 
-pub scan_failed : {X : Type 0} (old mid new : Store) (so : Type 0) (r : Result X TreeFault) (e : TreeFault) → Frame old mid → IsErrAnd r (λ f. f ≡ e) → HasCause mid new e → IsAnswer old new (λ done. so) r
+pub scan_failed : {X : Type 0} (old mid new : Store) (so : Type 0) (r : Result X TreeFault) (e : TreeFault) → Frame old mid → IsErrAnd r (λ f. f ≡ e)
+    → HasCause mid new e → IsAnswer old new (λ done. so) r
 scan_failed old mid new so (Ok v) e grows h cause = absurd h
 scan_failed old mid new so (Err f) e grows h cause = subst (HasCause old new) (sym h) (cause_later old mid new e grows cause)
 
 -- ---- a branch
 
 pub entries_append : (d : ℕ) (xs ys : List (Twig (Body d))) → entries_of (suc d) (xs ++ ys) ≡ entries_of (suc d) xs ++ entries_of (suc d) ys
-entries_append d xs ys = ap (map entry_of) (flat_append (λ (w : Twig (Body d)). pairs_of d w.body) xs ys) ∙ map_append entry_of (pairs_of (suc d) xs) (pairs_of (suc d) ys)
+entries_append d xs ys =
+    ap (map entry_of) (flat_append (λ (w : Twig (Body d)). pairs_of d w.body) xs ys) ∙ map_append entry_of (pairs_of (suc d) xs) (pairs_of (suc d) ys)
 
 -- what stands from a child on isn't below its low bound
-from_child : (d : ℕ) (low : List ℕ) (high : Option (List ℕ)) (front : List (Twig (Body d))) (w : Twig (Body d)) (back : List (Twig (Body d))) → IsSound (suc d) low high (front ++ w ∷ back)
+from_child : (d : ℕ) (low : List ℕ) (high : Option (List ℕ)) (front : List (Twig (Body d))) (w : Twig (Body d)) (back : List (Twig (Body d)))
+    → IsSound (suc d) low high (front ++ w ∷ back)
     → Each (λ (x : Pair). IsNotUnder x.key (low_of low front w.key)) (pairs_of (suc d) (w ∷ back))
 from_child d low high front w back h =
     let Lies : List ℕ → Option (List ℕ) → Body d → Type 0 = λ from to body. IsWhole d body × IsSound d from to body in
@@ -184,7 +202,8 @@ from_child d low high front w back h =
     let r : Rises (twig_keys (with_low low front) ++ from ∷ twig_keys back) = subst Rises (keys_around low front w back) h.1 in
     let i : Each (IsWithin high) (twig_keys (with_low low front) ++ from ∷ twig_keys back) = subst (Each (IsWithin high)) (keys_around low front w back) h.2 in
     each_map _ _ (λ x b. b.0) _
-    (fan_between Lies (pairs_of d) (λ from to body s. pairs_between d from to body s.1) high w' back (fans_around Lies (pairs_of d) (λ from to body s. pairs_between d from to body s.1) high low front w back h.0).1
+    (fan_between Lies (pairs_of d) (λ from to body s. pairs_between d from to body s.1) high w' back
+    (fans_around Lies (pairs_of d) (λ from to body s. pairs_between d from to body s.1) high low front w back h.0).1
     (rises_back (twig_keys (with_low low front)) _ r) (each_back _ (twig_keys (with_low low front)) _ i))
 
 -- a child at a place of a branch
@@ -196,32 +215,41 @@ pub record IsChild (s : Store) (level d : ℕ) (twigs : List (Twig (Body d))) (i
   pub whole : entries_of (suc d) twigs ≡ entries_of (suc d) (take i twigs) ++ (entries_of d body ++ others)
   pub not_under : Each (λ (x : Entry). IsNotUnder x.key from) (entries_of d body ++ others)
 
-module _ (s : Store) (page level d : ℕ) (low : List ℕ) (high : Option (List ℕ)) (twigs : List (Twig (Body d))) (arms : List Arm) (e : arms ≡ map arm_of twigs) (part : IsPart s page level (suc d) low high twigs) where
-  pub child_here : (i child : ℕ) (from : List ℕ) (to : Option (List ℕ)) → i < length arms → AreBounds low high arms i from to → ((a : Arm) → (get_or arms i a).child ≡ child) → IsChild s level d twigs i child from to
+module _ (s : Store) (page level d : ℕ) (low : List ℕ) (high : Option (List ℕ)) (twigs : List (Twig (Body d))) (arms : List Arm) (e : arms ≡ map arm_of twigs)
+    (part : IsPart s page level (suc d) low high twigs) where
+  pub child_here : (i child : ℕ) (from : List ℕ) (to : Option (List ℕ)) → i < length arms → AreBounds low high arms i from to
+      → ((a : Arm) → (get_or arms i a).child ≡ child) → IsChild s level d twigs i child from to
   child_here i child from to lt bounds is =
       let long : length arms ≡ length twigs = ap length e ∙ long_map arm_of twigs in
       let c = split_at twigs i (omega arith) in
       let front : List (Twig (Body d)) = take i twigs in
       let arms_are : arms ≡ map arm_of (front ++ c.mid ∷ c.back) = e ∙ ap (map arm_of) c.is in
       let bounds' : AreBounds low high (map arm_of (front ++ c.mid ∷ c.back)) (length front) from to =
-      subst (λ n. AreBounds low high (map arm_of (front ++ c.mid ∷ c.back)) n from to) (sym c.long) (subst (λ zs. AreBounds low high zs i from to) arms_are bounds) in
-      let part' : IsPart s page level (suc d) low high (front ++ c.mid ∷ c.back) = subst (λ (ts : List (Twig (Body d))). IsPart s page level (suc d) low high ts) c.is part in
+      subst (λ n. AreBounds low high (map arm_of (front ++ c.mid ∷ c.back)) n from to) (sym c.long)
+      (subst (λ zs. AreBounds low high zs i from to) arms_are bounds) in
+      let part' : IsPart s page level (suc d) low high (front ++ c.mid ∷ c.back) =
+      subst (λ (ts : List (Twig (Body d))). IsPart s page level (suc d) low high ts) c.is part in
       let page_is : c.mid.page ≡ child =
-      sym (ap (λ (a : Arm). a.child) (place_here front c.mid c.back (arm_of c.mid))) ∙ ap (λ n. (get_or (map arm_of (front ++ c.mid ∷ c.back)) n (arm_of c.mid)).child) c.long
+      sym (ap (λ (a : Arm). a.child) (place_here front c.mid c.back (arm_of c.mid)))
+      ∙ ap (λ n. (get_or (map arm_of (front ++ c.mid ∷ c.back)) n (arm_of c.mid)).child) c.long
       ∙ ap (λ zs. (get_or zs i (arm_of c.mid)).child) (sym arms_are) ∙ is (arm_of c.mid) in
       let from_same : from ≡ low_of low front c.mid.key = from_is low high front c.mid c.back from to bounds' in
-      let rest_is : entries_of (suc d) (c.mid ∷ c.back) ≡ entries_of d c.mid.body ++ entries_of (suc d) c.back = map_append entry_of (pairs_of d c.mid.body) (pairs_of (suc d) c.back) in
+      let rest_is : entries_of (suc d) (c.mid ∷ c.back) ≡ entries_of d c.mid.body ++ entries_of (suc d) c.back =
+      map_append entry_of (pairs_of d c.mid.body) (pairs_of (suc d) c.back) in
       record {
         body = c.mid.body;
         others = entries_of (suc d) c.back;
         part = subst (λ p. IsPart s p (level + 1) d from to c.mid.body) page_is (child_part s page level d low high front c.mid c.back from to part' bounds');
-        more = ap (entries_of (suc d)) c.more ∙ entries_append d front (c.mid ∷ []) ∙ ap (λ es. entries_of (suc d) front ++ es) (ap (map entry_of) (append-nil (pairs_of d c.mid.body)));
+        more = ap (entries_of (suc d)) c.more ∙ entries_append d front (c.mid ∷ [])
+            ∙ ap (λ es. entries_of (suc d) front ++ es) (ap (map entry_of) (append-nil (pairs_of d c.mid.body)));
         whole = ap (entries_of (suc d)) c.is ∙ entries_append d front (c.mid ∷ c.back) ∙ ap (λ es. entries_of (suc d) front ++ es) rest_is;
         not_under = subst (Each (λ (x : Entry). IsNotUnder x.key from)) rest_is (each_entry (λ k. IsNotUnder k from) (pairs_of (suc d) (c.mid ∷ c.back))
-            (subst (λ f. Each (λ (x : Pair). IsNotUnder x.key f) (pairs_of (suc d) (c.mid ∷ c.back))) (sym from_same) (from_child d low high front c.mid c.back part'.sound)));
+            (subst (λ f. Each (λ (x : Pair). IsNotUnder x.key f) (pairs_of (suc d) (c.mid ∷ c.back))) (sym from_same)
+            (from_child d low high front c.mid c.back part'.sound)));
       }
 
-  pub none_before : (from : List ℕ) (to : Option (List ℕ)) (start : ℕ) → IsChildPlace arms from start → window from to (entries_of (suc d) (take start twigs)) ≡ []
+  pub none_before : (from : List ℕ) (to : Option (List ℕ)) (start : ℕ) → IsChildPlace arms from start
+      → window from to (entries_of (suc d) (take start twigs)) ≡ []
   none_before from to start place =
       let long : length arms ≡ length twigs = ap length e ∙ long_map arm_of twigs in
       let c = split_at twigs start (omega (arith, place.within)) in
@@ -231,16 +259,22 @@ module _ (s : Store) (page level d : ℕ) (low : List ℕ) (high : Option (List 
       subst (λ n. IsChildPlace (map arm_of (front ++ c.mid ∷ c.back)) from n) (sym c.long) (subst (λ zs. IsChildPlace zs from start) arms_are place) in
       go c.mid c.back front (subst (IsSound (suc d) low high) c.is part.sound) place'
     where
-      go : (w : Twig (Body d)) (back : List (Twig (Body d))) (front : List (Twig (Body d))) → IsSound (suc d) low high (front ++ w ∷ back) → IsChildPlace (map arm_of (front ++ w ∷ back)) from (length front)
+      go : (w : Twig (Body d)) (back : List (Twig (Body d))) (front : List (Twig (Body d))) → IsSound (suc d) low high (front ++ w ∷ back)
+          → IsChildPlace (map arm_of (front ++ w ∷ back)) from (length front)
           → window from to (entries_of (suc d) front) ≡ []
       go w back [] h p = refl
       go w back (f ∷ fs) h p =
           let a = around_child d low high (f ∷ fs) w back h in
-          let low_is : IsNotUnder from w.key = subst (λ (x : Arm). IsNotUnder from x.key) (place_here (f ∷ fs) w back (arm_of w)) (p.below (arm_of w) (omega arith)) in
-          window_under from to (entries_of (suc d) (f ∷ fs)) (each_entry (λ k. IsUnder k from) (pairs_of (suc d) (f ∷ fs)) (each_map _ _ (λ x u. under_then_up_to x.key w.key from u low_is) (pairs_of (suc d) (f ∷ fs)) a.before))
+          let low_is : IsNotUnder from w.key =
+          subst (λ (x : Arm). IsNotUnder from x.key) (place_here (f ∷ fs) w back (arm_of w)) (p.below (arm_of w) (omega arith)) in
+          window_under from to (entries_of (suc d) (f ∷ fs))
+          (each_entry (λ k. IsUnder k from) (pairs_of (suc d) (f ∷ fs))
+          (each_map _ _ (λ x u. under_then_up_to x.key w.key from u low_is) (pairs_of (suc d) (f ∷ fs)) a.before))
 
-module _ (s : Store) (level d : ℕ) (twigs : List (Twig (Body d))) (i child : ℕ) (from to_key : List ℕ) (high to : Option (List ℕ)) (h : IsChild s level d twigs i child from high) (all : List Entry) where
-  pub child_on : (all ++ window to_key to (entries_of (suc d) (take i twigs))) ++ window to_key to (entries_of d h.body) ≡ all ++ window to_key to (entries_of (suc d) (take (i + 1) twigs))
+module _ (s : Store) (level d : ℕ) (twigs : List (Twig (Body d))) (i child : ℕ) (from to_key : List ℕ) (high to : Option (List ℕ))
+    (h : IsChild s level d twigs i child from high) (all : List Entry) where
+  pub child_on : (all ++ window to_key to (entries_of (suc d) (take i twigs))) ++ window to_key to (entries_of d h.body) ≡ all
+      ++ window to_key to (entries_of (suc d) (take (i + 1) twigs))
   child_on =
       append_assoc all (window to_key to (entries_of (suc d) (take i twigs))) (window to_key to (entries_of d h.body))
       ∙ ap (λ zs. all ++ zs) (sym (window_append to_key to (entries_of (suc d) (take i twigs)) (entries_of d h.body)) ∙ ap (window to_key to) (sym h.more))
@@ -248,13 +282,17 @@ module _ (s : Store) (level d : ℕ) (twigs : List (Twig (Body d))) (i child : �
   pub child_past : IsPast to from → all ++ window to_key to (entries_of (suc d) (take i twigs)) ≡ all ++ window to_key to (entries_of (suc d) twigs)
   child_past p =
       ap (λ zs. all ++ zs) (sym (append-nil (window to_key to (entries_of (suc d) (take i twigs))))
-      ∙ ap (λ zs. window to_key to (entries_of (suc d) (take i twigs)) ++ zs) (sym (window_past to_key to (entries_of d h.body ++ h.others) (each_map _ _ (λ y u. past_on to from y.key p u) (entries_of d h.body ++ h.others) h.not_under)))
+      ∙ ap (λ zs. window to_key to (entries_of (suc d) (take i twigs)) ++ zs)
+      (sym (window_past to_key to (entries_of d h.body ++ h.others)
+      (each_map _ _ (λ y u. past_on to from y.key p u) (entries_of d h.body ++ h.others) h.not_under)))
       ∙ sym (window_append to_key to (entries_of (suc d) (take i twigs)) (entries_of d h.body ++ h.others)) ∙ ap (window to_key to) (sym h.whole))
 
-  pub child_rest : (all ++ window to_key to (entries_of (suc d) (take i twigs))) ++ window to_key to (entries_of d h.body ++ h.others) ≡ all ++ window to_key to (entries_of (suc d) twigs)
+  pub child_rest : (all ++ window to_key to (entries_of (suc d) (take i twigs))) ++ window to_key to (entries_of d h.body ++ h.others) ≡ all
+      ++ window to_key to (entries_of (suc d) twigs)
   child_rest =
       append_assoc all (window to_key to (entries_of (suc d) (take i twigs))) (window to_key to (entries_of d h.body ++ h.others))
-      ∙ ap (λ zs. all ++ zs) (sym (window_append to_key to (entries_of (suc d) (take i twigs)) (entries_of d h.body ++ h.others)) ∙ ap (window to_key to) (sym h.whole))
+      ∙ ap (λ zs. all ++ zs)
+      (sym (window_append to_key to (entries_of (suc d) (take i twigs)) (entries_of d h.body ++ h.others)) ∙ ap (window to_key to) (sym h.whole))
 
 -- a batch that is full stays so
 pub full_stays : (limit : ℕ) (all others : List Entry) (batch : Batch) → is_some batch.next ≡ true → Holds limit all batch → Holds limit (all ++ others) batch
@@ -264,7 +302,8 @@ full_stays limit all others batch some h = go (option_map (λ (v : Vec ℕ Globa
     has None e = cc
     has (Some v) e = refl
 
-    go : (o : Option (List ℕ)) → is_some o ≡ true → IsBatch limit all (map entry_in batch.entries.items) o → IsBatch limit (all ++ others) (map entry_in batch.entries.items) o
+    go : (o : Option (List ℕ)) → is_some o ≡ true → IsBatch limit all (map entry_in batch.entries.items) o
+        → IsBatch limit (all ++ others) (map entry_in batch.entries.items) o
     go None e h = cc
     go (Some k) e h =
         record {
@@ -277,7 +316,8 @@ full_stays limit all others batch some h = go (option_map (λ (v : Vec ℕ Globa
 
 -- ---- the program's steps below a branch
 
-module _ (old mid : Store) (page level : ℕ) (low : List ℕ) (high : Option (List ℕ)) (arms : List Arm) (holds : old.page page ≡ branch arms) (grows : Frame old mid) where
+module _ (old mid : Store) (page level : ℕ) (low : List ℕ) (high : Option (List ℕ)) (arms : List Arm) (holds : old.page page ≡ branch arms)
+    (grows : Frame old mid) where
   abbrev pub AtBranch : ((d : ℕ) → Body d → Type 0) → Type 0
   AtBranch C = (d : ℕ) (twigs : Body (suc d)) → arms ≡ map arm_of twigs → IsPart mid page level (suc d) low high twigs → C (suc d) twigs
 
@@ -286,12 +326,15 @@ module _ (old mid : Store) (page level : ℕ) (low : List ℕ) (high : Option (L
       open_branch (λ d body. IsPart old page level d low high body → C d body) arms
       (λ d twigs e p. says d twigs e (part_kept old mid grows page level (suc d) low high twigs p)) d body (sym holds ∙ part.at.holds) part
 
-pub scan_leaf_below : {X : Type 0} (old mid new : Store) (page level : ℕ) (low : List ℕ) (high : Option (List ℕ)) (items : List Item) (so : List Entry → Type 0) (r : Result X TreeFault) → Frame old mid
-    → old.page page ≡ leaf items → ((pairs : List Pair) → items ≡ map item_of pairs → Rises (pair_keys pairs) → Shows mid zero pairs → IsAnswer mid new (λ done. so (map entry_of pairs)) r)
+pub scan_leaf_below : {X : Type 0} (old mid new : Store) (page level : ℕ) (low : List ℕ) (high : Option (List ℕ)) (items : List Item) (so : List Entry
+    → Type 0) (r : Result X TreeFault) → Frame old mid
+    → old.page page ≡ leaf items
+    → ((pairs : List Pair) → items ≡ map item_of pairs → Rises (pair_keys pairs) → Shows mid zero pairs → IsAnswer mid new (λ done. so (map entry_of pairs)) r)
     → (d : ℕ) (body : Body d) → IsPart old page level d low high body → IsAnswer old new (λ done. so (entries_of d body)) r
 scan_leaf_below {X = X} old mid new page level low high items so r grows holds says d body part =
     open_leaf (λ d body. IsPart old page level d low high body → IsAnswer old new (λ done. so (entries_of d body)) r) items
-    (λ pairs e p. later r (so (map entry_of pairs)) (says pairs e p.sound.0 (shows_kept old mid grows zero pairs p.shown))) d body (sym holds ∙ part.at.holds) part
+    (λ pairs e p. later r (so (map entry_of pairs)) (says pairs e p.sound.0 (shows_kept old mid grows zero pairs p.shown))) d body
+    (sym holds ∙ part.at.holds) part
   where
     later : (r : Result X TreeFault) (so : Type 0) → IsAnswer mid new (λ done. so) r → IsAnswer old new (λ done. so) r
     later (Ok v) so h = h

@@ -1,5 +1,6 @@
 -- What was taken out of a page, in three parts: what is before a child, the child, and what is behind it.
-use Rattle.std.proofs.Common.{◌≡◌, ℕ, zero, suc, ◌+◌, ◌<◌, ◌≤◌, take, drop, get_or, List, [], ◌∷◌, ◌++◌, length, Option, refl, sym, ap, ◌∙◌, subst, arith, inl, inr}
+use Rattle.std.proofs.Common.{◌≡◌, ℕ, zero, suc, ◌+◌, ◌<◌, ◌≤◌, take, drop, get_or, List, [], ◌∷◌, ◌++◌, length, Option, refl, sym, ap, ◌∙◌, subst, arith, inl}
+use Rattle.std.proofs.Common.{inr}
 use Rattle.btree.specs.Keys.{Edit, Entry, Each, IsBetween, IsNotUnder, IsUnder, Rises, change, times}
 use Rattle.btree.specs.Loose.{IsSpread, IsStub, Stub, first_or, stubs_of}
 use Rattle.btree.specs.Change.{IsBehind, edit_keys}
@@ -16,19 +17,25 @@ use Rattle.btree.proofs.ScanLemmas.{each_entry}
 use Rattle.btree.proofs.ChangeLemmas.{change_append, change_between}
 
 -- the entries that are held lie between the bounds
-pub spread_between : (d : ℕ) (low : List ℕ) (high : Option (List ℕ)) (body : Body d) → IsSpread d low high body → Each (λ x. IsBetween low high x.key) (pairs_of d body)
+pub spread_between : (d : ℕ) (low : List ℕ) (high : Option (List ℕ)) (body : Body d) → IsSpread d low high body
+    → Each (λ x. IsBetween low high x.key) (pairs_of d body)
 spread_between zero low high body h = each_of_map (IsBetween low high) (λ x. x.key) body h.1
 spread_between (suc d) low high [] h = tt
 spread_between (suc d) low high (w ∷ ws) h =
     each_map _ _ (λ x b. (not_under_trans low w.key x.key h.2.0.0 b.0, b.1)) _
-    (fan_between (Lies d) (pairs_of d) (λ from to body s. pairs_between d from to body s.1) high w ws h.0 h.1 (each_map _ _ (λ k b. b.1) (twig_keys (w ∷ ws)) h.2))
+    (fan_between (Lies d) (pairs_of d) (λ from to body s. pairs_between d from to body s.1) high w ws h.0 h.1
+    (each_map _ _ (λ k b. b.1) (twig_keys (w ∷ ws)) h.2))
 
-pub held_between : (s : Store) (base : ℕ) (low : List ℕ) (high : Option (List ℕ)) (entries : List Entry) (pages : List ℕ) (sheaf : Sheaf) → IsHeld s base low high entries pages sheaf
+pub held_between : (s : Store) (base : ℕ) (low : List ℕ) (high : Option (List ℕ)) (entries : List Entry) (pages : List ℕ) (sheaf : Sheaf)
+    → IsHeld s base low high entries pages sheaf
     → Each (λ (e : Entry). IsBetween low high e.key) entries
-held_between s base low high entries pages sheaf h = subst (Each (λ (e : Entry). IsBetween low high e.key)) h.entries_are (each_entry (IsBetween low high) (pairs_of h.d h.body) (spread_between h.d low high h.body h.spread))
+held_between s base low high entries pages sheaf h =
+    subst (Each (λ (e : Entry). IsBetween low high e.key)) h.entries_are
+    (each_entry (IsBetween low high) (pairs_of h.d h.body) (spread_between h.d low high h.body h.spread))
 
 -- what is held, in two parts
-pub record IsTwo (s : Store) (base : ℕ) (low : List ℕ) (high : Option (List ℕ)) (entries : List Entry) (pages : List ℕ) (rank : ℕ) (front back : List Stub) : Type 0 where
+pub record IsTwo (s : Store) (base : ℕ) (low : List ℕ) (high : Option (List ℕ)) (entries : List Entry) (pages : List ℕ) (rank : ℕ)
+    (front back : List Stub) : Type 0 where
   pub between : Option (List ℕ)
   pub front_entries : List Entry
   pub back_entries : List Entry
@@ -40,21 +47,25 @@ pub record IsTwo (s : Store) (base : ℕ) (low : List ℕ) (high : Option (List 
   pub front_held : IsHeld s base low between front_entries front_pages (record { rank = rank; stubs = front })
   pub behind : IsBehind s base between high back_entries back_pages (record { rank = rank; stubs = back })
 
-pub spread_up : (d : ℕ) (low : List ℕ) (high : Option (List ℕ)) (body : Body d) (s : Stub) (ss : List Stub) → stubs_of d body ≡ s ∷ ss → IsSpread d low high body → IsSpread d s.key high body
+pub spread_up : (d : ℕ) (low : List ℕ) (high : Option (List ℕ)) (body : Body d) (s : Stub) (ss : List Stub) → stubs_of d body ≡ s ∷ ss
+    → IsSpread d low high body → IsSpread d s.key high body
 spread_up zero low high [] s ss e h = cc
-spread_up zero low high (x ∷ xs) s ss e h = let same : x.key ≡ s.key = cc in subst (λ k. IsSpread zero k high (x ∷ xs)) same (h.0, ((not_under_itself x.key, h.1.0.1), later (pair_keys xs) h.0.0 h.1.1))
+spread_up zero low high (x ∷ xs) s ss e h = let same : x.key ≡ s.key = cc in
+    subst (λ k. IsSpread zero k high (x ∷ xs)) same (h.0, ((not_under_itself x.key, h.1.0.1), later (pair_keys xs) h.0.0 h.1.1))
   where
     later : (ks : List (List ℕ)) → Each (IsUnder x.key) ks → Each (IsBetween low high) ks → Each (IsBetween x.key high) ks
     later [] u b = tt
     later (k ∷ ks) u b = ((not_both x.key k u.0, b.0.1), later ks u.1 b.1)
 spread_up (suc d) low high [] s ss e h = cc
-spread_up (suc d) low high (w ∷ ws) s ss e h = let same : w.key ≡ s.key = cc in subst (λ k. IsSpread (suc d) k high (w ∷ ws)) same (h.0, h.1, ((not_under_itself w.key, h.2.0.1), later (twig_keys ws) h.1.0 h.2.1))
+spread_up (suc d) low high (w ∷ ws) s ss e h = let same : w.key ≡ s.key = cc in
+    subst (λ k. IsSpread (suc d) k high (w ∷ ws)) same (h.0, h.1, ((not_under_itself w.key, h.2.0.1), later (twig_keys ws) h.1.0 h.2.1))
   where
     later : (ks : List (List ℕ)) → Each (IsUnder w.key) ks → Each (IsBetween low high) ks → Each (IsBetween w.key high) ks
     later [] u b = tt
     later (k ∷ ks) u b = ((not_both w.key k u.0, b.0.1), later ks u.1 b.1)
 
-pub two_parts : (s : Store) (base : ℕ) (low : List ℕ) (high : Option (List ℕ)) (entries : List Entry) (pages : List ℕ) (sheaf : Sheaf) (front back : List Stub) → IsHeld s base low high entries pages sheaf → sheaf.stubs ≡ front ++ back
+pub two_parts : (s : Store) (base : ℕ) (low : List ℕ) (high : Option (List ℕ)) (entries : List Entry) (pages : List ℕ) (sheaf : Sheaf) (front back : List Stub)
+    → IsHeld s base low high entries pages sheaf → sheaf.stubs ≡ front ++ back
     → 0 < length front → IsTwo s base low high entries pages sheaf.rank front back
 two_parts s base low high entries pages sheaf front back h e some =
     let p = split_body h.d h.body (length front) in
@@ -87,7 +98,8 @@ two_parts s base low high entries pages sheaf front back h e some =
       behind = rest h.d rank p.back back back_are spreads.1 shown.1 (each_back IsStub front back small);
     }
   where
-    rest : (d : ℕ) → sheaf.rank ≡ base + d → (body : Body d) (back : List Stub) → back ≡ stubs_of d body → IsSpread d low high body → Shows s d body → Each IsStub back
+    rest : (d : ℕ) → sheaf.rank ≡ base + d → (body : Body d) (back : List Stub) → back ≡ stubs_of d body → IsSpread d low high body → Shows s d body
+        → Each IsStub back
         → IsBehind s base (first_or high back) high (entries_of d body) (pages_of d body) (record { rank = sheaf.rank; stubs = back })
     rest d rank body [] is spread shown small = let empty = no_entries d body (omega (arith, ap length is)) in inl (refl, refl, empty.0, empty.1)
     rest d rank body (t ∷ ts) is spread shown small =
@@ -110,7 +122,8 @@ two_parts s base low high entries pages sheaf front back h e some =
 
 -- ---- edits in order
 
-pub take_under : (es : List Edit) (r : ℕ) (key : List ℕ) → r ≤ length es → Rises (edit_keys es) → ((k : ℕ) (d : Edit) → k + 1 ≡ r → IsUnder (get_or es k d).key key) → Each (λ e. IsUnder e.key key) (take r es)
+pub take_under : (es : List Edit) (r : ℕ) (key : List ℕ) → r ≤ length es → Rises (edit_keys es)
+    → ((k : ℕ) (d : Edit) → k + 1 ≡ r → IsUnder (get_or es k d).key key) → Each (λ e. IsUnder e.key key) (take r es)
 take_under es zero key le rise last = tt
 take_under [] (suc r) key le rise last = absurd (omega arith)
 take_under (e ∷ es) (suc zero) key le rise last = (last zero e (omega arith), tt)
@@ -124,18 +137,22 @@ edits_split es r = ap edit_keys (take_drop r es) ∙ map_append (λ e. e.key) (t
 
 -- ---- the map, in three parts
 
-pub change_parts : (theirs mine : List Edit) (el ew er : List Entry) → Each (λ e. Each (λ (y : Entry). IsUnder e.key y.key) (ew ++ er)) theirs → Each (λ e. Each (λ (y : Entry). IsUnder y.key e.key) (change theirs el)) mine
+pub change_parts : (theirs mine : List Edit) (el ew er : List Entry) → Each (λ e. Each (λ (y : Entry). IsUnder e.key y.key) (ew ++ er)) theirs
+    → Each (λ e. Each (λ (y : Entry). IsUnder y.key e.key) (change theirs el)) mine
     → Each (λ e. Each (λ (y : Entry). IsUnder e.key y.key) er) mine → change (theirs ++ mine) (el ++ (ew ++ er)) ≡ change theirs el ++ (change mine ew ++ er)
 change_parts theirs mine el ew er h g k =
-    change_append theirs mine (el ++ (ew ++ er)) ∙ ap (change mine) (change_between theirs [] el (ew ++ er) (nothing theirs) h) ∙ change_between mine (change theirs el) ew er g k
+    change_append theirs mine (el ++ (ew ++ er)) ∙ ap (change mine) (change_between theirs [] el (ew ++ er) (nothing theirs) h)
+    ∙ change_between mine (change theirs el) ew er g k
   where
     nothing : (es : List Edit) → Each (λ e. Each (λ (y : Entry). IsUnder y.key e.key) []) es
     nothing [] = tt
     nothing (e ∷ es) = (tt, nothing es)
 
 -- each of the one list is below each of the other
-pub apart : {X : Type 0} (key : X → List ℕ) (k : List ℕ) (es : List Edit) (ys : List X) → Each (λ e. IsUnder e.key k) es → Each (λ y. IsNotUnder (key y) k) ys → Each (λ e. Each (λ y. IsUnder e.key (key y)) ys) es
+pub apart : {X : Type 0} (key : X → List ℕ) (k : List ℕ) (es : List Edit) (ys : List X) → Each (λ e. IsUnder e.key k) es → Each (λ y. IsNotUnder (key y) k) ys
+    → Each (λ e. Each (λ y. IsUnder e.key (key y)) ys) es
 apart key k es ys h g = each_map _ _ (λ e u. each_map _ _ (λ y v. under_then_up_to e.key k (key y) u v) ys g) es h
 
-pub apart_over : {X : Type 0} (key : X → List ℕ) (k : List ℕ) (es : List Edit) (ys : List X) → Each (λ e. IsNotUnder e.key k) es → Each (λ y. IsUnder (key y) k) ys → Each (λ e. Each (λ y. IsUnder (key y) e.key) ys) es
+pub apart_over : {X : Type 0} (key : X → List ℕ) (k : List ℕ) (es : List Edit) (ys : List X) → Each (λ e. IsNotUnder e.key k) es
+    → Each (λ y. IsUnder (key y) k) ys → Each (λ e. Each (λ y. IsUnder (key y) e.key) ys) es
 apart_over key k es ys h g = each_map _ _ (λ e u. each_map _ _ (λ y v. under_then_up_to (key y) k e.key v u) ys g) es h

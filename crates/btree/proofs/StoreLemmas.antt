@@ -1,5 +1,6 @@
 -- What is live stays: a part of a tree in a store is one in every later store.
-use Rattle.std.proofs.Common.{◌≡◌, ℕ, zero, suc, ◌+◌, List, [], ◌∷◌, ◌++◌, drop, append_assoc, Option, Result, Ok, Err, refl, subst, sym, ap, ◌∙◌, arith, inl, inr}
+use Rattle.std.proofs.Common.{◌≡◌, ℕ, zero, suc, ◌+◌, List, [], ◌∷◌, ◌++◌, drop, append_assoc, Option, Result, Ok, Err, refl, subst, sym, ap, ◌∙◌, arith, inl}
+use Rattle.std.proofs.Common.{inr}
 use Rattle.std.specs.Result.{IfErr, IsErrAnd}
 use Rattle.page.specs.Content.{Content}
 use Rattle.page.proofs.Moments.{reads_further, reads_nothing}
@@ -96,7 +97,8 @@ pub shows_kept : (old new : Store) → Frame old new → (d : ℕ) (body : Body 
 shows_kept old new g zero pairs h = each_map _ _ (λ x c long. links_kept old new g x.links x.value (c long)) pairs h
 shows_kept old new g (suc d) twigs h = each_map _ _ (λ w s. (g.kept w.page _ s.0, shows_kept old new g d w.body s.1)) twigs h
 
-pub part_kept : (old new : Store) → Frame old new → (page level d : ℕ) (low : List ℕ) (high : Option (List ℕ)) (body : Body d) → IsPart old page level d low high body → IsPart new page level d low high body
+pub part_kept : (old new : Store) → Frame old new → (page level d : ℕ) (low : List ℕ) (high : Option (List ℕ)) (body : Body d)
+    → IsPart old page level d low high body → IsPart new page level d low high body
 part_kept old new g page level d low high body p =
     record { at = g.kept page _ p.at; shown = shows_kept old new g d body p.shown; whole = p.whole; sound = p.sound; depth = p.depth }
 
@@ -116,10 +118,12 @@ pub memory_cause : (old new : Store) (e : TreeFault) → e ≡ faults.Memory →
 memory_cause old new e is = subst (HasCause old new) (sym is) tt
 
 -- a fault that was handed on
-pub answer_failed : {X : Type 0} (old new : Store) (P : X → Type 0) (r : Result X TreeFault) (f : TreeFault) → IsErrAnd r (λ g. g ≡ f) → HasCause old new f → IsAnswer old new P r
+pub answer_failed : {X : Type 0} (old new : Store) (P : X → Type 0) (r : Result X TreeFault) (f : TreeFault) → IsErrAnd r (λ g. g ≡ f) → HasCause old new f
+    → IsAnswer old new P r
 answer_failed old new P (Ok v) f h c = absurd h
 answer_failed old new P (Err g) f h c = subst (HasCause old new) (sym h) c
 
-pub failed_so : {X : Type 0} (old new : Store) (r : Result X TreeFault) (f : TreeFault) → IsErrAnd r (λ g. g ≡ f) → HasCause old new f → IfErr r (HasCause old new)
+pub failed_so : {X : Type 0} (old new : Store) (r : Result X TreeFault) (f : TreeFault) → IsErrAnd r (λ g. g ≡ f) → HasCause old new f
+    → IfErr r (HasCause old new)
 failed_so old new (Ok v) f h c = absurd h
 failed_so old new (Err g) f h c = subst (HasCause old new) (sym h) c

@@ -16,30 +16,44 @@ pub up_to_wider : (mid : List ℕ) (high : Option (List ℕ)) → IsUpTo mid hig
 up_to_wider mid None h k w = tt
 up_to_wider mid (Some high) h k w = under_then_up_to k mid high w h
 
-fan_high : {B : Type 0} (L : List ℕ → Option (List ℕ) → B → Type 0) (high high' : Option (List ℕ)) → ((from : List ℕ) (body : B) → L from high body → L from high' body) → (ws : List (Twig B)) → IsFan L high ws → IsFan L high' ws
+fan_high : {B : Type 0} (L : List ℕ → Option (List ℕ) → B → Type 0) (high high' : Option (List ℕ))
+    → ((from : List ℕ) (body : B) → L from high body → L from high' body) → (ws : List (Twig B)) → IsFan L high ws → IsFan L high' ws
 fan_high L high high' f [] h = tt
 fan_high L high high' f (w ∷ []) h = (f w.key w.body h.0, tt)
 fan_high L high high' f (w ∷ v ∷ vs) h = (h.0, fan_high L high high' f (v ∷ vs) h.1)
 
-pub sound_high : (d : ℕ) (low : List ℕ) (high high' : Option (List ℕ)) → IsWider high high' → (body : Body d) → IsSound d low high body → IsSound d low high' body
+pub sound_high : (d : ℕ) (low : List ℕ) (high high' : Option (List ℕ)) → IsWider high high' → (body : Body d) → IsSound d low high body
+    → IsSound d low high' body
 sound_high zero low high high' wide body h = (h.0, each_map _ _ (λ k b. (b.0, wide k b.1)) (pair_keys body) h.1)
-sound_high (suc d) low high high' wide body h =
-    (fan_high (Lies d) high high' (λ from b l. (l.0, sound_high d from high high' wide b l.1)) (with_low low body) h.0, h.1, each_map _ _ wide (twig_keys (with_low low body)) h.2)
+sound_high (suc d) low high high' wide body h = (
+  fan_high (Lies d) high high' (λ from b l. (l.0, sound_high d from high high' wide b l.1)) (with_low low body) h.0,
+  h.1,
+  each_map _ _ wide (twig_keys (with_low low body)) h.2,
+)
 
-pub spread_high : (d : ℕ) (low : List ℕ) (high high' : Option (List ℕ)) → IsWider high high' → (body : Body d) → IsSpread d low high body → IsSpread d low high' body
+pub spread_high : (d : ℕ) (low : List ℕ) (high high' : Option (List ℕ)) → IsWider high high' → (body : Body d) → IsSpread d low high body
+    → IsSpread d low high' body
 spread_high zero low high high' wide body h = (h.0, each_map _ _ (λ k b. (b.0, wide k b.1)) (pair_keys body) h.1)
-spread_high (suc d) low high high' wide body h =
-    (fan_high (Lies d) high high' (λ from b l. (l.0, sound_high d from high high' wide b l.1)) body h.0, h.1, each_map _ _ (λ k b. (b.0, wide k b.1)) (twig_keys body) h.2)
+spread_high (suc d) low high high' wide body h = (
+  fan_high (Lies d) high high' (λ from b l. (l.0, sound_high d from high high' wide b l.1)) body h.0,
+  h.1,
+  each_map _ _ (λ k b. (b.0, wide k b.1)) (twig_keys body) h.2,
+)
 
-pub spread_low : (d : ℕ) (low low' : List ℕ) (high : Option (List ℕ)) → IsNotUnder low low' → (body : Body d) → IsSpread d low high body → IsSpread d low' high body
+pub spread_low : (d : ℕ) (low low' : List ℕ) (high : Option (List ℕ)) → IsNotUnder low low' → (body : Body d) → IsSpread d low high body
+    → IsSpread d low' high body
 spread_low zero low low' high le body h = (h.0, each_map _ _ (λ k b. (not_under_trans low' low k le b.0, b.1)) (pair_keys body) h.1)
 spread_low (suc d) low low' high le body h = (h.0, h.1, each_map _ _ (λ k b. (not_under_trans low' low k le b.0, b.1)) (twig_keys body) h.2)
 
-pub sound_low : (d : ℕ) (low low' : List ℕ) (high : Option (List ℕ)) → IsNotUnder low low' → (body : Body d) → IsSound d low high body → IsSound d low' high body
+pub sound_low : (d : ℕ) (low low' : List ℕ) (high : Option (List ℕ)) → IsNotUnder low low' → (body : Body d) → IsSound d low high body
+    → IsSound d low' high body
 sound_low zero low low' high le body h = (h.0, each_map _ _ (λ k b. (not_under_trans low' low k le b.0, b.1)) (pair_keys body) h.1)
 sound_low (suc d) low low' high le [] h = (tt, tt, tt)
-sound_low (suc d) low low' high le (w ∷ ws) h =
-    (((h.0.0.0, sound_low d low low' (high_of high ws) le w.body h.0.0.1), h.0.1), (each_map _ _ (λ k u. up_to_then_under low' low k le u) (twig_keys ws) h.1.0, h.1.1), (within high h.2.0, h.2.1))
+sound_low (suc d) low low' high le (w ∷ ws) h = (
+  ((h.0.0.0, sound_low d low low' (high_of high ws) le w.body h.0.0.1), h.0.1),
+  (each_map _ _ (λ k u. up_to_then_under low' low k le u) (twig_keys ws) h.1.0, h.1.1),
+  (within high h.2.0, h.2.1),
+)
   where
     within : (hi : Option (List ℕ)) → IsWithin hi low → IsWithin hi low'
     within None b = tt

@@ -1,5 +1,6 @@
 -- Looks at the tree one after the other, until one finds what is looked for.
-use Rattle.std.proofs.Common.{◌≡◌, inl, inr, ℕ, zero, suc, ◌+◌, ◌<◌, ◌≤◌, Bool, true, false, ◌||◌, ◌&&◌, List, [], ◌∷◌, length, drop, get_or, map, Ok, Err, refl, sym, ap, ◌∙◌, arith, drop-cons}
+use Rattle.std.proofs.Common.{◌≡◌, inl, inr, ℕ, zero, suc, ◌+◌, ◌<◌, ◌≤◌, Bool, true, false, ◌||◌, ◌&&◌, List, [], ◌∷◌, length, drop, get_or, map, Ok, Err}
+use Rattle.std.proofs.Common.{refl, sym, ap, ◌∙◌, arith, drop-cons}
 use Rattle.std.specs.Global.{Vec}
 use Rattle.std.proofs.lemmas.List.{drop_all}
 use Rattle.page.specs.History.{History, KeepsWord}
@@ -33,7 +34,8 @@ module _ {D : Type 0} (history : D → History) (edits : List Edit) (test : List
   looks_begin old = record { on = goes_from_itself history old; unchanged = refl; same = λ start now has. has; left = λ k start now has entries spells. refl }
 
   -- what is left is the same as this
-  pub looks_skip : (rest later : List Entry → Bool) (old new : State D) → LooksOn history edits test rest old new → ((entries : List Entry) → rest entries ≡ later entries) → LooksOn history edits test later old new
+  pub looks_skip : (rest later : List Entry → Bool) (old new : State D) → LooksOn history edits test rest old new
+      → ((entries : List Entry) → rest entries ≡ later entries) → LooksOn history edits test later old new
   looks_skip rest later old new far same = record {
     on = far.on;
     unchanged = far.unchanged;
@@ -41,7 +43,8 @@ module _ {D : Type 0} (history : D → History) (edits : List Edit) (test : List
     left = λ k start now has entries spells. far.left k start now has entries spells ∙ same (change edits entries);
   }
 
-  module _ (rest one later : List Entry → Bool) (old mid new : State D) (far : LooksOn history edits test rest old mid) (split : (entries : List Entry) → rest entries ≡ (one entries || later entries)) where
+  module _ (rest one later : List Entry → Bool) (old mid new : State D) (far : LooksOn history edits test rest old mid) (split : (entries : List Entry)
+      → rest entries ≡ (one entries || later entries)) where
     pub looks_step : Reads history (TellsOf one edits) (Ok false) mid new → LooksOn history edits test later old new
     looks_step reads = record {
       on = goes_further history old mid new far.on reads.on;
@@ -51,7 +54,8 @@ module _ {D : Type 0} (history : D → History) (edits : List Edit) (test : List
           let p = reads.answers k start now (far.same start now has) in
           let one_map : p.entries ≡ entries = (spelled_once now p.state).1 p.entries entries p.spells spells in
           let none : one (change edits entries) ≡ false = ap (λ (xs : List Entry). one (change edits xs)) (sym one_map) ∙ sym p.right in
-          far.left (word_before history mid new reads.on k) start now has entries spells ∙ split (change edits entries) ∙ ap (λ (b : Bool). b || later (change edits entries)) none;
+          far.left (word_before history mid new reads.on k) start now has entries spells ∙ split (change edits entries)
+          ∙ ap (λ (b : Bool). b || later (change edits entries)) none;
     }
 
     pub looks_found : Reads history (TellsOf one edits) (Ok true) mid new → Reads history (TellsOf test edits) (Ok true) old new
@@ -65,7 +69,8 @@ module _ {D : Type 0} (history : D → History) (edits : List Edit) (test : List
             entries = p.entries;
             spells = p.spells;
             state = p.state;
-            right = sym (far.left (word_before history mid new reads.on k) start now has p.entries p.spells ∙ split (change edits p.entries) ∙ ap (λ (b : Bool). b || later (change edits p.entries)) (sym p.right));
+            right = sym (far.left (word_before history mid new reads.on k) start now has p.entries p.spells ∙ split (change edits p.entries)
+                ∙ ap (λ (b : Bool). b || later (change edits p.entries)) (sym p.right));
           };
     }
 
@@ -74,11 +79,13 @@ module _ {D : Type 0} (history : D → History) (edits : List Edit) (test : List
       on = goes_further history old mid new far.on reads.on;
       unchanged = reads.unchanged ∙ far.unchanged;
       same = λ start now has. reads.same start now (far.same start now has);
-      answers = λ k start now has. cause_from history old mid new far.on (word_before history mid new reads.on k) e (reads.answers k start now (far.same start now has));
+      answers = λ k start now has. cause_from history old mid new far.on (word_before history mid new reads.on k) e
+          (reads.answers k start now (far.same start now has));
     }
 
   -- nothing is left to be looked for
-  pub looks_none : (rest : List Entry → Bool) (old new : State D) → is_stopped old ≡ false → LooksOn history edits test rest old new → ((entries : List Entry) → rest entries ≡ false) → Reads history (TellsOf test edits) (Ok false) old new
+  pub looks_none : (rest : List Entry → Bool) (old new : State D) → is_stopped old ≡ false → LooksOn history edits test rest old new
+      → ((entries : List Entry) → rest entries ≡ false) → Reads history (TellsOf test edits) (Ok false) old new
   looks_none rest old new running far none = record {
     on = far.on;
     unchanged = far.unchanged;
@@ -116,33 +123,41 @@ rest_drop (suc i) (x ∷ xs) = rest_drop i xs
 
 module _ (number : ℕ) (id : List ℕ) where
   -- the first key that is left, and those behind it
-  pub first_key_left : (index : ℕ) (keys : List (Vec ℕ)) (i : ℕ) (item : Vec ℕ) (key : List ℕ) → i < length keys → item ≡ get_or keys i item → key ≡ item.items → (entries : List Entry)
-      → any_other_key number index id (texts_of (drop i keys)) entries ≡ (has_other_key number index key id entries || any_other_key number index id (texts_of (drop (i + 1) keys)) entries)
+  pub first_key_left : (index : ℕ) (keys : List (Vec ℕ)) (i : ℕ) (item : Vec ℕ) (key : List ℕ) → i < length keys → item ≡ get_or keys i item → key ≡ item.items
+      → (entries : List Entry)
+      → any_other_key number index id (texts_of (drop i keys)) entries
+      ≡ (has_other_key number index key id entries || any_other_key number index id (texts_of (drop (i + 1) keys)) entries)
   first_key_left index keys i item key within is same entries =
       ap (λ (ks : List (Vec ℕ)). any_other_key number index id (texts_of ks) entries) (left_step keys i item within is)
       ∙ ap (λ (k : List ℕ). has_other_key number index k id entries || any_other_key number index id (texts_of (drop (i + 1) keys)) entries) (sym same)
 
-  pub no_key_left : (index : ℕ) (keys : List (Vec ℕ)) (i : ℕ) → length keys ≤ i → (entries : List Entry) → any_other_key number index id (texts_of (drop i keys)) entries ≡ false
+  pub no_key_left : (index : ℕ) (keys : List (Vec ℕ)) (i : ℕ) → length keys ≤ i → (entries : List Entry)
+      → any_other_key number index id (texts_of (drop i keys)) entries ≡ false
   no_key_left index keys i whole entries = ap (λ (ks : List (Vec ℕ)). any_other_key number index id (texts_of ks) entries) (drop_all i keys whole)
 
   -- the first index that is left, and those behind it
-  pub first_index_left : (is : List Definition) (all : List (Vec (Vec ℕ))) (at : ℕ) (i : Definition) (ks : Vec (Vec ℕ)) (n : ℕ) (keys : List (Vec ℕ)) → at < length is → length all ≡ length is
+  pub first_index_left : (is : List Definition) (all : List (Vec (Vec ℕ))) (at : ℕ) (i : Definition) (ks : Vec (Vec ℕ)) (n : ℕ) (keys : List (Vec ℕ))
+      → at < length is → length all ≡ length is
       → i ≡ get_or is at i → ks ≡ get_or all at ks → n ≡ i.number → keys ≡ ks.items → (entries : List Entry)
       → is_taken number id (drop at is) (map (λ k. texts_of k.items) (drop at all)) entries
-      ≡ ((i.is_unique && any_other_key number n id (texts_of keys) entries) || is_taken number id (drop (at + 1) is) (map (λ k. texts_of k.items) (drop (at + 1) all)) entries)
+      ≡ ((i.is_unique && any_other_key number n id (texts_of keys) entries)
+      || is_taken number id (drop (at + 1) is) (map (λ k. texts_of k.items) (drop (at + 1) all)) entries)
   first_index_left is all at i ks n keys within one_each this these numbered same entries =
       let here : at < length all = omega (arith, within, one_each) in
       (λ j. is_taken number id (left_step is at i within this j) (map (λ k. texts_of k.items) (left_step all at ks here these j)) entries)
-      ∙ (λ j. (i.is_unique && any_other_key number (sym numbered j) id (texts_of (sym same j)) entries) || is_taken number id (drop (at + 1) is) (map (λ k. texts_of k.items) (drop (at + 1) all)) entries)
+      ∙ (λ j. (i.is_unique && any_other_key number (sym numbered j) id (texts_of (sym same j)) entries)
+      || is_taken number id (drop (at + 1) is) (map (λ k. texts_of k.items) (drop (at + 1) all)) entries)
 
   -- so of one that is unique
-  pub unique_index_left : (is : List Definition) (all : List (Vec (Vec ℕ))) (at : ℕ) (i : Definition) (ks : Vec (Vec ℕ)) (n : ℕ) (keys : List (Vec ℕ)) → at < length is → length all ≡ length is
+  pub unique_index_left : (is : List Definition) (all : List (Vec (Vec ℕ))) (at : ℕ) (i : Definition) (ks : Vec (Vec ℕ)) (n : ℕ) (keys : List (Vec ℕ))
+      → at < length is → length all ≡ length is
       → i ≡ get_or is at i → ks ≡ get_or all at ks → n ≡ i.number → keys ≡ ks.items → i.is_unique ≡ true → (entries : List Entry)
       → is_taken number id (drop at is) (map (λ k. texts_of k.items) (drop at all)) entries
       ≡ (any_other_key number n id (texts_of keys) entries || is_taken number id (drop (at + 1) is) (map (λ k. texts_of k.items) (drop (at + 1) all)) entries)
   unique_index_left is all at i ks n keys within one_each this these numbered same unique entries =
       first_index_left is all at i ks n keys within one_each this these numbered same entries
-      ∙ ap (λ (b : Bool). (b && any_other_key number n id (texts_of keys) entries) || is_taken number id (drop (at + 1) is) (map (λ k. texts_of k.items) (drop (at + 1) all)) entries) unique
+      ∙ ap (λ (b : Bool). (b && any_other_key number n id (texts_of keys) entries)
+      || is_taken number id (drop (at + 1) is) (map (λ k. texts_of k.items) (drop (at + 1) all)) entries) unique
 
   -- an index that isn't unique is passed over
   past_index : (i : Definition) (is : List Definition) (all : List (Vec (Vec ℕ))) → i.is_unique ≡ false → (entries : List Entry)
@@ -150,15 +165,21 @@ module _ (number : ℕ) (id : List ℕ) where
   past_index i [] [] plain entries = refl
   past_index i (j ∷ is) [] plain entries = refl
   past_index i is (ks ∷ all) plain entries =
-      ap (λ (b : Bool). (b && any_other_key number i.number id (texts_of ks.items) entries) || is_taken number id is (map (λ k. texts_of k.items) all) entries) plain
+      ap (λ (b : Bool). (b && any_other_key number i.number id (texts_of ks.items) entries)
+      || is_taken number id is (map (λ k. texts_of k.items) all) entries) plain
 
-  pub index_passed : (is : List Definition) (all : List (Vec (Vec ℕ))) (at : ℕ) (i : Definition) → at < length is → i ≡ get_or is at i → i.is_unique ≡ false → (entries : List Entry)
-      → is_taken number id (drop at is) (map (λ k. texts_of k.items) (drop at all)) entries ≡ is_taken number id (drop (at + 1) is) (map (λ k. texts_of k.items) (drop (at + 1) all)) entries
+  pub index_passed : (is : List Definition) (all : List (Vec (Vec ℕ))) (at : ℕ) (i : Definition) → at < length is → i ≡ get_or is at i → i.is_unique ≡ false
+      → (entries : List Entry)
+      → is_taken number id (drop at is) (map (λ k. texts_of k.items) (drop at all)) entries
+      ≡ is_taken number id (drop (at + 1) is) (map (λ k. texts_of k.items) (drop (at + 1) all)) entries
   index_passed is all at i within this plain entries =
       let next : suc at ≡ at + 1 = omega arith in
       ap (λ (js : List Definition). is_taken number id js (map (λ k. texts_of k.items) (drop at all)) entries) (left_step is at i within this)
       ∙ past_index i (drop (at + 1) is) (drop at all) plain entries
-      ∙ ap (λ (ks : List (Vec (Vec ℕ))). is_taken number id (drop (at + 1) is) (map (λ k. texts_of k.items) ks) entries) (rest_drop at all ∙ ap (λ (n : ℕ). drop n all) next)
+      ∙ ap (λ (ks : List (Vec (Vec ℕ))). is_taken number id (drop (at + 1) is) (map (λ k. texts_of k.items) ks) entries)
+      (rest_drop at all ∙ ap (λ (n : ℕ). drop n all) next)
 
-  pub no_index_left : (is : List Definition) (all : List (Vec (Vec ℕ))) (at : ℕ) → length is ≤ at → (entries : List Entry) → is_taken number id (drop at is) (map (λ k. texts_of k.items) (drop at all)) entries ≡ false
-  no_index_left is all at whole entries = ap (λ (js : List Definition). is_taken number id js (map (λ k. texts_of k.items) (drop at all)) entries) (drop_all at is whole)
+  pub no_index_left : (is : List Definition) (all : List (Vec (Vec ℕ))) (at : ℕ) → length is ≤ at → (entries : List Entry)
+      → is_taken number id (drop at is) (map (λ k. texts_of k.items) (drop at all)) entries ≡ false
+  no_index_left is all at whole entries =
+      ap (λ (js : List Definition). is_taken number id js (map (λ k. texts_of k.items) (drop at all)) entries) (drop_all at is whole)

@@ -59,7 +59,8 @@ module _ {D : Type 0} (history : D → History) (edits : List Edit) (old : State
     cause = λ k start before after has leads state. tt;
   }
 
-  pub applies_done : (pager : PagerState D) (root : ℕ) → (edits ≡ [] → ⊥) → Grows (store_of history old.pager) (store_of history pager) → ChangesTree history edits old.root (Ok root) old.pager pager
+  pub applies_done : (pager : PagerState D) (root : ℕ) → (edits ≡ [] → ⊥) → Grows (store_of history old.pager) (store_of history pager)
+      → ChangesTree history edits old.root (Ok root) old.pager pager
       → Applies history edits (Ok tt) old (record old { pager = pager; root = root })
   applies_done pager root some grows changes =
       let new : State D = record old { pager = pager; root = root } in
@@ -69,7 +70,8 @@ module _ {D : Type 0} (history : D → History) (edits : List Edit) (old : State
         unchanged = tt;
         kinds = tt;
         state = λ start before after has leads state. state_on history old new start before after grows (λ k t.
-            let c : IsChanged (store_of history old.pager) (store_of history pager) root (change edits t.after) t.pages = changes t.pages t.after t.turn.holds k in
+            let c : IsChanged (store_of history old.pager) (store_of history pager) root (change edits t.after) t.pages =
+            changes t.pages t.after t.turn.holds k in
             record {
               pages = c.after;
               after = change edits t.after;
@@ -81,12 +83,15 @@ module _ {D : Type 0} (history : D → History) (edits : List Edit) (old : State
       }
 
   -- the pager after the change, and after what was made was taken back
-  module _ (mid back : PagerState D) (e : TreeFault) (grows : Grows (store_of history old.pager) (store_of history mid)) (changes : ChangesTree history edits old.root (Err e) old.pager mid)
+  module _ (mid back : PagerState D) (e : TreeFault) (grows : Grows (store_of history old.pager) (store_of history mid))
+      (changes : ChangesTree history edits old.root (Err e) old.pager mid)
       (disk : pager_history history back ≡ pager_history history mid) (takes : (store_of history back).full_takes ≡ (store_of history mid).full_takes) where
     abbrev new : State D
     new = record old { pager = back }
 
-    cause_of : (after : List Collection) (entries : List Entry) (fault : TreeFault) → fault ≡ e → HasTreeCause (store_of history old.pager) (store_of history mid) fault ⊎ IsTooHigh entries fault → Spells entries after → HasWriteCause history after old new (refusal_of fault)
+    cause_of : (after : List Collection) (entries : List Entry) (fault : TreeFault) → fault ≡ e
+        → HasTreeCause (store_of history old.pager) (store_of history mid) fault ⊎ IsTooHigh entries fault → Spells entries after
+        → HasWriteCause history after old new (refusal_of fault)
     cause_of after entries faults.Memory same cause spells = inl (inl refl)
     cause_of after entries faults.Device same (inl failed) spells = inl (inr (inl (refl, inr (omega (arith, failed, ap (λ (h : History). h.failures) disk)))))
     cause_of after entries faults.Full same (inl (inl more)) spells = inl (inr (inr (refl, inl (omega (arith, more, takes)))))
@@ -102,8 +107,10 @@ module _ {D : Type 0} (history : D → History) (edits : List Edit) (old : State
     cause_of after entries faults.Length same (inl cause) spells = absurd cause
     cause_of after entries faults.Length same (inr high) spells = let never : faults.Length ≡ faults.Full = high.0 in absurd cc
 
-    pub applies_failed : (edits ≡ [] → ⊥) → is_stopped old ≡ false → GoesFrom history old new → (KeepsWord (disk_history history new) → (store_of history back).made ≡ (store_of history old.pager).made)
-        → (KeepsWord (disk_history history new) → (store_of history back).retired ≡ (store_of history old.pager).retired) → Applies history edits (Err (refusal_of e)) old new
+    pub applies_failed : (edits ≡ [] → ⊥) → is_stopped old ≡ false → GoesFrom history old new
+        → (KeepsWord (disk_history history new) → (store_of history back).made ≡ (store_of history old.pager).made)
+        → (KeepsWord (disk_history history new) → (store_of history back).retired ≡ (store_of history old.pager).retired)
+        → Applies history edits (Err (refusal_of e)) old new
     applies_failed some running goes made retired = record {
       on = goes;
       idle = λ none. absurd (some none);
@@ -112,16 +119,20 @@ module _ {D : Type 0} (history : D → History) (edits : List Edit) (old : State
       state = λ start before after has leads state. state_stays history old new start before goes refl made retired has;
       cause = λ k start before after has leads state.
           let t : IsTurnOf history old start before = has running (goes.frame k).word in
-          cause_of after (change edits t.after) e refl (changes t.pages t.after t.turn.holds (subst (λ (h : History). KeepsWord h) disk k)) (leads t.after t.spells_now);
+          cause_of after (change edits t.after) e refl (changes t.pages t.after t.turn.holds (subst (λ (h : History). KeepsWord h) disk k))
+          (leads t.after t.spells_now);
     }
 
   -- what was made and retired was taken back
-  pub applies_undone : (mid back : PagerState D) (e : TreeFault) (made retired : ℕ) → Grows (store_of history old.pager) (store_of history mid) → ChangesTree history edits old.root (Err e) old.pager mid
-      → back ≡ undone_to made retired mid → Returns history made retired mid back → IsOrderly old.pager → made ≡ length old.pager.made → retired ≡ length old.pager.retired → (edits ≡ [] → ⊥) → is_stopped old ≡ false
+  pub applies_undone : (mid back : PagerState D) (e : TreeFault) (made retired : ℕ) → Grows (store_of history old.pager) (store_of history mid)
+      → ChangesTree history edits old.root (Err e) old.pager mid
+      → back ≡ undone_to made retired mid → Returns history made retired mid back → IsOrderly old.pager → made ≡ length old.pager.made
+      → retired ≡ length old.pager.retired → (edits ≡ [] → ⊥) → is_stopped old ≡ false
       → Applies history edits (Err (refusal_of e)) old (record old { pager = back })
   applies_undone mid back e made retired grows changes undone returns orderly all_made all_retired some running =
       let r = returns old.pager orderly grows all_made all_retired in
-      applies_failed mid back e grows changes (ap (λ (p : PagerState D). pager_history history p) undone) (ap (λ (p : PagerState D). (store_of history p).full_takes) undone) some running r.0 (λ k. (r.1 k).made) (λ k. (r.1 k).retired)
+      applies_failed mid back e grows changes (ap (λ (p : PagerState D). pager_history history p) undone)
+      (ap (λ (p : PagerState D). (store_of history p).full_takes) undone) some running r.0 (λ k. (r.1 k).made) (λ k. (r.1 k).retired)
 
 -- a list without members
 pub none_of : {X : Type 0} (xs : List X) → (length xs == 0) ≡ true → xs ≡ []

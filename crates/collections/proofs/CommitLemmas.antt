@@ -20,11 +20,13 @@ module _ {D : Type 0} (history : D → History) (old : State D) (pager : PagerSt
   new = record old { pager = pager }
 
   -- an image of the entries from before, or of those of the turn
-  held : (start now : List Collection) (t : IsTurnOf history old start now) (image : ℕ → List ℕ) → StandsFor image t.before ⊎ StandsFor image t.after → Holds image start ⊎ Holds image now
+  held : (start now : List Collection) (t : IsTurnOf history old start now) (image : ℕ → List ℕ) → StandsFor image t.before ⊎ StandsFor image t.after
+      → Holds image start ⊎ Holds image now
   held start now t image (inl stands) = inl (record { entries = t.before; stands = stands; spells = t.spells_start; state = t.start_state })
   held start now t image (inr stands) = inr (record { entries = t.after; stands = stands; spells = t.spells_now; state = t.now_state })
 
-  module _ (result : Result (Unit {0}) CommitFault) (commits : CommitsPages history old.root result old.pager pager) (moves : MovesTurns history old.root result old.pager pager)
+  module _ (result : Result (Unit {0}) CommitFault) (commits : CommitsPages history old.root result old.pager pager)
+      (moves : MovesTurns history old.root result old.pager pager)
       (running : is_stopped old ≡ false) (start now : List Collection) (has : HasState history old start now) where
     turn : KeepsWord (disk_history history new) → IsTurnOf history old start now
     turn k = has running (commits.on.kept k)
@@ -32,7 +34,8 @@ module _ {D : Type 0} (history : D → History) (old : State D) (pager : PagerSt
     moved : (k : KeepsWord (disk_history history new)) → MovesPages history (turn k).pages (turn k).before (turn k).after result old.pager pager
     moved k = moves (turn k).began (turn k).live (turn k).before (turn k).begun (turn k).pages (turn k).after (λ _. (turn k).turn)
 
-  pub committed : CommitsPages history old.root (Ok tt) old.pager pager → pager.book.full_takes ≡ old.pager.book.full_takes → MovesTurns history old.root (Ok tt) old.pager pager → Commits history (Ok tt) old new
+  pub committed : CommitsPages history old.root (Ok tt) old.pager pager → pager.book.full_takes ≡ old.pager.book.full_takes
+      → MovesTurns history old.root (Ok tt) old.pager pager → Commits history (Ok tt) old new
   committed commits takes moves = record {
     takes = takes;
     on = commits.on;
@@ -46,7 +49,9 @@ module _ {D : Type 0} (history : D → History) (old : State D) (pager : PagerSt
     device = λ is. absurd cc;
     idle = λ is. ap (λ (p : PagerState D). record old { pager = p }) (commits.idle is);
     moves = λ running start now has. record {
-      any_moment = λ k image left. held start now (turn (Ok tt) commits moves running start now has k) image ((moved (Ok tt) commits moves running start now has k).any_moment k image left);
+      any_moment =
+          λ k image left. held start now (turn (Ok tt) commits moves running start now has k) image
+          ((moved (Ok tt) commits moves running start now has k).any_moment k image left);
       acknowledged = λ k image is.
           let t = turn (Ok tt) commits moves running start now has k in
           record { entries = t.after; stands = (moved (Ok tt) commits moves running start now has k).acknowledged k image is; spells = t.spells_now; state = t.now_state };
@@ -71,13 +76,16 @@ module _ {D : Type 0} (history : D → History) (old : State D) (pager : PagerSt
     device = λ is k. commits.device is k;
     idle = λ is. ap (λ (p : PagerState D). record old { pager = p }) (commits.idle is);
     moves = λ running start now has. record {
-      any_moment = λ k image left. held start now (turn (Err fault) commits moves running start now has k) image ((moved (Err fault) commits moves running start now has k).any_moment k image left);
+      any_moment =
+          λ k image left. held start now (turn (Err fault) commits moves running start now has k) image
+          ((moved (Err fault) commits moves running start now has k).any_moment k image left);
       acknowledged = tt;
       begun = tt;
     };
   }
 
-  pub commits_so : (result : Result (Unit {0}) CommitFault) → CommitsPages history old.root result old.pager pager → pager.book.full_takes ≡ old.pager.book.full_takes
+  pub commits_so : (result : Result (Unit {0}) CommitFault) → CommitsPages history old.root result old.pager pager
+      → pager.book.full_takes ≡ old.pager.book.full_takes
       → MovesTurns history old.root result old.pager pager → Commits history result old new
   commits_so (Ok tt) commits takes moves = committed commits takes moves
   commits_so (Err fault) commits takes moves = not_committed fault commits takes moves

@@ -24,11 +24,13 @@ use Rattle.collections.specs.State.{State}
 use Rattle.collections.specs.View.{disk_history, is_stopped}
 use Rattle.collections.proofs.StandingLemmas.{state_stays, tree_same}
 
-module _ {D : Type 0} (history : D → History) (old : State D) (pager : PagerState D) (result : Result PageCounts OpenFault) (counts : CountsPager history result old.pager pager) where
+module _ {D : Type 0} (history : D → History) (old : State D) (pager : PagerState D) (result : Result PageCounts OpenFault)
+    (counts : CountsPager history result old.pager pager) where
   abbrev new : State D
   new = record old { pager = pager }
 
-  kinds_so : (r : Result PageCounts OpenFault) → IfErr r (HasCause (pager_history history old.pager) (pager_history history pager)) → IfErr r (λ fault. (fault ≢ faults.NotADatabase) × (fault ≢ faults.NewerFormat))
+  kinds_so : (r : Result PageCounts OpenFault) → IfErr r (HasCause (pager_history history old.pager) (pager_history history pager))
+      → IfErr r (λ fault. (fault ≢ faults.NotADatabase) × (fault ≢ faults.NewerFormat))
   kinds_so (Ok x) cause = tt
   kinds_so (Err faults.Device) cause = (λ e. cc, λ e. cc)
   kinds_so (Err faults.Memory) cause = (λ e. cc, λ e. cc)
@@ -36,18 +38,22 @@ module _ {D : Type 0} (history : D → History) (old : State D) (pager : PagerSt
   kinds_so (Err faults.NotADatabase) cause = absurd cause
   kinds_so (Err faults.NewerFormat) cause = absurd cause
 
-  cause_so : KeepsWord (pager_history history pager) → (fault : OpenFault) → HasCause (pager_history history old.pager) (pager_history history pager) fault → fault ≢ faults.Damaged → HasCountCause history old new fault
+  cause_so : KeepsWord (pager_history history pager) → (fault : OpenFault) → HasCause (pager_history history old.pager) (pager_history history pager) fault
+      → fault ≢ faults.Damaged → HasCountCause history old new fault
   cause_so k faults.Device cause ne = inr (cause k)
   cause_so k faults.Memory cause ne = tt
   cause_so k faults.Damaged cause ne = ne refl
   cause_so k faults.NotADatabase cause ne = cause
   cause_so k faults.NewerFormat cause ne = cause
 
-  answer_so : KeepsWord (pager_history history pager) → (start here : List Collection) (t : IsTurnOf history old start here) → (r : Result PageCounts OpenFault) → IfErr r (HasCause (pager_history history old.pager) (pager_history history pager))
-      → MatchResult r (AreCounts (durable_root old.pager.store) t.live) (λ fault. fault ≢ faults.Damaged) → MatchResult r (HasCounts (reads (now (disk_history history old))) start) (HasCountCause history old new)
+  answer_so : KeepsWord (pager_history history pager) → (start here : List Collection) (t : IsTurnOf history old start here)
+      → (r : Result PageCounts OpenFault) → IfErr r (HasCause (pager_history history old.pager) (pager_history history pager))
+      → MatchResult r (AreCounts (durable_root old.pager.store) t.live) (λ fault. fault ≢ faults.Damaged)
+      → MatchResult r (HasCounts (reads (now (disk_history history old))) start) (HasCountCause history old new)
   answer_so k start here t (Ok counted) cause are =
       let word = (counts.grows.frame k).word in
-      let committed : IsCommitted history old.pager.store t.live t.before = committed_still history old.pager t.began t.turn.grows.stays word t.live t.before t.begun in
+      let committed : IsCommitted history old.pager.store t.live t.before =
+      committed_still history old.pager t.began t.turn.grows.stays word t.live t.before t.begun in
       record {
         holds = record {
           entries = t.before;
@@ -81,9 +87,11 @@ has_one_count image a b counts others one two =
     let root = one.holds.stands.root in
     let both : Ok two.holds.stands.root ≡ Ok root = sym two.holds.stands.opens ∙ one.holds.stands.opens in
     let same : two.holds.stands.root ≡ root = cc in
-    let holds : HoldsMap (sheet_at image root) root two.holds.stands.pages two.holds.entries = subst (λ (r : Root). HoldsMap (sheet_at image r) r two.holds.stands.pages two.holds.entries) same two.holds.stands.holds in
+    let holds : HoldsMap (sheet_at image root) root two.holds.stands.pages two.holds.entries =
+    subst (λ (r : Root). HoldsMap (sheet_at image r) r two.holds.stands.pages two.holds.entries) same two.holds.stands.holds in
     let live : one.holds.stands.pages ≡ two.holds.stands.pages =
-    (one_map (store_of_image (sheet_at image root)) root.tree one.holds.stands.pages two.holds.stands.pages one.holds.entries two.holds.entries one.holds.stands.holds.map holds.map).pages_are in
+    (one_map (store_of_image (sheet_at image root)) root.tree one.holds.stands.pages two.holds.stands.pages one.holds.entries two.holds.entries
+    one.holds.stands.holds.map holds.map).pages_are in
     let pages : counts.pages ≡ others.pages = one.are.pages ∙ ap (λ (r : Root). max r.pages 1) (sym same) ∙ sym two.are.pages in
     let free : counts.free ≡ others.free = omega (arith, one.are.all, two.are.all, pages, ap length live) in
     (λ i. record { pages = pages i; free = free i })

@@ -1,5 +1,6 @@
 -- The entries of a tree rise, and from a key on they are read a batch at a time.
-use Rattle.std.proofs.Common.{◌≡◌, ◌⊎◌, ℕ, zero, suc, ◌≤◌, Bool, true, false, List, [], ◌∷◌, ◌++◌, length, map, refl, sym, ◌∙◌, ap, subst, arith, inl, inr, Some, None, ◌&&◌, not}
+use Rattle.std.proofs.Common.{◌≡◌, ◌⊎◌, ℕ, zero, suc, ◌≤◌, Bool, true, false, List, [], ◌∷◌, ◌++◌, length, map, refl, sym, ◌∙◌, ap, subst, arith, inl, inr}
+use Rattle.std.proofs.Common.{Some, None, ◌&&◌, not}
 use Rattle.std.specs.Prelude.{Option, Result, Ok, Err, MatchResult}
 use Rattle.std.specs.List.{flat_map}
 use Rattle.std.specs.Option.{option_map}
@@ -49,7 +50,8 @@ each_across high [] ys below above = tt
 each_across high (x ∷ xs) ys below above = (each_map _ _ (λ y u. under_then_up_to x high y below.0 u) ys above, each_across high xs ys below.1 above)
 
 fan_rises : (d : ℕ) → ((low : List ℕ) (high : Option (List ℕ)) (body : Body d) → IsSound d low high body → Rises (pair_keys (pairs_of d body)))
-    → (high : Option (List ℕ)) (ws : List (Twig (Body d))) → IsFan (Lies d) high ws → Rises (twig_keys ws) → Each (IsWithin high) (twig_keys ws) → Rises (pair_keys (flat_map (λ w. pairs_of d w.body) ws))
+    → (high : Option (List ℕ)) (ws : List (Twig (Body d))) → IsFan (Lies d) high ws → Rises (twig_keys ws) → Each (IsWithin high) (twig_keys ws)
+    → Rises (pair_keys (flat_map (λ w. pairs_of d w.body) ws))
 fan_rises d sub high [] fan rise within = tt
 fan_rises d sub high (w ∷ []) fan rise within =
     subst Rises (sym (map_append (λ (x : Pair). x.key) (pairs_of d w.body) []))
@@ -61,9 +63,11 @@ fan_rises d sub high (w ∷ []) fan rise within =
 fan_rises d sub high (w ∷ v ∷ ws) fan rise within =
     let later = flat_map (λ (w : Twig (Body d)). pairs_of d w.body) (v ∷ ws) in
     let here : Each (λ (x : Pair). IsBetween w.key (Some v.key) x.key) (pairs_of d w.body) = pairs_between d w.key (Some v.key) w.body fan.0.1 in
-    let there : Each (λ (x : Pair). IsBetween v.key high x.key) later = fan_between (Lies d) (pairs_of d) (λ from to body s. pairs_between d from to body s.1) high v ws fan.1 rise.1 within.1 in
+    let there : Each (λ (x : Pair). IsBetween v.key high x.key) later =
+    fan_between (Lies d) (pairs_of d) (λ from to body s. pairs_between d from to body s.1) high v ws fan.1 rise.1 within.1 in
     subst Rises (sym (map_append (λ (x : Pair). x.key) (pairs_of d w.body) later))
-    (rises_append (pair_keys (pairs_of d w.body)) (pair_keys later) (sub w.key (Some v.key) w.body fan.0.1) (fan_rises d sub high (v ∷ ws) fan.1 rise.1 within.1)
+    (rises_append (pair_keys (pairs_of d w.body)) (pair_keys later) (sub w.key (Some v.key) w.body fan.0.1)
+    (fan_rises d sub high (v ∷ ws) fan.1 rise.1 within.1)
     (each_across v.key (pair_keys (pairs_of d w.body)) (pair_keys later)
     (each_keys (λ k. IsUnder k v.key) (pairs_of d w.body) (each_map _ _ (λ x b. b.1) (pairs_of d w.body) here))
     (each_keys (λ k. IsNotUnder k v.key) later (each_map _ _ (λ x b. b.0) later there))))
@@ -85,7 +89,9 @@ tree_rises history c entries has = entries_rise (pages_of history c) c.root has.
 -- ---- from a key on
 
 not_less : (a b : List ℕ) → IsNotUnder a b → is_lt (key_cmp a b) ≡ false
-not_less a b h = elim (key_cmp a b) as (λ (r : Ordering). (r ≡ orders.Less → ⊥) → is_lt r ≡ false) [ orders.Less ↦ (λ n. absurd (n refl)) | orders.Equal ↦ (λ n. refl) | orders.Greater ↦ (λ n. refl) ] h
+not_less a b h =
+    elim (key_cmp a b) as (λ (r : Ordering). (r ≡ orders.Less → ⊥)
+    → is_lt r ≡ false) [ orders.Less ↦ (λ n. absurd (n refl)) | orders.Equal ↦ (λ n. refl) | orders.Greater ↦ (λ n. refl) ] h
 
 less_or_not : (o : Ordering) → (o ≡ orders.Less) ⊎ (o ≡ orders.Less → ⊥)
 less_or_not orders.Less = inl refl
@@ -104,7 +110,8 @@ module _ (from : List ℕ) where
   all_kept [] h = refl
   all_kept (x ∷ xs) h = kept x xs h.0 ∙ ap (λ (ys : List Entry). x ∷ ys) (all_kept xs h.1)
 
-each_over : (from : List ℕ) (x : Entry) (xs : List Entry) → IsNotUnder x.key from → Each (λ y. IsUnder x.key y) (entry_keys xs) → Each (λ (y : Entry). IsNotUnder y.key from) xs
+each_over : (from : List ℕ) (x : Entry) (xs : List Entry) → IsNotUnder x.key from → Each (λ y. IsUnder x.key y) (entry_keys xs)
+    → Each (λ (y : Entry). IsNotUnder y.key from) xs
 each_over from x [] above h = tt
 each_over from x (y ∷ ys) above h = ((λ u. above (under_then_up_to_under x.key y.key from h.0 u)), each_over from x ys above h.1)
   where
@@ -112,7 +119,8 @@ each_over from x (y ∷ ys) above h = ((λ u. above (under_then_up_to_under x.ke
     under_then_up_to_under a b c h g = under_then_up_to a b c h (not_both b c g)
 
 -- What a window has is not below its key.
-inside_window : (from : List ℕ) (entries front : List Entry) (next : Entry) (others : List Entry) → window from None entries ≡ front ++ next ∷ others → IsNotUnder next.key from
+inside_window : (from : List ℕ) (entries front : List Entry) (next : Entry) (others : List Entry) → window from None entries ≡ front ++ next ∷ others
+    → IsNotUnder next.key from
 inside_window from [] front next others is = absurd (none front is)
   where
     none : (front : List Entry) → [] ≡ front ++ next ∷ others → ⊥
@@ -123,12 +131,14 @@ inside_window from (y ∷ ys) front next others is = elim (less_or_not (key_cmp 
   | inr above ↦ by above front (λ fs e. inside_window from ys fs next others e) (sym (kept from y ys above) ∙ is)
 ]
   where
-    by : IsNotUnder y.key from → (front : List Entry) → ((fs : List Entry) → window from None ys ≡ fs ++ next ∷ others → IsNotUnder next.key from) → y ∷ window from None ys ≡ front ++ next ∷ others → IsNotUnder next.key from
+    by : IsNotUnder y.key from → (front : List Entry) → ((fs : List Entry) → window from None ys ≡ fs ++ next ∷ others → IsNotUnder next.key from)
+        → y ∷ window from None ys ≡ front ++ next ∷ others → IsNotUnder next.key from
     by above [] later same = let is_next : y ≡ next = cc in subst (λ (z : Entry). IsNotUnder z.key from) is_next above
     by above (f ∷ fs) later same = let rest : window from None ys ≡ fs ++ next ∷ others = cc in later fs rest
 
 -- From the key of an entry on stand it and those behind it.
-pub window_next : (from : List ℕ) (entries front : List Entry) (next : Entry) (others : List Entry) → Rises (entry_keys entries) → window from None entries ≡ front ++ next ∷ others
+pub window_next : (from : List ℕ) (entries front : List Entry) (next : Entry) (others : List Entry) → Rises (entry_keys entries)
+    → window from None entries ≡ front ++ next ∷ others
     → window next.key None entries ≡ next ∷ others
 window_next from [] front next others rise is = absurd (none front is)
   where
@@ -156,7 +166,8 @@ window_next from (x ∷ xs) front next others rise is = elim (less_or_not (key_c
             first_under (g ∷ gs) h = first_under gs h.1
 
 -- what a batch is among the entries
-pub next_entries_are : (from : List ℕ) (limit : ℕ) (entries : List Entry) (batch : Batch) → Rises (entry_keys entries) → Holds limit (window from None entries) batch → AreNextEntries from limit entries batch
+pub next_entries_are : (from : List ℕ) (limit : ℕ) (entries : List Entry) (batch : Batch) → Rises (entry_keys entries)
+    → Holds limit (window from None entries) batch → AreNextEntries from limit entries batch
 next_entries_are from limit entries batch rise holds = record {
   is = by (option_map (λ v. v.items) batch.next) holds;
   most = few (option_map (λ v. v.items) batch.next) holds;
@@ -165,14 +176,16 @@ next_entries_are from limit entries batch rise holds = record {
     these : List Entry
     these = map entry_in batch.entries.items
 
-    by : (o : Option (List ℕ)) → IsBatch limit (window from None entries) (map entry_in batch.entries.items) o → window from None entries ≡ map entry_in batch.entries.items ++ entries_from o entries
+    by : (o : Option (List ℕ)) → IsBatch limit (window from None entries) (map entry_in batch.entries.items) o
+        → window from None entries ≡ map entry_in batch.entries.items ++ entries_from o entries
     by None h = sym h.0 ∙ sym (nothing_behind (map entry_in batch.entries.items))
       where
         nothing_behind : (xs : List Entry) → xs ++ [] ≡ xs
         nothing_behind [] = refl
         nothing_behind (x ∷ xs) = ap (λ (ys : List Entry). x ∷ ys) (nothing_behind xs)
     by (Some key) h =
-        h.is ∙ ap (λ (ys : List Entry). map entry_in batch.entries.items ++ ys) (sym (window_next from entries (map entry_in batch.entries.items) h.next h.others rise h.is) ∙ ap (λ (k : List ℕ). window k None entries) h.key_is)
+        h.is ∙ ap (λ (ys : List Entry). map entry_in batch.entries.items ++ ys)
+        (sym (window_next from entries (map entry_in batch.entries.items) h.next h.others rise h.is) ∙ ap (λ (k : List ℕ). window k None entries) h.key_is)
 
     few : (o : Option (List ℕ)) → IsBatch limit (window from None entries) (map entry_in batch.entries.items) o → length batch.entries.items ≤ limit
     few None h = omega (arith, h.1, length-map batch.entries.items entry_in)
@@ -186,12 +199,14 @@ AnswersSo (Err f) (Err e) = e ≡ refusal_of f
 AnswersSo _ _ = ⊥
 
 module _ {D X : Type 0} (history : D → History) (P Q : List Entry → X → Type 0) (old : State D) (pager : PagerState D) (result : Result X TreeFault)
-    (looks : LooksUp history old.root P result old.pager pager) (on : (entries : List Entry) (x : X) → Rises (entry_keys entries) → P entries x → Q entries x) where
+    (looks : LooksUp history old.root P result old.pager pager) (on : (entries : List Entry) (x : X) → Rises (entry_keys entries) → P entries x
+    → Q entries x) where
   abbrev new : State D
   new = record old { pager = pager }
 
   answer : (entries : List Entry) → Rises (entry_keys entries) → (result : Result X TreeFault) (r : Result X Refusal) → AnswersSo result r
-      → MatchResult result (P entries) (HasTreeCause (store_of history old.pager) (store_of history pager)) → MatchResult r (Q entries) (HasCause history old new)
+      → MatchResult result (P entries) (HasTreeCause (store_of history old.pager) (store_of history pager))
+      → MatchResult r (Q entries) (HasCause history old new)
   answer entries rise (Ok x) (Ok y) same right = subst (Q entries) same (on entries x rise right)
   answer entries rise (Ok x) (Err e) same right = absurd same
   answer entries rise (Err f) (Ok y) same cause = absurd same
@@ -209,7 +224,8 @@ module _ {D X : Type 0} (history : D → History) (P Q : List Entry → X → Ty
     answers = λ k entries has. answer entries (tree_rises history old entries has) result r as_read (looks.yields has.pages entries has.map k);
   }
 
-pub tree_stopped : {D X : Type 0} (history : D → History) (Q : List Entry → X → Type 0) (old : State D) → is_stopped old ≡ true → ReadsTree history Q (Err refusals.StorageFailed) old old
+pub tree_stopped : {D X : Type 0} (history : D → History) (Q : List Entry → X → Type 0) (old : State D) → is_stopped old ≡ true
+    → ReadsTree history Q (Err refusals.StorageFailed) old old
 tree_stopped history Q old stopped = record {
   on = grows_itself (store_of history old.pager);
   unchanged = refl;

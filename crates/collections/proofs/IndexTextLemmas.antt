@@ -1,5 +1,6 @@
 -- The texts that a range of entries tells of an index are those of its documents.
-use Rattle.std.proofs.Common.{◌≡◌, ℕ, suc, ◌+◌, ◌<◌, ◌≤◌, ◌^◌, Bool, true, false, not, ◌&&◌, List, [], ◌∷◌, ◌++◌, length, map, take, drop, Option, Some, None, ◌⊎◌, inl, inr, ⊎_elim, refl, sym, ap, subst, ◌∙◌, arith, append_assoc, append-nil}
+use Rattle.std.proofs.Common.{◌≡◌, ℕ, suc, ◌+◌, ◌<◌, ◌≤◌, ◌^◌, Bool, true, false, not, ◌&&◌, List, [], ◌∷◌, ◌++◌, length, map, take, drop, Option, Some, None}
+use Rattle.std.proofs.Common.{◌⊎◌, inl, inr, ⊎_elim, refl, sym, ap, subst, ◌∙◌, arith, append_assoc, append-nil}
 use Rattle.std.specs.Prelude.{Result, Ok, Err, nat_eq, if◌then◌else◌, is_some, Contains}
 use Rattle.std.specs.Int.{w32, to_be_bytes}
 use Rattle.std.specs.List.{flat_map, starts_with}
@@ -43,10 +44,12 @@ use Rattle.collections.proofs.ReadingLemmas.{next_same}
 -- ---- texts behind a front
 
 -- a key goes on from the front, or it has no text behind it
-either_text : (front key : List ℕ) → ((text_behind front key ≡ Some (drop (length front) key)) × (key ≡ front ++ drop (length front) key)) ⊎ (text_behind front key ≡ None)
+either_text : (front key : List ℕ)
+    → ((text_behind front key ≡ Some (drop (length front) key)) × (key ≡ front ++ drop (length front) key)) ⊎ (text_behind front key ≡ None)
 either_text front key = by (starts_with nat_eq key front) refl
   where
-    by : (b : Bool) → starts_with nat_eq key front ≡ b → ((text_behind front key ≡ Some (drop (length front) key)) × (key ≡ front ++ drop (length front) key)) ⊎ (text_behind front key ≡ None)
+    by : (b : Bool) → starts_with nat_eq key front ≡ b
+        → ((text_behind front key ≡ Some (drop (length front) key)) × (key ≡ front ++ drop (length front) key)) ⊎ (text_behind front key ≡ None)
     by true e = inl (ap (λ (c : Bool). if c then Some (drop (length front) key) else None) e, starts_so front key e)
     by false e = inr (ap (λ (c : Bool). if c then Some (drop (length front) key) else None) e)
 
@@ -108,12 +111,14 @@ below_there text [] e = absurd (at text e)
 below_there [] (c ∷ last) e = refl
 below_there (b ∷ text) (c ∷ last) e = by (nat_cmp b c) e (below_there text last)
   where
-    by : (o : Ordering) → ordering_then o (key_cmp (take (length last) text) last) ≡ Less → (key_cmp (take (length last) text) last ≡ Less → IsUnder text last) → ordering_then o (key_cmp text last) ≡ Less
+    by : (o : Ordering) → ordering_then o (key_cmp (take (length last) text) last) ≡ Less → (key_cmp (take (length last) text) last ≡ Less → IsUnder text last)
+        → ordering_then o (key_cmp text last) ≡ Less
     by Less e later = refl
     by Equal e later = later e
     by Greater e later = absurd (let f : Greater ≡ Less = e in cc)
 
-within_end : (front last text : List ℕ) (end : Option (List ℕ)) → IsEndOf (front ++ last) end → is_gt (key_cmp (take (length last) text) last) ≡ false → is_within end (front ++ text) ≡ true
+within_end : (front last text : List ℕ) (end : Option (List ℕ)) → IsEndOf (front ++ last) end → is_gt (key_cmp (take (length last) text) last) ≡ false
+    → is_within end (front ++ text) ≡ true
 within_end front last text None ends up = refl
 within_end front last text (Some high) ends up = by (key_cmp (take (length last) text) last) refl up
   where
@@ -131,7 +136,8 @@ within_end front last text (Some high) ends up = by (key_cmp (take (length last)
         (ap (λ (k : List ℕ). key_cmp k high) (sym (append-nil (front ++ last))) ∙ less_of (key_cmp ((front ++ last) ++ []) high) (under_high [])))
     by Equal e f =
         let rest : List ℕ = drop (length last) text in
-        let is : text ≡ last ++ rest = sym (take-append-drop (length last) text) ∙ ap (λ (k : List ℕ). k ++ rest) (exact_bytes (take (length last) text) last e) in
+        let is : text ≡ last ++ rest =
+        sym (take-append-drop (length last) text) ∙ ap (λ (k : List ℕ). k ++ rest) (exact_bytes (take (length last) text) last e) in
         ap (λ (k : List ℕ). is_lt (key_cmp k high)) (ap (λ (t : List ℕ). front ++ t) is ∙ sym (append_assoc front last rest)) ∙ under_high rest
     by Greater e f = absurd cc
 
@@ -174,7 +180,8 @@ front_rest m n rest =
     append_assoc (to_be_bytes w32 m) (to_be_bytes w32 n ++ []) rest ∙ ap (λ (l : List ℕ). to_be_bytes w32 m ++ l) (append_assoc (to_be_bytes w32 n) [] rest)
 
 module _ (now : List Collection) (at : Indexed) (first last : List ℕ) (range : Range) (batch : Batch) (p : IsInTree (IsBatchOf range) now batch)
-    (place : IsNumberedIndex at.collection.number at.definition.number now at) (from : range.from.now ≡ key_under at.collection.number at.definition.number first)
+    (place : IsNumberedIndex at.collection.number at.definition.number now at)
+    (from : range.from.now ≡ key_under at.collection.number at.definition.number first)
     (ends : IsEndOf (key_under at.collection.number at.definition.number last) (option_map (λ b. b.now) range.to)) where
   abbrev c : Collection
   c = at.collection
@@ -208,13 +215,15 @@ module _ (now : List Collection) (at : Indexed) (first last : List ℕ) (range :
       among_of (entries_in c i) x ((lists_index p.entries now c i (record { lawful = p.state; spells = p.spells }) place.numbered.found place.listed x).0
       (contains_of (entries_under c.number i.number p.entries) x
       (window_among front (Some (key_under c.number (i.number + 1) [])) p.entries x there
-      (ap (λ (k : List ℕ). is_inside front (Some (key_under c.number (i.number + 1) [])) k) is ∙ inside_there c.number i.number text number_small (omega (arith, index_small))))))
+      (ap (λ (k : List ℕ). is_inside front (Some (key_under c.number (i.number + 1) [])) k) is
+      ∙ inside_there c.number i.number text number_small (omega (arith, index_small))))))
 
   in_tree : (x : Entry) → Among x (entries_in c i) → Among x p.entries
   in_tree x there =
       (among_window front (Some (key_under c.number (i.number + 1) [])) p.entries x
       (among_of (entries_under c.number i.number p.entries) x
-      ((lists_index p.entries now c i (record { lawful = p.state; spells = p.spells }) place.numbered.found place.listed x).1 (contains_of (entries_in c i) x there)))).0
+      ((lists_index p.entries now c i (record { lawful = p.state; spells = p.spells }) place.numbered.found place.listed x).1
+      (contains_of (entries_in c i) x there)))).0
 
   -- an entry's text is one of a document
   text_of : (x : Entry) (text : List ℕ) → x.key ≡ key_under c.number i.number text → Among x (entries_in c i) → IsEntryText c.documents i text
@@ -233,7 +242,8 @@ module _ (now : List Collection) (at : Indexed) (first last : List ℕ) (range :
   entry_of text t =
       let x : Entry = index_entry c.number i.number (key_of t.0) t.1 in (
         x,
-        among_each (λ (e : Pairs). index_entries c.number e i) x t.0 c.documents (among_of c.documents t.0 t.2) (key_among c.number i t.0 t.1 (among_of (encoded_keys i.fields t.0) t.1 t.3)),
+        among_each (λ (e : Pairs). index_entries c.number e i) x t.0 c.documents (among_of c.documents t.0 t.2)
+            (key_among c.number i t.0 t.1 (among_of (encoded_keys i.fields t.0) t.1 t.3)),
         ap (key_under c.number i.number) (sym t.4),
       )
 
@@ -262,8 +272,12 @@ module _ (now : List Collection) (at : Indexed) (first last : List ℕ) (range :
       → (x : Entry) × (x.key ≡ key_under c.number i.number text) × (Among x read ⊎ Among x at_front.rest)
   either_place text h lies =
       let x = entry_of text h in
-      let inside : is_inside range.from.now to x.0.key ≡ true = ap (is_inside range.from.now to) x.2 ∙ in_range text lies in
-      (x.0, x.2, among_append x.0 read at_front.rest (subst (λ (xs : List Entry). Among x.0 xs) at_front.is (window_among range.from.now to p.entries x.0 (in_tree x.0 x.1) inside)))
+      let inside : is_inside range.from.now to x.0.key ≡ true = ap (is_inside range.from.now to) x.2 ∙ in_range text lies in (
+        x.0,
+        x.2,
+        among_append x.0 read at_front.rest
+            (subst (λ (xs : List Entry). Among x.0 xs) at_front.is (window_among range.from.now to p.entries x.0 (in_tree x.0 x.1) inside)),
+      )
 
   there_by : (text : List ℕ) (x : Entry) → x.key ≡ key_under c.number i.number text → Among x read → Contains (texts_behind front read) text
   there_by text x is there = contains_of (texts_behind front read) text (texts_there front read x text there (is ∙ sym (front_rest c.number i.number text)))
@@ -273,14 +287,16 @@ module _ (now : List Collection) (at : Indexed) (first last : List ℕ) (range :
     rise = texts_rise front read (rises_front read at_front.rest up);
     given = λ text h.
         let x = texts_told front read text (among_of (texts_behind front read) text h) in
-        let there = among_window range.from.now to p.entries x.0 (subst (λ (xs : List Entry). Among x.0 xs) (sym at_front.is) (among_front x.0 read at_front.rest x.1)) in
+        let there = among_window range.from.now to p.entries x.0
+        (subst (λ (xs : List Entry). Among x.0 xs) (sym at_front.is) (among_front x.0 read at_front.rest x.1)) in
         let is : x.0.key ≡ key_under c.number i.number text = x.2 ∙ front_rest c.number i.number text in
         text_of x.0 text is (listed x.0 there.0 text is);
     above = λ text other h lies g.
         let x = either_place text h lies in
         let y = texts_told front read other (among_of (texts_behind front read) other g) in
         ⊎_elim (λ there. inl (there_by text x.0 x.1 there))
-        (λ behind. inr (sym (same_front front other text) ∙ (λ t. key_cmp (sym y.2 t) (sym (x.1 ∙ sym (front_rest c.number i.number text)) t)) ∙ front_below read at_front.rest y.0 x.0 up y.1 behind))
+        (λ behind. inr (sym (same_front front other text) ∙ (λ t. key_cmp (sym y.2 t) (sym (x.1 ∙ sym (front_rest c.number i.number text)) t))
+        ∙ front_below read at_front.rest y.0 x.0 up y.1 behind))
         x.2;
     all = λ whole text h lies.
         let x = either_place text h lies in
@@ -298,7 +314,8 @@ not_not true = refl
 not_not false = refl
 
 -- by the numbers that are asked for
-pub texts_asked : (now : List Collection) (at : Indexed) (number index : ℕ) (first last : List ℕ) (range : Range) (batch : Batch) (under : List ℕ) (es : List OwnEntry) (texts : List (List ℕ)) (are_all : Bool) → is_some batch.next ≡ not are_all
+pub texts_asked : (now : List Collection) (at : Indexed) (number index : ℕ) (first last : List ℕ) (range : Range) (batch : Batch) (under : List ℕ)
+    (es : List OwnEntry) (texts : List (List ℕ)) (are_all : Bool) → is_some batch.next ≡ not are_all
     → IsInTree (IsBatchOf range) now batch → IsNumberedIndex number index now at → range.from.now ≡ key_under number index first
     → IsEndOf (key_under number index last) (option_map (λ b. b.now) range.to) → under ≡ key_under number index [] → es ≡ batch.entries.items
     → texts ≡ texts_behind under (map entry_in es) → AreFirstTexts first last at are_all texts
@@ -315,5 +332,6 @@ texts_asked now at number index first last range batch under es texts are_all en
     (sym (texts_is ∙ (λ t. texts_behind ((front_is ∙ (λ s. key_under (numbers s) (indexes s) [])) t) (map entry_in (es_is t))))) right)
 
 -- where they are all
-pub all_texts : (first last : List ℕ) (at : Indexed) (are_all : Bool) (texts : List (List ℕ)) → are_all ≡ true → AreFirstTexts first last at are_all texts → AreTextsBetween first last at texts
+pub all_texts : (first last : List ℕ) (at : Indexed) (are_all : Bool) (texts : List (List ℕ)) → are_all ≡ true → AreFirstTexts first last at are_all texts
+    → AreTextsBetween first last at texts
 all_texts first last at are_all texts whole h = record { rise = h.rise; given = h.given; all = h.all whole }

@@ -25,7 +25,8 @@ use Rattle.collections.specs.View.{disk_history}
 use Rattle.collections.proofs.StandingLemmas.{is_at, tree_same}
 
 -- what the turn began with is committed still
-still : {D : Type 0} (history : D → History) (c : State D) (start now : List Collection) (t : IsTurnOf history c start now) → KeepsWord (disk_history history c) → IsCommitted history c.pager.store t.live t.before
+still : {D : Type 0} (history : D → History) (c : State D) (start now : List Collection) (t : IsTurnOf history c start now)
+    → KeepsWord (disk_history history c) → IsCommitted history c.pager.store t.live t.before
 still history c start now t k = committed_still history c.pager t.began t.turn.grows.stays k t.live t.before t.begun
 
 pub leaves_start : {D : Type 0} (history : D → History) → LeavesStart history
@@ -42,10 +43,13 @@ pub rests_at_start : {D : Type 0} (history : D → History) → RestsAtStart his
 rests_at_start history c start now running k has rests =
     let t : IsTurnOf history c start now = has running k in
     let frame = t.turn.grows.frame k in
-    let then_map : HasMap (store_of history t.began) (durable_root t.began.store).tree t.live t.before = begun_map history t.began t.live t.before t.begun frame.word in
-    let same : (durable_root t.began.store).tree ≡ c.root = sym (tree_same history t.began c.pager t.turn.grows.stays) ∙ sym (is_at c.root (durable_root c.pager.store).tree rests) in
+    let then_map : HasMap (store_of history t.began) (durable_root t.began.store).tree t.live t.before =
+    begun_map history t.began t.live t.before t.begun frame.word in
+    let same : (durable_root t.began.store).tree ≡ c.root =
+    sym (tree_same history t.began c.pager t.turn.grows.stays) ∙ sym (is_at c.root (durable_root c.pager.store).tree rests) in
     let old_map : HasMap (store_of history c.pager) c.root t.live t.before =
-    subst (λ (root : ℕ). HasMap (store_of history c.pager) root t.live t.before) same (old_trees_stay (store_of history t.began) (store_of history c.pager) (durable_root t.began.store).tree t.live t.before frame then_map) in
+    subst (λ (root : ℕ). HasMap (store_of history c.pager) root t.live t.before) same
+    (old_trees_stay (store_of history t.began) (store_of history c.pager) (durable_root t.began.store).tree t.live t.before frame then_map) in
     let entries : t.after ≡ t.before = (one_map (store_of history c.pager) c.root t.pages t.live t.after t.before t.turn.holds old_map).entries_are in
     spells_one t.after now start t.now_state t.start_state t.spells_now (subst (λ (es : List Entry). Spells es start) (sym entries) t.spells_start)
 
@@ -78,7 +82,8 @@ none_lawful = record { apart = search rules; numbers = tt; kept = search rules; 
 pub zeros_hold_nothing : ZerosHoldNothing
 zeros_hold_nothing image even odd = record {
   entries = [];
-  stands = record { root = no_root; pages = []; opens = (λ i. root_of (even i) (odd i)) ∙ zero_roots; holds = record { map = inl (refl, (refl, refl)); once = λ n. omega arith } };
+  stands = record
+      { root = no_root; pages = []; opens = (λ i. root_of (even i) (odd i)) ∙ zero_roots; holds = record { map = inl (refl, (refl, refl)); once = λ n. omega arith } };
   spells = record { rises = search rules; same = λ entry. (λ x. x, λ x. x) };
   state = none_lawful;
 }

@@ -17,7 +17,8 @@ use Rattle.collections.proofs.StandingLemmas.{begins, rests_at, state_stays, tre
 
 -- back to a mark
 pub back_at : {D : Type 0} (history : D → History) (earlier new : State D) → GoesFrom history earlier new → new.root ≡ earlier.root
-    → (KeepsWord (disk_history history new) → (store_of history new.pager).made ≡ (store_of history earlier.pager).made) → (KeepsWord (disk_history history new) → (store_of history new.pager).retired ≡ (store_of history earlier.pager).retired)
+    → (KeepsWord (disk_history history new) → (store_of history new.pager).made ≡ (store_of history earlier.pager).made)
+    → (KeepsWord (disk_history history new) → (store_of history new.pager).retired ≡ (store_of history earlier.pager).retired)
     → IsBackAt history earlier new
 back_at history earlier new goes same made retired = record {
   on = goes;
@@ -26,7 +27,8 @@ back_at history earlier new goes same made retired = record {
 }
 
 -- what undoing leaves as it was
-untouched_so : {D : Type 0} (history : D → History) (old : State D) (pager : PagerState D) (root made retired : ℕ) → pager ≡ undone_to made retired old.pager → IsUntouched history old (record { pager = pager; root = root })
+untouched_so : {D : Type 0} (history : D → History) (old : State D) (pager : PagerState D) (root made retired : ℕ) → pager ≡ undone_to made retired old.pager
+    → IsUntouched history old (record { pager = pager; root = root })
 untouched_so {D = D} history old pager root made retired undone = record {
   disk = ap (λ (p : PagerState D). pager_history history p) undone;
   stopped = ap (λ (p : PagerState D). stores.is_stopped p.store) undone;
@@ -34,7 +36,8 @@ untouched_so {D = D} history old pager root made retired undone = record {
   takes = ap (λ (p : PagerState D). p.book.full_takes) undone;
 }
 
-pub returns_so : {D : Type 0} (history : D → History) (mark : Mark) (old : State D) (pager : PagerState D) → pager ≡ undone_to mark.pages.made mark.pages.retired old.pager → Returns history mark.pages.made mark.pages.retired old.pager pager
+pub returns_so : {D : Type 0} (history : D → History) (mark : Mark) (old : State D) (pager : PagerState D)
+    → pager ≡ undone_to mark.pages.made mark.pages.retired old.pager → Returns history mark.pages.made mark.pages.retired old.pager pager
     → ReturnsTo history mark old (record { pager = pager; root = mark.root })
 returns_so history mark old pager undone returns = record {
   untouched = untouched_so history old pager mark.root mark.pages.made mark.pages.retired undone;
@@ -44,14 +47,16 @@ returns_so history mark old pager undone returns = record {
 }
 
 -- back to the beginning
-begun_again : {D : Type 0} (history : D → History) (old new : State D) (made retired : ℕ) → LeadsBack history made retired old.pager new.pager → made ≡ 0 → retired ≡ 0 → IsUntouched history old new
+begun_again : {D : Type 0} (history : D → History) (old new : State D) (made retired : ℕ) → LeadsBack history made retired old.pager new.pager → made ≡ 0
+    → retired ≡ 0 → IsUntouched history old new
     → new.root ≡ (stores.durable_root new.pager.store).tree → (start now : List Collection) → HasState history old start now → HasState history new start start
 begun_again history old new made retired leads none empty same is start now has running k =
     let t : IsTurnOf history old start now = has (sym same.stopped ∙ running) (subst (λ (h : History). KeepsWord h) same.disk k) in
     let begun : IsBegun history new.pager t.live t.before = leads t.began t.live t.before t.begun t.turn.grows none empty in
     begins history new t.live t.before start is k begun t.spells_start t.start_state
 
-pub undoes_so : {D : Type 0} (history : D → History) (old : State D) (pager : PagerState D) (root made retired : ℕ) → pager ≡ undone_to made retired old.pager → LeadsBack history made retired old.pager pager → made ≡ 0 → retired ≡ 0
+pub undoes_so : {D : Type 0} (history : D → History) (old : State D) (pager : PagerState D) (root made retired : ℕ) → pager ≡ undone_to made retired old.pager
+    → LeadsBack history made retired old.pager pager → made ≡ 0 → retired ≡ 0
     → root ≡ (stores.durable_root pager.store).tree → Undoes history old (record { pager = pager; root = root })
 undoes_so history old pager root made retired undone leads none empty is =
     let same = untouched_so history old pager root made retired undone in

@@ -16,7 +16,8 @@ use Rattle.collections.specs.Holding.{Holds}
 use Rattle.collections.specs.Opening.{IsOpened, IsRefused}
 use Rattle.collections.proofs.StandingLemmas.{begins, rests_at}
 
-pub opened_so : {D : Type 0} (history : D → History) (disk : D) (c : State D) → IsPagerOpened history disk c.pager → c.root ≡ (durable_root c.pager.store).tree → IsOpened history disk c
+pub opened_so : {D : Type 0} (history : D → History) (disk : D) (c : State D) → IsPagerOpened history disk c.pager → c.root ≡ (durable_root c.pager.store).tree
+    → IsOpened history disk c
 opened_so history disk c opened is =
     let image = reads (now (history disk)) in
     record {
@@ -45,11 +46,13 @@ opened_so history disk c opened is =
           let begun : IsBegun history c.pager h.stands.pages h.entries =
           opened.begun h.stands.pages h.entries (λ _. subst (λ (r : Root). HoldsMap (sheet_at image r) r h.stands.pages h.entries) same h.stands.holds) in
           begins history c h.stands.pages h.entries collections is k begun h.spells h.state;
-      alone = λ collections h k left is_left. record { entries = h.entries; stands = opened.alone h.entries h.stands k left is_left; spells = h.spells; state = h.state };
+      alone = λ collections h k left is_left. record
+          { entries = h.entries; stands = opened.alone h.entries h.stands k left is_left; spells = h.spells; state = h.state };
       any_moment = opened.any_moment;
     }
 
-pub refused_so : {D : Type 0} (history : D → History) (disk back : D) (fault : OpenFault) → IsPagerRefused history disk back fault → IsRefused history disk back fault
+pub refused_so : {D : Type 0} (history : D → History) (disk back : D) (fault : OpenFault) → IsPagerRefused history disk back fault
+    → IsRefused history disk back fault
 refused_so history disk back fault refused = record {
   on = refused.on;
   any_moment = refused.any_moment;

@@ -24,19 +24,23 @@ use Rattle.collections.proofs.FoundLemmas.{whole_batch}
 use Rattle.collections.proofs.ReadingLemmas.{next_same}
 
 -- no vector holds more than all entries of a range
-pub not_more : (now : List Collection) (range : Range) (batch : Batch) → range.limit ≡ 18446744073709551615 → IsInTree (IsBatchOf range) now batch → is_some batch.next ≡ true → ⊥
+pub not_more : (now : List Collection) (range : Range) (batch : Batch) → range.limit ≡ 18446744073709551615 → IsInTree (IsBatchOf range) now batch
+    → is_some batch.next ≡ true → ⊥
 not_more now range batch limit p more = by (option_map (λ v. v.items) batch.next) (next_same batch.next ∙ more) p.right
   where
     by : (next : Option (List ℕ)) → is_some next ≡ true → IsBatch range.limit (within range p.entries) (map entry_in batch.entries.items) next → ⊥
     by None more right = cc
-    by (Some key) more right = omega (arith, limit, right.full, length-map batch.entries.items entry_in, batch.entries.ok.0, batch.entries.ok.1, batch.entries.small)
+    by (Some key) more right =
+        omega (arith, limit, right.full, length-map batch.entries.items entry_in, batch.entries.ok.0, batch.entries.ok.1, batch.entries.small)
 
 any_map : {X Y : Type 0} (f : X → Y) (p : Y → Bool) (xs : List X) → list_any p (map f xs) ≡ list_any (λ x. p (f x)) xs
 any_map f p [] = refl
 any_map f p (x ∷ xs) = ap (λ b. p (f x) || b) (any_map f p xs)
 
-module _ (now : List Collection) (edits : List Edit) (number index : ℕ) (key id front : List ℕ) (range : Range) (batch : Batch) (rises : Rises (edit_keys edits))
-    (front_is : front ≡ key_under number index key) (from : range.from.now ≡ front) (ends : IsEndOf front (option_map (λ b. b.now) range.to)) (end : is_some batch.next ≡ false)
+module _ (now : List Collection) (edits : List Edit) (number index : ℕ) (key id front : List ℕ) (range : Range) (batch : Batch)
+    (rises : Rises (edit_keys edits))
+    (front_is : front ≡ key_under number index key) (from : range.from.now ≡ front) (ends : IsEndOf front (option_map (λ b. b.now) range.to))
+    (end : is_some batch.next ≡ false)
     (p : IsInTree (IsBatchOf range) now batch) where
   abbrev left : Entry → Bool
   left = leaves_another front id edits
@@ -45,7 +49,9 @@ module _ (now : List Collection) (edits : List Edit) (number index : ℕ) (key i
   all_there : list_any (λ x. left (entry_in x)) batch.entries.items ≡ list_any left p.entries
   all_there =
       sym (any_map entry_in left batch.entries.items)
-      ∙ ap (list_any left) (whole_batch range.limit (within range p.entries) (map entry_in batch.entries.items) (option_map (λ v. v.items) batch.next) (next_same batch.next ∙ end) p.right)
+      ∙ ap (list_any left)
+      (whole_batch range.limit (within range p.entries) (map entry_in batch.entries.items) (option_map (λ v. v.items) batch.next)
+      (next_same batch.next ∙ end) p.right)
       ∙ ap (λ (k : List ℕ). list_any left (window k (option_map (λ b. b.now) range.to) p.entries)) from
       ∙ in_range front id (option_map (λ b. b.now) range.to) (λ k. not (is_among (edit_keys edits) k)) p.entries ends
 
@@ -69,7 +75,8 @@ some_items : (found : Option (Vec ℕ)) → is_some found ≡ is_some (option_ma
 some_items None = refl
 some_items (Some v) = refl
 
-pub tells_noted : (now : List Collection) (edits : List Edit) (number : ℕ) (id key : List ℕ) (found : Option (Vec ℕ)) (b : Bool) → Rises (edit_keys edits) → key ≡ key_under number 0 id
+pub tells_noted : (now : List Collection) (edits : List Edit) (number : ℕ) (id key : List ℕ) (found : Option (Vec ℕ)) (b : Bool) → Rises (edit_keys edits)
+    → key ≡ key_under number 0 id
     → b ≡ unwrap_or (option_map is_some (edit_at key edits)) (is_some found) → IsInTree (IsValueAt key) now found → TellsDocument edits number id now b
 tells_noted now edits number id key found b rises keyed told p = record {
   entries = p.entries;

@@ -100,10 +100,12 @@ module _ {D X : Type 0} (history : D → History) (IsRight : List Entry → X �
         record { entries = t.after; spells = t.spells_now; state = t.now_state; right = right };
   }
     where
-      subst_result : (x : X) → result ≡ Ok x → (entries : List Entry) → MatchResult result (IsRight entries) (HasTreeCause (store_of history old.pager) (store_of history pager)) → IsRight entries x
+      subst_result : (x : X) → result ≡ Ok x → (entries : List Entry)
+          → MatchResult result (IsRight entries) (HasTreeCause (store_of history old.pager) (store_of history pager)) → IsRight entries x
       subst_result x is entries answer = rw is at answer
 
-  pub reads_failed : {Y : Type 0} (Q : List Collection → Y → Type 0) (e : TreeFault) → result ≡ Err e → is_stopped old ≡ false → Reads history Q (Err (refusal_of e)) old new
+  pub reads_failed : {Y : Type 0} (Q : List Collection → Y → Type 0) (e : TreeFault) → result ≡ Err e → is_stopped old ≡ false
+      → Reads history Q (Err (refusal_of e)) old new
   reads_failed Q e is running = record {
     on = looks.grows;
     unchanged = unchanged_there;
@@ -113,7 +115,8 @@ module _ {D X : Type 0} (history : D → History) (IsRight : List Entry → X �
         cause_there e (cause_of (IsRight t.after) (looks.yields t.pages t.after t.turn.holds k));
   }
     where
-      cause_of : (P : X → Type 0) → MatchResult result P (HasTreeCause (store_of history old.pager) (store_of history pager)) → HasTreeCause (store_of history old.pager) (store_of history pager) e
+      cause_of : (P : X → Type 0) → MatchResult result P (HasTreeCause (store_of history old.pager) (store_of history pager))
+          → HasTreeCause (store_of history old.pager) (store_of history pager) e
       cause_of P answer = rw is at answer
 
 -- ---- all entries
@@ -127,11 +130,14 @@ module _ {D X Y : Type 0} (history : D → History) (root : ℕ) (P : List Entry
   pub looks_refused : (e : TreeFault) → LooksUp history root P (Err e) old new → LooksUp history root Q (Err e) old new
   looks_refused e looks = record { grows = looks.grows; same = looks.same; yields = looks.yields }
 
-  pub looks_on : (x : X) (y : Y) → LooksUp history root P (Ok x) old new → ((entries : List Entry) → P entries x → Q entries y) → LooksUp history root Q (Ok y) old new
+  pub looks_on : (x : X) (y : Y) → LooksUp history root P (Ok x) old new → ((entries : List Entry) → P entries x → Q entries y)
+      → LooksUp history root Q (Ok y) old new
   looks_on x y looks on = record { grows = looks.grows; same = looks.same; yields = λ pages entries has k. on entries (looks.yields pages entries has k) }
 
-  pub looks_never : (x : X) (e : TreeFault) → LooksUp history root P (Ok x) old new → ((entries : List Entry) → P entries x → ⊥) → LooksUp history root Q (Err e) old new
-  looks_never x e looks never = record { grows = looks.grows; same = looks.same; yields = λ pages entries has k. absurd (never entries (looks.yields pages entries has k)) }
+  pub looks_never : (x : X) (e : TreeFault) → LooksUp history root P (Ok x) old new → ((entries : List Entry) → P entries x → ⊥)
+      → LooksUp history root Q (Err e) old new
+  looks_never x e looks never = record
+      { grows = looks.grows; same = looks.same; yields = λ pages entries has k. absurd (never entries (looks.yields pages entries has k)) }
 
 pub next_same : (next : Option (Vec ℕ)) → is_some (option_map (λ v. v.items) next) ≡ is_some next
 next_same None = refl
@@ -151,11 +157,13 @@ module _ {D : Type 0} (history : D → History) (old : State D) (pager : PagerSt
   }
     where
       answer : (result : Result (Vec OwnEntry) TreeFault) (r : Result (Vec OwnEntry) Refusal) → AnswersAs result r → (entries : List Entry)
-          → MatchResult result (λ all. map entry_in all.items ≡ entries) (HasTreeCause (store_of history old.pager) (store_of history pager)) → MatchResult r (λ all. map entry_in all.items ≡ entries) (HasCause history old there)
+          → MatchResult result (λ all. map entry_in all.items ≡ entries) (HasTreeCause (store_of history old.pager) (store_of history pager))
+          → MatchResult r (λ all. map entry_in all.items ≡ entries) (HasCause history old there)
       answer (Ok x) (Ok y) same entries right = subst (λ (all : Vec OwnEntry). map entry_in all.items ≡ entries) same right
       answer (Ok x) (Err e) same entries right = absurd same
       answer (Err f) (Ok y) same entries cause = absurd same
-      answer (Err f) (Err e) same entries cause = subst (HasCause history old there) (sym same) (cause_there history (λ entries all. map entry_in all.items ≡ entries) old pager result looks f cause)
+      answer (Err f) (Err e) same entries cause =
+          subst (HasCause history old there) (sym same) (cause_there history (λ entries all. map entry_in all.items ≡ entries) old pager result looks f cause)
 
 pub entries_stopped : {D : Type 0} (history : D → History) (old : State D) → is_stopped old ≡ true → ReadsEntries history (Err refusals.StorageFailed) old old
 entries_stopped history old stopped = record {
@@ -175,9 +183,11 @@ window_all (x ∷ xs) = first x.key ∙ ap (λ (l : List Entry). x ∷ l) (windo
     first (b ∷ bs) = refl
 
 -- what is read of all keys, up to more than any vector holds
-pub whole_read : (limit : ℕ) (batch : Batch) (entries : List Entry) → is_some batch.next ≡ false → Holds limit (window [] None entries) batch → map entry_in batch.entries.items ≡ entries
+pub whole_read : (limit : ℕ) (batch : Batch) (entries : List Entry) → is_some batch.next ≡ false → Holds limit (window [] None entries) batch
+    → map entry_in batch.entries.items ≡ entries
 whole_read limit batch entries end right =
-    whole_batch limit (window [] None entries) (map entry_in batch.entries.items) (option_map (λ v. v.items) batch.next) (next_same batch.next ∙ end) right ∙ window_all entries
+    whole_batch limit (window [] None entries) (map entry_in batch.entries.items) (option_map (λ v. v.items) batch.next) (next_same batch.next ∙ end) right
+    ∙ window_all entries
 
 pub no_next : (batch : Batch) (entries : List Entry) → is_some batch.next ≡ true → Holds 18446744073709551615 (window [] None entries) batch → ⊥
 no_next batch entries more right = go (option_map (λ v. v.items) batch.next) (next_same batch.next ∙ more) right
@@ -192,7 +202,8 @@ module _ {D X Y : Type 0} (history : D → History) (P : List Collection → X �
   pub reads_refused : (e : Refusal) → Reads history P (Err e) old new → Reads history Q (Err e) old new
   reads_refused e reads = record { on = reads.on; unchanged = reads.unchanged; same = reads.same; answers = reads.answers }
 
-  pub reads_on : (x : X) (r : Result Y Refusal) → Reads history P (Ok x) old new → ((now : List Collection) → P now x → OrMemory (Q now) r) → Reads history Q r old new
+  pub reads_on : (x : X) (r : Result Y Refusal) → Reads history P (Ok x) old new → ((now : List Collection) → P now x → OrMemory (Q now) r)
+      → Reads history Q r old new
   reads_on x r reads on = record {
     on = reads.on;
     unchanged = reads.unchanged;
@@ -222,7 +233,8 @@ module _ {D A Y : Type 0} (history : D → History) (Is : List Collection → A 
     answers = λ k start now has asked so. or_cause_of (Q now asked) r (on now asked so (reads.answers k start now has));
   }
 
-  pub asked_refused : {X : Type 0} (P : List Collection → A → X → Type 0) (e : Refusal) → ReadsOf history Is P (Err e) old new → ReadsOf history Is Q (Err e) old new
+  pub asked_refused : {X : Type 0} (P : List Collection → A → X → Type 0) (e : Refusal) → ReadsOf history Is P (Err e) old new
+      → ReadsOf history Is Q (Err e) old new
   asked_refused P e reads = record { on = reads.on; unchanged = reads.unchanged; same = reads.same; answers = reads.answers }
 
   pub asked_on : {X : Type 0} (P : List Collection → A → X → Type 0) (x : X) (r : Result Y Refusal) → ReadsOf history Is P (Ok x) old new
@@ -235,8 +247,10 @@ module _ {D A Y : Type 0} (history : D → History) (Is : List Collection → A 
   }
 
 -- the same answer, asked of what not all collections have
-module _ {D A X : Type 0} (history : D → History) (Is : List Collection → A → Type 0) (P : List Collection → X → Type 0) (Q : List Collection → A → X → Type 0) (old new : State D) where
-  pub asks_same : (r : Result X Refusal) → Reads history P r old new → ((now : List Collection) (asked : A) (x : X) → Is now asked → P now x → Q now asked x) → ReadsOf history Is Q r old new
+module _ {D A X : Type 0} (history : D → History) (Is : List Collection → A → Type 0) (P : List Collection → X → Type 0) (Q : List Collection → A → X → Type 0)
+    (old new : State D) where
+  pub asks_same : (r : Result X Refusal) → Reads history P r old new → ((now : List Collection) (asked : A) (x : X) → Is now asked → P now x → Q now asked x)
+      → ReadsOf history Is Q r old new
   asks_same r reads on = record {
     on = reads.on;
     unchanged = reads.unchanged;
@@ -244,6 +258,7 @@ module _ {D A X : Type 0} (history : D → History) (Is : List Collection → A 
     answers = λ k start now has asked so. either (P now) (Q now asked) r (λ x p. on now asked x so p) (reads.answers k start now has);
   }
     where
-      either : (P Q : X → Type 0) (r : Result X Refusal) → ((x : X) → P x → Q x) → MatchResult r P (HasCause history old new) → MatchResult r Q (HasCause history old new)
+      either : (P Q : X → Type 0) (r : Result X Refusal) → ((x : X) → P x → Q x) → MatchResult r P (HasCause history old new)
+          → MatchResult r Q (HasCause history old new)
       either P Q (Ok x) on p = on x p
       either P Q (Err e) on cause = cause

@@ -50,7 +50,8 @@ pub record IsNow {D : Type 0} (history : D → History) (began : PagerState D) (
   pub spells : Spells after now
   pub state : IsLawfulState now
 
-pub turned : {D : Type 0} (history : D → History) (old new : State D) (start before after : List Collection) (t : IsTurnOf history old start before) → IsNow history t.began t.live new after → IsTurnOf history new start after
+pub turned : {D : Type 0} (history : D → History) (old new : State D) (start before after : List Collection) (t : IsTurnOf history old start before)
+    → IsNow history t.began t.live new after → IsTurnOf history new start after
 turned history old new start before after t n = record {
   began = t.began;
   live = t.live;
@@ -67,14 +68,17 @@ turned history old new start before after t n = record {
 
 -- What a call makes of the tree, it makes of the state.
 pub state_on : {D : Type 0} (history : D → History) (old new : State D) (start before after : List Collection) → GoesFrom history old new
-    → (KeepsWord (disk_history history new) → (t : IsTurnOf history old start before) → IsNow history t.began t.live new after) → HasState history old start before → HasState history new start after
+    → (KeepsWord (disk_history history new) → (t : IsTurnOf history old start before) → IsNow history t.began t.live new after)
+    → HasState history old start before → HasState history new start after
 state_on history old new start before after goes makes has running k =
     let t : IsTurnOf history old start before = has (sym (stopped_same history old.pager new.pager goes.stays) ∙ running) (goes.frame k).word in
     turned history old new start before after t (makes k t)
 
 -- a turn that made another tree
-pub turn_on : {D : Type 0} (history : D → History) (began old new : PagerState D) (root changed : ℕ) (live pages : List ℕ) (before after : List Entry) → IsTurn history began old root live pages before → Grows (store_of history old) (store_of history new)
-    → KeepsWord (pager_history history new) → (c : IsChanged (store_of history old) (store_of history new) changed after pages) → IsTurn history began new changed live c.after after
+pub turn_on : {D : Type 0} (history : D → History) (began old new : PagerState D) (root changed : ℕ) (live pages : List ℕ) (before after : List Entry)
+    → IsTurn history began old root live pages before → Grows (store_of history old) (store_of history new)
+    → KeepsWord (pager_history history new) → (c : IsChanged (store_of history old) (store_of history new) changed after pages)
+    → IsTurn history began new changed live c.after after
 turn_on history began old new root changed live pages before after turn grows k c = record {
   grows = grows_trans (store_of history began) (store_of history old) (store_of history new) turn.grows grows;
   holds = c.map;
@@ -82,8 +86,10 @@ turn_on history began old new root changed live pages before after turn grows k 
 }
 
 -- a tree that stays, where no page was made or retired
-pub tree_stays : {D : Type 0} (history : D → History) (old new : PagerState D) (root : ℕ) (pages : List ℕ) (entries : List Entry) → HasMap (store_of history old) root pages entries → Frame (store_of history old) (store_of history new)
-    → (store_of history new).made ≡ (store_of history old).made → (store_of history new).retired ≡ (store_of history old).retired → IsChanged (store_of history old) (store_of history new) root entries pages
+pub tree_stays : {D : Type 0} (history : D → History) (old new : PagerState D) (root : ℕ) (pages : List ℕ) (entries : List Entry)
+    → HasMap (store_of history old) root pages entries → Frame (store_of history old) (store_of history new)
+    → (store_of history new).made ≡ (store_of history old).made → (store_of history new).retired ≡ (store_of history old).retired
+    → IsChanged (store_of history old) (store_of history new) root entries pages
 tree_stays history old new root pages entries map frame made retired = record {
   after = pages;
   map = old_trees_stay (store_of history old) (store_of history new) root pages entries frame map;
@@ -92,7 +98,8 @@ tree_stays history old new root pages entries map frame made retired = record {
 
 -- Where nothing was made or retired, nothing changes.
 pub state_stays : {D : Type 0} (history : D → History) (old new : State D) (start now : List Collection) → GoesFrom history old new → new.root ≡ old.root
-    → (KeepsWord (disk_history history new) → (store_of history new.pager).made ≡ (store_of history old.pager).made) → (KeepsWord (disk_history history new) → (store_of history new.pager).retired ≡ (store_of history old.pager).retired)
+    → (KeepsWord (disk_history history new) → (store_of history new.pager).made ≡ (store_of history old.pager).made)
+    → (KeepsWord (disk_history history new) → (store_of history new.pager).retired ≡ (store_of history old.pager).retired)
     → HasState history old start now → HasState history new start now
 state_stays history old new start now goes same made retired =
     state_on history old new start now now goes (λ k t.
@@ -100,7 +107,8 @@ state_stays history old new start now goes same made retired =
     record {
       pages = c.after;
       after = t.after;
-      turn = subst (λ (root : ℕ). IsTurn history t.began new.pager root t.live c.after t.after) (sym same) (turn_on history t.began old.pager new.pager old.root old.root t.live t.pages t.after t.after t.turn goes k c);
+      turn = subst (λ (root : ℕ). IsTurn history t.began new.pager root t.live c.after t.after) (sym same)
+          (turn_on history t.began old.pager new.pager old.root old.root t.live t.pages t.after t.after t.turn goes k c);
       spells = t.spells_now;
       state = t.now_state;
     })
@@ -108,7 +116,8 @@ state_stays history old new start now goes same made retired =
 -- ---- the beginning
 
 -- no turn runs
-pub begins : {D : Type 0} (history : D → History) (c : State D) (live : List ℕ) (entries : List Entry) (now : List Collection) → c.root ≡ (stores.durable_root c.pager.store).tree → KeepsWord (disk_history history c)
+pub begins : {D : Type 0} (history : D → History) (c : State D) (live : List ℕ) (entries : List Entry) (now : List Collection)
+    → c.root ≡ (stores.durable_root c.pager.store).tree → KeepsWord (disk_history history c)
     → IsBegun history c.pager live entries → Spells entries now → IsLawfulState now → IsTurnOf history c now now
 begins history c live entries now is k begun spells state = record {
   began = c.pager;

@@ -18,7 +18,8 @@ use Rattle.index.proofs.OtherKeyLaws.{tells_other_key}
 use Rattle.index.proofs.SharedKeyLemmas.{is_there, swapped}
 use Rattle.collections.specs.OtherKeys.{any_other_key, is_taken}
 
-module _ (entries : List Entry) (cs : List Collection) (c : Collection) (d : Pairs) (spells : SpellsLawful entries cs) (found : find_collection cs c.name ≡ Some c) (good : IsStorable d) where
+module _ (entries : List Entry) (cs : List Collection) (c : Collection) (d : Pairs) (spells : SpellsLawful entries cs)
+    (found : find_collection cs c.name ≡ Some c) (good : IsStorable d) where
   abbrev id : List ℕ
   id = tree_text (key_of d)
 
@@ -31,12 +32,14 @@ module _ (entries : List Entry) (cs : List Collection) (c : Collection) (d : Pai
       let rest = keys_told i listed keys (λ k there. within k (inr there)) in
       λ t. first t || rest t
 
-  index_told : (i : Definition) → Contains c.indexes i → any_other_key c.number i.number id (encoded_keys i.fields d) entries ≡ list_any (λ e. is_other d e && share_key i.fields d e) c.documents
+  index_told : (i : Definition) → Contains c.indexes i
+      → any_other_key c.number i.number id (encoded_keys i.fields d) entries ≡ list_any (λ e. is_other d e && share_key i.fields d e) c.documents
   index_told i listed =
       keys_told i listed (encoded_keys i.fields d) (λ key there. there)
       ∙ swapped (λ (e : Pairs) (key : List ℕ). is_among (encoded_keys i.fields e) key) (is_other d) (encoded_keys i.fields d) c.documents
 
-  all_told : (is : List Definition) → ((i : Definition) → Among i is → Contains c.indexes i) → is_taken c.number id is (map (λ i. encoded_keys i.fields d) is) entries ≡ list_any (clashes c.documents d) is
+  all_told : (is : List Definition) → ((i : Definition) → Among i is → Contains c.indexes i)
+      → is_taken c.number id is (map (λ i. encoded_keys i.fields d) is) entries ≡ list_any (clashes c.documents d) is
   all_told [] within = refl
   all_told (i ∷ is) within =
       let first = index_told i (within i (inl refl)) in

@@ -1,5 +1,6 @@
 -- Looks at the entries of a turn's tree, one after the other.
-use Rattle.std.proofs.Common.{◌≡◌, inl, ℕ, ◌+◌, ◌<◌, ◌≤◌, Bool, true, false, not, ◌||◌, ◌&&◌, List, [], ◌∷◌, length, drop, get_or, map, Ok, Err, refl, sym, ap, ◌∙◌, arith}
+use Rattle.std.proofs.Common.{◌≡◌, inl, ℕ, ◌+◌, ◌<◌, ◌≤◌, Bool, true, false, not, ◌||◌, ◌&&◌, List, [], ◌∷◌, length, drop, get_or, map, Ok, Err, refl, sym, ap}
+use Rattle.std.proofs.Common.{◌∙◌, arith}
 use Rattle.std.specs.Prelude.{MatchResult, Result, is_some}
 use Rattle.std.specs.Global.{Vec}
 use Rattle.std.specs.List.{list_any}
@@ -33,7 +34,8 @@ use Rattle.collections.proofs.ReadingLemmas.{next_same}
 
 -- ---- one look and another
 
-pub tree_memory : {D X : Type 0} (history : D → History) (Q : List Entry → X → Type 0) (old : State D) (e : Refusal) → e ≡ refusals.OutOfMemory → ReadsTree history Q (Err e) old old
+pub tree_memory : {D X : Type 0} (history : D → History) (Q : List Entry → X → Type 0) (old : State D) (e : Refusal) → e ≡ refusals.OutOfMemory
+    → ReadsTree history Q (Err e) old old
 tree_memory history Q old e is = record {
   on = goes_from_itself history old;
   unchanged = refl;
@@ -42,11 +44,14 @@ tree_memory history Q old e is = record {
   answers = λ k entries has. inl is;
 }
 
-pub tree_refused : {D X Y : Type 0} (history : D → History) (P : List Entry → X → Type 0) (Q : List Entry → Y → Type 0) (old new : State D) (e : Refusal) → ReadsTree history P (Err e) old new → ReadsTree history Q (Err e) old new
-tree_refused history P Q old new e reads = record { on = reads.on; unchanged = reads.unchanged; same = reads.same; stays = reads.stays; answers = reads.answers }
+pub tree_refused : {D X Y : Type 0} (history : D → History) (P : List Entry → X → Type 0) (Q : List Entry → Y → Type 0) (old new : State D) (e : Refusal)
+    → ReadsTree history P (Err e) old new → ReadsTree history Q (Err e) old new
+tree_refused history P Q old new e reads = record
+    { on = reads.on; unchanged = reads.unchanged; same = reads.same; stays = reads.stays; answers = reads.answers }
 
 -- an answer made of what was read, or want of memory
-pub tree_on : {D X Y : Type 0} (history : D → History) (P : List Entry → X → Type 0) (Q : List Entry → Y → Type 0) (old new : State D) (x : X) (r : Result Y Refusal) → ReadsTree history P (Ok x) old new
+pub tree_on : {D X Y : Type 0} (history : D → History) (P : List Entry → X → Type 0) (Q : List Entry → Y → Type 0) (old new : State D) (x : X)
+    (r : Result Y Refusal) → ReadsTree history P (Ok x) old new
     → ((entries : List Entry) → P entries x → MatchResult r (Q entries) (λ e. e ≡ refusals.OutOfMemory)) → ReadsTree history Q r old new
 tree_on {D} {X} {Y} history P Q old new x r reads on = record {
   on = reads.on;
@@ -61,8 +66,10 @@ tree_on {D} {X} {Y} history P Q old new x r reads on = record {
     or_cause (Err e) R is = inl is
 
 -- a look and then another, of which the answer is that of both
-pub tree_then : {D X Y : Type 0} (history : D → History) (P : List Entry → X → Type 0) (Q R : List Entry → Y → Type 0) (old mid new : State D) (x : X) (r : Result Y Refusal)
-    → ReadsTree history P (Ok x) old mid → ReadsTree history Q r mid new → ((entries : List Entry) (y : Y) → P entries x → Q entries y → R entries y) → ReadsTree history R r old new
+pub tree_then : {D X Y : Type 0} (history : D → History) (P : List Entry → X → Type 0) (Q R : List Entry → Y → Type 0) (old mid new : State D) (x : X)
+    (r : Result Y Refusal)
+    → ReadsTree history P (Ok x) old mid → ReadsTree history Q r mid new → ((entries : List Entry) (y : Y) → P entries x → Q entries y → R entries y)
+    → ReadsTree history R r old new
 tree_then {D} {X} {Y} history P Q R old mid new x r first second both = record {
   on = goes_further history old mid new first.on second.on;
   unchanged = second.unchanged ∙ first.unchanged;
@@ -73,7 +80,8 @@ tree_then {D} {X} {Y} history P Q R old mid new x r first second both = record {
       joined entries k_mid r (first.answers k_mid entries has) (second.answers k entries (first.stays k_mid entries has));
 }
   where
-    joined : (entries : List Entry) → KeepsWord (disk_history history mid) → (r : Result Y Refusal) → P entries x → MatchResult r (Q entries) (HasCause history mid new) → MatchResult r (R entries) (HasCause history old new)
+    joined : (entries : List Entry) → KeepsWord (disk_history history mid) → (r : Result Y Refusal) → P entries x
+        → MatchResult r (Q entries) (HasCause history mid new) → MatchResult r (R entries) (HasCause history old new)
     joined entries k (Ok y) p q = both entries y p q
     joined entries k (Err e) p cause = cause_from history old mid new first.on k e cause
 
@@ -93,15 +101,20 @@ pub record LooksTo {D : Type 0} (history : D → History) (test rest : List Entr
 
 module _ {D : Type 0} (history : D → History) (test : List Entry → Bool) where
   pub looks_none : (old : State D) → LooksTo history test test old old
-  looks_none old = record { on = goes_from_itself history old; unchanged = refl; same = λ start now has. has; stays = λ k entries has. has; left = λ k entries has. refl }
+  looks_none old = record
+      { on = goes_from_itself history old; unchanged = refl; same = λ start now has. has; stays = λ k entries has. has; left = λ k entries has. refl }
 
-  as_read : (rest : List Entry → Bool) (old new : State D) → LooksTo history test rest old new → ReadsTree history (λ entries (u : Bool). test entries ≡ rest entries) (Ok true) old new
+  as_read : (rest : List Entry → Bool) (old new : State D) → LooksTo history test rest old new
+      → ReadsTree history (λ entries (u : Bool). test entries ≡ rest entries) (Ok true) old new
   as_read rest old new far = record { on = far.on; unchanged = far.unchanged; same = far.same; stays = far.stays; answers = far.left }
 
-  module _ (rest one later : List Entry → Bool) (old mid new : State D) (far : LooksTo history test rest old mid) (split : (entries : List Entry) → rest entries ≡ (one entries || later entries)) where
+  module _ (rest one later : List Entry → Bool) (old mid new : State D) (far : LooksTo history test rest old mid) (split : (entries : List Entry)
+      → rest entries ≡ (one entries || later entries)) where
     pub looks_step : ReadsTree history (IsTest one) (Ok false) mid new → LooksTo history test later old new
     looks_step reads =
-        let both = tree_then history (λ entries (u : Bool). test entries ≡ rest entries) (IsTest one) (λ entries found. (found ≡ one entries) × (test entries ≡ rest entries)) old mid new true (Ok false) (as_read rest old mid far) reads (λ entries y p q. (q, p)) in
+        let both = tree_then history (λ entries (u : Bool). test entries ≡ rest entries) (IsTest one)
+        (λ entries found. (found ≡ one entries) × (test entries ≡ rest entries)) old mid new true (Ok false) (as_read rest old mid far) reads
+        (λ entries y p q. (q, p)) in
         record {
           on = both.on;
           unchanged = both.unchanged;
@@ -115,18 +128,24 @@ module _ {D : Type 0} (history : D → History) (test : List Entry → Bool) whe
     pub looks_found : ReadsTree history (IsTest one) (Ok true) mid new → ReadsTree history (IsTest test) (Ok true) old new
     looks_found reads =
         tree_on history (λ entries found. (found ≡ one entries) × (test entries ≡ rest entries)) (IsTest test) old new true (Ok true)
-        (tree_then history (λ entries (u : Bool). test entries ≡ rest entries) (IsTest one) (λ entries found. (found ≡ one entries) × (test entries ≡ rest entries)) old mid new true (Ok true) (as_read rest old mid far) reads (λ entries y p q. (q, p)))
+        (tree_then history (λ entries (u : Bool). test entries ≡ rest entries) (IsTest one)
+        (λ entries found. (found ≡ one entries) × (test entries ≡ rest entries)) old mid new true (Ok true) (as_read rest old mid far) reads
+        (λ entries y p q. (q, p)))
         (λ entries told. sym (told.1 ∙ split entries ∙ ap (λ (b : Bool). b || later entries) (sym told.0)))
 
     pub looks_failed : (e : Refusal) → ReadsTree history (IsTest one) (Err e) mid new → ReadsTree history (IsTest test) (Err e) old new
     looks_failed e reads =
         tree_refused history (λ entries found. (found ≡ one entries) × (test entries ≡ rest entries)) (IsTest test) old new e
-        (tree_then history (λ entries (u : Bool). test entries ≡ rest entries) (IsTest one) (λ entries found. (found ≡ one entries) × (test entries ≡ rest entries)) old mid new true (Err e) (as_read rest old mid far) reads (λ entries y p q. (q, p)))
+        (tree_then history (λ entries (u : Bool). test entries ≡ rest entries) (IsTest one)
+        (λ entries found. (found ≡ one entries) × (test entries ≡ rest entries)) old mid new true (Err e) (as_read rest old mid far) reads
+        (λ entries y p q. (q, p)))
 
   -- nothing is left to be looked for
-  pub looks_end : (rest : List Entry → Bool) (old new : State D) → LooksTo history test rest old new → ((entries : List Entry) → rest entries ≡ false) → ReadsTree history (IsTest test) (Ok false) old new
+  pub looks_end : (rest : List Entry → Bool) (old new : State D) → LooksTo history test rest old new → ((entries : List Entry) → rest entries ≡ false)
+      → ReadsTree history (IsTest test) (Ok false) old new
   looks_end rest old new far none =
-      tree_on history (λ entries (u : Bool). test entries ≡ rest entries) (IsTest test) old new true (Ok false) (as_read rest old new far) (λ entries told. sym (told ∙ none entries))
+      tree_on history (λ entries (u : Bool). test entries ≡ rest entries) (IsTest test) old new true (Ok false) (as_read rest old new far)
+      (λ entries told. sym (told ∙ none entries))
 
 -- ---- a key
 
@@ -145,9 +164,11 @@ module _ {D : Type 0} (history : D → History) (number : ℕ) (i : Definition) 
 
   pub there_alone : i.is_unique ≡ false → ReadsTree history Has (Ok true) old mid → ReadsTree history Lacks (Ok false) old mid
   there_alone plain reads =
-      tree_on history Has Lacks old mid true (Ok false) reads (λ entries told. λ k. not (told k) || (sym plain k && has_other_key number i.number key id entries))
+      tree_on history Has Lacks old mid true (Ok false) reads
+      (λ entries told. λ k. not (told k) || (sym plain k && has_other_key number i.number key id entries))
 
-  pub others_there : i.is_unique ≡ true → ReadsTree history Has (Ok true) old mid → (r : Result Bool Refusal) → ReadsTree history (IsTest (has_other_key number i.number key id)) r mid new → ReadsTree history Lacks r old new
+  pub others_there : i.is_unique ≡ true → ReadsTree history Has (Ok true) old mid → (r : Result Bool Refusal)
+      → ReadsTree history (IsTest (has_other_key number i.number key id)) r mid new → ReadsTree history Lacks r old new
   others_there unique first r second =
       tree_then history Has (IsTest (has_other_key number i.number key id)) Lacks old mid new true r first second
       (λ entries y has other. other ∙ (λ k. not (has k) || (sym unique k && has_other_key number i.number key id entries)))
@@ -166,36 +187,47 @@ and_true : (b : Bool) → b ≡ (b && true)
 and_true true = refl
 and_true false = refl
 
-module _ (number index : ℕ) (key id front : List ℕ) (range : Range) (batch : Batch) (front_is : front ≡ key_under number index key) (from : range.from.now ≡ front) (ends : IsEndOf front (option_map (λ b. b.now) range.to))
+module _ (number index : ℕ) (key id front : List ℕ) (range : Range) (batch : Batch) (front_is : front ≡ key_under number index key)
+    (from : range.from.now ≡ front) (ends : IsEndOf front (option_map (λ b. b.now) range.to))
     (end : is_some batch.next ≡ false) (entries : List Entry) (p : IsBatchOf range entries batch) where
   pub others_told : list_any (λ x. is_another front id (entry_in x).key) batch.entries.items ≡ has_other_key number index key id entries
   others_told =
       sym (any_map entry_in (λ x. is_another front id x.key) batch.entries.items)
-      ∙ ap (list_any (λ x. is_another front id x.key)) (whole_batch range.limit (within range entries) (map entry_in batch.entries.items) (option_map (λ v. v.items) batch.next) (next_same batch.next ∙ end) p)
+      ∙ ap (list_any (λ x. is_another front id x.key))
+      (whole_batch range.limit (within range entries) (map entry_in batch.entries.items) (option_map (λ v. v.items) batch.next) (next_same batch.next ∙ end) p)
       ∙ ap (λ (k : List ℕ). list_any (λ x. is_another front id x.key) (window k (option_map (λ b. b.now) range.to) entries)) from
-      ∙ any_same (λ x. is_another front id x.key) (λ x. is_another front id x.key && true) (window front (option_map (λ b. b.now) range.to) entries) (λ x. and_true (is_another front id x.key))
+      ∙ any_same (λ x. is_another front id x.key) (λ x. is_another front id x.key && true) (window front (option_map (λ b. b.now) range.to) entries)
+      (λ x. and_true (is_another front id x.key))
       ∙ in_range front id (option_map (λ b. b.now) range.to) (λ k. true) entries ends
       ∙ sym (any_same (λ x. is_another front id x.key) (λ x. is_another front id x.key && true) entries (λ x. and_true (is_another front id x.key)))
       ∙ ap (λ (k : List ℕ). list_any (λ x. is_another k id x.key) entries) front_is
 
 -- ---- what is left of keys and of indexes
 
-pub key_left : (number : ℕ) (i : Definition) (id : List ℕ) (keys : List (Vec ℕ)) (at : ℕ) (item : Vec ℕ) (key : List ℕ) → at < length keys → item ≡ get_or keys at item → key ≡ item.items → (entries : List Entry)
-    → lacks_one number i id (texts_of (drop at keys)) entries ≡ (lacks_key number i id key entries || lacks_one number i id (texts_of (drop (at + 1) keys)) entries)
+pub key_left : (number : ℕ) (i : Definition) (id : List ℕ) (keys : List (Vec ℕ)) (at : ℕ) (item : Vec ℕ) (key : List ℕ) → at < length keys
+    → item ≡ get_or keys at item → key ≡ item.items → (entries : List Entry)
+    → lacks_one number i id (texts_of (drop at keys)) entries
+    ≡ (lacks_key number i id key entries || lacks_one number i id (texts_of (drop (at + 1) keys)) entries)
 key_left number i id keys at item key within is same entries =
     ap (λ (ks : List (Vec ℕ)). lacks_one number i id (texts_of ks) entries) (left_step keys at item within is)
     ∙ ap (λ (k : List ℕ). lacks_key number i id k entries || lacks_one number i id (texts_of (drop (at + 1) keys)) entries) (sym same)
 
-pub no_keys_left : (number : ℕ) (i : Definition) (id : List ℕ) (keys : List (Vec ℕ)) (at : ℕ) → length keys ≤ at → (entries : List Entry) → lacks_one number i id (texts_of (drop at keys)) entries ≡ false
+pub no_keys_left : (number : ℕ) (i : Definition) (id : List ℕ) (keys : List (Vec ℕ)) (at : ℕ) → length keys ≤ at → (entries : List Entry)
+    → lacks_one number i id (texts_of (drop at keys)) entries ≡ false
 no_keys_left number i id keys at whole entries = ap (λ (ks : List (Vec ℕ)). lacks_one number i id (texts_of ks) entries) (drop_all at keys whole)
 
-pub index_left : (number : ℕ) (id : List ℕ) (is : List Definition) (all : List (Vec (Vec ℕ))) (at : ℕ) (i : Definition) (ks : Vec (Vec ℕ)) (keys : List (Vec ℕ)) → at < length is → length all ≡ length is
+pub index_left : (number : ℕ) (id : List ℕ) (is : List Definition) (all : List (Vec (Vec ℕ))) (at : ℕ) (i : Definition) (ks : Vec (Vec ℕ))
+    (keys : List (Vec ℕ)) → at < length is → length all ≡ length is
     → i ≡ get_or is at i → ks ≡ get_or all at ks → keys ≡ ks.items → (entries : List Entry)
-    → lacks_any number id (drop at is) (map (λ k. texts_of k.items) (drop at all)) entries ≡ (lacks_one number i id (texts_of keys) entries || lacks_any number id (drop (at + 1) is) (map (λ k. texts_of k.items) (drop (at + 1) all)) entries)
+    → lacks_any number id (drop at is) (map (λ k. texts_of k.items) (drop at all)) entries
+    ≡ (lacks_one number i id (texts_of keys) entries || lacks_any number id (drop (at + 1) is) (map (λ k. texts_of k.items) (drop (at + 1) all)) entries)
 index_left number id is all at i ks keys within one_each this these same entries =
     let here : at < length all = omega (arith, within, one_each) in
     (λ j. lacks_any number id (left_step is at i within this j) (map (λ k. texts_of k.items) (left_step all at ks here these j)) entries)
-    ∙ ap (λ (ls : List (Vec ℕ)). lacks_one number i id (texts_of ls) entries || lacks_any number id (drop (at + 1) is) (map (λ k. texts_of k.items) (drop (at + 1) all)) entries) (sym same)
+    ∙ ap (λ (ls : List (Vec ℕ)). lacks_one number i id (texts_of ls) entries
+    || lacks_any number id (drop (at + 1) is) (map (λ k. texts_of k.items) (drop (at + 1) all)) entries) (sym same)
 
-pub no_indexes_left : (number : ℕ) (id : List ℕ) (is : List Definition) (all : List (Vec (Vec ℕ))) (at : ℕ) → length is ≤ at → (entries : List Entry) → lacks_any number id (drop at is) (map (λ k. texts_of k.items) (drop at all)) entries ≡ false
-no_indexes_left number id is all at whole entries = ap (λ (js : List Definition). lacks_any number id js (map (λ k. texts_of k.items) (drop at all)) entries) (drop_all at is whole)
+pub no_indexes_left : (number : ℕ) (id : List ℕ) (is : List Definition) (all : List (Vec (Vec ℕ))) (at : ℕ) → length is ≤ at → (entries : List Entry)
+    → lacks_any number id (drop at is) (map (λ k. texts_of k.items) (drop at all)) entries ≡ false
+no_indexes_left number id is all at whole entries =
+    ap (λ (js : List Definition). lacks_any number id js (map (λ k. texts_of k.items) (drop at all)) entries) (drop_all at is whole)

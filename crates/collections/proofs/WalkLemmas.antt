@@ -1,5 +1,6 @@
 -- What a walk makes of the documents from its key on.
-use Rattle.std.proofs.Common.{◌≡◌, ◌⊎◌, ℕ, suc, ◌+◌, ◌*◌, ◌<◌, ◌≤◌, Bool, true, false, not, List, [], ◌∷◌, ◌++◌, length, map, take, drop, refl, sym, ◌∙◌, ap, subst, arith, inl, inr, length-append, append_assoc}
+use Rattle.std.proofs.Common.{◌≡◌, ◌⊎◌, ℕ, suc, ◌+◌, ◌*◌, ◌<◌, ◌≤◌, Bool, true, false, not, List, [], ◌∷◌, ◌++◌, length, map, take, drop, refl, sym, ◌∙◌, ap}
+use Rattle.std.proofs.Common.{subst, arith, inl, inr, length-append, append_assoc}
 use Rattle.std.specs.Prelude.{◌&&◌, Option, Some, None, All, IfOk, Result, Ok, Err}
 use Rattle.std.specs.Option.{option_map}
 use Rattle.std.specs.Global.{Vec}
@@ -130,25 +131,36 @@ shorter_window from to (x ∷ xs) = by_test (not (is_lt (key_cmp x.key from)) &&
     by_test true less = omega (arith, less)
     by_test false less = omega (arith, less)
 
-pub begins_walk : {D : Type 0} (history : D → History) (c : State D) (number : ℕ) (walk : Walk) (first : Vec ℕ) → TreesFit history c.pager → walk.number ≡ number → walk.next ≡ Some first → first.items ≡ key_under number 0 []
+pub begins_walk : {D : Type 0} (history : D → History) (c : State D) (number : ℕ) (walk : Walk) (first : Vec ℕ) → TreesFit history c.pager
+    → walk.number ≡ number → walk.next ≡ Some first → first.items ≡ key_under number 0 []
     → walk.left ≡ 4294967295 → BeginsWalk history c number walk
 begins_walk history c number walk first fit same_number same_next same_key left running k start now of has numbered =
     let t : IsTurnOf history c start now = has running k in
     let key : List ℕ = key_under of.number 0 [] in
     let numbers : of.number ≡ walk.number = numbered.same ∙ sym same_number in
-    let next : next_key walk ≡ Some (key_under walk.number 0 []) = ap (option_map (λ v. v.items)) same_next ∙ ap Some same_key ∙ ap (λ (n : ℕ). Some (key_under n 0 [])) (sym same_number) in
+    let next : next_key walk ≡ Some (key_under walk.number 0 []) =
+    ap (option_map (λ v. v.items)) same_next ∙ ap Some same_key ∙ ap (λ (n : ℕ). Some (key_under n 0 [])) (sym same_number) in
     let listed : window key (Some (key_under of.number 1 [])) t.after ≡ map (document_entry of.number) of.documents =
-    lists_documents_from t.after now of key (record { lawful = t.now_state; spells = t.spells_now }) numbered.found (not_under_itself key) ∙ ap (map (document_entry of.number)) (all_documents of.number of.documents) in
+    lists_documents_from t.after now of key (record { lawful = t.now_state; spells = t.spells_now }) numbered.found (not_under_itself key)
+    ∙ ap (map (document_entry of.number)) (all_documents of.number of.documents) in
     let few : length of.documents ≤ 680 * 1048576 =
-    omega (arith, ap length listed, length-map of.documents (document_entry of.number), shorter_window key (Some (key_under of.number 1 [])) t.after, (fit t.began t.live t.before t.begun c.root t.pages t.after t.turn k).few) in
+    omega (
+      arith,
+      ap length listed,
+      length-map of.documents (document_entry of.number),
+      shorter_window key (Some (key_under of.number 1 [])) t.after,
+      (fit t.began t.live t.before t.begun c.root t.pages t.after t.turn k).few,
+    ) in
     record {
       collection = of;
       numbered = record { found = numbered.found; same = numbers };
       done = [];
       all = refl;
       behind = subst (λ (o : Option (List ℕ)). AreBehind walk.number o []) (sym next) tt;
-      ahead = subst (λ (o : Option (List ℕ)). AreAhead walk.number o of.documents) (sym next)
-          (not_under_itself (key_under walk.number 0 []), (split_at walk.number (key_under walk.number 0 []) [] of.documents (all_documents walk.number of.documents)).1);
+      ahead = subst (λ (o : Option (List ℕ)). AreAhead walk.number o of.documents) (sym next) (
+        not_under_itself (key_under walk.number 0 []),
+        (split_at walk.number (key_under walk.number 0 []) [] of.documents (all_documents walk.number of.documents)).1,
+      );
       room = omega (arith, few, left);
     }
 
@@ -169,8 +181,10 @@ all_of_none rest count is = (ap (λ (n : ℕ). take n rest) is ∙ take-length r
     none [] e = refl
     none (x ∷ xs) e = absurd (omega (arith, e))
 
-module _ (now : List Collection) (walk : Walk) (rest : List Pairs) (w : IsWalk now walk rest) (from : Vec ℕ) (next_is : walk.next ≡ Some from) (range : Range) (range_from : range.from.now ≡ from.items)
-    (range_to : option_map (λ b. b.now) range.to ≡ Some (key_under walk.number 1 [])) (some : 0 < range.limit) (batch : Batch) (p : IsInTree (IsBatchOf range) now batch) where
+module _ (now : List Collection) (walk : Walk) (rest : List Pairs) (w : IsWalk now walk rest) (from : Vec ℕ) (next_is : walk.next ≡ Some from) (range : Range)
+    (range_from : range.from.now ≡ from.items)
+    (range_to : option_map (λ b. b.now) range.to ≡ Some (key_under walk.number 1 [])) (some : 0 < range.limit) (batch : Batch)
+    (p : IsInTree (IsBatchOf range) now batch) where
   abbrev c : Collection
   c = w.collection
 
@@ -198,8 +212,11 @@ module _ (now : List Collection) (walk : Walk) (rest : List Pairs) (w : IsWalk n
   rest_is : documents_at walk.number key c.documents ≡ rest
   rest_is = ap (documents_at walk.number key) w.all ∙ at_rest walk.number key w.done rest behind_here ahead_here.1
 
-  listed_at : (n : ℕ) → c.number ≡ n → IsNotUnder key (key_under n 0 []) → window key (Some (key_under n 1 [])) p.entries ≡ map (document_entry n) (documents_at n key c.documents)
-  listed_at n is = subst (λ (n : ℕ). IsNotUnder key (key_under n 0 []) → window key (Some (key_under n 1 [])) p.entries ≡ map (document_entry n) (documents_at n key c.documents)) is
+  listed_at : (n : ℕ) → c.number ≡ n → IsNotUnder key (key_under n 0 [])
+      → window key (Some (key_under n 1 [])) p.entries ≡ map (document_entry n) (documents_at n key c.documents)
+  listed_at n is =
+      subst (λ (n : ℕ). IsNotUnder key (key_under n 0 [])
+      → window key (Some (key_under n 1 [])) p.entries ≡ map (document_entry n) (documents_at n key c.documents)) is
       (λ above. lists_documents_from p.entries now c key (record { lawful = p.state; spells = p.spells }) w.numbered.found above)
 
   listed : within range p.entries ≡ map (document_entry walk.number) (documents_at walk.number key c.documents)
@@ -209,7 +226,8 @@ module _ (now : List Collection) (walk : Walk) (rest : List Pairs) (w : IsWalk n
   count_is = length-map batch.entries.items entry_in
 
   rest_all : All IsStorable rest
-  rest_all = subst (All IsStorable) (ap (drop (length w.done)) w.all ∙ drop-append_seam w.done rest) (All-drop IsStorable (length w.done) c.documents kept_here.storable)
+  rest_all = subst (All IsStorable) (ap (drop (length w.done)) w.all ∙ drop-append_seam w.done rest)
+      (All-drop IsStorable (length w.done) c.documents kept_here.storable)
 
   some_all : All IsStorable (take count rest)
   some_all = All-take IsStorable count rest rest_all
@@ -244,7 +262,8 @@ module _ (now : List Collection) (walk : Walk) (rest : List Pairs) (w : IsWalk n
   at_cut : (next : List ℕ) → IsBatch range.limit (within range p.entries) entries (Some next) → IsNext (Some next)
   at_cut next h =
       let on = goes_on_behind walk.number key c.documents entries h.others h.next kept_here.rising kept_here.storable (sym listed ∙ h.is) in
-      let same : entries ≡ map (document_entry walk.number) (take count rest) = on.0 ∙ (λ i. map (document_entry walk.number) (take (count_is i) (rest_is i))) in
+      let same : entries ≡ map (document_entry walk.number) (take count rest) =
+      on.0 ∙ (λ i. map (document_entry walk.number) (take (count_is i) (rest_is i))) in
       let left : documents_at walk.number next ((w.done ++ take count rest) ++ drop count rest) ≡ drop count rest =
       (λ i. documents_at walk.number (sym h.key_is i) (sym parted i)) ∙ on.1 ∙ (λ i. drop (count_is i) (rest_is i)) in
       let parts = split_at walk.number next (w.done ++ take count rest) (drop count rest) left in
@@ -268,9 +287,12 @@ module _ (now : List Collection) (walk : Walk) (rest : List Pairs) (w : IsWalk n
       by_next (Some next) h = at_cut next h
 
 -- What is made of a batch of the tree, whatever walk it is one of.
-pub steps_on : {D X : Type 0} (history : D → History) (Q : List Collection → List Pairs → X → Type 0) (old new : State D) (walk : Walk) (from : Vec ℕ) → walk.next ≡ Some from → (range : Range) → range.from.now ≡ from.items
-    → option_map (λ b. b.now) range.to ≡ Some (key_under walk.number 1 []) → 0 < range.limit → (batch : Batch) (r : Result X Refusal) → Reads history (IsInTree (IsBatchOf range)) (Ok batch) old new
-    → ((now : List Collection) (rest : List Pairs) (w : IsWalk now walk rest) → let count = length batch.entries.items in AreEach IsOfDocument batch.entries.items (take count rest)
+pub steps_on : {D X : Type 0} (history : D → History) (Q : List Collection → List Pairs → X → Type 0) (old new : State D) (walk : Walk) (from : Vec ℕ)
+    → walk.next ≡ Some from → (range : Range) → range.from.now ≡ from.items
+    → option_map (λ b. b.now) range.to ≡ Some (key_under walk.number 1 []) → 0 < range.limit → (batch : Batch) (r : Result X Refusal)
+    → Reads history (IsInTree (IsBatchOf range)) (Ok batch) old new
+    → ((now : List Collection) (rest : List Pairs) (w : IsWalk now walk rest)
+    → let count = length batch.entries.items in AreEach IsOfDocument batch.entries.items (take count rest)
     → IsStep walk w.done rest range.limit count (option_map (λ v. v.items) batch.next) → OrMemory (Q now rest) r)
     → ReadsOf history (λ now rest. IsWalk now walk rest) Q r old new
 steps_on history Q old new walk from next_is range range_from range_to some batch r reads on =
@@ -279,7 +301,8 @@ steps_on history Q old new walk from next_is range range_from range_to some batc
     on now rest w there.each there.step)
 
 -- the walk behind a step
-module _ (now : List Collection) (walk : Walk) (rest : List Pairs) (w : IsWalk now walk rest) (limit count : ℕ) (next : Option (Vec ℕ)) (step : IsStep walk w.done rest limit count (option_map (λ v. v.items) next))
+module _ (now : List Collection) (walk : Walk) (rest : List Pairs) (w : IsWalk now walk rest) (limit count : ℕ) (next : Option (Vec ℕ))
+    (step : IsStep walk w.done rest limit count (option_map (λ v. v.items) next))
     (documents : List Pairs) (is : documents ≡ take count rest) where
   taken : length documents ≡ count
   taken = omega (arith, ap length is, length-take count rest, step.few)
@@ -310,7 +333,8 @@ module _ (now : List Collection) (walk : Walk) (rest : List Pairs) (w : IsWalk n
 -- ---- what is made of a batch
 
 module _ {D : Type 0} (history : D → History) (old new : State D) (walk after : Walk) (limit : ℕ) (batch : Vec OwnEntry) (r : Result (Vec Pairs) Refusal) where
-  stepped : (now : List Collection) (rest ds : List Pairs) (r : Result (Vec Pairs) Refusal) → StepsOn limit after now rest ds → OrMemory (λ (v : Vec Pairs). v.items ≡ ds) r → OrMemory (λ (v : Vec Pairs). StepsOn limit after now rest v.items) r
+  stepped : (now : List Collection) (rest ds : List Pairs) (r : Result (Vec Pairs) Refusal) → StepsOn limit after now rest ds
+      → OrMemory (λ (v : Vec Pairs). v.items ≡ ds) r → OrMemory (λ (v : Vec Pairs). StepsOn limit after now rest v.items) r
   stepped now rest ds (Ok v) step same = subst (StepsOn limit after now rest) (sym same) step
   stepped now rest ds (Err e) step is = is
 
@@ -324,7 +348,8 @@ module _ {D : Type 0} (history : D → History) (old new : State D) (walk after 
       (λ now rest w p. stepped now rest (take (length batch.items) rest) r p.1 (made (take (length batch.items) rest) p.0))
 
 -- there are as many as entries
-pub ends_made : {B : Type 0} (entries : List OwnEntry) (r : Result (Vec Pairs) Refusal) → IfOk r (λ (v : Vec Pairs). length v.items ≡ length entries) → (entries ≡ []) ⊎ B → IfOk r (λ (v : Vec Pairs). (v.items ≡ []) ⊎ B)
+pub ends_made : {B : Type 0} (entries : List OwnEntry) (r : Result (Vec Pairs) Refusal) → IfOk r (λ (v : Vec Pairs). length v.items ≡ length entries)
+    → (entries ≡ []) ⊎ B → IfOk r (λ (v : Vec Pairs). (v.items ≡ []) ⊎ B)
 ends_made entries (Ok v) same (inl none) = inl (nothing v.items (same ∙ ap length none))
   where
     nothing : (ds : List Pairs) → length ds ≡ 0 → ds ≡ []

@@ -28,7 +28,8 @@ find_is t fields = explains (document (pair (codes "find") t fields)) (λ ps. ps
 
 -- {find: 'c', skip: 1, limit: 2, batchSize: 3, comment: 4}, with a comment beside it
 reads : command_of (explains
-    (document (pair (codes "find") (string (codes "c")) (pair (codes "skip") (number 1) (pair (codes "limit") (number 2) (pair (codes "batchSize") (number 3) (pair (codes "comment") (number 4) no_pairs))))))
+    (document (pair (codes "find") (string (codes "c"))
+    (pair (codes "skip") (number 1) (pair (codes "limit") (number 2) (pair (codes "batchSize") (number 3) (pair (codes "comment") (number 4) no_pairs))))))
     (pair (codes "comment") (number 5)))
     ≡ Ok (explain (record {
       namespace = codes "t.c";
@@ -55,7 +56,8 @@ unfolding command_of
 other_command = refl
 
 -- {filter: {}, find: 'c'}: another name stands first
-find_second : command_of (explains (document (pair (codes "filter") (document no_pairs) (pair (codes "find") (string (codes "c")) no_pairs))) (λ ps. ps)) ≡ Err refusals.FailedToParse
+find_second : command_of (explains (document (pair (codes "filter") (document no_pairs) (pair (codes "find") (string (codes "c")) no_pairs))) (λ ps. ps))
+    ≡ Err refusals.FailedToParse
 unfolding command_of
 find_second = refl
 
@@ -70,12 +72,15 @@ unfolding command_of
 database_inside = refl
 
 -- {find: 'c', limit: -1}, and an unknown field beside it: what is inside stands first
-inside_first : command_of (explains (document (pair (codes "find") (string (codes "c")) (pair (codes "limit") minus_one no_pairs))) (pair (codes "verbosity") (number 1))) ≡ Err refusals.BadValue
+inside_first : command_of
+    (explains (document (pair (codes "find") (string (codes "c")) (pair (codes "limit") minus_one no_pairs))) (pair (codes "verbosity") (number 1)))
+    ≡ Err refusals.BadValue
 unfolding command_of
 inside_first = refl
 
 -- the unknown field alone
-unknown_beside : command_of (explains (document (pair (codes "find") (string (codes "c")) no_pairs)) (pair (codes "verbosity") (number 1))) ≡ Err refusals.FailedToParse
+unknown_beside : command_of (explains (document (pair (codes "find") (string (codes "c")) no_pairs)) (pair (codes "verbosity") (number 1)))
+    ≡ Err refusals.FailedToParse
 unfolding command_of
 unknown_beside = refl
 

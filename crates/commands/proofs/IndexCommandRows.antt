@@ -39,7 +39,10 @@ drop_is collection t = asked (codes "dropIndexes") collection (pair (codes "inde
 -- ---- what is read
 
 -- {unique: true, key: {"a.b": -1L, c: 1}, name: 'n'}
-reads : command_of (index_is (pair (codes "unique") (scalar (boolean true)) (pair (codes "key") (document (pair (codes "a.b") (scalar (int64 (negsuc 0))) (pair (codes "c") one no_pairs))) (pair (codes "name") (string (codes "n")) no_pairs))))
+reads : command_of
+    (index_is (pair (codes "unique") (scalar (boolean true))
+    (pair (codes "key") (document (pair (codes "a.b") (scalar (int64 (negsuc 0))) (pair (codes "c") one no_pairs)))
+    (pair (codes "name") (string (codes "n")) no_pairs))))
     ≡ Ok (create_indexes (record {
       namespace = codes "t.c";
       indexes = record {
@@ -91,12 +94,16 @@ unfolding command_of
 path_twice = refl
 
 -- {a: 1, b: 1, c: 1, d: 1, "": 'x'}: of the fifth nothing is looked at
-fifth_path : command_of (key_is (pair (codes "a") one (pair (codes "b") one (pair (codes "c") one (pair (codes "d") one (pair [] (string (codes "x")) no_pairs)))))) ≡ Err refusals.BadValue
+fifth_path : command_of
+    (key_is (pair (codes "a") one (pair (codes "b") one (pair (codes "c") one (pair (codes "d") one (pair [] (string (codes "x")) no_pairs))))))
+    ≡ Err refusals.BadValue
 unfolding command_of
 fifth_path = refl
 
 -- {a: 1, b: 1, c: 1, d: 'x', e: 1}: the fourth is met first
-fourth_before_fifth : command_of (key_is (pair (codes "a") one (pair (codes "b") one (pair (codes "c") one (pair (codes "d") (string (codes "x")) (pair (codes "e") one no_pairs)))))) ≡ Err refusals.TypeMismatch
+fourth_before_fifth : command_of
+    (key_is (pair (codes "a") one (pair (codes "b") one (pair (codes "c") one (pair (codes "d") (string (codes "x")) (pair (codes "e") one no_pairs))))))
+    ≡ Err refusals.TypeMismatch
 unfolding command_of
 fourth_before_fifth = refl
 
@@ -113,17 +120,20 @@ unfolding command_of
 no_array = refl
 
 -- [{key: {a: 1}}, {key: 1}]: the first has no name
-no_name : command_of (indexes_are (array (item (document (pair (codes "key") on_a no_pairs)) (item (document (pair (codes "key") one no_pairs)) no_items)))) ≡ Err refusals.FailedToParse
+no_name : command_of (indexes_are (array (item (document (pair (codes "key") on_a no_pairs)) (item (document (pair (codes "key") one no_pairs)) no_items))))
+    ≡ Err refusals.FailedToParse
 unfolding command_of
 no_name = refl
 
 -- {key: {a: 1}, name: '', sparse: true}: the name stands before the unknown field
-empty_name : command_of (index_is (pair (codes "key") on_a (pair (codes "name") (string []) (pair (codes "sparse") (scalar (boolean true)) no_pairs)))) ≡ Err refusals.BadValue
+empty_name : command_of (index_is (pair (codes "key") on_a (pair (codes "name") (string []) (pair (codes "sparse") (scalar (boolean true)) no_pairs))))
+    ≡ Err refusals.BadValue
 unfolding command_of
 empty_name = refl
 
 -- {key: {a: 1}, sparse: true, name: ''}
-unknown_field : command_of (index_is (pair (codes "key") on_a (pair (codes "sparse") (scalar (boolean true)) (pair (codes "name") (string []) no_pairs)))) ≡ Err refusals.FailedToParse
+unknown_field : command_of (index_is (pair (codes "key") on_a (pair (codes "sparse") (scalar (boolean true)) (pair (codes "name") (string []) no_pairs))))
+    ≡ Err refusals.FailedToParse
 unfolding command_of
 unknown_field = refl
 

@@ -1,5 +1,6 @@
 -- Keys of indexes: a path that is judged before its direction, and one path more.
-use Rattle.std.proofs.Common.{◌≡◌, ℕ, Bool, true, false, cond, List, [], ◌∷◌, ◌++◌, length, Option, Some, None, Result, Ok, Err, refl, sym, ap, subst, ◌∙◌, arith, eq-eqb}
+use Rattle.std.proofs.Common.{◌≡◌, ℕ, Bool, true, false, cond, List, [], ◌∷◌, ◌++◌, length, Option, Some, None, Result, Ok, Err, refl, sym, ap, subst, ◌∙◌}
+use Rattle.std.proofs.Common.{arith, eq-eqb}
 use Rattle.std.specs.Prelude.{◌≢◌, ◌==◌, ◌||◌, nat_lt, if◌then◌else◌, IsUtf8}
 use Rattle.std.specs.List.{AllByRecursion, list_any, slice_split, onto_first}
 use Rattle.std.specs.Result.{IsErrAnd}
@@ -27,7 +28,8 @@ use Rattle.commands.specs.NewIndex.{direction_in, field_to, field_in, is_among, 
 
 -- a path with what its direction was read as
 abbrev with_direction : List ℕ → Result Direction Refusal → Result Field Refusal
-with_direction name way = path_in name >>= (λ parts. way >>= (λ direction. let f : Result Field Refusal = Ok (record { path = name; direction = direction }) in f))
+with_direction name way =
+    path_in name >>= (λ parts. way >>= (λ direction. let f : Result Field Refusal = Ok (record { path = name; direction = direction }) in f))
 
 pub directed : (name : List ℕ) (t : Tree) (way : Direction) → direction_in t ≡ Ok way → field_to name way ≡ field_in name t
 directed name t way e = ap (with_direction name) (sym e)
@@ -36,7 +38,8 @@ path_first : (name : List ℕ) (t : Tree) (way : Direction) (f : Refusal) → fi
 path_first name t way f e = by (path_in name) e
   where
     by : (r : Result (List (List ℕ)) Refusal) → (r >>= (λ parts. let one : Result Field Refusal = Ok (record { path = name; direction = way }) in one)) ≡ Err f
-        → (r >>= (λ parts. direction_in t >>= (λ direction. let one : Result Field Refusal = Ok (record { path = name; direction = direction }) in one))) ≡ Err f
+        → (r >>= (λ parts. direction_in t >>= (λ direction. let one : Result Field Refusal = Ok (record { path = name; direction = direction }) in one)))
+        ≡ Err f
     by (Ok parts) e = absurd cc
     by (Err g) e = let same : g ≡ f = cc in ap (λ (r : Refusal). let one : Result Field Refusal = Err r in one) same
 
@@ -51,7 +54,8 @@ pub field_path : (name : List ℕ) (t : Tree) (f : Field) → field_in name t �
 field_path name t f e = by (path_in name) (direction_in t) e
   where
     by : (r : Result (List (List ℕ)) Refusal) (way : Result Direction Refusal)
-        → (r >>= (λ parts. way >>= (λ direction. let one : Result Field Refusal = Ok (record { path = name; direction = direction }) in one))) ≡ Ok f → name ≡ f.path
+        → (r >>= (λ parts. way >>= (λ direction. let one : Result Field Refusal = Ok (record { path = name; direction = direction }) in one))) ≡ Ok f
+        → name ≡ f.path
     by (Err g) way e = absurd cc
     by (Ok parts) (Err g) e = absurd cc
     by (Ok parts) (Ok direction) e = let same : record { path = name; direction = direction } ≡ f = cc in ap (λ (g : Field). g.path) same
@@ -70,7 +74,8 @@ no_zero : (bs : List ℕ) → list_any has_zero (slice_split (λ b. b == 46) bs)
 no_zero [] e = tt
 no_zero (b ∷ bs) e = by (b == 46) refl (slice_split (λ c. c == 46) bs) e (no_zero bs)
   where
-    by : (dot : Bool) → (b == 46) ≡ dot → (parts : List (List ℕ)) → list_any has_zero (cond dot ([] ∷ parts) (onto_first b parts)) ≡ false → (list_any has_zero parts ≡ false → NoZero bs) → NoZero (b ∷ bs)
+    by : (dot : Bool) → (b == 46) ≡ dot → (parts : List (List ℕ)) → list_any has_zero (cond dot ([] ∷ parts) (onto_first b parts)) ≡ false
+        → (list_any has_zero parts ≡ false → NoZero bs) → NoZero (b ∷ bs)
     by true is parts e rest = (λ zero. false≢true (ap (λ (n : ℕ). n == 46) (sym zero) ∙ is), rest e)
     by false is [] e rest = (not_zero b (either_false (b == 0) false (either_false ((b == 0) || false) false e).0).0, rest refl)
     by false is (part ∷ parts) e rest =
@@ -118,7 +123,8 @@ is_direction : (way : Direction) → IsTree (direction_value way)
 is_direction directions.Ascending = omega (arith, ints)
 is_direction directions.Descending = omega (arith, ints)
 
-pub one_path_more : (fs : List Field) (f : Field) → AreKeyFields fs → length fs ≢ 4 → is_among fs f.path ≡ false → IsUtf8 f.path → IsPath f.path → AreKeyFields (fs ++ f ∷ [])
+pub one_path_more : (fs : List Field) (f : Field) → AreKeyFields fs → length fs ≢ 4 → is_among fs f.path ≡ false → IsUtf8 f.path → IsPath f.path
+    → AreKeyFields (fs ++ f ∷ [])
 one_path_more fs f h few new is_text p =
     let named : IsName f.path = record { is_text = is_text; no_zero = path_no_zero f.path p } in
     record {

@@ -1,5 +1,6 @@
 -- A cursor gives its documents batch after batch, whatever comes between.
-use Rattle.std.proofs.Common.{◌≡◌, ⊎_elim, inl, inr, ℕ, zero, suc, ◌+◌, ◌<◌, Bool, true, false, List, [], ◌∷◌, ◌++◌, length, get_or, set, remove, take, drop, map, Option, Some, None, Result, Ok, Err, refl, sym, ap, ◌∙◌, arith, append_assoc}
+use Rattle.std.proofs.Common.{◌≡◌, ⊎_elim, inl, inr, ℕ, zero, suc, ◌+◌, ◌<◌, Bool, true, false, List, [], ◌∷◌, ◌++◌, length, get_or, set, remove, take, drop}
+use Rattle.std.proofs.Common.{map, Option, Some, None, Result, Ok, Err, refl, sym, ap, ◌∙◌, arith, append_assoc}
 use Rattle.std.specs.Prelude.{◌==◌, not, is_some, nat_le, if◌then◌else◌, codes, unwrap_or}
 use Rattle.std.specs.List.{filter, position}
 use Rattle.std.proofs.lemmas.Bool.Decides.{nat_tests}
@@ -25,7 +26,8 @@ use Rattle.commands.specs.ListIndexes.{ListIndexes}
 use Rattle.database_model.specs.ListIndexes.{indexes_reply, run_list_indexes}
 use Rattle.commands.specs.Explain.{Explain}
 use Rattle.database_model.specs.Explain.{run_explain}
-use Rattle.commands.specs.Command.{Command, ping, hello, insert, find, get_more, kill_cursors, count, delete, update, aggregate, create, drop as drop_of, list_collections, create_indexes, drop_indexes, list_indexes, explain, command_of}
+use Rattle.commands.specs.Command.{Command, ping, hello, insert, find, get_more, kill_cursors, count, delete, update, aggregate, create, drop as drop_of}
+use Rattle.commands.specs.Command.{list_collections, create_indexes, drop_indexes, list_indexes, explain, command_of}
 use Rattle.aggregate.specs.Pipeline.{run as after_pipeline}
 use Rattle.database_model.specs.World.{collection_of, World, Cursor, documents_of, with_documents, at_rest, untouched, without_cursors}
 use Rattle.index.specs.State.{Collection, find_collection, put_collection}
@@ -50,7 +52,8 @@ use Rattle.database_model.specs.DropIndexes.{drop_indexes_reply, index_dropped, 
 use Rattle.database_model.specs.DropCollection.{drop_reply, dropped, index_count, run_drop}
 use Rattle.database_model.specs.ListCollections.{run_list_collections}
 use Rattle.database_model.specs.Step.{run, answered, step}
-use Rattle.database_model.specs.CursorLife.{Event, command, committed, undone, ended, after_event, batch_at, batch_in, batch_of_body, given_by, given, HasLeft, GivesItsList, LastBatchIsWhole}
+use Rattle.database_model.specs.CursorLife.{Event, command, committed, undone, ended, after_event, batch_at, batch_in, batch_of_body, given_by, given, HasLeft}
+use Rattle.database_model.specs.CursorLife.{GivesItsList, LastBatchIsWhole}
 
 -- ---- filtered lists
 
@@ -62,8 +65,10 @@ module _ {X : Type 0} (q : X → Bool) where
   filter-swap p [] = refl
   filter-swap p (x ∷ xs) = at (p x) (q x) refl refl (filter-swap p xs)
     where
-      at : (a b : Bool) → p x ≡ a → q x ≡ b → filter q (filter p xs) ≡ filter p (filter q xs) → filter q (keep_if a x (filter p xs)) ≡ filter p (keep_if b x (filter q xs))
-      at true true e f later = ap (λ (c : Bool). keep_if c x (filter q (filter p xs))) f ∙ ap (λ (ys : List X). x ∷ ys) later ∙ sym (ap (λ (c : Bool). keep_if c x (filter p (filter q xs))) e)
+      at : (a b : Bool) → p x ≡ a → q x ≡ b → filter q (filter p xs) ≡ filter p (filter q xs)
+          → filter q (keep_if a x (filter p xs)) ≡ filter p (keep_if b x (filter q xs))
+      at true true e f later = ap (λ (c : Bool). keep_if c x (filter q (filter p xs))) f ∙ ap (λ (ys : List X). x ∷ ys) later
+          ∙ sym (ap (λ (c : Bool). keep_if c x (filter p (filter q xs))) e)
       at true false e f later = ap (λ (c : Bool). keep_if c x (filter q (filter p xs))) f ∙ later
       at false true e f later = later ∙ sym (ap (λ (c : Bool). keep_if c x (filter p (filter q xs))) e)
       at false false e f later = later
@@ -140,12 +145,14 @@ mine-rest : (k : ℕ) (cs : List Cursor) → mine k (map at_rest cs) ≡ map at_
 mine-rest k [] = refl
 mine-rest k (c ∷ cs) = at (c.number == k) (mine-rest k cs)
   where
-    at : (b : Bool) → mine k (map at_rest cs) ≡ map at_rest (mine k cs) → (if b then at_rest c ∷ mine k (map at_rest cs) else mine k (map at_rest cs)) ≡ map at_rest (if b then c ∷ mine k cs else mine k cs)
+    at : (b : Bool) → mine k (map at_rest cs) ≡ map at_rest (mine k cs)
+        → (if b then at_rest c ∷ mine k (map at_rest cs) else mine k (map at_rest cs)) ≡ map at_rest (if b then c ∷ mine k cs else mine k cs)
     at true later = ap (λ (ds : List Cursor). at_rest c ∷ ds) later
     at false later = later
 
 after_rest : (k : ℕ) (cs : List Cursor) (left : List Pairs) → HasLeft k cs left → HasLeft k (map at_rest cs) left
-after_rest k cs left h = ⊎_elim (λ none. inl (mine-rest k cs ∙ ap (map at_rest) none)) (λ one. inr (at_rest one.0, mine-rest k cs ∙ ap (map at_rest) one.1, one.2)) h
+after_rest k cs left h =
+    ⊎_elim (λ none. inl (mine-rest k cs ∙ ap (map at_rest) none)) (λ one. inr (at_rest one.0, mine-rest k cs ∙ ap (map at_rest) one.1, one.2)) h
 
 -- the world after an event that gave these documents of the cursor, which had so many left
 pub record Next (k : ℕ) (batch left : List Pairs) (new : World) : Type 0 where
@@ -175,7 +182,8 @@ module _ (k : ℕ) (w : World) (place n : ℕ) (left : List Pairs) (within : pla
   advances h = at (here.number == k) refl (nat_le (length here.rest) n)
     where
       its : (here.number == k) ≡ true → (closes : Bool) → Next k (take n here.rest) left (record w { cursors = cursors_if closes })
-      its e b = ⊎_elim (λ none. absurd (filter-some (λ (c : Cursor). c.number == k) w.cursors place no_cursor within e none)) (λ one. gives one.0 one.1 one.2 b) h
+      its e b = ⊎_elim (λ none. absurd (filter-some (λ (c : Cursor). c.number == k) w.cursors place no_cursor within e none))
+          (λ one. gives one.0 one.1 one.2 b) h
         where
           gives : (c : Cursor) → mine k w.cursors ≡ c ∷ [] → c.rest ≡ left → (b : Bool) → Next k (take n here.rest) left (record w { cursors = cursors_if b })
           gives c is had b =
@@ -183,13 +191,19 @@ module _ (k : ℕ) (w : World) (place n : ℕ) (left : List Pairs) (within : pla
               let whole : take n here.rest ++ drop n here.rest ≡ left = take-append-drop n here.rest ∙ ap (λ (d : Cursor). d.rest) one.is ∙ had in
               shut b one.gone (one.other moved e) whole
             where
-              shut : (b : Bool) → mine k (remove w.cursors place) ≡ [] → mine k (set w.cursors place moved) ≡ moved ∷ [] → take n here.rest ++ drop n here.rest ≡ left → Next k (take n here.rest) left (record w { cursors = cursors_if b })
+              shut : (b : Bool) → mine k (remove w.cursors place) ≡ [] → mine k (set w.cursors place moved) ≡ moved ∷ []
+                  → take n here.rest ++ drop n here.rest ≡ left → Next k (take n here.rest) left (record w { cursors = cursors_if b })
               shut true gone other whole = record { rest = drop n here.rest; whole = whole; is_left = inl gone; drawn = drawn }
               shut false gone other whole = record { rest = drop n here.rest; whole = whole; is_left = inr (moved, other, refl); drawn = drawn }
 
       others : (here.number == k) ≡ false → (closes : Bool) → Next k [] left (record w { cursors = cursors_if closes })
-      others e true = keeps k left (record w { cursors = remove w.cursors place }) (same_mine k w.cursors (remove w.cursors place) left (filter-remove_other (λ (c : Cursor). c.number == k) w.cursors place no_cursor within e) h) drawn
-      others e false = keeps k left (record w { cursors = set w.cursors place moved }) (same_mine k w.cursors (set w.cursors place moved) left (filter-set_other (λ (c : Cursor). c.number == k) w.cursors place moved no_cursor within e e) h) drawn
+      others e true =
+          keeps k left (record w { cursors = remove w.cursors place })
+          (same_mine k w.cursors (remove w.cursors place) left (filter-remove_other (λ (c : Cursor). c.number == k) w.cursors place no_cursor within e) h) drawn
+      others e false =
+          keeps k left (record w { cursors = set w.cursors place moved })
+          (same_mine k w.cursors (set w.cursors place moved) left
+          (filter-set_other (λ (c : Cursor). c.number == k) w.cursors place moved no_cursor within e e) h) drawn
 
       at : (b : Bool) → (here.number == k) ≡ b → (closes : Bool) → Next k (batch_if b) left (record w { cursors = cursors_if closes })
       at true e b = its e b
@@ -212,7 +226,9 @@ module _ (k : ℕ) (w : World) (connection : ℕ) (left : List Pairs) (drawn : k
   inserted c = at (is_full w.collections c.namespace) (insert_all (collection_of w.collections c.namespace) c.documents)
     where
       at : (full : Bool) (r : Result Collection Refusal)
-          → Keeps (unless full refusals.TooMany (r >>= (λ next. let x : Result (World × Pairs) Refusal = Ok (record w { collections = put_collection next w.collections }, pair (codes "n") (int (length c.documents)) no_pairs) in x)))
+          → Keeps (unless full refusals.TooMany
+          (r >>= (λ next. let x : Result (World × Pairs) Refusal =
+          Ok (record w { collections = put_collection next w.collections }, pair (codes "n") (int (length c.documents)) no_pairs) in x)))
       at true r = same
       at false (Ok next) = on (put_collection next w.collections)
       at false (Err e) = same
@@ -229,7 +245,8 @@ module _ (k : ℕ) (w : World) (connection : ℕ) (left : List Pairs) (drawn : k
   unfolding run_update
   updated c = at (entered_in c.namespace (writes_in c.namespace c.statements w.collections) w.collections) (run_all c.namespace c.statements w.collections)
     where
-      at : (r : Result (List Collection) Refusal) (q : Result Updated Refusal) → Keeps (r >>= (λ next. q >>= (λ u. let x : Result (World × Pairs) Refusal = Ok (record w { collections = next }, update_reply u) in x)))
+      at : (r : Result (List Collection) Refusal) (q : Result Updated Refusal)
+          → Keeps (r >>= (λ next. q >>= (λ u. let x : Result (World × Pairs) Refusal = Ok (record w { collections = next }, update_reply u) in x)))
       at (Ok next) (Ok u) = on next
       at (Ok next) (Err e) = same
       at (Err e) q = same
@@ -238,7 +255,8 @@ module _ (k : ℕ) (w : World) (connection : ℕ) (left : List Pairs) (drawn : k
   unfolding run_create
   made c = at (created w.collections c.namespace)
     where
-      at : (r : Result (List Collection) Refusal) → Keeps (r >>= (λ cs. let x : Result (World × Pairs) Refusal = Ok (record w { collections = cs }, no_pairs) in x))
+      at : (r : Result (List Collection) Refusal)
+          → Keeps (r >>= (λ cs. let x : Result (World × Pairs) Refusal = Ok (record w { collections = cs }, no_pairs) in x))
       at (Err e) = same
       at (Ok cs) = on cs
 
@@ -250,7 +268,8 @@ module _ (k : ℕ) (w : World) (connection : ℕ) (left : List Pairs) (drawn : k
       is_new = not (is_some (find_collection w.collections c.namespace))
 
       at : (r : Result (List Collection) Refusal)
-          → Keeps (r >>= (λ cs. let x : Result (World × Pairs) Refusal = Ok (record w { collections = cs }, create_indexes_reply (index_count w.collections c.namespace) (index_count cs c.namespace) is_new) in x))
+          → Keeps (r >>= (λ cs. let x : Result (World × Pairs) Refusal =
+          Ok (record w { collections = cs }, create_indexes_reply (index_count w.collections c.namespace) (index_count cs c.namespace) is_new) in x))
       at (Err e) = same
       at (Ok cs) = on cs
 
@@ -259,7 +278,8 @@ module _ (k : ℕ) (w : World) (connection : ℕ) (left : List Pairs) (drawn : k
   unindexed_so c = at (index_dropped w.collections c.namespace c.indexes)
     where
       at : (r : Result (List Collection) Refusal)
-          → Keeps (r >>= (λ cs. let x : Result (World × Pairs) Refusal = Ok (record w { collections = cs }, drop_indexes_reply (index_count w.collections c.namespace)) in x))
+          → Keeps (r >>=
+          (λ cs. let x : Result (World × Pairs) Refusal = Ok (record w { collections = cs }, drop_indexes_reply (index_count w.collections c.namespace)) in x))
       at (Err e) = same
       at (Ok cs) = on cs
 
@@ -268,7 +288,9 @@ module _ (k : ℕ) (w : World) (connection : ℕ) (left : List Pairs) (drawn : k
   dropped_so c = at (dropped w.collections c.namespace)
     where
       at : (r : Result (List Collection) Refusal)
-          → Keeps (r >>= (λ cs. let x : Result (World × Pairs) Refusal = Ok (record w { collections = cs }, drop_reply (index_count w.collections c.namespace) c.namespace) in x))
+          → Keeps (r >>=
+          (λ cs. let x : Result (World × Pairs) Refusal = Ok (record w { collections = cs }, drop_reply (index_count w.collections c.namespace) c.namespace) in
+          x))
       at (Err e) = same
       at (Ok cs) = on cs
 
@@ -280,7 +302,9 @@ module _ (k : ℕ) (w : World) (connection : ℕ) (left : List Pairs) (drawn : k
   unfolding run_list_indexes
   indexes_listed c = at (find_collection w.collections c.namespace)
     where
-      at : (o : Option Collection) → Keeps (or_refused o refusals.NamespaceNotFound >>= (λ found. let x : Result (World × Pairs) Refusal = Ok (w, indexes_reply c.namespace found.indexes) in x))
+      at : (o : Option Collection)
+          → Keeps (or_refused o refusals.NamespaceNotFound >>=
+          (λ found. let x : Result (World × Pairs) Refusal = Ok (w, indexes_reply c.namespace found.indexes) in x))
       at None = same
       at (Some found) = same
 
@@ -301,10 +325,12 @@ module _ (k : ℕ) (w : World) (connection : ℕ) (left : List Pairs) (drawn : k
       other = grind (arith, nat_tests, drawn)
 
       more : Next k [] left opened
-      more = keeps k left opened (same_mine k w.cursors (w.cursors ++ new ∷ []) left (filter-push (λ (c : Cursor). c.number == k) w.cursors new other) h) (omega (arith, drawn))
+      more = keeps k left opened (same_mine k w.cursors (w.cursors ++ new ∷ []) left (filter-push (λ (c : Cursor). c.number == k) w.cursors new other) h)
+          (omega (arith, drawn))
 
       at : (whole refused : Bool)
-          → Keeps ((if whole then Ok w else unless refused refusals.TooMany (Ok opened)) >>= (λ after. let x : Result (World × Pairs) Refusal = Ok (after, batch_reply (codes "firstBatch") n ds w.next name) in x))
+          → Keeps ((if whole then Ok w else unless refused refusals.TooMany (Ok opened)) >>=
+          (λ after. let x : Result (World × Pairs) Refusal = Ok (after, batch_reply (codes "firstBatch") n ds w.next name) in x))
       at true refused = same
       at false true = same
       at false false = more
@@ -329,15 +355,18 @@ module _ (k : ℕ) (w : World) (connection : ℕ) (left : List Pairs) (drawn : k
       let p : Cursor → Bool = λ cursor. not (is_asked connection c.namespace c.cursors cursor) in
       keeps k left (record w { cursors = filter p w.cursors }) (after_filter k p w.cursors left h) drawn
 
-  more_given : (c : GetMore) → Next k (batch_at k w c (position (is_cursor connection c.namespace c.id) w.cursors)) left (answered w (run_get_more w connection c)).0
+  more_given : (c : GetMore)
+      → Next k (batch_at k w c (position (is_cursor connection c.namespace c.id) w.cursors)) left (answered w (run_get_more w connection c)).0
   unfolding run_get_more
   more_given c = at (position (is_cursor connection c.namespace c.id) w.cursors) refl
     where
       at : (o : Option ℕ) → position (is_cursor connection c.namespace c.id) w.cursors ≡ o
-          → Next k (batch_at k w c o) left (answered w (or_refused o refusals.CursorNotFound >>= (λ place. let x : Result (World × Pairs) Refusal = Ok (next_batch w c place) in x))).0
+          → Next k (batch_at k w c o) left
+          (answered w (or_refused o refusals.CursorNotFound >>= (λ place. let x : Result (World × Pairs) Refusal = Ok (next_batch w c place) in x))).0
       at None e = same
       at (Some place) e =
-          advances k w place (batch_len_of (cursor_at w.cursors place) c.batch_size) left (position-Some (is_cursor connection c.namespace c.id) w.cursors place no_cursor e).0 drawn h
+          advances k w place (batch_len_of (cursor_at w.cursors place) c.batch_size) left
+          (position-Some (is_cursor connection c.namespace c.id) w.cursors place no_cursor e).0 drawn h
 
   ran : (r : Result Command Refusal) → Next k (batch_in k w connection r) left (answered w (r >>= run w connection)).0
   ran (Err e) = same
@@ -368,8 +397,10 @@ module _ (k : ℕ) (w : World) (connection : ℕ) (left : List Pairs) (drawn : k
 pub happens : (k : ℕ) (w : World) (e : Event) (left : List Pairs) → k < w.next → HasLeft k w.cursors left → Next k (given_by k w e) left (after_event w e)
 happens k w (command connection body) left drawn h = stepped k w connection left drawn h body
 happens k w committed left drawn h = keeps k left (record w { cursors = map at_rest w.cursors }) (after_rest k w.cursors left h) drawn
-happens k w (undone before) left drawn h = keeps k left (record w { collections = before; cursors = untouched w.cursors }) (after_filter k (λ c. not c.touched) w.cursors left h) drawn
-happens k w (ended connection) left drawn h = keeps k left (record w { cursors = without_cursors connection w.cursors }) (after_filter k (λ c. not (c.connection == connection)) w.cursors left h) drawn
+happens k w (undone before) left drawn h =
+    keeps k left (record w { collections = before; cursors = untouched w.cursors }) (after_filter k (λ c. not c.touched) w.cursors left h) drawn
+happens k w (ended connection) left drawn h =
+    keeps k left (record w { cursors = without_cursors connection w.cursors }) (after_filter k (λ c. not (c.connection == connection)) w.cursors left h) drawn
 
 pub gives_its_list : GivesItsList
 gives_its_list k w [] had drawn h = record { left = had; whole = refl; is_left = h }

@@ -1,5 +1,6 @@
 -- What an undone turn leaves of cursors.
-use Rattle.std.proofs.Common.{◌≡◌, ◌⊎◌, ⊎_elim, inl, inr, ℕ, zero, suc, ◌+◌, Bool, true, false, List, [], ◌∷◌, ◌++◌, length, set, remove, drop, Option, Some, None, Result, Ok, Err, refl, sym, ap, subst, ◌∙◌}
+use Rattle.std.proofs.Common.{◌≡◌, ◌⊎◌, ⊎_elim, inl, inr, ℕ, zero, suc, ◌+◌, Bool, true, false, List, [], ◌∷◌, ◌++◌, length, set, remove, drop, Option, Some}
+use Rattle.std.proofs.Common.{None, Result, Ok, Err, refl, sym, ap, subst, ◌∙◌}
 use Rattle.std.specs.Prelude.{◌==◌, ◌&&◌, not, is_some, nat_le, if◌then◌else◌, codes, unwrap_or}
 use Rattle.std.specs.List.{filter, position}
 use Rattle.bson.specs.Tree.{Pairs, pair, no_pairs}
@@ -29,7 +30,8 @@ use Rattle.commands.specs.DropIndexes.{DropIndexes}
 use Rattle.database_model.specs.DropIndexes.{drop_indexes_reply, index_dropped, run_drop_indexes}
 use Rattle.database_model.specs.DropCollection.{drop_reply, dropped, index_count, run_drop}
 use Rattle.database_model.specs.ListCollections.{run_list_collections}
-use Rattle.commands.specs.Command.{Command, ping, hello, insert, find, get_more, kill_cursors, count, delete, update, aggregate, create, drop as drop_of, list_collections, create_indexes, drop_indexes, list_indexes, explain, command_of}
+use Rattle.commands.specs.Command.{Command, ping, hello, insert, find, get_more, kill_cursors, count, delete, update, aggregate, create, drop as drop_of}
+use Rattle.commands.specs.Command.{list_collections, create_indexes, drop_indexes, list_indexes, explain, command_of}
 use Rattle.aggregate.specs.Pipeline.{run as after_pipeline}
 use Rattle.database_model.specs.World.{collection_of, World, Cursor, documents_of, with_documents, untouched, are_untouched}
 use Rattle.index.specs.State.{Collection, find_collection, put_collection}
@@ -106,7 +108,9 @@ module _ (w : World) (connection : ℕ) where
   inserted c = at (is_full w.collections c.namespace) (insert_all (collection_of w.collections c.namespace) c.documents)
     where
       at : (full : Bool) (r : Result Collection Refusal)
-          → Comes (unless full refusals.TooMany (r >>= (λ next. let x : Result (World × Pairs) Refusal = Ok (record w { collections = put_collection next w.collections }, pair (codes "n") (int (length c.documents)) no_pairs) in x)))
+          → Comes (unless full refusals.TooMany
+          (r >>= (λ next. let x : Result (World × Pairs) Refusal =
+          Ok (record w { collections = put_collection next w.collections }, pair (codes "n") (int (length c.documents)) no_pairs) in x)))
       at true r d rests h = h
       at false (Ok next) d rests h = h
       at false (Err e) d rests h = h
@@ -123,7 +127,8 @@ module _ (w : World) (connection : ℕ) where
   unfolding run_update
   updated c = at (entered_in c.namespace (writes_in c.namespace c.statements w.collections) w.collections) (run_all c.namespace c.statements w.collections)
     where
-      at : (r : Result (List Collection) Refusal) (q : Result Updated Refusal) → Comes (r >>= (λ next. q >>= (λ u. let x : Result (World × Pairs) Refusal = Ok (record w { collections = next }, update_reply u) in x)))
+      at : (r : Result (List Collection) Refusal) (q : Result Updated Refusal)
+          → Comes (r >>= (λ next. q >>= (λ u. let x : Result (World × Pairs) Refusal = Ok (record w { collections = next }, update_reply u) in x)))
       at (Ok next) (Ok u) d rests h = h
       at (Ok next) (Err e) d rests h = h
       at (Err e) q d rests h = h
@@ -132,12 +137,14 @@ module _ (w : World) (connection : ℕ) where
   batched name ds n = at (nat_le (length ds) n) (is_refused connection w.cursors w.next)
     where
       at : (whole refused : Bool)
-          → Comes ((if whole then Ok w else unless refused refusals.TooMany (Ok (record w { cursors = w.cursors ++ new_cursor w.next connection name (drop n ds) ∷ []; next = w.next + 1 })))
+          → Comes ((if whole then Ok w
+          else unless refused refusals.TooMany (Ok (record w { cursors = w.cursors ++ new_cursor w.next connection name (drop n ds) ∷ []; next = w.next + 1 })))
           >>= (λ after. let x : Result (World × Pairs) Refusal = Ok (after, batch_reply (codes "firstBatch") n ds w.next name) in x))
       at true refused d rests h = h
       at false true d rests h = h
       at false false d rests h =
-          ⊎_elim (λ there. there) (λ same. absurd (not_touched d (new_cursor w.next connection name (drop n ds)) rests refl same)) (among_one_more d (new_cursor w.next connection name (drop n ds)) w.cursors h)
+          ⊎_elim (λ there. there) (λ same. absurd (not_touched d (new_cursor w.next connection name (drop n ds)) rests refl same))
+          (among_one_more d (new_cursor w.next connection name (drop n ds)) w.cursors h)
 
   found : (c : Find) → Comes (run_find w connection c)
   unfolding run_find
@@ -158,15 +165,21 @@ module _ (w : World) (connection : ℕ) where
   given c = at (position (is_cursor connection c.namespace c.id) w.cursors)
     where
       ended : (place : ℕ) (b : Bool) (d : Cursor) → d.touched ≡ false
-          → IsAmong d (if b then remove w.cursors place else set w.cursors place (record (cursor_at w.cursors place) { rest = drop (batch_len_of (cursor_at w.cursors place) c.batch_size) (cursor_at w.cursors place).rest; touched = true })) → IsAmong d w.cursors
+          → IsAmong d (if b then remove w.cursors place
+          else set w.cursors place
+          (record (cursor_at w.cursors place)
+          { rest = drop (batch_len_of (cursor_at w.cursors place) c.batch_size) (cursor_at w.cursors place).rest; touched = true })) → IsAmong d w.cursors
       ended place true d rests h = among_removed d w.cursors place h
       ended place false d rests h =
-          let moved : Cursor = record (cursor_at w.cursors place) { rest = drop (batch_len_of (cursor_at w.cursors place) c.batch_size) (cursor_at w.cursors place).rest; touched = true } in
+          let moved : Cursor =
+          record (cursor_at w.cursors place)
+          { rest = drop (batch_len_of (cursor_at w.cursors place) c.batch_size) (cursor_at w.cursors place).rest; touched = true } in
           ⊎_elim (λ there. there) (λ same. absurd (not_touched d moved rests refl same)) (among_set d moved w.cursors place h)
 
       at : (o : Option ℕ) → Comes (or_refused o refusals.CursorNotFound >>= (λ place. let x : Result (World × Pairs) Refusal = Ok (next_batch w c place) in x))
       at None d rests h = h
-      at (Some place) d rests h = ended place (nat_le (length (cursor_at w.cursors place).rest) (batch_len_of (cursor_at w.cursors place) c.batch_size)) d rests h
+      at (Some place) d rests h =
+          ended place (nat_le (length (cursor_at w.cursors place).rest) (batch_len_of (cursor_at w.cursors place) c.batch_size)) d rests h
 
   killed : (c : KillCursors) → Comes (run_kill_cursors w connection c)
   unfolding run_kill_cursors
@@ -176,7 +189,8 @@ module _ (w : World) (connection : ℕ) where
   unfolding run_create
   made c = at (created w.collections c.namespace)
     where
-      at : (r : Result (List Collection) Refusal) → Comes (r >>= (λ cs. let x : Result (World × Pairs) Refusal = Ok (record w { collections = cs }, no_pairs) in x))
+      at : (r : Result (List Collection) Refusal)
+          → Comes (r >>= (λ cs. let x : Result (World × Pairs) Refusal = Ok (record w { collections = cs }, no_pairs) in x))
       at (Err e) d rests h = h
       at (Ok cs) d rests h = h
 
@@ -188,7 +202,8 @@ module _ (w : World) (connection : ℕ) where
       is_new = not (is_some (find_collection w.collections c.namespace))
 
       at : (r : Result (List Collection) Refusal)
-          → Comes (r >>= (λ cs. let x : Result (World × Pairs) Refusal = Ok (record w { collections = cs }, create_indexes_reply (index_count w.collections c.namespace) (index_count cs c.namespace) is_new) in x))
+          → Comes (r >>= (λ cs. let x : Result (World × Pairs) Refusal =
+          Ok (record w { collections = cs }, create_indexes_reply (index_count w.collections c.namespace) (index_count cs c.namespace) is_new) in x))
       at (Err e) d rests h = h
       at (Ok cs) d rests h = h
 
@@ -197,7 +212,8 @@ module _ (w : World) (connection : ℕ) where
   unindexed_so c = at (index_dropped w.collections c.namespace c.indexes)
     where
       at : (r : Result (List Collection) Refusal)
-          → Comes (r >>= (λ cs. let x : Result (World × Pairs) Refusal = Ok (record w { collections = cs }, drop_indexes_reply (index_count w.collections c.namespace)) in x))
+          → Comes (r >>=
+          (λ cs. let x : Result (World × Pairs) Refusal = Ok (record w { collections = cs }, drop_indexes_reply (index_count w.collections c.namespace)) in x))
       at (Err e) d rests h = h
       at (Ok cs) d rests h = h
 
@@ -206,7 +222,9 @@ module _ (w : World) (connection : ℕ) where
   dropped_so c = at (dropped w.collections c.namespace)
     where
       at : (r : Result (List Collection) Refusal)
-          → Comes (r >>= (λ cs. let x : Result (World × Pairs) Refusal = Ok (record w { collections = cs }, drop_reply (index_count w.collections c.namespace) c.namespace) in x))
+          → Comes (r >>=
+          (λ cs. let x : Result (World × Pairs) Refusal = Ok (record w { collections = cs }, drop_reply (index_count w.collections c.namespace) c.namespace) in
+          x))
       at (Err e) d rests h = h
       at (Ok cs) d rests h = h
 
@@ -218,7 +236,9 @@ module _ (w : World) (connection : ℕ) where
   unfolding run_list_indexes
   indexes_listed c = at (find_collection w.collections c.namespace)
     where
-      at : (o : Option Collection) → Comes (or_refused o refusals.NamespaceNotFound >>= (λ found. let x : Result (World × Pairs) Refusal = Ok (w, indexes_reply c.namespace found.indexes) in x))
+      at : (o : Option Collection)
+          → Comes (or_refused o refusals.NamespaceNotFound >>=
+          (λ found. let x : Result (World × Pairs) Refusal = Ok (w, indexes_reply c.namespace found.indexes) in x))
       at None d rests h = h
       at (Some found) d rests h = h
 
@@ -270,7 +290,8 @@ rests_among : (c : Cursor) (cs : List Cursor) → are_untouched cs ≡ true → 
 rests_among c [] e h = absurd h
 rests_among c (d ∷ ds) e h = at (not d.touched) refl e h (rests_among c ds)
   where
-    at : (b : Bool) → not d.touched ≡ b → (b && are_untouched ds) ≡ true → IsAmong c (d ∷ ds) → (are_untouched ds ≡ true → IsAmong c ds → not c.touched ≡ true) → not c.touched ≡ true
+    at : (b : Bool) → not d.touched ≡ b → (b && are_untouched ds) ≡ true → IsAmong c (d ∷ ds) → (are_untouched ds ≡ true → IsAmong c ds → not c.touched ≡ true)
+        → not c.touched ≡ true
     at true r e h later = ⊎_elim (λ same. ap (λ (x : Cursor). not x.touched) (sym same) ∙ r) (λ more. later e more) h
     at false r e h later = absurd cc
 
@@ -283,7 +304,8 @@ left_open c w xs h =
     let p : Cursor → Bool = λ x. not x.touched in
     stayed c w xs (is_false c.touched (passes p c (after_commands w xs).cursors h)) (among_all p c (after_commands w xs).cursors h)
 
-pub open_left : (c : Cursor) (w : World) (xs : List (ℕ × Result Pairs BsonFault)) → are_untouched w.cursors ≡ true → StaysOpen c w xs → IsAmong c (untouched (after_commands w xs).cursors)
+pub open_left : (c : Cursor) (w : World) (xs : List (ℕ × Result Pairs BsonFault)) → are_untouched w.cursors ≡ true → StaysOpen c w xs
+    → IsAmong c (untouched (after_commands w xs).cursors)
 open_left c w xs rests h =
     among_kept (λ x. not x.touched) c (after_commands w xs).cursors (rests_among c w.cursors rests (first_of c w xs h)) (last_of c w xs h)
 

@@ -31,7 +31,8 @@ id-levels reply t lawful e = at (lookup reply (codes "upserted")) refl e
     at (Some (array (item (document ps) ts))) is e =
         omega (arith, lawful.depth, found-levels reply (codes "upserted") (array (item (document ps) ts)) is, found-levels ps (codes "_id") t e)
 
-pub id_is_flat : (reply : Pairs) (found : Option (Bor Value)) → IsDocument reply → option_map (λ v. tree v.now) found ≡ upserted_id reply → IfSome found (λ v. levels (tree v.now) ≤ 97)
+pub id_is_flat : (reply : Pairs) (found : Option (Bor Value)) → IsDocument reply → option_map (λ v. tree v.now) found ≡ upserted_id reply
+    → IfSome found (λ v. levels (tree v.now) ≤ 97)
 id_is_flat reply None lawful e = tt
 id_is_flat reply (Some v) lawful e = id-levels reply (tree v.now) lawful (sym e)
 
@@ -49,7 +50,14 @@ id-in-filter id ps short = at (lookup ps (codes "q")) refl
     at (Some (array ts)) is = omega (arith, short, pairs_levels-cut ps (codes "q"))
     at (Some (document qs)) is =
         let filter = put qs (codes "_id") (scalar (object_id id)) in
-        omega (arith, short, pairs_levels-cut ps (codes "q"), pairs_levels-put left (codes "q") (document filter), pairs_levels-put qs (codes "_id") (scalar (object_id id)), found-levels ps (codes "q") (document qs) is)
+        omega (
+          arith,
+          short,
+          pairs_levels-cut ps (codes "q"),
+          pairs_levels-put left (codes "q") (document filter),
+          pairs_levels-put qs (codes "_id") (scalar (object_id id)),
+          found-levels ps (codes "q") (document qs) is,
+        )
 
 asked-upsert : (batch : Batch) (ps : Pairs) → pairs_levels ps ≤ 97 → pairs_levels (asked_upsert batch ps) ≤ 97
 asked-upsert batch ps short = at batch.is_new

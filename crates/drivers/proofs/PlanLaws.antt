@@ -36,9 +36,11 @@ differs name other has hasnt = at (bytes_eq other name) refl
         absurd cc
     at false e = e
 
-found-without : (before : Pairs) (name : List ℕ) (t : Tree) (behind : Pairs) (other : List ℕ) → bytes_eq other name ≡ false → lookup (append before (pair name t behind)) other ≡ lookup (append before behind) other
+found-without : (before : Pairs) (name : List ℕ) (t : Tree) (behind : Pairs) (other : List ℕ) → bytes_eq other name ≡ false
+    → lookup (append before (pair name t behind)) other ≡ lookup (append before behind) other
 found-without no_pairs name t behind other e = rw e refl
-found-without (pair first u before) name t behind other e = ap (λ (x : Option Tree). if bytes_eq other first then Some u else x) (found-without before name t behind other e)
+found-without (pair first u before) name t behind other e =
+    ap (λ (x : Option Tree). if bytes_eq other first then Some u else x) (found-without before name t behind other e)
 
 -- the database, the cursors and the statements stand under names without a rule
 no_rule_database : is_none (rule_of (codes "$db")) ≡ true
@@ -114,15 +116,19 @@ other-alike : (ids : FreshIds) (ps qs : Pairs) (write : Option Write) → AreAli
 other-alike ids ps qs None h = refl
 other-alike ids ps qs (Some write) h = write-alike ids ps qs write h
 
-single-alike : (command : List ℕ) (t : Tree) (ps qs : Pairs) → AreAlike (pair command t ps) (pair command t qs) → is_single (pair command t ps) ≡ is_single (pair command t qs)
+single-alike : (command : List ℕ) (t : Tree) (ps qs : Pairs) → AreAlike (pair command t ps) (pair command t qs)
+    → is_single (pair command t ps) ≡ is_single (pair command t qs)
 single-alike command t ps qs h =
     ap (λ (x : Option Tree). if bytes_eq command (codes "find") then is_true x else false) (h.found (codes "singleBatch") no_rule_single)
 
-wait-alike : (ids : FreshIds) (command : List ℕ) (t : Tree) (ps qs : Pairs) → AreAlike (pair command t ps) (pair command t qs) → wait_of ids (pair command t ps) ≡ wait_of ids (pair command t qs)
+wait-alike : (ids : FreshIds) (command : List ℕ) (t : Tree) (ps qs : Pairs) → AreAlike (pair command t ps) (pair command t qs)
+    → wait_of ids (pair command t ps) ≡ wait_of ids (pair command t qs)
 wait-alike ids command t ps qs h =
     ap (λ (w : Wait). choose w (collections_wait whole) (is_single whole) (other_wait ids whole (write_of command))) (kill-alike whole other h)
-    ∙ ap (λ (x : Option Tree). choose (kill_wait other (ids_of other)) (waits.Collections (name_in x)) (is_single whole) (other_wait ids whole (write_of command))) (h.found (codes "filter") no_rule_filter)
-    ∙ ap (λ (b : Bool). choose (kill_wait other (ids_of other)) (collections_wait other) b (other_wait ids whole (write_of command))) (single-alike command t ps qs h)
+    ∙ ap (λ (x : Option Tree). choose (kill_wait other (ids_of other)) (waits.Collections (name_in x)) (is_single whole)
+    (other_wait ids whole (write_of command))) (h.found (codes "filter") no_rule_filter)
+    ∙ ap (λ (b : Bool). choose (kill_wait other (ids_of other)) (collections_wait other) b (other_wait ids whole (write_of command)))
+    (single-alike command t ps qs h)
     ∙ ap (choose (kill_wait other (ids_of other)) (collections_wait other) (is_single other)) (other-alike ids whole other (write_of command) h)
   where
     whole : Pairs
@@ -132,7 +138,9 @@ wait-alike ids command t ps qs h =
     other = pair command t qs
 
     choose : Wait → Wait → Bool → Wait → Wait
-    choose kill listed single rest = if bytes_eq command (codes "killCursors") then kill else if bytes_eq command (codes "listCollections") then listed else if bytes_eq command (codes "dropDatabase") then waits.Listed else if bytes_eq command (codes "explain") then waits.Explained else if single then waits.Single else rest
+    choose kill listed single rest = if bytes_eq command (codes "killCursors") then kill else if bytes_eq command (codes "listCollections") then listed
+        else if bytes_eq command (codes "dropDatabase") then waits.Listed else if bytes_eq command (codes "explain") then waits.Explained else if single
+        then waits.Single else rest
 
 pub ignored_leaves_the_plan : IgnoredLeavesThePlan
 ignored_leaves_the_plan ids more command value before name t behind has =
@@ -141,8 +149,10 @@ ignored_leaves_the_plan ids more command value before name t behind has =
       found = λ other hasnt. found-without whole name t behind other (differs name other has hasnt);
       left = λ asked. kept-without asked whole name t behind (dropped asked name has);
     } in
-    ap (λ (database : Option Tree). plan-of (text_or_none database) (wait_of ids (append whole (pair name t behind)))) (alike.found (codes "$db") no_rule_database)
-    ∙ ap (λ (w : Wait). plan-of (text_or_none (lookup (append whole behind) (codes "$db"))) w) (wait-alike ids command value (append before (pair name t behind)) (append before behind) alike)
+    ap (λ (database : Option Tree). plan-of (text_or_none database) (wait_of ids (append whole (pair name t behind))))
+    (alike.found (codes "$db") no_rule_database)
+    ∙ ap (λ (w : Wait). plan-of (text_or_none (lookup (append whole behind) (codes "$db"))) w)
+    (wait-alike ids command value (append before (pair name t behind)) (append before behind) alike)
   where
     plan-of : List ℕ → Wait → Plan
     plan-of database wait = record {

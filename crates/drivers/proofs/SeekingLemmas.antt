@@ -11,7 +11,8 @@ unfolding seek
 none place bytes = refl
 
 -- what a step finds with so many left
-pub one_step : (most i : ℕ) (place : Place) (bytes : List ℕ) (found : Seek) → i < most → found ≡ step place bytes → on (seek (most - (i + 1))) found ≡ seek (most - i) place bytes
+pub one_step : (most i : ℕ) (place : Place) (bytes : List ℕ) (found : Seek) → i < most → found ≡ step place bytes
+    → on (seek (most - (i + 1))) found ≡ seek (most - i) place bytes
 one_step most i place bytes found h is =
     let left : most - i ≡ suc (most - (i + 1)) = omega arith in
     ap (on (seek (most - (i + 1)))) is ∙ sym (one_more (most - (i + 1)) place bytes) ∙ sym (ap (λ (n : ℕ). seek n place bytes) left)

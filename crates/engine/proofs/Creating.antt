@@ -1,5 +1,6 @@
 -- A collection that is made, and one that is dropped.
-use Rattle.std.proofs.Common.{◌≡◌, ℕ, zero, suc, ◌+◌, ◌≤◌, Bool, true, false, List, [], ◌∷◌, length, remove, Option, Some, None, Result, Ok, Err, refl, sym, ap, subst, ◌∙◌, arith}
+use Rattle.std.proofs.Common.{◌≡◌, ℕ, zero, suc, ◌+◌, ◌≤◌, Bool, true, false, List, [], ◌∷◌, length, remove, Option, Some, None, Result, Ok, Err, refl, sym, ap}
+use Rattle.std.proofs.Common.{subst, ◌∙◌, arith}
 use Rattle.std.specs.Prelude.{◌==◌, ◌||◌, ◌&&◌, not, nat_le, if◌then◌else◌, is_some, All}
 use Rattle.std.specs.List.{AllPairs}
 use Rattle.std.specs.Str.{bytes_eq}
@@ -26,11 +27,14 @@ use Rattle.statements.proofs.Ordered.{without_there}
 
 -- ---- a collection is made
 
-pub created-full : (cs : List Collection) (name : List ℕ) (e : Refusal) → find_collection cs name ≡ None → (e ≡ refusals.TooMany) × (is_full cs name ≡ true) → created cs name ≡ Err e
+pub created-full : (cs : List Collection) (name : List ℕ) (e : Refusal) → find_collection cs name ≡ None → (e ≡ refusals.TooMany) × (is_full cs name ≡ true)
+    → created cs name ≡ Err e
 created-full cs name e none full =
     let new = with_documents cs name [] in
-    let many : nat_le 1000 (length cs) ≡ true = more (nat_le 1000 (length cs)) (ap (λ (o : Option Collection). nat_le 1000 (length cs) && not (is_some o)) (sym none) ∙ full.1) in
-    ap (λ (o : Option Collection). unless (is_some o) refusals.NamespaceExists (unless (nat_le 1000 (length cs)) refusals.TooMany (Ok (put_collection new cs)))) none
+    let many : nat_le 1000 (length cs) ≡ true =
+    more (nat_le 1000 (length cs)) (ap (λ (o : Option Collection). nat_le 1000 (length cs) && not (is_some o)) (sym none) ∙ full.1) in
+    ap (λ (o : Option Collection). unless (is_some o) refusals.NamespaceExists
+    (unless (nat_le 1000 (length cs)) refusals.TooMany (Ok (put_collection new cs)))) none
     ∙ ap (λ (b : Bool). unless b refusals.TooMany (Ok (put_collection new cs))) many ∙ ap (λ (r : Refusal). Err r) (sym full.0)
   where
     more : (b : Bool) → (b && true) ≡ true → b ≡ true
@@ -39,26 +43,31 @@ created-full cs name e none full =
 
 pub created-exists : (cs : List Collection) (name : List ℕ) (c : Collection) → find_collection cs name ≡ Some c → created cs name ≡ Err refusals.NamespaceExists
 created-exists cs name c some =
-    ap (λ (o : Option Collection). unless (is_some o) refusals.NamespaceExists (unless (nat_le 1000 (length cs)) refusals.TooMany (Ok (put_collection (with_documents cs name []) cs)))) some
+    ap (λ (o : Option Collection). unless (is_some o) refusals.NamespaceExists
+    (unless (nat_le 1000 (length cs)) refusals.TooMany (Ok (put_collection (with_documents cs name []) cs)))) some
 
 -- the collections are others then
 pub created_differs : (cs : List Collection) (name : List ℕ) (next : List Collection) → created cs name ≡ Ok next → next ≡ cs → ⊥
 created_differs cs name next e same =
     let new = with_documents cs name [] in
-    let p = passed (is_some (find_collection cs name)) refusals.NamespaceExists (unless (nat_le 1000 (length cs)) refusals.TooMany (Ok (put_collection new cs))) next e in
+    let p = passed (is_some (find_collection cs name)) refusals.NamespaceExists
+    (unless (nat_le 1000 (length cs)) refusals.TooMany (Ok (put_collection new cs))) next e in
     let q = passed (nat_le 1000 (length cs)) refusals.TooMany (Ok (put_collection new cs)) next p.1 in
     let now : put_collection new cs ≡ next = cc in
     let found : find_collection cs name ≡ Some new = ap (λ (ds : List Collection). find_collection ds name) (sym (now ∙ same)) ∙ put_found new cs in
     let yes : is_some (find_collection cs name) ≡ true = ap is_some found in
     absurd cc
 
-pub run_create-is : (w : World) (name : List ℕ) (cs : List Collection) → created w.collections name ≡ Ok cs → run_create w (record { namespace = name }) ≡ Ok (record w { collections = cs }, no_pairs)
+pub run_create-is : (w : World) (name : List ℕ) (cs : List Collection) → created w.collections name ≡ Ok cs
+    → run_create w (record { namespace = name }) ≡ Ok (record w { collections = cs }, no_pairs)
 unfolding run_create
-run_create-is w name cs e = ap (λ (r : Result (List Collection) Refusal). r >>= (λ ds. let x : Result (World × Pairs) Refusal = Ok (record w { collections = ds }, no_pairs) in x)) e
+run_create-is w name cs e =
+    ap (λ (r : Result (List Collection) Refusal). r >>= (λ ds. let x : Result (World × Pairs) Refusal = Ok (record w { collections = ds }, no_pairs) in x)) e
 
 pub run_create-refused : (w : World) (name : List ℕ) (e : Refusal) → created w.collections name ≡ Err e → run_create w (record { namespace = name }) ≡ Err e
 unfolding run_create
-run_create-refused w name e f = ap (λ (r : Result (List Collection) Refusal). r >>= (λ ds. let x : Result (World × Pairs) Refusal = Ok (record w { collections = ds }, no_pairs) in x)) f
+run_create-refused w name e f =
+    ap (λ (r : Result (List Collection) Refusal). r >>= (λ ds. let x : Result (World × Pairs) Refusal = Ok (record w { collections = ds }, no_pairs) in x)) f
 
 -- ---- a collection is dropped
 
@@ -75,7 +84,8 @@ less_one : (name : List ℕ) (cs : List Collection) → is_some (find_collection
 less_one name [] e = absurd cc
 less_one name (c ∷ cs) e = at (bytes_eq name c.name) e (less_one name cs)
   where
-    at : (b : Bool) → is_some (if b then Some c else find_collection cs name) ≡ true → (is_some (find_collection cs name) ≡ true → length (without_collection name cs) + 1 ≡ length cs)
+    at : (b : Bool) → is_some (if b then Some c else find_collection cs name) ≡ true
+        → (is_some (find_collection cs name) ≡ true → length (without_collection name cs) + 1 ≡ length cs)
         → length (if b then cs else c ∷ without_collection name cs) + 1 ≡ suc (length cs)
     at true e later = omega arith
     at false e later = omega (arith, later e)
@@ -94,13 +104,16 @@ module _ (w : World) (name : List ℕ) where
   abbrev reply : Pairs
   reply = drop_reply (index_count w.collections name) name
 
-  pub run_drop-is : (cs : List Collection) → dropped w.collections name ≡ Ok cs → run_drop w (record { namespace = name }) ≡ Ok (record w { collections = cs }, reply)
+  pub run_drop-is : (cs : List Collection) → dropped w.collections name ≡ Ok cs
+      → run_drop w (record { namespace = name }) ≡ Ok (record w { collections = cs }, reply)
   unfolding run_drop
-  run_drop-is cs e = ap (λ (r : Result (List Collection) Refusal). r >>= (λ ds. let x : Result (World × Pairs) Refusal = Ok (record w { collections = ds }, reply) in x)) e
+  run_drop-is cs e =
+      ap (λ (r : Result (List Collection) Refusal). r >>= (λ ds. let x : Result (World × Pairs) Refusal = Ok (record w { collections = ds }, reply) in x)) e
 
   pub run_drop-refused : (e : Refusal) → dropped w.collections name ≡ Err e → run_drop w (record { namespace = name }) ≡ Err e
   unfolding run_drop
-  run_drop-refused e f = ap (λ (r : Result (List Collection) Refusal). r >>= (λ ds. let x : Result (World × Pairs) Refusal = Ok (record w { collections = ds }, reply) in x)) f
+  run_drop-refused e f =
+      ap (λ (r : Result (List Collection) Refusal). r >>= (λ ds. let x : Result (World × Pairs) Refusal = Ok (record w { collections = ds }, reply) in x)) f
 
 -- ---- what a drop leaves is lawful
 
@@ -137,7 +150,8 @@ uses_without : (name : List ℕ) (cs : List Collection) (n : ℕ) → uses cs n 
 uses_without name [] n e = refl
 uses_without name (c ∷ cs) n e =
     let parts = left_false (c.number == n) (uses cs n) e in
-    let kept : uses (c ∷ without_collection name cs) n ≡ false = ap (λ (b : Bool). b || uses (without_collection name cs) n) parts.0 ∙ uses_without name cs n parts.1 in
+    let kept : uses (c ∷ without_collection name cs) n ≡ false =
+    ap (λ (b : Bool). b || uses (without_collection name cs) n) parts.0 ∙ uses_without name cs n parts.1 in
     at (bytes_eq name c.name) parts.1 kept
   where
     at : (b : Bool) → uses cs n ≡ false → uses (c ∷ without_collection name cs) n ≡ false → uses (if b then cs else c ∷ without_collection name cs) n ≡ false

@@ -1,5 +1,6 @@
 -- The steps of a createIndexes, over engines as values.
-use Rattle.std.proofs.Common.{◌≡◌, inl, inr, ◌+◌, ◌≤◌, ℕ, Bool, true, false, List, length, Option, Some, None, Result, Ok, Err, refl, sym, ap, subst, ◌∙◌, arith}
+use Rattle.std.proofs.Common.{◌≡◌, inl, inr, ◌+◌, ◌≤◌, ℕ, Bool, true, false, List, length, Option, Some, None, Result, Ok, Err, refl, sym, ap, subst, ◌∙◌}
+use Rattle.std.proofs.Common.{arith}
 use Rattle.std.specs.Prelude.{is_some, not}
 use Rattle.std.specs.Option.{option_map}
 use Rattle.bson.specs.Tree.{Pairs}
@@ -33,7 +34,8 @@ use Rattle.engine.specs.Writing.{Makes, planned_or, Writes}
 use Rattle.engine.specs.declared.create_indexes.PlannedIndexes.{PlannedIndexes}
 use Rattle.engine.specs.declared.engine.Engine.{Engine}
 use Rattle.engine.proofs.LookingLemmas.{performs_memory}
-use Rattle.engine.proofs.MakingLemmas.{lawful_now, leads_planned, makes_behind, makes_none, makes_written, performs_done, performs_refused, planned_is, with_reply}
+use Rattle.engine.proofs.MakingLemmas.{lawful_now, leads_planned, makes_behind, makes_none, makes_written, performs_done, performs_refused, planned_is}
+use Rattle.engine.proofs.MakingLemmas.{with_reply}
 use Rattle.engine.proofs.NewCollections.{IsNumberOf}
 use Rattle.index_list.proofs.NewIndexLemmas.{with_new_indexes_more}
 use Rattle.engine.proofs.OnlyReading.{cause_from, now_same, reads_none, reads_on, word_before}
@@ -44,7 +46,8 @@ use Rattle.engine.proofs.StoringLemmas.{it_is}
 abbrev put_in : List Collection → Collection → Result (List Collection) Refusal
 put_in cs c = Ok (put_collection c cs)
 
-indexed_by : (cs : List Collection) (name : List ℕ) (ns : List NewIndex) (r : Result Collection Refusal) → is_full cs name ≡ false → with_new_indexes (collection_of cs name) ns ≡ r
+indexed_by : (cs : List Collection) (name : List ℕ) (ns : List NewIndex) (r : Result Collection Refusal) → is_full cs name ≡ false
+    → with_new_indexes (collection_of cs name) ns ≡ r
     → indexed cs name ns ≡ (r >>= put_in cs)
 indexed_by cs name ns r room is =
     ap (λ (b : Bool). unless b refusals.TooMany (with_new_indexes (collection_of cs name) ns >>= put_in cs)) room
@@ -52,9 +55,11 @@ indexed_by cs name ns r room is =
 
 indexed_full : (cs : List Collection) (name : List ℕ) (ns : List NewIndex) (e : Refusal) → IsFull cs name e → indexed cs name ns ≡ Err e
 indexed_full cs name ns e (is, full) =
-    ap (λ (b : Bool). unless b refusals.TooMany (with_new_indexes (collection_of cs name) ns >>= put_in cs)) full ∙ ap (λ (x : Refusal). let r : Result (List Collection) Refusal = Err x in r) (sym is)
+    ap (λ (b : Bool). unless b refusals.TooMany (with_new_indexes (collection_of cs name) ns >>= put_in cs)) full
+    ∙ ap (λ (x : Refusal). let r : Result (List Collection) Refusal = Err x in r) (sym is)
 
-pub planned_next : (cs : List Collection) (name : List ℕ) (ns : List NewIndex) (p : PlannedIndexes) (a : ArePlanned cs name ns p) → indexed cs name ns ≡ Ok (put_collection a.next cs)
+pub planned_next : (cs : List Collection) (name : List ℕ) (ns : List NewIndex) (p : PlannedIndexes) (a : ArePlanned cs name ns p)
+    → indexed cs name ns ≡ Ok (put_collection a.next cs)
 planned_next cs name ns p a = indexed_by cs name ns (Ok a.next) a.room a.is
 
 some_number : (found : Option ℕ) (o : Option Collection) → found ≡ option_map (λ c. c.number) o → is_some found ≡ is_some o
@@ -77,7 +82,9 @@ module _ {D : Type 0} (history : D → History) (name : List ℕ) (ns : List New
 
     module _ (found : Option ℕ) (first : Looks history (IsNumberOf name) (Ok found) old mid) (last : Engine D) where
       abbrev Targets : List Edit → Result Catalogued Refusal → Type 0
-      Targets edits r = Tries history (λ home. AreNoted (world mid).collections name home edits (collection_of (world mid).collections name)) (IsFull (world mid).collections name) r mid last
+      Targets edits r =
+          Tries history (λ home. AreNoted (world mid).collections name home edits (collection_of (world mid).collections name))
+          (IsFull (world mid).collections name) r mid last
 
       same_mid : (world mid).collections ≡ (world old).collections
       same_mid = now_same history old mid first.reads
@@ -87,7 +94,8 @@ module _ {D : Type 0} (history : D → History) (name : List ℕ) (ns : List New
         reads = reads_on history old mid last first.reads target.reads;
         answers = λ k. elim (target.answers k) [
           | inl full ↦ inl (indexed_full (world old).collections name ns e (subst (λ (cs : List Collection). IsFull cs name e) same_mid full))
-          | inr cause ↦ inr (cause_from history old.file mid.file last.file first.reads.goes (word_before history mid.file last.file target.reads.goes k) e cause)
+          | inr cause ↦ inr
+              (cause_from history old.file mid.file last.file first.reads.goes (word_before history mid.file last.file target.reads.goes k) e cause)
         ];
       }
 
@@ -114,12 +122,15 @@ module _ {D : Type 0} (history : D → History) (name : List ℕ) (ns : List New
               let k_last = word_before history last.file new.file notes.reads.goes k in
               let noted = noted_first k_last in
               elim (notes.answers k (start (world last).collections) noted refl) [
-                | inl refused ↦ inl (subst (λ (cs : List Collection). indexed cs name ns ≡ Err e) (same_last ∙ same_mid) (indexed_by (world last).collections name ns (Err e) noted.room refused))
+                | inl refused ↦ inl
+                    (subst (λ (cs : List Collection). indexed cs name ns ≡ Err e) (same_last ∙ same_mid)
+                    (indexed_by (world last).collections name ns (Err e) noted.room refused))
                 | inr cause ↦ inr (cause_from history old.file last.file new.file (reads_on history old mid last first.reads target.reads).goes k_last e cause)
               ];
         }
 
-        pub plan_made : NotesAll (Ok tt) → (p : PlannedIndexes) → p.edits ≡ after → p.before ≡ length home.indexes.items → p.after ≡ length home_after.indexes.items → is_some found ≡ not p.is_new → Plans (Ok p) new
+        pub plan_made : NotesAll (Ok tt) → (p : PlannedIndexes) → p.edits ≡ after → p.before ≡ length home.indexes.items
+            → p.after ≡ length home_after.indexes.items → is_some found ≡ not p.is_new → Plans (Ok p) new
         plan_made notes p edits_are before_is after_is new_is = record {
           reads = all_reads notes.reads;
           answers = λ k.
@@ -134,9 +145,11 @@ module _ {D : Type 0} (history : D → History) (name : List ℕ) (ns : List New
                 room = noted.room;
                 before = before_is ∙ ap length (sym noted.indexed);
                 after = after_is ∙ ap length (sym has.noted.indexed);
-                is_new = turned p.is_new (is_some found) new_is ∙ ap not (some_number found (find_collection (world old).collections name) (first.answers k_mid))
+                is_new = turned p.is_new (is_some found) new_is
+                    ∙ ap not (some_number found (find_collection (world old).collections name) (first.answers k_mid))
                     ∙ ap (λ (ds : List Collection). not (is_some (find_collection ds name))) (sym (same_last ∙ same_mid));
-                leads = λ lawful. subst (λ (es : List Edit). Leads es cs (put_collection has.next cs) × states.IsLawfulState (put_collection has.next cs)) (sym edits_are) (has.noted.leads lawful);
+                leads = λ lawful. subst (λ (es : List Edit). Leads es cs (put_collection has.next cs) × states.IsLawfulState (put_collection has.next cs))
+                    (sym edits_are) (has.noted.leads lawful);
               } in
               subst (λ (ds : List Collection). ArePlanned ds name ns p) (same_last ∙ same_mid) there;
         }
@@ -144,13 +157,15 @@ module _ {D : Type 0} (history : D → History) (name : List ℕ) (ns : List New
 -- ---- it is put into the file
 
 -- nothing new was planned
-nothing_new : (cs : List Collection) (name : List ℕ) (ns : List NewIndex) (p : PlannedIndexes) (a : ArePlanned cs name ns p) → p.is_new ≡ false → p.after ≤ p.before → a.next ≡ collection_of cs name
+nothing_new : (cs : List Collection) (name : List ℕ) (ns : List NewIndex) (p : PlannedIndexes) (a : ArePlanned cs name ns p) → p.is_new ≡ false
+    → p.after ≤ p.before → a.next ≡ collection_of cs name
 nothing_new cs name ns p a old few = elim (with_new_indexes_more (collection_of cs name) a.next ns a.is).longer [
   | inl same ↦ same
   | inr longer ↦ absurd (omega (arith, longer, few, a.before, a.after))
 ]
 
-found_there : (cs : List Collection) (name : List ℕ) (is_new : Bool) → is_new ≡ not (is_some (find_collection cs name)) → is_new ≡ false → (c : Collection) × (find_collection cs name ≡ Some c)
+found_there : (cs : List Collection) (name : List ℕ) (is_new : Bool) → is_new ≡ not (is_some (find_collection cs name)) → is_new ≡ false
+    → (c : Collection) × (find_collection cs name ≡ Some c)
 found_there cs name is_new told old = by (find_collection cs name) refl (sym told ∙ old)
   where
     by : (o : Option Collection) → find_collection cs name ≡ o → not (is_some o) ≡ false → (c : Collection) × (find_collection cs name ≡ Some c)
@@ -163,7 +178,8 @@ module _ {D : Type 0} (history : D → History) (name : List ℕ) (ns : List New
   Plan cs = indexed cs name ns
 
   pub put_stopped : is_stopped old ≡ true → Makes history (Plan (world old).collections) (Err refusals.StorageFailed) old old
-  put_stopped stopped = makes_none history (Plan (world old).collections) old old refusals.StorageFailed (reads_none history old h) (λ k. inr (inr (inl (refl, inl stopped))))
+  put_stopped stopped =
+      makes_none history (Plan (world old).collections) old old refusals.StorageFailed (reads_none history old h) (λ k. inr (inr (inl (refl, inl stopped))))
 
   pub put_nothing : p.is_new ≡ false → p.after ≤ p.before → Makes history (Plan (world old).collections) (Ok tt) old old
   put_nothing is_old few = record {
@@ -178,29 +194,36 @@ module _ {D : Type 0} (history : D → History) (name : List ℕ) (ns : List New
         let same : a.next ≡ t.0 = nothing_new cs name ns p a is_old few ∙ it_is cs name t.0 t.1 in
         let named = found_name cs name t.0 t.1 in
         let stays : put_collection a.next cs ≡ cs =
-        ap (λ (c : Collection). put_collection c cs) same ∙ put_same t.0 cs h.lawful.apart (subst (λ (m : List ℕ). find_collection cs m ≡ Some t.0) named t.1) in
+        ap (λ (c : Collection). put_collection c cs) same
+        ∙ put_same t.0 cs h.lawful.apart (subst (λ (m : List ℕ). find_collection cs m ≡ Some t.0) named t.1) in
         planned_next cs name ns p a ∙ ap (λ (ds : List Collection). Ok ds) stays;
     refused = tt;
   }
 
   pub put_leads : KeepsWord (disk_history history old) → IsRunning old
-      → Leads p.edits (world old).collections (planned_or (world old).collections (Plan (world old).collections)) × states.IsLawfulState (planned_or (world old).collections (Plan (world old).collections))
+      → Leads p.edits (world old).collections (planned_or (world old).collections (Plan (world old).collections))
+      × states.IsLawfulState (planned_or (world old).collections (Plan (world old).collections))
   put_leads k running =
       let cs = (world old).collections in
       let a = there k in
       leads_planned p.edits cs (put_collection a.next cs) (Plan cs) (planned_next cs name ns p a) (a.leads (lawful_now history old h k running))
 
-  pub put_written : (r : Result (Unit {0}) Refusal) (new : Engine D) → Writes history (planned_or (world old).collections (Plan (world old).collections)) r old new → Makes history (Plan (world old).collections) r old new
+  pub put_written : (r : Result (Unit {0}) Refusal) (new : Engine D)
+      → Writes history (planned_or (world old).collections (Plan (world old).collections)) r old new → Makes history (Plan (world old).collections) r old new
   put_written r new writes =
       makes_written history Plan old old new (reads_none history old h) r
-      (λ k. let a = there k in planned_is (world old).collections (put_collection a.next (world old).collections) (Plan (world old).collections) (planned_next (world old).collections name ns p a)) writes
+      (λ k. let a = there k in
+      planned_is (world old).collections (put_collection a.next (world old).collections) (Plan (world old).collections)
+      (planned_next (world old).collections name ns p a)) writes
 
 -- ---- the command
 
 abbrev reply_to : List Collection → List ℕ → Result (List Collection) Refusal → Pairs
 reply_to cs name planned = create_indexes_reply (index_count cs name) (index_count (planned_or cs planned) name) (not (is_some (find_collection cs name)))
 
-run_indexes : (w : World) (name : List ℕ) (ns : List NewIndex) → run_create_indexes w (record { namespace = name; indexes = ns }) ≡ with_reply w (reply_to w.collections name (indexed w.collections name ns)) (indexed w.collections name ns)
+run_indexes : (w : World) (name : List ℕ) (ns : List NewIndex)
+    → run_create_indexes w (record { namespace = name; indexes = ns })
+    ≡ with_reply w (reply_to w.collections name (indexed w.collections name ns)) (indexed w.collections name ns)
 unfolding run_create_indexes
 run_indexes w name ns = by (indexed w.collections name ns)
   where
@@ -208,7 +231,8 @@ run_indexes w name ns = by (indexed w.collections name ns)
     cs = w.collections
 
     by : (r : Result (List Collection) Refusal)
-        → (r >>= (λ ds. let x : Result (World × Pairs) Refusal = Ok (record w { collections = ds }, create_indexes_reply (index_count cs name) (index_count ds name) (not (is_some (find_collection cs name)))) in x))
+        → (r >>= (λ ds. let x : Result (World × Pairs) Refusal =
+        Ok (record w { collections = ds }, create_indexes_reply (index_count cs name) (index_count ds name) (not (is_some (find_collection cs name)))) in x))
         ≡ with_reply w (reply_to cs name r) r
     by (Ok ds) = refl
     by (Err e) = refl
@@ -268,9 +292,11 @@ module _ {D : Type 0} (history : D → History) (name : List ℕ) (ns : List New
       create_behind r m = makes_behind history Planned old mid new tried.reads r m
 
       pub create_undone : (e : Refusal) → Behind (Err e) → Performs history run (Err e) old new
-      create_undone e m = performs_refused history reply (Planned (world old).collections) run old new (run_indexes (world old) name ns) e (create_behind (Err e) m)
+      create_undone e m =
+          performs_refused history reply (Planned (world old).collections) run old new (run_indexes (world old) name ns) e (create_behind (Err e) m)
 
-      pub create_done : (before after : ℕ) (d : Pairs) → before ≡ 1 + p.before → after ≡ 1 + p.after → d ≡ ok_reply (create_indexes_reply before after p.is_new) → Behind (Ok tt) → Performs history run (Ok d) old new
+      pub create_done : (before after : ℕ) (d : Pairs) → before ≡ 1 + p.before → after ≡ 1 + p.after
+          → d ≡ ok_reply (create_indexes_reply before after p.is_new) → Behind (Ok tt) → Performs history run (Ok d) old new
       create_done before after d before_is after_is said m =
           let makes = create_behind (Ok tt) m in
           record {
@@ -281,13 +307,15 @@ module _ {D : Type 0} (history : D → History) (name : List ℕ) (ns : List New
                 let cs = (world old).collections in
                 let a = tried.answers (word_before history mid.file new.file m.goes k) in
                 let counts = counted cs name ns p a in
-                let told : d ≡ ok_reply reply = said ∙ (λ i. ok_reply (create_indexes_reply ((before_is ∙ counts.0) i) ((after_is ∙ counts.1) i) (a.is_new i))) in
+                let told : d ≡ ok_reply reply =
+                said ∙ (λ i. ok_reply (create_indexes_reply ((before_is ∙ counts.0) i) ((after_is ∙ counts.1) i) (a.is_new i))) in
                 (performs_done history reply (Planned cs) run old new (run_indexes (world old) name ns) d told makes).does k;
             refused = tt;
           }
 
       -- where the collections stay, nothing was written
-      pub create_changes : Behind (Ok tt) → (p.is_new ≡ false → p.after ≤ p.before → has_changes new ≡ has_changes mid) → KeepsWord (disk_history history new) → (world new).collections ≡ (world old).collections
+      pub create_changes : Behind (Ok tt) → (p.is_new ≡ false → p.after ≤ p.before → has_changes new ≡ has_changes mid) → KeepsWord (disk_history history new)
+          → (world new).collections ≡ (world old).collections
           → has_changes new ≡ has_changes old
       create_changes m quiet k same =
           let cs = (world old).collections in

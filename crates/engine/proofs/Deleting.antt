@@ -1,5 +1,6 @@
 -- What a delete leaves of documents keeps what was kept of them.
-use Rattle.std.proofs.Common.{◌≡◌, ◌⊎◌, inl, inr, ℕ, zero, suc, ◌-◌, ◌<◌, ◌≤◌, Bool, true, false, List, [], ◌∷◌, length, get_or, set, remove, Option, Some, None, refl, sym, ap, subst, ◌∙◌, arith}
+use Rattle.std.proofs.Common.{◌≡◌, ◌⊎◌, inl, inr, ℕ, zero, suc, ◌-◌, ◌<◌, ◌≤◌, Bool, true, false, List, [], ◌∷◌, length, get_or, set, remove, Option, Some}
+use Rattle.std.proofs.Common.{None, refl, sym, ap, subst, ◌∙◌, arith}
 use Rattle.std.specs.Prelude.{not, if◌then◌else◌, All}
 use Rattle.std.specs.List.{AllPairs, filter, position}
 use Rattle.std.specs.Cmp.Lexicographic.{slice_cmp}
@@ -52,7 +53,8 @@ left_kept P (d ∷ rest) ds h = left_kept P rest (after_deletion d ds) (by_kept 
 
 -- ---- what holds of each document and each later one
 
-without_apart : {X : Type 0} (R : X → X → Type 0) (o : Option ℕ) (xs : List X) → ((i : ℕ) → o ≡ Some i → i < length xs) → AllPairs R xs → AllPairs R (without_at o xs)
+without_apart : {X : Type 0} (R : X → X → Type 0) (o : Option ℕ) (xs : List X) → ((i : ℕ) → o ≡ Some i → i < length xs) → AllPairs R xs
+    → AllPairs R (without_at o xs)
 without_apart R None xs within h = h
 without_apart R (Some i) xs within h = all_pairs_remove R xs i (within i refl) h
 
@@ -131,12 +133,15 @@ cut_held c deletions h = record {
 }
 
 -- what a delete makes of the collection that stands there
-loses : (name : List ℕ) (deletions : List Deletion) (cs : List Collection) (at : ℕ) (there : IsThere name cs at) → deleted_in (find_collection cs name) deletions cs ≡ set cs at (record (collection_at cs at) { documents = after_deletions deletions (collection_at cs at).documents })
+loses : (name : List ℕ) (deletions : List Deletion) (cs : List Collection) (at : ℕ) (there : IsThere name cs at)
+    → deleted_in (find_collection cs name) deletions cs
+    ≡ set cs at (record (collection_at cs at) { documents = after_deletions deletions (collection_at cs at).documents })
 loses name deletions cs at there =
     ap (λ (o : Option Collection). deleted_in o deletions cs) there.found
     ∙ there.replaced (record (collection_at cs at) { documents = after_deletions deletions (collection_at cs at).documents }) there.named
 
-pub there_at : (cs : List Collection) (name : List ℕ) (i : ℕ) → AreNamedApart cs → i < length cs → ((d : Collection) → slice_cmp nat_cmp (get_or cs i d).name name ≡ orders.Equal) → IsThere name cs i
+pub there_at : (cs : List Collection) (name : List ℕ) (i : ℕ) → AreNamedApart cs → i < length cs
+    → ((d : Collection) → slice_cmp nat_cmp (get_or cs i d).name name ≡ orders.Equal) → IsThere name cs i
 there_at cs name i apart within same = record {
   within = within;
   named = exact_bytes (collection_at cs i).name name (same no_collection);
@@ -145,10 +150,12 @@ there_at cs name i apart within same = record {
 }
 
 -- what a delete leaves of lawful collections is lawful
-pub deleted_lawful : (cs : List Collection) (name : List ℕ) (deletions : List Deletion) → IsLawfulState cs → IsLawfulState (deleted_in (find_collection cs name) deletions cs)
+pub deleted_lawful : (cs : List Collection) (name : List ℕ) (deletions : List Deletion) → IsLawfulState cs
+    → IsLawfulState (deleted_in (find_collection cs name) deletions cs)
 deleted_lawful cs name deletions h = at (located nat_list_cmp_total (λ (c : Collection). c.name) cs name h.apart)
   where
-    at : Gap (slice_cmp nat_cmp) (λ (c : Collection). c.name) cs name ⊎ There (slice_cmp nat_cmp) (λ (c : Collection). c.name) cs name → IsLawfulState (deleted_in (find_collection cs name) deletions cs)
+    at : Gap (slice_cmp nat_cmp) (λ (c : Collection). c.name) cs name ⊎ There (slice_cmp nat_cmp) (λ (c : Collection). c.name) cs name
+        → IsLawfulState (deleted_in (find_collection cs name) deletions cs)
     at (inl g) = subst (λ (o : Option Collection). IsLawfulState (deleted_in o deletions cs)) (sym (missing cs g.0 name g.1)) h
     at (inr t) =
         let there = there_at cs name t.place h.apart t.within t.same in

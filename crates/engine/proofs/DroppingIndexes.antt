@@ -1,5 +1,6 @@
 -- The steps of a dropIndexes, over engines as values.
-use Rattle.std.proofs.Common.{◌≡◌, inl, inr, ◌+◌, ◌<◌, ◌≤◌, ℕ, Bool, true, false, ◌&&◌, List, [], ◌∷◌, length, get_or, take, Option, Some, None, Result, Ok, Err, refl, sym, ap, subst, ◌∙◌, arith}
+use Rattle.std.proofs.Common.{◌≡◌, inl, inr, ◌+◌, ◌<◌, ◌≤◌, ℕ, Bool, true, false, ◌&&◌, List, [], ◌∷◌, length, get_or, take, Option, Some, None, Result, Ok}
+use Rattle.std.proofs.Common.{Err, refl, sym, ap, subst, ◌∙◌, arith}
 use Rattle.std.specs.Prelude.{All, is_some, nat_le, not}
 use Rattle.std.specs.List.{position, remove}
 use Rattle.std.proofs.lemmas.List.Edits.{length-remove}
@@ -42,7 +43,8 @@ use Rattle.engine.specs.declared.engine.Engine.{Engine}
 use Rattle.engine.proofs.CataloguedLemmas.{IsCatalogueOf, has_home, not_catalogued, some_same}
 use Rattle.index_list.proofs.DroppedIndexLemmas.{all_remain, dropped_there, fewer_remain, remain_without}
 use Rattle.engine.proofs.LookingLemmas.{performs_memory}
-use Rattle.engine.proofs.MakingLemmas.{lawful_now, leads_planned, makes_behind, makes_none, makes_written, performs_done, performs_refused, planned_is, with_reply}
+use Rattle.engine.proofs.MakingLemmas.{lawful_now, leads_planned, makes_behind, makes_none, makes_written, performs_done, performs_refused, planned_is}
+use Rattle.engine.proofs.MakingLemmas.{with_reply}
 use Rattle.engine.proofs.OnlyReading.{cause_from, now_same, reads_none, reads_on, word_before}
 
 -- ---- the index at a place
@@ -54,10 +56,12 @@ all_keyed_in c i kept listed = all_of (HasKeysIn i) c.documents (λ d stands. re
   keyed = of_all (λ e. keys_in i.fields e ≡ Ok (encoded_keys i.fields e)) c.documents d (listed_of c i kept listed).keys stands;
 })
 
-pub fewer_by_one : (home after : Catalogued) (at : ℕ) → at < length home.indexes.items → after.indexes.items ≡ remove home.indexes.items at → length after.indexes.items < length home.indexes.items
+pub fewer_by_one : (home after : Catalogued) (at : ℕ) → at < length home.indexes.items → after.indexes.items ≡ remove home.indexes.items at
+    → length after.indexes.items < length home.indexes.items
 fewer_by_one home after at within is = omega (arith, ap length is, length-remove home.indexes.items at within)
 
-pub limits_by_one : (home after : Catalogued) (at : ℕ) → IsWithinLimits home → at < length home.indexes.items → after.number ≡ home.number → after.indexes.items ≡ remove home.indexes.items at → IsWithinLimits after
+pub limits_by_one : (home after : Catalogued) (at : ℕ) → IsWithinLimits home → at < length home.indexes.items → after.number ≡ home.number
+    → after.indexes.items ≡ remove home.indexes.items at → IsWithinLimits after
 limits_by_one home after at limits within number is = (omega (arith, limits.0, number), omega (arith, limits.1, fewer_by_one home after at within is))
 
 module _ {D : Type 0} (history : D → History) (old : Engine D) (h : IsSound history old) (name : List ℕ) (home : Catalogued) (before : List Edit) (at : ℕ) where
@@ -70,7 +74,8 @@ module _ {D : Type 0} (history : D → History) (old : Engine D) (h : IsSound hi
   pub at_stopped : is_stopped old ≡ true → NotesAt home before (Err refusals.StorageFailed) old
   at_stopped stopped = record { reads = reads_none history old h; answers = λ k c noted so. inr (inr (inl (refl, inl stopped))) }
 
-  module _ (running : IsRunning old) (i : Definition) (within : at < length home.indexes.items) (here : i ≡ get_or home.indexes.items at i) (mid : List Edit) (last : Engine D) where
+  module _ (running : IsRunning old) (i : Definition) (within : at < length home.indexes.items) (here : i ≡ get_or home.indexes.items at i) (mid : List Edit)
+      (last : Engine D) where
     abbrev Unindexes : Result (Unit {0}) Refusal → Type 0
     Unindexes r = LooksOf history (IsIndexedBy home.number i) (IsUnindexed home.number i before mid) r old last
 
@@ -83,7 +88,8 @@ module _ {D : Type 0} (history : D → History) (old : Engine D) (h : IsSound hi
         let cut = cut_at c.indexes at i (omega (arith, within, long)) (here ∙ ap (λ (js : List Definition). get_or js at i) (sym noted.indexed)) in
         subst (Among i) (sym cut) (among_back i (take at c.indexes) (i ∷ _) (inl refl))
 
-    indexed_by : states.IsLawfulState cs → (c : Collection) → AreNoted cs name home before c → (so : HasOtherIndexes cs name c) → IsIndexedBy home.number i cs so.whole
+    indexed_by : states.IsLawfulState cs → (c : Collection) → AreNoted cs name home before c → (so : HasOtherIndexes cs name c)
+        → IsIndexedBy home.number i cs so.whole
     indexed_by lawful c noted so =
         let kept = kept_of (put_collection c cs) c (noted.leads lawful).1 (found_in (put_collection c cs) c.name c (finds_put c cs)) in
         record {
@@ -104,7 +110,8 @@ module _ {D : Type 0} (history : D → History) (old : Engine D) (h : IsSound hi
       pub at_kept : (e : Refusal) → e ≡ refusals.OutOfMemory → NotesAt home_after after (Err e) last
       at_kept e memory = record { reads = unindexes.reads; answers = λ k c noted so. inr (inl memory) }
 
-      pub at_dropped : home_after.number ≡ home.number → home_after.indexes.items ≡ remove home.indexes.items at → DropsIndexAt mid after name home.number home.indexes.items at → NotesAt home_after after (Ok tt) last
+      pub at_dropped : home_after.number ≡ home.number → home_after.indexes.items ≡ remove home.indexes.items at
+          → DropsIndexAt mid after name home.number home.indexes.items at → NotesAt home_after after (Ok tt) last
       at_dropped number_is indexes_are drops = record {
         reads = unindexes.reads;
         answers = λ k c noted so.
@@ -138,10 +145,12 @@ pub record HasLeft (now : List Collection) (name : List ℕ) (away : DroppedInde
   pub same : drop_each away first ≡ drop_each away reached
 
 -- so it is after some of them
-pub record DropsTo {D : Type 0} (history : D → History) (name : List ℕ) (away : DroppedIndexes) (home_before home : Catalogued) (before after : List Edit) (old new : Engine D) : Type 0 where
+pub record DropsTo {D : Type 0} (history : D → History) (name : List ℕ) (away : DroppedIndexes) (home_before home : Catalogued) (before after : List Edit)
+    (old new : Engine D) : Type 0 where
   pub reads : OnlyReads history old new
   pub limits : IsWithinLimits home
-  pub answers : KeepsWord (disk_history history new) → (first : Collection) → AreNoted (world old).collections name home_before before first → HasOtherIndexes (world old).collections name first
+  pub answers : KeepsWord (disk_history history new) → (first : Collection) → AreNoted (world old).collections name home_before before first
+      → HasOtherIndexes (world old).collections name first
       → HasLeft (world old).collections name away home after first
 
 module _ {D : Type 0} (history : D → History) (name : List ℕ) (away : DroppedIndexes) (home_before : Catalogued) (before : List Edit) (old : Engine D) where
@@ -155,19 +164,23 @@ module _ {D : Type 0} (history : D → History) (name : List ℕ) (away : Droppe
     answers = λ k first noted so. record { reached = first; noted = noted; so = so; same = refl };
   }
 
-  module _ (mid new : Engine D) (home home_after : Catalogued) (edits after : List Edit) (far : DropsTo history name away home_before home before edits old mid) (at : ℕ) where
+  module _ (mid new : Engine D) (home home_after : Catalogued) (edits after : List Edit)
+      (far : DropsTo history name away home_before home before edits old mid) (at : ℕ) where
     abbrev Step : Result (Unit {0}) Refusal → Type 0
     Step r = Notes history name (HasOtherIndexes (world mid).collections name) (drop_at at) home home_after edits after r mid new
 
     same_now : (world mid).collections ≡ (world old).collections
     same_now = now_same history old mid far.reads
 
-    reached_so : OnlyReads history mid new → KeepsWord (disk_history history new) → (first : Collection) → AreNoted (world old).collections name home_before before first → HasOtherIndexes (world old).collections name first
+    reached_so : OnlyReads history mid new → KeepsWord (disk_history history new) → (first : Collection)
+        → AreNoted (world old).collections name home_before before first → HasOtherIndexes (world old).collections name first
         → HasLeft (world old).collections name away home edits first
     reached_so later k first noted so = far.answers (word_before history mid.file new.file later.goes k) first noted so
 
-    now_noted : (first : Collection) (f : HasLeft (world old).collections name away home edits first) → AreNoted (world mid).collections name home edits f.reached × HasOtherIndexes (world mid).collections name f.reached
-    now_noted first f = subst (λ (ds : List Collection). AreNoted ds name home edits f.reached × HasOtherIndexes ds name f.reached) (sym same_now) (f.noted, f.so)
+    now_noted : (first : Collection) (f : HasLeft (world old).collections name away home edits first)
+        → AreNoted (world mid).collections name home edits f.reached × HasOtherIndexes (world mid).collections name f.reached
+    now_noted first f =
+        subst (λ (ds : List Collection). AreNoted ds name home edits f.reached × HasOtherIndexes ds name f.reached) (sym same_now) (f.noted, f.so)
 
     pub drops_refused : (e : Refusal) → Step (Err e) → NotesAll home_after after (Err e) new
     drops_refused e step = record {
@@ -181,14 +194,16 @@ module _ {D : Type 0} (history : D → History) (name : List ℕ) (away : Droppe
           ];
     }
 
-    pub drops_on : position (is_dropped away) home.indexes.items ≡ Some at → Step (Ok tt) → IsWithinLimits home_after → DropsTo history name away home_before home_after before after old new
+    pub drops_on : position (is_dropped away) home.indexes.items ≡ Some at → Step (Ok tt) → IsWithinLimits home_after
+        → DropsTo history name away home_before home_after before after old new
     drops_on found step limits = record {
       reads = reads_on history old mid new far.reads step.reads;
       limits = limits;
       answers = λ k first noted so.
           let f = reached_so step.reads k first noted so in
           let now = now_noted first f in
-          let has = subst (λ (ds : List Collection). HasNoted ds name home_after after (drop_at at f.reached)) same_now (step.answers k f.reached now.0 now.1) in
+          let has = subst (λ (ds : List Collection). HasNoted ds name home_after after (drop_at at f.reached)) same_now
+          (step.answers k f.reached now.0 now.1) in
           let c = f.reached in
           let next = without_index_at c at in
           let is : next ≡ has.next = ap (λ (r : Result Collection Refusal). elim r [ Ok z ↦ z | Err f ↦ next ]) has.is in
@@ -202,7 +217,8 @@ module _ {D : Type 0} (history : D → History) (name : List ℕ) (away : Droppe
           };
     }
 
-  pub drops_all : (new : Engine D) (home : Catalogued) (edits : List Edit) → position (is_dropped away) home.indexes.items ≡ None → DropsTo history name away home_before home before edits old new → NotesAll home edits (Ok tt) new
+  pub drops_all : (new : Engine D) (home : Catalogued) (edits : List Edit) → position (is_dropped away) home.indexes.items ≡ None
+      → DropsTo history name away home_before home before edits old new → NotesAll home edits (Ok tt) new
   drops_all new home edits none far = record {
     reads = far.reads;
     answers = λ k first noted so.
@@ -219,7 +235,8 @@ module _ {D : Type 0} (history : D → History) (name : List ℕ) (away : Droppe
 -- ---- the indexes of a collection that is there
 
 module _ {D : Type 0} (history : D → History) (name : List ℕ) (away : DroppedIndexes) (home : Catalogued) (old : Engine D) (h : IsSound history old)
-    (may : left_by away home.indexes.items ≡ Ok (remaining away home.indexes.items)) (there : KeepsWord (disk_history history old) → HasHome (world old).collections name home) where
+    (may : left_by away home.indexes.items ≡ Ok (remaining away home.indexes.items)) (there : KeepsWord (disk_history history old)
+    → HasHome (world old).collections name home) where
   abbrev Plan : List Collection → Result (List Collection) Refusal
   Plan ds = index_dropped ds name away
 
@@ -247,7 +264,8 @@ module _ {D : Type 0} (history : D → History) (name : List ℕ) (away : Droppe
         let t = there k in
         let c = t.collection in
         let stay : remaining away c.indexes ≡ c.indexes = all_remain away c.indexes (ap (position (is_dropped away)) t.catalogued.indexed ∙ none) in
-        let same : put_collection (left_of c) ds ≡ ds = ap (λ (js : List Definition). put_collection (record c { indexes = js }) ds) stay ∙ put_same c ds h.lawful.apart (found_as ds t) in
+        let same : put_collection (left_of c) ds ≡ ds =
+        ap (λ (js : List Definition). put_collection (record c { indexes = js }) ds) stay ∙ put_same c ds h.lawful.apart (found_as ds t) in
         planned_left ds t ∙ ap (λ (es : List Collection). Ok es) same;
     refused = tt;
   }
@@ -266,7 +284,8 @@ module _ {D : Type 0} (history : D → History) (name : List ℕ) (away : Droppe
           indexed = t.catalogued.indexed;
           room = ap (λ (o : Option Collection). nat_le 1000 (length ds) && not (is_some o)) t.found ∙ and_false (nat_le 1000 (length ds));
           leads = λ lawful. subst (λ (es : List Edit). Leads es ds (put_collection c ds) × states.IsLawfulState (put_collection c ds)) (sym none)
-              (subst (λ (s : List Collection). Leads [] ds s × states.IsLawfulState s) (sym (put_same c ds lawful.apart (found_as ds t))) ((λ entries spells. spells), lawful));
+              (subst (λ (s : List Collection). Leads [] ds s × states.IsLawfulState s) (sym (put_same c ds lawful.apart (found_as ds t)))
+              ((λ entries spells. spells), lawful));
         }
       where
         and_false : (b : Bool) → (b && false) ≡ false
@@ -292,7 +311,8 @@ module _ {D : Type 0} (history : D → History) (name : List ℕ) (away : Droppe
       home_last k = subst (λ (ds : List Collection). HasHome ds name home) (sym same_last) (there (word_before history old.file last.file notes.reads.goes k))
 
       pub removes_leads : KeepsWord (disk_history history last) → IsRunning last
-          → Leads after (world last).collections (planned_or (world last).collections (Plan (world last).collections)) × states.IsLawfulState (planned_or (world last).collections (Plan (world last).collections))
+          → Leads after (world last).collections (planned_or (world last).collections (Plan (world last).collections))
+          × states.IsLawfulState (planned_or (world last).collections (Plan (world last).collections))
       removes_leads k running =
           let ds = (world old).collections in
           let t = there (word_before history old.file last.file notes.reads.goes k) in
@@ -304,10 +324,14 @@ module _ {D : Type 0} (history : D → History) (name : List ℕ) (away : Droppe
           subst (λ (es : List Collection). Leads after es (planned_or es (Plan es)) × states.IsLawfulState (planned_or es (Plan es))) (sym same_last)
           (leads_planned after ds (put_collection (left_of t.collection) ds) (Plan ds) (planned_left ds t) led)
 
-      pub removes_written : (r : Result (Unit {0}) Refusal) (new : Engine D) → Writes history (planned_or (world last).collections (Plan (world last).collections)) r last new → Makes history (Plan (world old).collections) r old new
+      pub removes_written : (r : Result (Unit {0}) Refusal) (new : Engine D)
+          → Writes history (planned_or (world last).collections (Plan (world last).collections)) r last new
+          → Makes history (Plan (world old).collections) r old new
       removes_written r new writes =
           makes_written history Plan old last new notes.reads r
-          (λ k. let t = home_last k in planned_is (world last).collections (put_collection (left_of t.collection) (world last).collections) (Plan (world last).collections) (planned_left (world last).collections t)) writes
+          (λ k. let t = home_last k in
+          planned_is (world last).collections (put_collection (left_of t.collection) (world last).collections) (Plan (world last).collections)
+          (planned_left (world last).collections t)) writes
 
 -- there is a place, or none
 pub no_place : (o : Option ℕ) → is_some o ≡ false → o ≡ None
@@ -319,17 +343,20 @@ some_place None e = absurd cc
 some_place (Some n) e = (n, refl)
 
 -- where one is dropped, fewer stay
-pub some_go : {X : Type 0} (away : DroppedIndexes) (is : List Definition) (at : ℕ) → position (is_dropped away) is ≡ Some at → length is ≤ length (remaining away is) → X
+pub some_go : {X : Type 0} (away : DroppedIndexes) (is : List Definition) (at : ℕ) → position (is_dropped away) is ≡ Some at
+    → length is ≤ length (remaining away is) → X
 some_go away is at found long = absurd (omega (arith, long, fewer_remain away is at found))
 
 -- they may be dropped from a list, so from an equal one
-pub may_be_left : (away : DroppedIndexes) (is js : List Definition) → is ≡ js → left_by away is ≡ Ok (remaining away is) → left_by away js ≡ Ok (remaining away js)
+pub may_be_left : (away : DroppedIndexes) (is js : List Definition) → is ≡ js → left_by away is ≡ Ok (remaining away is)
+    → left_by away js ≡ Ok (remaining away js)
 may_be_left away is js same may = subst (λ (ks : List Definition). left_by away ks ≡ Ok (remaining away ks)) same may
 
 -- ---- the command
 
 run_drops : (w : World) (name : List ℕ) (away : DroppedIndexes)
-    → run_drop_indexes w (record { namespace = name; indexes = away }) ≡ with_reply w (drop_indexes_reply (index_count w.collections name)) (index_dropped w.collections name away)
+    → run_drop_indexes w (record { namespace = name; indexes = away })
+    ≡ with_reply w (drop_indexes_reply (index_count w.collections name)) (index_dropped w.collections name away)
 unfolding run_drop_indexes
 run_drops w name away = refl
 
@@ -346,7 +373,8 @@ module _ {D : Type 0} (history : D → History) (name : List ℕ) (away : Droppe
   pub unlisted_missing : Looks history (IsCatalogueOf name) (Ok None) old mid → Performs history run (Err refusals.NamespaceNotFound) old mid
   unlisted_missing first =
       performs_refused history (drop_indexes_reply told) planned run old mid (run_drops (world old) name away) refusals.NamespaceNotFound
-      (makes_none history planned old mid refusals.NamespaceNotFound first.reads (λ k. inl (ap (dropped_in away (world old).collections) (not_catalogued (world old).collections name (first.answers k)))))
+      (makes_none history planned old mid refusals.NamespaceNotFound first.reads
+      (λ k. inl (ap (dropped_in away (world old).collections) (not_catalogued (world old).collections name (first.answers k)))))
 
   module _ (home : Catalogued) (first : Looks history (IsCatalogueOf name) (Ok (Some home)) old mid) where
     home_of : KeepsWord (disk_history history mid) → HasHome (world old).collections name home
@@ -374,9 +402,11 @@ module _ {D : Type 0} (history : D → History) (name : List ℕ) (away : Droppe
       unlisted_behind r m = makes_behind history (λ ds. index_dropped ds name away) old mid new first.reads r m
 
       pub unlisted_undone : (e : Refusal) → Behind (Err e) → Performs history run (Err e) old new
-      unlisted_undone e m = performs_refused history (drop_indexes_reply told) planned run old new (run_drops (world old) name away) e (unlisted_behind (Err e) m)
+      unlisted_undone e m =
+          performs_refused history (drop_indexes_reply told) planned run old new (run_drops (world old) name away) e (unlisted_behind (Err e) m)
 
-      pub unlisted_done : (n : ℕ) (d : Pairs) → d ≡ ok_reply (drop_indexes_reply n) → n ≡ 1 + length home.indexes.items → Behind (Ok tt) → Performs history run (Ok d) old new
+      pub unlisted_done : (n : ℕ) (d : Pairs) → d ≡ ok_reply (drop_indexes_reply n) → n ≡ 1 + length home.indexes.items → Behind (Ok tt)
+          → Performs history run (Ok d) old new
       unlisted_done n d said many m =
           let makes = unlisted_behind (Ok tt) m in
           record {
@@ -385,8 +415,10 @@ module _ {D : Type 0} (history : D → History) (name : List ℕ) (away : Droppe
             start = makes.start;
             does = λ k.
                 let t = home_of (word_before history mid.file new.file m.goes k) in
-                let counted : n ≡ told = many ∙ ap (λ (is : List Definition). 1 + length is) (sym t.catalogued.indexed) ∙ ap (λ (o : Option Collection). 1 + length (indexes_or_none o)) (sym t.found) in
-                (performs_done history (drop_indexes_reply told) planned run old new (run_drops (world old) name away) d (said ∙ ap (λ (x : ℕ). ok_reply (drop_indexes_reply x)) counted) makes).does k;
+                let counted : n ≡ told = many ∙ ap (λ (is : List Definition). 1 + length is) (sym t.catalogued.indexed)
+                ∙ ap (λ (o : Option Collection). 1 + length (indexes_or_none o)) (sym t.found) in
+                (performs_done history (drop_indexes_reply told) planned run old new (run_drops (world old) name away) d
+                (said ∙ ap (λ (x : ℕ). ok_reply (drop_indexes_reply x)) counted) makes).does k;
             refused = tt;
           }
 
@@ -401,7 +433,8 @@ module _ {D : Type 0} (history : D → History) (name : List ℕ) (away : Droppe
           let is = t.catalogued.indexed in
           let next : Collection = record c { indexes = remaining away c.indexes } in
           let plan : planned ≡ Ok (put_collection next ds) =
-          dropped_there ds name away c t.found (Ok (remaining away c.indexes)) (ap (left_by away) is ∙ may ∙ ap (λ (js : List Definition). let r : Result (List Definition) Refusal = Ok (remaining away js) in r) (sym is)) in
+          dropped_there ds name away c t.found (Ok (remaining away c.indexes))
+          (ap (left_by away) is ∙ may ∙ ap (λ (js : List Definition). let r : Result (List Definition) Refusal = Ok (remaining away js) in r) (sym is)) in
           let stays : put_collection next ds ≡ ds = ap (planned_or ds) (sym plan ∙ (unlisted_behind (Ok tt) m).does k) ∙ same in
           let named = found_name ds name c t.found in
           let found : find_collection ds c.name ≡ Some c = subst (λ (n : List ℕ). find_collection ds n ≡ Some c) named t.found in

@@ -1,5 +1,6 @@
 -- A collection's documents are noted as removed, batch after batch.
-use Rattle.std.proofs.Common.{◌≡◌, ◌⊎◌, ◌+◌, ◌<◌, inl, inr, ℕ, zero, suc, Bool, true, false, List, [], length, take, drop, Option, Some, None, Result, Ok, Err, refl, sym, ap, subst, ◌∙◌, arith}
+use Rattle.std.proofs.Common.{◌≡◌, ◌⊎◌, ◌+◌, ◌<◌, inl, inr, ℕ, zero, suc, Bool, true, false, List, [], length, take, drop, Option, Some, None, Result, Ok, Err}
+use Rattle.std.proofs.Common.{refl, sym, ap, subst, ◌∙◌, arith}
 use Rattle.std.specs.Prelude.{◌==◌, not, is_some, All}
 use Rattle.std.specs.Global.{Vec}
 use Rattle.std.proofs.lemmas.Bool.Decides.{nat_tests}
@@ -38,7 +39,8 @@ use Rattle.database_model.specs.World.{World, indexes_or_none}
 use Rattle.engine.specs.Writing.{Makes, planned_or, Writes}
 use Rattle.engine.specs.declared.engine.Engine.{Engine}
 use Rattle.engine.proofs.CataloguedLemmas.{IsCatalogueOf, has_home, not_catalogued}
-use Rattle.engine.proofs.MakingLemmas.{lawful_now, leads_planned, makes_behind, makes_none, makes_written, performs_done, performs_refused, planned_is, with_reply}
+use Rattle.engine.proofs.MakingLemmas.{lawful_now, leads_planned, makes_behind, makes_none, makes_written, performs_done, performs_refused, planned_is}
+use Rattle.engine.proofs.MakingLemmas.{with_reply}
 use Rattle.engine.proofs.OnlyReading.{cause_from, now_same, reads_file, reads_none, reads_on, word_before}
 use Rattle.engine.proofs.TakingOutLemmas.{all_indexable, front_out, front_there}
 use Rattle.queries.proofs.WalkingLemmas.{none_there}
@@ -48,10 +50,12 @@ use Rattle.queries.proofs.WalkingLemmas.{none_there}
 pub dropped_none : (cs : List Collection) (name : List ℕ) → find_collection cs name ≡ None → dropped cs name ≡ Err refusals.NamespaceNotFound
 dropped_none cs name none = ap (λ (o : Option Collection). unless (not (is_some o)) refusals.NamespaceNotFound (Ok (without_collection name cs))) none
 
-pub dropped_there : (cs : List Collection) (name : List ℕ) (c : Collection) → find_collection cs name ≡ Some c → dropped cs name ≡ Ok (without_collection name cs)
+pub dropped_there : (cs : List Collection) (name : List ℕ) (c : Collection) → find_collection cs name ≡ Some c
+    → dropped cs name ≡ Ok (without_collection name cs)
 dropped_there cs name c found = ap (λ (o : Option Collection). unless (not (is_some o)) refusals.NamespaceNotFound (Ok (without_collection name cs))) found
 
-pub run_drops : (w : World) (name : List ℕ) → run_drop w (record { namespace = name }) ≡ with_reply w (drop_reply (index_count w.collections name) name) (dropped w.collections name)
+pub run_drops : (w : World) (name : List ℕ)
+    → run_drop w (record { namespace = name }) ≡ with_reply w (drop_reply (index_count w.collections name) name) (dropped w.collections name)
 unfolding run_drop
 run_drops w name = refl
 
@@ -63,7 +67,8 @@ module _ (now : List Collection) where
       subst (λ (s : List Collection). Leads [] now s × IsLawfulState s) (sym (put_same c now apart found)) ((λ entries spells. spells), lawful)
 
   -- those of a batch were taken out
-  pub left_on : (c : Collection) (home : Catalogued) (edits next : List Edit) → IsHome now c home → (rest batch : List Pairs) → IsLeft now c edits rest → batch ≡ take (length batch) rest
+  pub left_on : (c : Collection) (home : Catalogued) (edits next : List Edit) → IsHome now c home → (rest batch : List Pairs) → IsLeft now c edits rest
+      → batch ≡ take (length batch) rest
       → TakesOut edits next home.number home.indexes.items batch → IsLeft now c next (drop (length batch) rest)
   left_on c home edits next catalogued rest batch left first takes lawful =
       let led = left lawful in
@@ -78,7 +83,8 @@ module _ (now : List Collection) where
 
   -- ---- the collection itself
 
-  pub removes_all : (c : Collection) (name : List ℕ) (edits next : List Edit) → find_collection now name ≡ Some c → IsLeft now c edits [] → RemovesCollection edits next name
+  pub removes_all : (c : Collection) (name : List ℕ) (edits next : List Edit) → find_collection now name ≡ Some c → IsLeft now c edits []
+      → RemovesCollection edits next name
       → IsLawfulState now → Leads next now (without_collection name now) × IsLawfulState (without_collection name now)
   removes_all c name edits next found left removes lawful =
       let named : name ≡ c.name = found_name now name c found in
@@ -86,7 +92,8 @@ module _ (now : List Collection) where
       let d : Collection = record c { documents = [] } in
       let b = with_documents c [] now in
       let there : find_collection b name ≡ Some d = ap (find_collection b) named ∙ finds_put d now in
-      let gone : without_collection name b ≡ without_collection name now = ap (λ (n : List ℕ). without_collection n b) named ∙ without_put d now lawful ∙ ap (λ (n : List ℕ). without_collection n now) (sym named) in
+      let gone : without_collection name b ≡ without_collection name now =
+      ap (λ (n : List ℕ). without_collection n b) named ∙ without_put d now lawful ∙ ap (λ (n : List ℕ). without_collection n now) (sym named) in
       subst (λ (s : List Collection). Leads next now s × IsLawfulState s) gone (removes now b d led.0 led.1 there refl)
 
 -- ---- the steps, over engines as values
@@ -94,7 +101,8 @@ module _ (now : List Collection) where
 All-prefix : (P : Pairs → Type 0) (n : ℕ) (ds batch : List Pairs) → All P ds → batch ≡ take n ds → All P batch
 All-prefix P n ds batch all is = subst (All P) (sym is) (All-take P n ds all)
 
-module _ {D : Type 0} (history : D → History) (old : Engine D) (h : IsSound history old) (running : IsRunning old) (home : Catalogued) (walk later : Walk) (before after : List Edit) (file : State D) where
+module _ {D : Type 0} (history : D → History) (old : Engine D) (h : IsSound history old) (running : IsRunning old) (home : Catalogued) (walk later : Walk)
+    (before after : List Edit) (file : State D) where
   abbrev new : Engine D
   new = record old { file = file }
 
@@ -166,9 +174,11 @@ pub record IsEmptiedTo {D : Type 0} (history : D → History) (home : Catalogued
       → Left home walk after (world old).collections c
 
 -- the indexes of the collection refuse none of its documents
-indexable_there : (now : List Collection) (c : Collection) (home : Catalogued) → IsLawfulState now → IsHome now c home → All (IsIndexable home.indexes.items) c.documents
+indexable_there : (now : List Collection) (c : Collection) (home : Catalogued) → IsLawfulState now → IsHome now c home
+    → All (IsIndexable home.indexes.items) c.documents
 indexable_there now c home state catalogued =
-    subst (λ (is : List Definition). All (IsIndexable is) c.documents) catalogued.indexed (all_indexable c (kept_of now c state (found_in now c.name c catalogued.numbered.found)))
+    subst (λ (is : List Definition). All (IsIndexable is) c.documents) catalogued.indexed
+    (all_indexable c (kept_of now c state (found_in now c.name c catalogued.numbered.found)))
 
 module _ {D : Type 0} (history : D → History) (home : Catalogued) (before : List Edit) (old : Engine D) where
   abbrev Empties : List Edit → Result (Unit {0}) Refusal → Engine D → Type 0
@@ -180,7 +190,8 @@ module _ {D : Type 0} (history : D → History) (home : Catalogued) (before : Li
   pub emptied_without_memory : IsSound history old → Empties before (Err refusals.OutOfMemory) old
   emptied_without_memory h = record { reads = reads_none history old h; answers = λ k c is. inl refl }
 
-  pub emptied_none : (walk : Walk) → IsSound history old → IsRunning old → BeginsWalk history old.file home.number walk → IsEmptiedTo history home before before walk old old
+  pub emptied_none : (walk : Walk) → IsSound history old → IsRunning old → BeginsWalk history old.file home.number walk
+      → IsEmptiedTo history home before before walk old old
   emptied_none walk h running begins = record {
     reads = reads_none history old h;
     running = running;
@@ -202,15 +213,18 @@ module _ {D : Type 0} (history : D → History) (home : Catalogued) (before : Li
     same_now : (world mid).collections ≡ (world old).collections
     same_now = now_same history old mid far.reads
 
-    left_now : OnlyReads history mid new → KeepsWord (disk_history history new) → (c : Collection) → IsFilled home before (world old).collections c → Left home walk edits (world mid).collections c
-    left_now more k c is = subst (λ (cs : List Collection). Left home walk edits cs c) (sym same_now) (far.answers (word_before history mid.file new.file more.goes k) c is)
+    left_now : OnlyReads history mid new → KeepsWord (disk_history history new) → (c : Collection) → IsFilled home before (world old).collections c
+        → Left home walk edits (world mid).collections c
+    left_now more k c is =
+        subst (λ (cs : List Collection). Left home walk edits cs c) (sym same_now) (far.answers (word_before history mid.file new.file more.goes k) c is)
 
     pub emptied_refused : (last : List Edit) (e : Refusal) → Step (Err e) → Empties last (Err e) new
     emptied_refused last e step = record {
       reads = reads_on history old mid new far.reads step.reads;
       answers = λ k c is.
           let l = left_now step.reads k c is in
-          cause_from history old.file mid.file new.file far.reads.goes (word_before history mid.file new.file step.reads.goes k) e (step.answers k (record { collection = c; rest = l.rest }) l.emptying);
+          cause_from history old.file mid.file new.file far.reads.goes (word_before history mid.file new.file step.reads.goes k) e
+          (step.answers k (record { collection = c; rest = l.rest }) l.emptying);
     }
 
     pub emptied_on : Step (Ok true) → IsEmptiedTo history home before after later old new
@@ -234,7 +248,8 @@ module _ {D : Type 0} (history : D → History) (home : Catalogued) (before : Li
 
 -- ---- a drop
 
-module _ {D : Type 0} (history : D → History) (name : List ℕ) (home : Catalogued) (old : Engine D) (h : IsSound history old) (there : KeepsWord (disk_history history old) → HasHome (world old).collections name home) where
+module _ {D : Type 0} (history : D → History) (name : List ℕ) (home : Catalogued) (old : Engine D) (h : IsSound history old)
+    (there : KeepsWord (disk_history history old) → HasHome (world old).collections name home) where
   abbrev Plan : List Collection → Result (List Collection) Refusal
   Plan cs = dropped cs name
 
@@ -248,7 +263,8 @@ module _ {D : Type 0} (history : D → History) (name : List ℕ) (home : Catalo
     filled : (t : HasHome (world old).collections name home) → IsFilled home before (world old).collections t.collection
     filled t = record {
       catalogued = t.catalogued;
-      leads = subst (λ (es : List Edit). IsLeft (world old).collections t.collection es t.collection.documents) (sym none) (left_all (world old).collections t.collection h.lawful.apart t.catalogued.numbered.found);
+      leads = subst (λ (es : List Edit). IsLeft (world old).collections t.collection es t.collection.documents) (sym none)
+          (left_all (world old).collections t.collection h.lawful.apart t.catalogued.numbered.found);
     }
 
     pub drop_refused : (e : Refusal) → Emptying (Err e) → Drops (Err e) last
@@ -265,22 +281,28 @@ module _ {D : Type 0} (history : D → History) (name : List ℕ) (home : Catalo
       same_last = now_same history old last emptied.reads
 
       there_last : KeepsWord (disk_history history last) → HasHome (world last).collections name home
-      there_last k = subst (λ (cs : List Collection). HasHome cs name home) (sym same_last) (there (word_before history old.file last.file emptied.reads.goes k))
+      there_last k =
+          subst (λ (cs : List Collection). HasHome cs name home) (sym same_last) (there (word_before history old.file last.file emptied.reads.goes k))
 
       pub drop_leads : (next : List Edit) → RemovesCollection edits next name → KeepsWord (disk_history history last) → IsRunning last
-          → Leads next (world last).collections (planned_or (world last).collections (Plan (world last).collections)) × IsLawfulState (planned_or (world last).collections (Plan (world last).collections))
+          → Leads next (world last).collections (planned_or (world last).collections (Plan (world last).collections))
+          × IsLawfulState (planned_or (world last).collections (Plan (world last).collections))
       drop_leads next removes k running =
           let cs = (world last).collections in
           let t = there (word_before history old.file last.file emptied.reads.goes k) in
-          let left : IsLeft cs t.collection edits [] = subst (λ (ds : List Collection). IsLeft ds t.collection edits []) (sym same_last) (emptied.answers k t.collection (filled t)) in
+          let left : IsLeft cs t.collection edits [] =
+          subst (λ (ds : List Collection). IsLeft ds t.collection edits []) (sym same_last) (emptied.answers k t.collection (filled t)) in
           let found : find_collection cs name ≡ Some t.collection = ap (λ (ds : List Collection). find_collection ds name) same_last ∙ t.found in
           leads_planned next cs (without_collection name cs) (Plan cs) (dropped_there cs name t.collection found)
           (removes_all cs t.collection name edits next found left removes (lawful_now history last emptied.reads.sound k running))
 
-      pub drop_written : (r : Result (Unit {0}) Refusal) (new : Engine D) → Writes history (planned_or (world last).collections (Plan (world last).collections)) r last new → Drops r new
+      pub drop_written : (r : Result (Unit {0}) Refusal) (new : Engine D)
+          → Writes history (planned_or (world last).collections (Plan (world last).collections)) r last new → Drops r new
       drop_written r new writes =
           makes_written history Plan old last new emptied.reads r
-          (λ k. let t = there_last k in planned_is (world last).collections (without_collection name (world last).collections) (Plan (world last).collections) (dropped_there (world last).collections name t.collection t.found)) writes
+          (λ k. let t = there_last k in
+          planned_is (world last).collections (without_collection name (world last).collections) (Plan (world last).collections)
+          (dropped_there (world last).collections name t.collection t.found)) writes
 
 -- ---- the command
 
@@ -295,7 +317,8 @@ module _ {D : Type 0} (history : D → History) (name : List ℕ) (old mid : Eng
   pub drop_missing : Looks history (IsCatalogueOf name) (Ok None) old mid → Performs history run (Err refusals.NamespaceNotFound) old mid
   drop_missing first =
       performs_refused history (drop_reply told name) (dropped (world old).collections name) run old mid (run_drops (world old) name) refusals.NamespaceNotFound
-      (makes_none history (dropped (world old).collections name) old mid refusals.NamespaceNotFound first.reads (λ k. inl (dropped_none (world old).collections name (not_catalogued (world old).collections name (first.answers k)))))
+      (makes_none history (dropped (world old).collections name) old mid refusals.NamespaceNotFound first.reads
+      (λ k. inl (dropped_none (world old).collections name (not_catalogued (world old).collections name (first.answers k)))))
 
   module _ (home : Catalogued) (first : Looks history (IsCatalogueOf name) (Ok (Some home)) old mid) where
     home_of : KeepsWord (disk_history history mid) → HasHome (world old).collections name home
@@ -313,10 +336,13 @@ module _ {D : Type 0} (history : D → History) (name : List ℕ) (old mid : Eng
       drop_behind r m = makes_behind history (λ cs. dropped cs name) old mid new first.reads r m
 
       pub drop_undone : (e : Refusal) → Behind (Err e) → Performs history run (Err e) old new
-      drop_undone e m = performs_refused history (drop_reply told name) (dropped (world old).collections name) run old new (run_drops (world old) name) e (drop_behind (Err e) m)
+      drop_undone e m =
+          performs_refused history (drop_reply told name) (dropped (world old).collections name) run old new (run_drops (world old) name) e
+          (drop_behind (Err e) m)
 
       -- the reply was made of what the catalogue has
-      pub drop_done : (n : ℕ) (d : Pairs) → d ≡ ok_reply (drop_reply n name) → n ≡ 1 + length home.indexes.items → Behind (Ok tt) → Performs history run (Ok d) old new
+      pub drop_done : (n : ℕ) (d : Pairs) → d ≡ ok_reply (drop_reply n name) → n ≡ 1 + length home.indexes.items → Behind (Ok tt)
+          → Performs history run (Ok d) old new
       drop_done n d said many m =
           let makes = drop_behind (Ok tt) m in
           record {
@@ -325,7 +351,9 @@ module _ {D : Type 0} (history : D → History) (name : List ℕ) (old mid : Eng
             start = makes.start;
             does = λ k.
                 let t = home_of (word_before history mid.file new.file m.goes k) in
-                let counted : n ≡ told = many ∙ ap (λ (is : List Definition). 1 + length is) (sym t.catalogued.indexed) ∙ ap (λ (o : Option Collection). 1 + length (indexes_or_none o)) (sym t.found) in
-                (performs_done history (drop_reply told name) (dropped (world old).collections name) run old new (run_drops (world old) name) d (said ∙ ap (λ (x : ℕ). ok_reply (drop_reply x name)) counted) makes).does k;
+                let counted : n ≡ told = many ∙ ap (λ (is : List Definition). 1 + length is) (sym t.catalogued.indexed)
+                ∙ ap (λ (o : Option Collection). 1 + length (indexes_or_none o)) (sym t.found) in
+                (performs_done history (drop_reply told name) (dropped (world old).collections name) run old new (run_drops (world old) name) d
+                (said ∙ ap (λ (x : ℕ). ok_reply (drop_reply x name)) counted) makes).does k;
             refused = tt;
           }

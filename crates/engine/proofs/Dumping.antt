@@ -29,7 +29,8 @@ missing_so (Some c) is = absurd cc
 
 module _ {D : Type 0} (history : D → History) (old new : Engine D) where
   -- the cause of a refusal to read is one of its fault
-  pub fault_cause : (IsMissing : Type 0) (e : Refusal) → HasCause history (file_of old) (file_of new) e → HasFaultCause history IsMissing old new (check_fault e)
+  pub fault_cause : (IsMissing : Type 0) (e : Refusal) → HasCause history (file_of old) (file_of new) e
+      → HasFaultCause history IsMissing old new (check_fault e)
   fault_cause IsMissing e (inl is) = subst (λ (e : Refusal). HasFaultCause history IsMissing old new (check_fault e)) (sym is) tt
   fault_cause IsMissing e (inr (inl (is, failed))) = subst (λ (e : Refusal). HasFaultCause history IsMissing old new (check_fault e)) (sym is) failed
   fault_cause IsMissing e (inr (inr (is, full))) = subst (λ (e : Refusal). HasFaultCause history IsMissing old new (check_fault e)) (sym is) tt
@@ -37,11 +38,13 @@ module _ {D : Type 0} (history : D → History) (old new : Engine D) where
   -- ---- the next documents
 
   module _ (walk after : Walk) where
-    pub batch_dumped : (batch : Vec Pairs) → LooksOf history (λ now rest. IsWalk now walk rest) (λ now rest (b : Vec Pairs). StepsOn 64 after now rest b.items) (Ok batch) old new
+    pub batch_dumped : (batch : Vec Pairs)
+        → LooksOf history (λ now rest. IsWalk now walk rest) (λ now rest (b : Vec Pairs). StepsOn 64 after now rest b.items) (Ok batch) old new
         → GoesOnDumping history walk after (Ok batch) old new
     batch_dumped batch looks = record { reads = looks.reads; answers = λ k rest w. looks.answers k rest w }
 
-    pub batch_not_dumped : (e : Refusal) → LooksOf history (λ now rest. IsWalk now walk rest) (λ now rest (b : Vec Pairs). StepsOn 64 after now rest b.items) (Err e) old new
+    pub batch_not_dumped : (e : Refusal)
+        → LooksOf history (λ now rest. IsWalk now walk rest) (λ now rest (b : Vec Pairs). StepsOn 64 after now rest b.items) (Err e) old new
         → GoesOnDumping history walk after (Err (check_fault e)) old new
     batch_not_dumped e looks = record { reads = looks.reads; answers = λ k rest w. fault_cause ⊥ e (looks.answers k rest w) }
 
@@ -74,7 +77,9 @@ module _ {D : Type 0} (history : D → History) (old new : Engine D) where
         answers = λ k.
             let now = (world old).collections in
             let f : IsFound now name number = found_so now name number (sym is ∙ looks.answers k) in
-            let has : HasState history (file_of new) (turn_start new) now = subst (λ (cs : List Collection). HasState history (file_of new) (turn_start new) cs) (collections_same history old new looks.reads) looks.reads.sound.file in
+            let has : HasState history (file_of new) (turn_start new) now =
+            subst (λ (cs : List Collection). HasState history (file_of new) (turn_start new) cs)
+            (collections_same history old new looks.reads) looks.reads.sound.file in
             record { collection = f.c; found = f.found; all = begin running k (turn_start new) now f.c has f.numbered };
       }
 

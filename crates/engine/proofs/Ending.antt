@@ -32,10 +32,12 @@ rested_lawful cs h = All-map (λ (c : Cursor). All IsWithin c.rest) at_rest cs h
 module _ {D : Type 0} (history : D → History) (old new : Engine D) (h : IsSound history old) where
   -- until the commit a crash leaves the collections from the beginning of the turn
   pub holds_start : IsRunning old → LeavesNow (disk_history history old) (λ image. Holds image (turn_start old))
-  holds_start run k image is = record { lawful = h.before; file = laws.leaves_start history old.file (turn_start old) (world old).collections run h.file k image is }
+  holds_start run k image is = record
+      { lawful = h.before; file = laws.leaves_start history old.file (turn_start old) (world old).collections run h.file k image is }
 
   -- the number of the commit, where the turn is done
-  counted : {b : Bool} → has_changes old ≡ b → (if has_changes old then generation old + 1 else generation old) ≡ (if b then generation old + 1 else generation old)
+  counted : {b : Bool} → has_changes old ≡ b
+      → (if has_changes old then generation old + 1 else generation old) ≡ (if b then generation old + 1 else generation old)
   counted e = ap (λ (b : Bool). if b then generation old + 1 else generation old) e
 
   -- nothing was changed but cursors
@@ -43,7 +45,8 @@ module _ {D : Type 0} (history : D → History) (old new : Engine D) (h : IsSoun
     abbrev quiet_engine : Engine D
     quiet_engine = record { alloc = old.alloc; cursors = cursors; file = old.file; told = old.told; is_changed = old.is_changed }
 
-    pub kept_as_it_is : cursors ≡ record old.cursors { list = map at_rest old.cursors.list } → turn_start old ≡ (world old).collections → has_changes old ≡ false → Commits history (Ok tt) old quiet_engine
+    pub kept_as_it_is : cursors ≡ record old.cursors { list = map at_rest old.cursors.list } → turn_start old ≡ (world old).collections
+        → has_changes old ≡ false → Commits history (Ok tt) old quiet_engine
     kept_as_it_is made idle rests = record {
       sound = record {
         lawful = h.lawful;
@@ -61,7 +64,9 @@ module _ {D : Type 0} (history : D → History) (old new : Engine D) (h : IsSoun
       ended = idle;
       takes = refl;
       running = λ e. refl;
-      any_moment = λ run. started (disk_history history old) (λ image. Holds image (turn_start old) ⊎ Holds image (world old).collections) (λ k image left. inl (holds_start run k image left));
+      any_moment =
+          λ run. started (disk_history history old) (λ image. Holds image (turn_start old) ⊎ Holds image (world old).collections)
+          (λ k image left. inl (holds_start run k image left));
       kept = λ run e. tt;
       acknowledged = λ run. subst (λ (cs : List Collection). LeavesNow (disk_history history old) (λ image. Holds image cs)) idle (holds_start run);
       device = λ e k. absurd cc;
@@ -72,7 +77,8 @@ module _ {D : Type 0} (history : D → History) (old new : Engine D) (h : IsSoun
     }
 
   -- the collections are as they were at the beginning of the turn
-  module _ (rests : has_changes new ≡ false) (back : world new ≡ after_undo (turn_start old) (world old)) (ended : turn_start new ≡ (world new).collections) (undoes : Undoes history old.file new.file) where
+  module _ (rests : has_changes new ≡ false) (back : world new ≡ after_undo (turn_start old) (world old)) (ended : turn_start new ≡ (world new).collections)
+      (undoes : Undoes history old.file new.file) where
     now_state : (world new).collections ≡ turn_start old
     now_state = ap (λ (w : World). w.collections) back
 
@@ -82,7 +88,8 @@ module _ {D : Type 0} (history : D → History) (old new : Engine D) (h : IsSoun
     pub sound_again : IsSound history new
     sound_again = record {
       lawful = subst IsLawfulState (sym now_state) h.before;
-      cursors = subst (λ (w : World). AreLawfulCursors w.cursors) (sym back) (All-filter (λ (c : Cursor). not c.touched) (λ (c : Cursor). All IsWithin c.rest) (world old).cursors h.cursors);
+      cursors = subst (λ (w : World). AreLawfulCursors w.cursors) (sym back)
+          (All-filter (λ (c : Cursor). not c.touched) (λ (c : Cursor). All IsWithin c.rest) (world old).cursors h.cursors);
       before = subst IsLawfulState (sym first_state) h.before;
       quiet = λ e. ended;
       file = subst (λ (cs : List Collection). HasState history new.file cs (world new).collections) (sym first_state)
@@ -95,11 +102,13 @@ module _ {D : Type 0} (history : D → History) (old new : Engine D) (h : IsSoun
     abbrev disk_same : disk_history history new ≡ disk_history history old
     disk_same = undoes.untouched.disk
 
-    pub undone_after : has_changes old ≡ true → (fault : CommitFault) → fault ≢ faults.Device → (fault ≡ faults.Full → generation old ≡ 2 ^ 64 - 1) → Commits history (Err fault) old new
+    pub undone_after : has_changes old ≡ true → (fault : CommitFault) → fault ≢ faults.Device → (fault ≡ faults.Full → generation old ≡ 2 ^ 64 - 1)
+        → Commits history (Err fault) old new
     undone_after moved fault other most =
         let not_device : (let r : Result (Unit {0}) CommitFault = Err fault in r) ≢ Err faults.Device = λ e. other (ap fault_of e) in
         let before : IsRunning old → LeavesOnly (disk_history history old) (disk_history history new) (λ image. Holds image (turn_start old)) =
-        λ run. subst (λ (d : History). LeavesOnly (disk_history history old) d (λ image. Holds image (turn_start old))) (sym disk_same) (started (disk_history history old) (λ image. Holds image (turn_start old)) (holds_start run)) in
+        λ run. subst (λ (d : History). LeavesOnly (disk_history history old) d (λ image. Holds image (turn_start old))) (sym disk_same)
+        (started (disk_history history old) (λ image. Holds image (turn_start old)) (holds_start run)) in
         record {
           sound = sound_again;
           on = subst (GoesOn (disk_history history old)) (sym disk_same) (goes_nowhere (disk_history history old));
@@ -122,14 +131,16 @@ module _ {D : Type 0} (history : D → History) (old new : Engine D) (h : IsSoun
         }
 
   -- the collections are as they stand
-  module _ (moved : has_changes old ≡ true) (rests : has_changes new ≡ false) (forth : world new ≡ after_commit (world old)) (ended : turn_start new ≡ (world new).collections) where
+  module _ (moved : has_changes old ≡ true) (rests : has_changes new ≡ false) (forth : world new ≡ after_commit (world old))
+      (ended : turn_start new ≡ (world new).collections) where
     now_there : (world new).collections ≡ (world old).collections
     now_there = ap (λ (w : World). w.collections) forth
 
     there : turn_start new ≡ (world old).collections
     there = ended ∙ now_there
 
-    held : (image : ℕ → List ℕ) → images.Holds image (turn_start old) ⊎ images.Holds image (world old).collections → Holds image (turn_start old) ⊎ Holds image (world old).collections
+    held : (image : ℕ → List ℕ) → images.Holds image (turn_start old) ⊎ images.Holds image (world old).collections
+        → Holds image (turn_start old) ⊎ Holds image (world old).collections
     held image (inl file) = inl (record { lawful = h.before; file = file })
     held image (inr file) = inr (record { lawful = h.lawful; file = file })
 

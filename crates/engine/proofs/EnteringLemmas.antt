@@ -43,7 +43,8 @@ none_some : {X : Type 0} (o : Option X) → is_some o ≡ false → o ≡ None
 none_some None e = refl
 none_some (Some x) e = absurd cc
 
-module _ (cs : List Collection) (name : List ℕ) (home : Catalogued) (edits : List Edit) (c : Collection) (noted : AreNoted cs name home edits c) (lawful : states.IsLawfulState cs) where
+module _ (cs : List Collection) (name : List ℕ) (home : Catalogued) (edits : List Edit) (c : Collection) (noted : AreNoted cs name home edits c)
+    (lawful : states.IsLawfulState cs) where
   abbrev now : List Collection
   now = put_collection c cs
 
@@ -59,10 +60,13 @@ module _ (cs : List Collection) (name : List ℕ) (home : Catalogued) (edits : L
       ∙ some_map (λ (x : Pairs). frame_of (pairs_bytes x)) (find_document c.documents (key_of d))
 
   -- they leave a key of it in a unique index where it clashes with another
-  pub keys_told : (entries : List Entry) → Spells entries cs → (d : Pairs) (keys : List (Vec (Vec ℕ))) → IsStorable d → keys_in_all home.indexes.items d ≡ Ok (map (λ ks. texts_of ks.items) keys)
-      → is_taken home.number (tree_text (key_of d)) home.indexes.items (map (λ ks. texts_of ks.items) keys) (change edits entries) ≡ list_any (clashes c.documents d) c.indexes
+  pub keys_told : (entries : List Entry) → Spells entries cs → (d : Pairs) (keys : List (Vec (Vec ℕ))) → IsStorable d
+      → keys_in_all home.indexes.items d ≡ Ok (map (λ ks. texts_of ks.items) keys)
+      → is_taken home.number (tree_text (key_of d)) home.indexes.items (map (λ ks. texts_of ks.items) keys) (change edits entries)
+      ≡ list_any (clashes c.documents d) c.indexes
   keys_told entries spells d keys good keyed =
-      let encoded : map (λ i. encoded_keys i.fields d) home.indexes.items ≡ map (λ ks. texts_of ks.items) keys = (known home.indexes.items d (map (λ ks. texts_of ks.items) keys) keyed).1 in
+      let encoded : map (λ i. encoded_keys i.fields d) home.indexes.items ≡ map (λ ks. texts_of ks.items) keys =
+      (known home.indexes.items d (map (λ ks. texts_of ks.items) keys) keyed).1 in
       (λ t. is_taken (sym noted.numbered t) (tree_text (key_of d)) home.indexes.items (sym encoded t) (change edits entries))
       ∙ (λ t. is_taken c.number (tree_text (key_of d)) (sym noted.indexed t) (map (λ i. encoded_keys i.fields d) (sym noted.indexed t)) (change edits entries))
       ∙ taken_told (change edits entries) now c d (spells_after entries spells) (finds_put c cs) good
@@ -72,31 +76,40 @@ module _ (cs : List Collection) (name : List ℕ) (home : Catalogued) (edits : L
 not_refused : (fs : List Field) (d : Pairs) → keys_in fs d ≡ Ok (encoded_keys fs d) → (is_too_long fs d ≡ false) × (has_parallel_arrays fs d ≡ false)
 not_refused fs d keyed = by (is_too_long fs d) (has_parallel_arrays fs d) keyed
   where
-    by : (a b : Bool) → unless a refusals.KeyTooLong (unless b refusals.CannotIndexParallelArrays (Ok (encoded_keys fs d))) ≡ Ok (encoded_keys fs d) → (a ≡ false) × (b ≡ false)
+    by : (a b : Bool) → unless a refusals.KeyTooLong (unless b refusals.CannotIndexParallelArrays (Ok (encoded_keys fs d))) ≡ Ok (encoded_keys fs d)
+        → (a ≡ false) × (b ≡ false)
     by true b e = absurd cc
     by false true e = absurd cc
     by false false e = (refl, refl)
 
 -- a document that each index takes is taken by all
-pub all_keyed : (is : List Definition) (d : Pairs) → ((i : Definition) → Among i is → keys_in i.fields d ≡ Ok (encoded_keys i.fields d)) → keys_in_all is d ≡ Ok (map (λ i. encoded_keys i.fields d) is)
-all_keyed is d each = λ t. unless (long is each t) refusals.KeyTooLong (unless (parallel is each t) refusals.CannotIndexParallelArrays (Ok (map (λ i. encoded_keys i.fields d) is)))
+pub all_keyed : (is : List Definition) (d : Pairs) → ((i : Definition) → Among i is → keys_in i.fields d ≡ Ok (encoded_keys i.fields d))
+    → keys_in_all is d ≡ Ok (map (λ i. encoded_keys i.fields d) is)
+all_keyed is d each =
+    λ t. unless (long is each t) refusals.KeyTooLong
+    (unless (parallel is each t) refusals.CannotIndexParallelArrays (Ok (map (λ i. encoded_keys i.fields d) is)))
   where
-    long : (js : List Definition) → ((i : Definition) → Among i js → keys_in i.fields d ≡ Ok (encoded_keys i.fields d)) → list_any (λ i. is_too_long i.fields d) js ≡ false
+    long : (js : List Definition) → ((i : Definition) → Among i js → keys_in i.fields d ≡ Ok (encoded_keys i.fields d))
+        → list_any (λ i. is_too_long i.fields d) js ≡ false
     long [] h = refl
     long (j ∷ js) h = let rest = long js (λ i there. h i (inr there)) in λ t. (not_refused j.fields d (h j (inl refl))).0 t || rest t
 
-    parallel : (js : List Definition) → ((i : Definition) → Among i js → keys_in i.fields d ≡ Ok (encoded_keys i.fields d)) → list_any (λ i. has_parallel_arrays i.fields d) js ≡ false
+    parallel : (js : List Definition) → ((i : Definition) → Among i js → keys_in i.fields d ≡ Ok (encoded_keys i.fields d))
+        → list_any (λ i. has_parallel_arrays i.fields d) js ≡ false
     parallel [] h = refl
     parallel (j ∷ js) h = let rest = parallel js (λ i there. h i (inr there)) in λ t. (not_refused j.fields d (h j (inl refl))).1 t || rest t
 
 -- a document of the collection has keys in each of its indexes
-pub stored_keyed : (cs : List Collection) (name : List ℕ) (home : Catalogued) (edits : List Edit) (c : Collection) → AreNoted cs name home edits c → states.IsLawfulState cs → (id : Tree) (d : Pairs)
+pub stored_keyed : (cs : List Collection) (name : List ℕ) (home : Catalogued) (edits : List Edit) (c : Collection) → AreNoted cs name home edits c
+    → states.IsLawfulState cs → (id : Tree) (d : Pairs)
     → find_document c.documents id ≡ Some d → keys_in_all c.indexes d ≡ Ok (map (λ i. encoded_keys i.fields d) c.indexes)
 stored_keyed cs name home edits c noted_so lawful id d there =
     let state = (noted_so.leads lawful).1 in
     let kept = kept_of (put_collection c cs) c state (found_in (put_collection c cs) c.name c (finds_put c cs)) in
     let stands = (document_some c.documents id d there).0 in
-    all_keyed c.indexes d (λ i listed. of_all (λ e. keys_in i.fields e ≡ Ok (encoded_keys i.fields e)) c.documents d (of_all (states.IsIndexOf c.documents) c.indexes i kept.indexes listed).keys stands)
+    all_keyed c.indexes d
+    (λ i listed. of_all (λ e. keys_in i.fields e ≡ Ok (encoded_keys i.fields e)) c.documents d
+    (of_all (states.IsIndexOf c.documents) c.indexes i kept.indexes listed).keys stands)
 
 -- ---- what becomes of it
 
@@ -104,12 +117,14 @@ stored_keyed cs name home edits c noted_so lawful id d there =
 pub entering_unkeyed : (was : Option Pairs) (d : Pairs) (c : Collection) (e : Refusal) → keys_in_all c.indexes d ≡ Err e → entering was d c ≡ Err e
 entering_unkeyed was d c e refused = ap (λ r. r >>= (λ keys. unless (is_duplicate c (write_of was d)) refusals.DuplicateKey (Ok (with_document d c)))) refused
 
-pub entering_duplicate : (was : Option Pairs) (d : Pairs) (c : Collection) (keys : List (List (List ℕ))) → keys_in_all c.indexes d ≡ Ok keys → is_duplicate c (write_of was d) ≡ true → entering was d c ≡ Err refusals.DuplicateKey
+pub entering_duplicate : (was : Option Pairs) (d : Pairs) (c : Collection) (keys : List (List (List ℕ))) → keys_in_all c.indexes d ≡ Ok keys
+    → is_duplicate c (write_of was d) ≡ true → entering was d c ≡ Err refusals.DuplicateKey
 entering_duplicate was d c keys keyed there =
     ap (λ r. r >>= (λ keys. unless (is_duplicate c (write_of was d)) refusals.DuplicateKey (Ok (with_document d c)))) keyed
     ∙ ap (λ (b : Bool). unless b refusals.DuplicateKey (Ok (with_document d c))) there
 
-pub entering_done : (was : Option Pairs) (d : Pairs) (c : Collection) (keys : List (List (List ℕ))) → keys_in_all c.indexes d ≡ Ok keys → is_duplicate c (write_of was d) ≡ false → entering was d c ≡ Ok (with_document d c)
+pub entering_done : (was : Option Pairs) (d : Pairs) (c : Collection) (keys : List (List (List ℕ))) → keys_in_all c.indexes d ≡ Ok keys
+    → is_duplicate c (write_of was d) ≡ false → entering was d c ≡ Ok (with_document d c)
 entering_done was d c keys keyed clear =
     ap (λ r. r >>= (λ keys. unless (is_duplicate c (write_of was d)) refusals.DuplicateKey (Ok (with_document d c)))) keyed
     ∙ ap (λ (b : Bool). unless b refusals.DuplicateKey (Ok (with_document d c))) clear
@@ -120,7 +135,8 @@ found_as None d c next is e = none_some (find_document c.documents (key_of d)) (
 found_as (Some was) d c next is e = is
 
 -- the edits that let it enter lead to it
-pub has_entered_noted : (cs : List Collection) (name : List ℕ) (home after : Catalogued) (old new : List Edit) (c : Collection) (was : Option Pairs) (d : Pairs) → AreNoted cs name home old c → IsReplaced was d c
+pub has_entered_noted : (cs : List Collection) (name : List ℕ) (home after : Catalogued) (old new : List Edit) (c : Collection) (was : Option Pairs)
+    (d : Pairs) → AreNoted cs name home old c → IsReplaced was d c
     → entering was d c ≡ Ok (with_document d c) → after.number ≡ home.number → after.indexes.items ≡ map (noted d) home.indexes.items
     → Enters old new name home.number home.indexes.items was d → HasNoted cs name after new (entering was d c)
 has_entered_noted cs name home after old new c was d noted_so is e numbered indexed enters = record {
@@ -133,9 +149,13 @@ has_entered_noted cs name home after old new c was d noted_so is e numbered inde
     room = noted_so.room;
     leads = λ lawful.
         let led = noted_so.leads lawful in
-        let found : find_collection (put_collection c cs) name ≡ Some c = subst (λ (n : List ℕ). find_collection (put_collection c cs) n ≡ Some c) noted_so.named (finds_put c cs) in
-        let arrived = enters cs (put_collection c cs) c (with_document d c) led.0 led.1 found noted_so.numbered noted_so.indexed (found_as was d c (with_document d c) is e) e in
-        let twice : put_collection (with_document d c) (put_collection c cs) ≡ put_collection (with_document d c) cs = put_twice (with_document d c) c cs refl in
+        let found : find_collection (put_collection c cs) name ≡ Some c =
+        subst (λ (n : List ℕ). find_collection (put_collection c cs) n ≡ Some c) noted_so.named (finds_put c cs) in
+        let arrived =
+        enters cs (put_collection c cs) c (with_document d c) led.0 led.1 found noted_so.numbered noted_so.indexed
+        (found_as was d c (with_document d c) is e) e in
+        let twice : put_collection (with_document d c) (put_collection c cs) ≡ put_collection (with_document d c) cs =
+        put_twice (with_document d c) c cs refl in
         (subst (Leads new cs) twice arrived.0, subst states.IsLawfulState twice arrived.1);
   };
 }

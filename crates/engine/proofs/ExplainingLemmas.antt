@@ -53,20 +53,25 @@ module _ {D : Type 0} (history : D → History) (name : List ℕ) (q : Query) (o
   run = run_explain (world old) (record { namespace = name; query = q })
 
   -- this plan was said, and it is that of the collection of the name
-  explains : (plan : Plan) (o : Option Collection) → plan ≡ plan_in q o → find_collection (world old).collections name ≡ o → world mid ≡ world old → (d : Pairs) → d ≡ ok_reply (explain_reply (explain_text plan)) → with_ok run ≡ Ok (world mid, d)
+  explains : (plan : Plan) (o : Option Collection) → plan ≡ plan_in q o → find_collection (world old).collections name ≡ o → world mid ≡ world old
+      → (d : Pairs) → d ≡ ok_reply (explain_reply (explain_text plan)) → with_ok run ≡ Ok (world mid, d)
   explains plan o same found unchanged d said_so =
-      let is : ok_reply (explain_reply (explain_text (plan_in q o))) ≡ d = ap (λ (p : Plan). ok_reply (explain_reply (explain_text p))) (sym same) ∙ sym said_so in
+      let is : ok_reply (explain_reply (explain_text (plan_in q o))) ≡ d =
+      ap (λ (p : Plan). ok_reply (explain_reply (explain_text p))) (sym same) ∙ sym said_so in
       ap with_ok (run_explain-is (world old) name q o found) ∙ (λ i. let r : Result (World × Pairs) Refusal = Ok (sym unchanged i, is i) in r)
 
   -- the collection is missing
-  pub explain_missing : Looks history (IsCatalogueOf name) (Ok None) old mid → (d : Pairs) → d ≡ ok_reply (explain_reply (explain_text scan)) → Performs history run (Ok d) old mid
+  pub explain_missing : Looks history (IsCatalogueOf name) (Ok None) old mid → (d : Pairs) → d ≡ ok_reply (explain_reply (explain_text scan))
+      → Performs history run (Ok d) old mid
   explain_missing first d said_so =
       performs_read history old mid run (Ok d) first.reads
       (λ k. explains scan None refl (not_catalogued (world old).collections name (first.answers k)) (world_same history old mid first.reads) d said_so)
 
   -- it is there, and these are its indexes
-  pub explain_done : (home : Catalogued) → Looks history (IsCatalogueOf name) (Ok (Some home)) old mid → (plan : Plan) → plan ≡ choose q.filter q.sort home.indexes.items → (d : Pairs) → d ≡ ok_reply (explain_reply (explain_text plan)) → Performs history run (Ok d) old mid
+  pub explain_done : (home : Catalogued) → Looks history (IsCatalogueOf name) (Ok (Some home)) old mid → (plan : Plan)
+      → plan ≡ choose q.filter q.sort home.indexes.items → (d : Pairs) → d ≡ ok_reply (explain_reply (explain_text plan)) → Performs history run (Ok d) old mid
   explain_done home first plan chosen d said_so =
       performs_read history old mid run (Ok d) first.reads (λ k.
       let t = has_home (world old).collections name home (first.answers k) in
-      explains plan (Some t.collection) (chosen ∙ ap (λ (is : List Definition). choose q.filter q.sort is) (sym t.catalogued.indexed)) t.found (world_same history old mid first.reads) d said_so)
+      explains plan (Some t.collection) (chosen ∙ ap (λ (is : List Definition). choose q.filter q.sort is) (sym t.catalogued.indexed)) t.found
+      (world_same history old mid first.reads) d said_so)

@@ -61,7 +61,8 @@ module _ {D : Type 0} (history : D → History) (old : Engine D) (sound : IsSoun
     count_cause opening.NotADatabase cause = absurd cause
     count_cause opening.NewerFormat cause = absurd cause
 
-    pub check_uncounted : (fault : OpenFault) → CountsPages history (Err fault) old.file mid → ChecksFile history (Err (reading_fault fault)) old (record old { file = mid })
+    pub check_uncounted : (fault : OpenFault) → CountsPages history (Err fault) old.file mid
+        → ChecksFile history (Err (reading_fault fault)) old (record old { file = mid })
     check_uncounted fault counted = record {
       only = reads_file history old mid sound counted.on counted.same;
       answers = λ k. count_cause fault (counted.answers k (turn_start old) (world old).collections sound.file);
@@ -79,7 +80,8 @@ module _ {D : Type 0} (history : D → History) (old : Engine D) (sound : IsSoun
 
       -- what the tree has while the entries are read
       turn_there : KeepsWord (disk_history history between) → IsTurnOf history mid (turn_start old) (world old).collections
-      turn_there k = counted.same (turn_start old) (world old).collections sound.file (stopped_same history old.file.pager mid.pager counted.on.stays ∙ running) k
+      turn_there k =
+          counted.same (turn_start old) (world old).collections sound.file (stopped_same history old.file.pager mid.pager counted.on.stays ∙ running) k
 
       has_these : (k : KeepsWord (disk_history history between)) → HasEntries history mid (turn_there k).after
       has_these k = record { pages = (turn_there k).pages; map = (turn_there k).turn.holds }
@@ -88,14 +90,17 @@ module _ {D : Type 0} (history : D → History) (old : Engine D) (sound : IsSoun
       stored = λ i c below. (sound.lawful.kept i c below).lawful.stored
 
       only_reads : (r : Result Loading OpenFault) (last : List Collection) → LoadsFile history r last mid new → OnlyReads history old after
-      only_reads r last loads = reads_on history old between after first (reads_file history between new first.sound loads.judges.read.on loads.judges.read.same)
+      only_reads r last loads =
+          reads_on history old between after first (reads_file history between new first.sound loads.judges.read.on loads.judges.read.same)
 
-      word_mid : (r : Result Loading OpenFault) (last : List Collection) → LoadsFile history r last mid new → KeepsWord (disk_history history after) → KeepsWord (disk_history history between)
+      word_mid : (r : Result Loading OpenFault) (last : List Collection) → LoadsFile history r last mid new → KeepsWord (disk_history history after)
+          → KeepsWord (disk_history history between)
       word_mid r last loads k = word_before history mid new loads.judges.read.on k
 
       -- ---- its entries weren't read
 
-      load_cause : (fault : OpenFault) (last : List Collection) (loads : LoadsFile history (Err fault) last mid new) (k : KeepsWord (disk_history history between)) → HasFault history (MakesNone (turn_there k).after) mid new fault
+      load_cause : (fault : OpenFault) (last : List Collection) (loads : LoadsFile history (Err fault) last mid new)
+          (k : KeepsWord (disk_history history between)) → HasFault history (MakesNone (turn_there k).after) mid new fault
           → HasFaultCause history ⊥ old after (reading_fault fault)
       load_cause opening.Device last loads k cause = failed_from history old.file mid new counted.on k (cause.device refl)
       load_cause opening.Memory last loads k cause = tt
@@ -104,7 +109,8 @@ module _ {D : Type 0} (history : D → History) (old : Engine D) (sound : IsSoun
       load_cause opening.NotADatabase last loads k cause = loads.judges.kinds.0 refl
       load_cause opening.NewerFormat last loads k cause = loads.judges.kinds.1 refl
 
-      pub check_unread : (fault : OpenFault) (last : List Collection) → LoadsFile history (Err fault) last mid new → ChecksFile history (Err (reading_fault fault)) old after
+      pub check_unread : (fault : OpenFault) (last : List Collection) → LoadsFile history (Err fault) last mid new
+          → ChecksFile history (Err (reading_fault fault)) old after
       check_unread fault last loads = record {
         only = only_reads (Err fault) last loads;
         answers = λ k. let m = word_mid (Err fault) last loads k in load_cause fault last loads m (loads.judges.answers k (turn_there m).after (has_these m));
@@ -116,13 +122,16 @@ module _ {D : Type 0} (history : D → History) (old : Engine D) (sound : IsSoun
         pub check_without_memory : ChecksFile history (Err faults.Memory) old after
         check_without_memory = record { only = only_reads (Ok l) last loads; answers = λ k. tt }
 
-        module _ (counts : Counts) (last_is : counts.generation ≡ generation old) (collections : counts.collections ≡ length l.names.items) (documents : counts.documents ≡ l.documents)
-            (indexes : counts.indexes ≡ total_indexes (map named_as l.names.items)) (pages_are : record { pages = counts.pages; free = counts.free } ≡ pages) where
+        module _ (counts : Counts) (last_is : counts.generation ≡ generation old) (collections : counts.collections ≡ length l.names.items)
+            (documents : counts.documents ≡ l.documents)
+            (indexes : counts.indexes ≡ total_indexes (map named_as l.names.items))
+            (pages_are : record { pages = counts.pages; free = counts.free } ≡ pages) where
           named : (now : List Collection) → last ≡ now → map named_as l.names.items ≡ listed_of now
           named now same = loads.loaded.named ∙ ap listed_of same
 
           many : (now : List Collection) → last ≡ now → counts.collections ≡ length now
-          many now same = omega (arith, collections, length-map l.names.items named_as, ap (λ (cs : List Collection). length cs) (named now same), length-map now bare)
+          many now same =
+              omega (arith, collections, length-map l.names.items named_as, ap (λ (cs : List Collection). length cs) (named now same), length-map now bare)
 
           pub check_done : ChecksFile history (Ok counts) old after
           check_done = record {
@@ -130,8 +139,10 @@ module _ {D : Type 0} (history : D → History) (old : Engine D) (sound : IsSoun
             answers = λ k.
                 let m = word_mid (Ok l) last loads k in
                 let t = turn_there m in
-                let made = made_spell t.after (progress_of l last) (tree_rises history mid t.after (has_these m)) (loads.judges.answers k t.after (has_these m)) in
-                let same : last ≡ (world old).collections = spells_one t.after last (world old).collections loads.loaded.loaded.lawful t.now_state made.spells t.spells_now in
+                let made = made_spell t.after (progress_of l last) (tree_rises history mid t.after (has_these m))
+                (loads.judges.answers k t.after (has_these m)) in
+                let same : last ≡ (world old).collections =
+                spells_one t.after last (world old).collections loads.loaded.loaded.lawful t.now_state made.spells t.spells_now in
                 record {
                   last_is = last_is;
                   held = record {
@@ -139,6 +150,7 @@ module _ {D : Type 0} (history : D → History) (old : Engine D) (sound : IsSoun
                     documents = documents ∙ sym made.documents ∙ ap total_documents same;
                     indexes = indexes ∙ ap total_indexes (named (world old).collections same) ∙ bare_indexes (world old).collections;
                   };
-                  pages = subst (HasCounts (reads (now (disk_history history old))) (turn_start old)) (sym pages_are) (counted.answers m (turn_start old) (world old).collections sound.file);
+                  pages = subst (HasCounts (reads (now (disk_history history old))) (turn_start old)) (sym pages_are)
+                      (counted.answers m (turn_start old) (world old).collections sound.file);
                 };
           }

@@ -1,5 +1,6 @@
 -- What a find chooses keeps what was kept of the documents.
-use Rattle.std.proofs.Common.{◌≡◌, ◌≢◌, ℕ, zero, suc, min, ◌+◌, ◌-◌, ◌<◌, ◌≤◌, Bool, true, false, List, [], ◌∷◌, ◌++◌, length, get_or, take, drop, map, refl, sym, ap, ◌∙◌, append_assoc, arith}
+use Rattle.std.proofs.Common.{◌≡◌, ◌≢◌, ℕ, zero, suc, min, ◌+◌, ◌-◌, ◌<◌, ◌≤◌, Bool, true, false, List, [], ◌∷◌, ◌++◌, length, get_or, take, drop, map, refl}
+use Rattle.std.proofs.Common.{sym, ap, ◌∙◌, append_assoc, arith}
 use Rattle.std.specs.Prelude.{◌==◌, ◌^◌, nat_le, All}
 use Rattle.std.specs.List.{filter}
 use Rattle.std.specs.declared.cmp.Ordering.{Ordering}
@@ -30,7 +31,8 @@ pub window_kept : {X : Type 0} (P : X → Type 0) (skip limit : ℕ) (xs : List 
 window_kept P skip limit xs h = limited_kept P limit (drop skip xs) (All-drop P skip xs h)
 
 pub chosen_kept : (P : Pairs → Type 0) (q : Query) (ds : List Pairs) → All P ds → All P (selection q ds)
-chosen_kept P q ds h = window_kept P q.skip q.limit (order q.sort (matching q.filter ds)) (sorted_kept P _ (matching q.filter ds) (All-filter (matches q.filter) P ds h))
+chosen_kept P q ds h =
+    window_kept P q.skip q.limit (order q.sort (matching q.filter ds)) (sorted_kept P _ (matching q.filter ds) (All-filter (matches q.filter) P ds h))
 
 -- ---- what is given is within the limits
 
@@ -74,7 +76,8 @@ map-map {X} {Y} {Z} g f (x ∷ xs) = ap (λ (zs : List Z). g (f x) ∷ zs) (map-
 abbrev pub IsMade : {X Y : Type 0} → (X → Y) → List X → ℕ → List Y → Type 0
 IsMade f all i made = made ++ map f (drop i all) ≡ map f all
 
-pub made_one : {X Y : Type 0} (f : X → Y) (all : List X) (i : ℕ) (x : X) (made next : List Y) → i < length all → x ≡ get_or all i x → next ≡ made ++ f x ∷ [] → IsMade f all i made → IsMade f all (i + 1) next
+pub made_one : {X Y : Type 0} (f : X → Y) (all : List X) (i : ℕ) (x : X) (made next : List Y) → i < length all → x ≡ get_or all i x → next ≡ made ++ f x ∷ []
+    → IsMade f all i made → IsMade f all (i + 1) next
 made_one {X} {Y} f all i x made next within is pushed h =
     ap (λ (ys : List Y). ys ++ map f (drop (i + 1) all)) pushed ∙ append_assoc made (f x ∷ []) (map f (drop (i + 1) all))
     ∙ ap (λ (ys : List X). made ++ map f ys) (sym (drop_step all i x within is)) ∙ h
@@ -86,14 +89,16 @@ made_all {X} f all i made whole h = sym (append-nil made) ∙ ap (λ (ys : List 
 abbrev pub ArePassed : {X : Type 0} → (X → Bool) → List X → ℕ → List X → Type 0
 ArePassed p all i passed = passed ++ filter p (drop i all) ≡ filter p all
 
-pub passed_one : {X : Type 0} (p : X → Bool) (all : List X) (i : ℕ) (x : X) (passed next : List X) → i < length all → x ≡ get_or all i x → p x ≡ true → next ≡ passed ++ x ∷ [] → ArePassed p all i passed → ArePassed p all (i + 1) next
+pub passed_one : {X : Type 0} (p : X → Bool) (all : List X) (i : ℕ) (x : X) (passed next : List X) → i < length all → x ≡ get_or all i x → p x ≡ true
+    → next ≡ passed ++ x ∷ [] → ArePassed p all i passed → ArePassed p all (i + 1) next
 passed_one {X} p all i x passed next within is holds pushed h =
     let rest = filter p (drop (i + 1) all) in
     let step : filter p (x ∷ drop (i + 1) all) ≡ x ∷ rest = rw holds refl in
     ap (λ (ys : List X). ys ++ rest) pushed ∙ append_assoc passed (x ∷ []) rest
     ∙ ap (λ (ys : List X). passed ++ ys) (sym step ∙ ap (filter p) (sym (drop_step all i x within is))) ∙ h
 
-pub passed_none : {X : Type 0} (p : X → Bool) (all : List X) (i : ℕ) (x : X) (passed : List X) → i < length all → x ≡ get_or all i x → p x ≡ false → ArePassed p all i passed → ArePassed p all (i + 1) passed
+pub passed_none : {X : Type 0} (p : X → Bool) (all : List X) (i : ℕ) (x : X) (passed : List X) → i < length all → x ≡ get_or all i x → p x ≡ false
+    → ArePassed p all i passed → ArePassed p all (i + 1) passed
 passed_none {X} p all i x passed within is fails h =
     let step : filter p (x ∷ drop (i + 1) all) ≡ filter p (drop (i + 1) all) = rw fails refl in
     ap (λ (ys : List X). passed ++ ys) (sym step ∙ ap (filter p) (sym (drop_step all i x within is))) ∙ h
@@ -106,7 +111,9 @@ passed_all {X} p all i passed whole h = sym (append-nil passed) ∙ ap (λ (ys :
 -- a window doesn't reach past its limit
 window-front : {X : Type 0} (skip limit : ℕ) (xs : List X) → limit ≢ 0 → window skip limit (take (skip + limit) xs) ≡ window skip limit xs
 window-front skip zero xs some = absurd (some refl)
-window-front {X} skip (suc n) xs some = ap (λ (ys : List X). take (suc n) ys) (drop-take skip (suc n) xs) ∙ take_all (suc n) (take (suc n) (drop skip xs)) (omega (arith, length-take (suc n) (drop skip xs)))
+window-front {X} skip (suc n) xs some =
+    ap (λ (ys : List X). take (suc n) ys) (drop-take skip (suc n) xs)
+    ∙ take_all (suc n) (take (suc n) (drop skip xs)) (omega (arith, length-take (suc n) (drop skip xs)))
 
 all_taken : (q : Query) (most : ℕ) (ds : List Pairs) → length ds ≤ most → window q.skip q.limit (take most ds) ≡ window q.skip q.limit ds
 all_taken q most ds few = ap (λ (es : List Pairs). window q.skip q.limit es) (take_all most ds few)
@@ -132,14 +139,17 @@ front_suffices q most some is ds few = at (nat_le (q.skip + q.limit) (2 ^ 64 - 1
         all_taken q most ds (taken_fewer most ds (omega (arith, few, greatest)))
 
 -- what was found is enough
-pub given_enough : (q : Query) (most : ℕ) (ds found_so : List Pairs) → Suffices q most → found_so ≡ take most (order q.sort (matching q.filter ds)) → length found_so < 2 ^ 64 - 1 → given q found_so ≡ query_result q ds
+pub given_enough : (q : Query) (most : ℕ) (ds found_so : List Pairs) → Suffices q most → found_so ≡ take most (order q.sort (matching q.filter ds))
+    → length found_so < 2 ^ 64 - 1 → given q found_so ≡ query_result q ds
 given_enough q most ds found_so suffices is few =
-    ap (map (project q.projection)) (ap (λ (es : List Pairs). window q.skip q.limit es) is ∙ suffices (order q.sort (matching q.filter ds)) (omega (arith, ap length is, few)))
+    ap (map (project q.projection))
+    (ap (λ (es : List Pairs). window q.skip q.limit es) is ∙ suffices (order q.sort (matching q.filter ds)) (omega (arith, ap length is, few)))
 
 -- and within the limits
 pub given_within_limits : (q : Query) (found_so : List Pairs) → All IsWithin found_so → All IsWithin (given q found_so)
 given_within_limits q found_so h = given_within q.projection (window q.skip q.limit found_so) (window_kept IsWithin q.skip q.limit found_so h)
 
 -- the first that pass, up to so many
-pub passed_front : {X : Type 0} (p : X → Bool) (all : List X) (i : ℕ) (passed : List X) → ArePassed p all i passed → passed ≡ take (length passed) (filter p all)
+pub passed_front : {X : Type 0} (p : X → Bool) (all : List X) (i : ℕ) (passed : List X) → ArePassed p all i passed
+    → passed ≡ take (length passed) (filter p all)
 passed_front {X} p all i passed h = sym (take-append_seam passed (filter p (drop i all))) ∙ ap (λ (ys : List X). take (length passed) ys) h

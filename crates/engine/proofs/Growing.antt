@@ -30,7 +30,8 @@ put_found new (c ∷ cs) = at (slice_cmp nat_cmp new.name c.name) refl (put_foun
     at orders.Equal e later = found_first new cs
     at orders.Greater e later = passes_on new.name c (put_collection new cs) e ∙ later
 
-pub inserted_differs : (cs : List Collection) (name : List ℕ) (documents : List Pairs) (next : List Collection) → 1 ≤ length documents → IsRising (documents_of cs name) → inserted cs name documents ≡ Ok next → next ≡ cs → ⊥
+pub inserted_differs : (cs : List Collection) (name : List ℕ) (documents : List Pairs) (next : List Collection) → 1 ≤ length documents
+    → IsRising (documents_of cs name) → inserted cs name documents ≡ Ok next → next ≡ cs → ⊥
 inserted_differs cs name documents next some up e same =
     let put : Collection → Result (List Collection) Refusal = λ c. Ok (put_collection c cs) in
     let p = passed (is_full cs name) refusals.TooMany (insert_all (collection_of cs name) documents >>= put) next e in

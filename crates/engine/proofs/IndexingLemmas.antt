@@ -1,5 +1,6 @@
 -- Documents of a collection enter a new index, batch after batch.
-use Rattle.std.proofs.Common.{◌≡◌, ◌≢◌, ◌⊎◌, inl, inr, ◌+◌, ◌<◌, ℕ, zero, suc, Bool, true, false, List, [], ◌∷◌, ◌++◌, length, get_or, take, drop, Some, None, Result, Ok, Err, refl, sym, ap, subst, ◌∙◌, append_assoc, append-nil}
+use Rattle.std.proofs.Common.{◌≡◌, ◌≢◌, ◌⊎◌, inl, inr, ◌+◌, ◌<◌, ℕ, zero, suc, Bool, true, false, List, [], ◌∷◌, ◌++◌, length, get_or, take, drop, Some, None}
+use Rattle.std.proofs.Common.{Result, Ok, Err, refl, sym, ap, subst, ◌∙◌, append_assoc, append-nil}
 use Rattle.std.specs.Global.{Vec}
 use Rattle.std.proofs.lemmas.List.{take-append-drop, take_more}
 use Rattle.bson.specs.Tree.{Pairs}
@@ -180,7 +181,8 @@ module _ {D : Type 0} (history : D → History) (name : List ℕ) (before : NewE
     pub enters_without_memory : OnlyReads history old mid → Enters before (Err refusals.OutOfMemory) mid
     enters_without_memory reads = record { reads = reads; answers = λ k x is. inr (inl refl) }
 
-    pub entered_none : (number : ℕ) (walk : Walk) → IsRunning old → Looks history (IsNumberOf name) (Ok (Some number)) old mid → BeginsWalk history mid.file number walk
+    pub entered_none : (number : ℕ) (walk : Walk) → IsRunning old → Looks history (IsNumberOf name) (Ok (Some number)) old mid
+        → BeginsWalk history mid.file number walk
         → HasEnteredTo history name before before walk old mid
     entered_none number walk running looks begins = record {
       reads = looks.reads;
@@ -189,11 +191,14 @@ module _ {D : Type 0} (history : D → History) (name : List ℕ) (before : NewE
           let cs = (world old).collections in
           let t = there_of cs name number (looks.answers k) in
           let named = found_name cs name t.collection t.found in
-          let numbered : IsNumbered cs t.collection number = record { found = subst (λ (m : List ℕ). find_collection cs m ≡ Some t.collection) named t.found; same = sym t.numbered } in
+          let numbered :
+          IsNumbered cs t.collection number = record
+          { found = subst (λ (m : List ℕ). find_collection cs m ≡ Some t.collection) named t.found; same = sym t.numbered } in
           let same = now_same history old mid looks.reads in
           let all : t.collection.documents ≡ x.collection.documents = sym (is.documents ∙ ap documents_or_none t.found) in
           let begun : IsWalk (world mid).collections walk t.collection.documents =
-          begins runs k mid.told.value.start (world mid).collections t.collection looks.reads.sound.file (subst (λ (ds : List Collection). IsNumbered ds t.collection number) (sym same) numbered) in
+          begins runs k mid.told.value.start (world mid).collections t.collection looks.reads.sound.file
+          (subst (λ (ds : List Collection). IsNumbered ds t.collection number) (sym same) numbered) in
           record {
             done = [];
             rest = x.collection.documents;
@@ -216,8 +221,10 @@ module _ {D : Type 0} (history : D → History) (name : List ℕ) (before : NewE
     same_now : (world mid).collections ≡ (world old).collections
     same_now = now_same history old mid far.reads
 
-    entered_now : OnlyReads history mid new → KeepsWord (disk_history history new) → (x : Indexed) → IsUnbegun name before (world old).collections x → Entered walk made (world mid).collections x
-    entered_now more k x is = subst (λ (cs : List Collection). Entered walk made cs x) (sym same_now) (far.answers (word_before history mid.file new.file more.goes k) x is)
+    entered_now : OnlyReads history mid new → KeepsWord (disk_history history new) → (x : Indexed) → IsUnbegun name before (world old).collections x
+        → Entered walk made (world mid).collections x
+    entered_now more k x is =
+        subst (λ (cs : List Collection). Entered walk made cs x) (sym same_now) (far.answers (word_before history mid.file new.file more.goes k) x is)
 
     pub entered_refused : (last : NewEntries) (e : Refusal) → Step (Err e) → Enters last (Err e) new
     entered_refused last e step = record {

@@ -1,5 +1,6 @@
 -- An index is noted, over engines as values.
-use Rattle.std.proofs.Common.{◌≡◌, inl, inr, ◌<◌, ◌≤◌, ◌≢◌, ℕ, true, false, List, [], ◌∷◌, ◌++◌, length, Some, Result, Ok, Err, refl, sym, ap, subst, ◌∙◌, arith}
+use Rattle.std.proofs.Common.{◌≡◌, inl, inr, ◌<◌, ◌≤◌, ◌≢◌, ℕ, true, false, List, [], ◌∷◌, ◌++◌, length, Some, Result, Ok, Err, refl, sym, ap, subst, ◌∙◌}
+use Rattle.std.proofs.Common.{arith}
 use Rattle.std.specs.Prelude.{All}
 use Rattle.page.specs.History.{History, KeepsWord}
 use Rattle.btree.specs.Keys.{Edit}
@@ -42,9 +43,11 @@ each_index name = record {
 
 -- ---- one index
 
-module _ {D : Type 0} (history : D → History) (old : Engine D) (h : IsSound history old) (name : List ℕ) (home : Catalogued) (before : List Edit) (n : NewIndex) where
+module _ {D : Type 0} (history : D → History) (old : Engine D) (h : IsSound history old) (name : List ℕ) (home : Catalogued) (before : List Edit)
+    (n : NewIndex) where
   abbrev NotesIt : Catalogued → List Edit → Result (Unit {0}) Refusal → Engine D → Type 0
-  NotesIt home_after after r new = Notes history name (HasDocumentsOf (world old).collections name) (λ c. with_new_index c n) home home_after before after r old new
+  NotesIt home_after after r new =
+      Notes history name (HasDocumentsOf (world old).collections name) (λ c. with_new_index c n) home home_after before after r old new
 
   pub index_stopped : is_stopped old ≡ true → NotesIt home before (Err refusals.StorageFailed) old
   index_stopped stopped = record { reads = reads_none history old h; answers = λ k c noted so. inr (inr (inl (refl, inl stopped))) }
@@ -78,7 +81,8 @@ module _ {D : Type 0} (history : D → History) (old : Engine D) (h : IsSound hi
       pub index_without_memory : (e : Refusal) → e ≡ refusals.OutOfMemory → NotesIt home before (Err e) old
       index_without_memory e is = record { reads = reads_none history old h; answers = λ k c noted so. inr (inl is) }
 
-      module _ (few : length home.indexes.items < 16) (spec : Definition) (is : spec ≡ defined (unused_index home.indexes.items) n) (begun : NewEntries) (begins : Begins home.number spec begun) (lawful_spec : IsDefinition spec)
+      module _ (few : length home.indexes.items < 16) (spec : Definition) (is : spec ≡ defined (unused_index home.indexes.items) n) (begun : NewEntries)
+          (begins : Begins home.number spec begun) (lawful_spec : IsDefinition spec)
           (running : IsRunning old) where
         abbrev cs : List Collection
         cs = (world old).collections
@@ -117,7 +121,8 @@ module _ {D : Type 0} (history : D → History) (old : Engine D) (h : IsSound hi
             pub index_unmade : (e : Refusal) → e ≡ refusals.OutOfMemory → NotesIt home_after after (Err e) last
             index_unmade e memory = record { reads = takes.reads; answers = λ k c noted so. inr (inl memory) }
 
-            pub index_made : home_after.number ≡ home.number → home_after.indexes.items ≡ home.indexes.items ++ made.index ∷ [] → MakesIndexOf before after name home.number home.indexes.items made
+            pub index_made : home_after.number ≡ home.number → home_after.indexes.items ≡ home.indexes.items ++ made.index ∷ []
+                → MakesIndexOf before after name home.number home.indexes.items made
                 → NotesIt home_after after (Ok tt) last
             index_made number_is indexes_are makes = record {
               reads = takes.reads;
@@ -126,7 +131,8 @@ module _ {D : Type 0} (history : D → History) (old : Engine D) (h : IsSound hi
                   let has = takes.answers k (asked c) (unbegun lawful c noted so) in
                   let led = noted.leads lawful in
                   let found = subst (λ (m : List ℕ). find_collection (put_collection c cs) m ≡ Some c) noted.named (finds_put c cs) in
-                  let fresh = subst (λ (m : ℕ). All (λ j. j.number ≢ m) home.indexes.items) (sym (ap (λ (d : Definition). d.number) is)) (fresh_number home.indexes.items) in
+                  let fresh = subst (λ (m : ℕ). All (λ j. j.number ≢ m) home.indexes.items) (sym (ap (λ (d : Definition). d.number) is))
+                  (fresh_number home.indexes.items) in
                   let next : Collection = record c { indexes = c.indexes ++ made.index ∷ [] } in
                   let made_so = makes cs (put_collection c cs) c spec led.0 led.1 found noted.numbered noted.indexed fresh has in
                   record {
@@ -137,7 +143,8 @@ module _ {D : Type 0} (history : D → History) (old : Engine D) (h : IsSound hi
                       numbered = noted.numbered ∙ sym number_is;
                       indexed = ap (λ (js : List Definition). js ++ made.index ∷ []) noted.indexed ∙ sym indexes_are;
                       room = noted.room;
-                      leads = λ state. subst (λ (s : List Collection). Leads after cs s × states.IsLawfulState s) (put_twice next c cs refl) (made_so.1, made_so.2);
+                      leads = λ state. subst (λ (s : List Collection). Leads after cs s × states.IsLawfulState s) (put_twice next c cs refl)
+                          (made_so.1, made_so.2);
                     };
                   };
             }

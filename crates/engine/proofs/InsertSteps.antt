@@ -1,5 +1,6 @@
 -- The steps of an insert, over engines as values.
-use Rattle.std.proofs.Common.{◌≡◌, ◌≢◌, ◌⊎◌, ◌<◌, ◌≤◌, ◌+◌, inl, inr, ℕ, List, [], ◌∷◌, length, drop, get_or, Bor, Option, Some, None, Result, Ok, Err, refl, sym, ap, subst, ◌∙◌}
+use Rattle.std.proofs.Common.{◌≡◌, ◌≢◌, ◌⊎◌, ◌<◌, ◌≤◌, ◌+◌, inl, inr, ℕ, List, [], ◌∷◌, length, drop, get_or, Bor, Option, Some, None, Result, Ok, Err, refl}
+use Rattle.std.proofs.Common.{sym, ap, subst, ◌∙◌}
 use Rattle.std.specs.Prelude.{MatchResult}
 use Rattle.std.specs.Option.{option_map}
 use Rattle.std.proofs.lemmas.List.{drop_all}
@@ -34,7 +35,8 @@ use Rattle.engine.proofs.MakingLemmas.{lawful_now, leads_planned, makes_none, ma
 use Rattle.engine.proofs.NewCollections.{IsNumberOf, new_for, not_new}
 use Rattle.engine.proofs.OnlyReading.{cause_from, now_same, reads_on, word_before}
 use Rattle.replies.proofs.Steps.{drop_step}
-use Rattle.engine.proofs.StoringLemmas.{enters_checked, full_of, inserted_full, inserted_there, IsSoFar, noted_new, noted_there, refused_unchecked, so_far_all, so_far_none, so_far_one, so_far_refused}
+use Rattle.engine.proofs.StoringLemmas.{enters_checked, full_of, inserted_full, inserted_there, IsSoFar, noted_new, noted_there, refused_unchecked, so_far_all}
+use Rattle.engine.proofs.StoringLemmas.{so_far_none, so_far_one, so_far_refused}
 
 -- ---- the collection
 
@@ -64,9 +66,12 @@ none_numbered cs name is = by (find_collection cs name) refl is
 
 module _ {D : Type 0} (history : D → History) (name : List ℕ) (old mid : Engine D) where
   abbrev Targets : List Edit → Result Catalogued Refusal → Engine D → Type 0
-  Targets edits r new = Tries history (λ home. AreNoted (world old).collections name home edits (collection_of (world old).collections name)) (IsFull (world old).collections name) r old new
+  Targets edits r new =
+      Tries history (λ home. AreNoted (world old).collections name home edits (collection_of (world old).collections name))
+      (IsFull (world old).collections name) r old new
 
-  pub target_there : (edits : List Edit) (home : Catalogued) → edits ≡ [] → Looks history (IsCatalogued name) (Ok (Some home)) old mid → Targets edits (Ok home) mid
+  pub target_there : (edits : List Edit) (home : Catalogued) → edits ≡ [] → Looks history (IsCatalogued name) (Ok (Some home)) old mid
+      → Targets edits (Ok home) mid
   target_there edits home none first = record {
     reads = first.reads;
     answers = λ k.
@@ -94,7 +99,8 @@ module _ {D : Type 0} (history : D → History) (name : List ℕ) (old mid : Eng
       ];
     }
 
-    pub target_new : (home : Catalogued) → NewNumber (Ok home.number) → home.indexes.items ≡ [] → (edits : List Edit) → AddsCollection [] edits name home.number → Targets edits (Ok home) last
+    pub target_new : (home : Catalogued) → NewNumber (Ok home.number) → home.indexes.items ≡ [] → (edits : List Edit)
+        → AddsCollection [] edits name home.number → Targets edits (Ok home) last
     target_new home second plain edits adds = record {
       reads = reads_on history old mid last first.reads second.reads;
       answers = λ k.
@@ -102,7 +108,8 @@ module _ {D : Type 0} (history : D → History) (name : List ℕ) (old mid : Eng
           noted_new (world old).collections name new.missing new.few home new.number edits plain adds;
     }
 
-  pub target_without_memory : (edits : List Edit) (e : Refusal) (new : Engine D) → OnlyReads history old new → e ≡ refusals.OutOfMemory → Targets edits (Err e) new
+  pub target_without_memory : (edits : List Edit) (e : Refusal) (new : Engine D) → OnlyReads history old new → e ≡ refusals.OutOfMemory
+      → Targets edits (Err e) new
   target_without_memory edits e new reads is = record { reads = reads; answers = λ k. inr (inl is) }
 
 -- ---- one document
@@ -121,7 +128,8 @@ module _ {D : Type 0} (history : D → History) (name : List ℕ) (home : Catalo
   }
 
   -- what is stored of it enters
-  pub note_entered : (d : Pairs) → IsStorable d → checked ps ≡ Ok (key_of ps) → d ≡ id_first ps → (home_after : Catalogued) (after : List Edit) (r : Result (Unit {0}) Refusal) (new : Engine D)
+  pub note_entered : (d : Pairs) → IsStorable d → checked ps ≡ Ok (key_of ps) → d ≡ id_first ps
+      → (home_after : Catalogued) (after : List Edit) (r : Result (Unit {0}) Refusal) (new : Engine D)
       → Notes history name (MayEnter None d) (entering None d) home home_after before after r old new → NotesOne home_after after r new
   note_entered d good passed is home_after after r new notes = record {
     reads = notes.reads;
@@ -129,22 +137,26 @@ module _ {D : Type 0} (history : D → History) (name : List ℕ) (home : Catalo
   }
     where
       told : (q : Result (Unit {0}) Refusal) (c : Collection)
-          → MatchResult q (λ _. HasNoted (world old).collections name home_after after (entering None d c)) (λ e. (entering None d c ≡ Err e) ⊎ HasCause history (file_of old) (file_of new) e)
-          → MatchResult q (λ _. HasNoted (world old).collections name home_after after (insert_one c ps)) (λ e. (insert_one c ps ≡ Err e) ⊎ HasCause history (file_of old) (file_of new) e)
+          → MatchResult q (λ _. HasNoted (world old).collections name home_after after (entering None d c))
+          (λ e. (entering None d c ≡ Err e) ⊎ HasCause history (file_of old) (file_of new) e)
+          → MatchResult q (λ _. HasNoted (world old).collections name home_after after (insert_one c ps))
+          (λ e. (insert_one c ps ≡ Err e) ⊎ HasCause history (file_of old) (file_of new) e)
       told (Ok u) c has = subst (HasNoted (world old).collections name home_after after) (enters_checked c ps d passed is) has
       told (Err e) c (inl refused) = inl (sym (enters_checked c ps d passed is) ∙ refused)
       told (Err e) c (inr cause) = inr cause
 
 -- ---- document after document
 
-pub left_step : (ds : List (Bor Pairs)) (i : ℕ) (d : Bor Pairs) → i < length ds → d ≡ get_or ds i d → documents_at (drop i ds) ≡ d.now ∷ documents_at (drop (i + 1) ds)
+pub left_step : (ds : List (Bor Pairs)) (i : ℕ) (d : Bor Pairs) → i < length ds → d ≡ get_or ds i d
+    → documents_at (drop i ds) ≡ d.now ∷ documents_at (drop (i + 1) ds)
 left_step ds i d within is = ap documents_at (drop_step ds i d within is)
 
 pub left_none : (ds : List (Bor Pairs)) (i : ℕ) → length ds ≤ i → documents_at (drop i ds) ≡ []
 left_none ds i whole = ap documents_at (drop_all i ds whole)
 
 -- the documents that are left, and what the others made of the edits
-pub record NotesSoFar {D : Type 0} (history : D → History) (name : List ℕ) (all left : List Pairs) (home_before home : Catalogued) (before after : List Edit) (old new : Engine D) : Type 0 where
+pub record NotesSoFar {D : Type 0} (history : D → History) (name : List ℕ) (all left : List Pairs) (home_before home : Catalogued) (before after : List Edit)
+    (old new : Engine D) : Type 0 where
   pub reads : OnlyReads history old new
   pub limits : IsWithinLimits home
   pub answers : KeepsWord (disk_history history new) → (first : Collection) → AreNoted (world old).collections name home_before before first
@@ -155,20 +167,24 @@ module _ {D : Type 0} (history : D → History) (name : List ℕ) (all : List Pa
   NotesAll home after r new = Notes history name IsAny (λ c. insert_all c all) home_before home before after r old new
 
   pub notes_none : OnlyReads history old old → IsWithinLimits home_before → NotesSoFar history name all all home_before home_before before before old old
-  notes_none reads limits = record { reads = reads; limits = limits; answers = λ k first noted. so_far_none (world old).collections name all first home_before before noted }
+  notes_none reads limits = record
+      { reads = reads; limits = limits; answers = λ k first noted. so_far_none (world old).collections name all first home_before before noted }
 
-  module _ (mid new : Engine D) (ps : Pairs) (left : List Pairs) (home home_after : Catalogued) (edits after : List Edit) (far : NotesSoFar history name all (ps ∷ left) home_before home before edits old mid) where
+  module _ (mid new : Engine D) (ps : Pairs) (left : List Pairs) (home home_after : Catalogued) (edits after : List Edit)
+      (far : NotesSoFar history name all (ps ∷ left) home_before home before edits old mid) where
     abbrev Step : Result (Unit {0}) Refusal → Type 0
     Step r = Notes history name IsAny (λ c. insert_one c ps) home home_after edits after r mid new
 
     same_now : (world mid).collections ≡ (world old).collections
     same_now = now_same history old mid far.reads
 
-    so_far : {first : Collection} → OnlyReads history mid new → KeepsWord (disk_history history new) → AreNoted (world old).collections name home_before before first
+    so_far : {first : Collection} → OnlyReads history mid new → KeepsWord (disk_history history new)
+        → AreNoted (world old).collections name home_before before first
         → IsSoFar (world old).collections name home edits all (ps ∷ left) first
     so_far {first} later k noted = far.answers (word_before history mid.file new.file later.goes k) first noted
 
-    noted_now : {first : Collection} (f : IsSoFar (world old).collections name home edits all (ps ∷ left) first) → AreNoted (world mid).collections name home edits f.reached
+    noted_now : {first : Collection} (f : IsSoFar (world old).collections name home edits all (ps ∷ left) first)
+        → AreNoted (world mid).collections name home edits f.reached
     noted_now f = subst (λ (cs : List Collection). AreNoted cs name home edits f.reached) (sym same_now) f.noted
 
     pub notes_on : Step (Ok tt) → IsWithinLimits home_after → NotesSoFar history name all left home_before home_after before after old new
@@ -178,7 +194,8 @@ module _ {D : Type 0} (history : D → History) (name : List ℕ) (all : List Pa
       answers = λ k first noted.
           let f = so_far step.reads k noted in
           let has = step.answers k f.reached (noted_now f) tt in
-          so_far_one (world old).collections name all first home edits ps left f home_after after (subst (λ (cs : List Collection). HasNoted cs name home_after after (insert_one f.reached ps)) same_now has);
+          so_far_one (world old).collections name all first home edits ps left f home_after after
+          (subst (λ (cs : List Collection). HasNoted cs name home_after after (insert_one f.reached ps)) same_now has);
     }
 
     pub notes_refused : (e : Refusal) → Step (Err e) → NotesAll home_after after (Err e) new
@@ -192,8 +209,10 @@ module _ {D : Type 0} (history : D → History) (name : List ℕ) (all : List Pa
           ];
     }
 
-  pub notes_all : (new : Engine D) (home : Catalogued) (edits : List Edit) → NotesSoFar history name all [] home_before home before edits old new → NotesAll home edits (Ok tt) new
-  notes_all new home edits far = record { reads = far.reads; answers = λ k first noted any. so_far_all (world old).collections name all first home edits (far.answers k first noted) }
+  pub notes_all : (new : Engine D) (home : Catalogued) (edits : List Edit) → NotesSoFar history name all [] home_before home before edits old new
+      → NotesAll home edits (Ok tt) new
+  notes_all new home edits far = record
+      { reads = far.reads; answers = λ k first noted any. so_far_all (world old).collections name all first home edits (far.answers k first noted) }
 
 -- ---- all of it
 
@@ -211,7 +230,9 @@ module _ {D : Type 0} (history : D → History) (name : List ℕ) (all : List Pa
   Stores r new = Makes history (Plan (world old).collections) r old new
 
   abbrev Target_of : Result Catalogued Refusal → Type 0
-  Target_of r = Tries history (λ home. AreNoted (world old).collections name home before (collection_of (world old).collections name)) (IsFull (world old).collections name) r old mid
+  Target_of r =
+      Tries history (λ home. AreNoted (world old).collections name home before (collection_of (world old).collections name))
+      (IsFull (world old).collections name) r old mid
 
   pub stores_untargeted : (e : Refusal) → Target_of (Err e) → Stores (Err e) mid
   stores_untargeted e target = makes_none history (Plan (world old).collections) old mid e target.reads (λ k. elim (target.answers k) [
@@ -226,8 +247,11 @@ module _ {D : Type 0} (history : D → History) (name : List ℕ) (all : List Pa
     same_there : (world mid).collections ≡ (world old).collections
     same_there = now_same history old mid target.reads
 
-    noted_first : OnlyReads history mid last → KeepsWord (disk_history history last) → AreNoted (world mid).collections name home before (collection_of (world mid).collections name)
-    noted_first later k = subst (λ (cs : List Collection). AreNoted cs name home before (collection_of cs name)) (sym same_there) (target.answers (word_before history mid.file last.file later.goes k))
+    noted_first : OnlyReads history mid last → KeepsWord (disk_history history last)
+        → AreNoted (world mid).collections name home before (collection_of (world mid).collections name)
+    noted_first later k =
+        subst (λ (cs : List Collection). AreNoted cs name home before (collection_of cs name)) (sym same_there)
+        (target.answers (word_before history mid.file last.file later.goes k))
 
     pub stores_refused : (e : Refusal) → Noted (Err e) → Stores (Err e) last
     stores_refused e notes = makes_none history (Plan (world old).collections) old last e (reads_on history old mid last target.reads notes.reads) (λ k.
@@ -235,7 +259,8 @@ module _ {D : Type 0} (history : D → History) (name : List ℕ) (all : List Pa
         let cs = (world mid).collections in
         elim (notes.answers k (collection_of cs name) noted tt) [
           | inl refused ↦ inl (ap Plan (sym same_there) ∙ inserted_there cs name all (Err e) noted.room refused)
-          | inr cause ↦ inr (cause_from history old.file mid.file last.file target.reads.goes (word_before history mid.file last.file notes.reads.goes k) e cause)
+          | inr cause ↦ inr
+              (cause_from history old.file mid.file last.file target.reads.goes (word_before history mid.file last.file notes.reads.goes k) e cause)
         ])
 
     module _ (notes : Noted (Ok tt)) where
@@ -254,12 +279,15 @@ module _ {D : Type 0} (history : D → History) (name : List ℕ) (all : List Pa
           }
 
       pub stores_leads : KeepsWord (disk_history history last) → IsRunning last
-          → Leads edits (world last).collections (planned_or (world last).collections (Plan (world last).collections)) × states.IsLawfulState (planned_or (world last).collections (Plan (world last).collections))
+          → Leads edits (world last).collections (planned_or (world last).collections (Plan (world last).collections))
+          × states.IsLawfulState (planned_or (world last).collections (Plan (world last).collections))
       stores_leads k running =
           let p = planned_there k in
-          leads_planned edits (world last).collections p.next (Plan (world last).collections) p.is (p.leads (lawful_now history last notes.reads.sound k running))
+          leads_planned edits (world last).collections p.next (Plan (world last).collections) p.is
+          (p.leads (lawful_now history last notes.reads.sound k running))
 
-      pub stores_written : (r : Result (Unit {0}) Refusal) (new : Engine D) → Writes history (planned_or (world last).collections (Plan (world last).collections)) r last new → Stores r new
+      pub stores_written : (r : Result (Unit {0}) Refusal) (new : Engine D)
+          → Writes history (planned_or (world last).collections (Plan (world last).collections)) r last new → Stores r new
       stores_written r new writes =
           makes_written history Plan old last new (reads_on history old mid last target.reads notes.reads) r
           (λ k. let p = planned_there k in planned_is (world last).collections p.next (Plan (world last).collections) p.is) writes

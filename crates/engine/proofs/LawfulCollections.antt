@@ -1,5 +1,6 @@
 -- Lawful collections stay so with one of them put in place of another, and with the indexes of one made or dropped.
-use Rattle.std.proofs.Common.{◌≡◌, ◌⊎◌, inl, inr, ℕ, suc, max, min, ◌+◌, ◌-◌, ◌<◌, ◌≤◌, Bool, true, false, List, [], ◌∷◌, ◌++◌, length, length-append, map, set, insert, take, drop, Option, Some, None, Result, Ok, Err, refl, sym, ap, subst, ◌∙◌, arith, zero, remove, lit≤}
+use Rattle.std.proofs.Common.{◌≡◌, ◌⊎◌, inl, inr, ℕ, suc, max, min, ◌+◌, ◌-◌, ◌<◌, ◌≤◌, Bool, true, false, List, [], ◌∷◌, ◌++◌, length, length-append, map, set}
+use Rattle.std.proofs.Common.{insert, take, drop, Option, Some, None, Result, Ok, Err, refl, sym, ap, subst, ◌∙◌, arith, zero, remove, lit≤}
 use Rattle.std.specs.Prelude.{◌&&◌, ◌^◌, not, is_some, nat_le, if◌then◌else◌, codes, unwrap_or, nat_lt, All}
 use Rattle.std.specs.Cmp.Lexicographic.{slice_cmp}
 use Rattle.std.specs.Ordering.{nat_cmp}
@@ -50,12 +51,15 @@ use Rattle.engine.proofs.Listing.{go_into_one}
 use Rattle.engine.proofs.ListingIndexes.{indexes-sendable}
 use Rattle.statements.proofs.ShortIndexes.{left_short, short_at}
 use Rattle.database_model.specs.Refusals.{int, total, words, ok_reply}
-use Rattle.commands.specs.Command.{Command, ping, insert as insert_of, find as find_of, count as count_of_all, delete, update, aggregate, create as create_of, drop as drop_of, list_collections, create_indexes, drop_indexes, list_indexes, command_of, IsBounded, get_more, kill_cursors, hello}
+use Rattle.commands.specs.Command.{Command, ping, insert as insert_of, find as find_of, count as count_of_all, delete, update, aggregate, create as create_of}
+use Rattle.commands.specs.Command.{drop as drop_of, list_collections, create_indexes, drop_indexes, list_indexes, command_of, IsBounded, get_more, kill_cursors}
+use Rattle.commands.specs.Command.{hello}
 use Rattle.database_model.specs.Lawful.{IsStored, IsWithin, IsKept, IsLawfulState, IsLawful, AreLawfulCursors}
 use Rattle.index.specs.LawfulState.{AreNamedApart, AreNumberedApart, IsRising}
 use Rattle.statements.specs.Places.{collection_at, no_collection}
 use Rattle.database_model.specs.Insert.{is_full}
-use Rattle.database_model.specs.Cursors.{items_of_documents, batch_of, cursor_reply, number_after, batch_reply, is_refused, new_cursor, open_cursor, first_batch, is_cursor, no_cursor, cursor_at}
+use Rattle.database_model.specs.Cursors.{items_of_documents, batch_of, cursor_reply, number_after, batch_reply, is_refused, new_cursor, open_cursor}
+use Rattle.database_model.specs.Cursors.{first_batch, is_cursor, no_cursor, cursor_at}
 use Rattle.commands.specs.GetMore.{GetMore}
 use Rattle.commands.specs.KillCursors.{KillCursors}
 use Rattle.database_model.specs.GetMore.{batch_len_of, next_batch, run_get_more}
@@ -76,7 +80,8 @@ use Rattle.engine.proofs.Finding.{found_within}
 use Rattle.statements.proofs.Ordered.{Rises, rises_insert, All-inserted, missing, found, added, replaced}
 use Rattle.statements.proofs.Numbers.{found_kept, unused_unused, number_bounds, numbers_set, numbers_insert}
 use Rattle.statements.proofs.NamesApart.{apart_set}
-use Rattle.replies.proofs.SpelledSizes.{create_indexes-sendable, drop_indexes-sendable, ping-sendable, insert-sendable, drop-sendable, refusal-sendable, batch_items, cursor-sendable, kill-sendable, told_few, hello-sendable}
+use Rattle.replies.proofs.SpelledSizes.{create_indexes-sendable, drop_indexes-sendable, ping-sendable, insert-sendable, drop-sendable, refusal-sendable}
+use Rattle.replies.proofs.SpelledSizes.{batch_items, cursor-sendable, kill-sendable, told_few, hello-sendable}
 
 -- ---- collections
 
@@ -90,10 +95,12 @@ room cs name e none = at (nat_le 1000 (length cs)) refl (ap (λ (o : Option Coll
     at true full e = absurd cc
     at false few e = grind (arith, nat_tests)
 
-pub put_kept : (new : Collection) (cs : List Collection) → IsLawfulState cs → IsKept new → is_full cs new.name ≡ false → new.number ≡ number_or (unused cs) (find_collection cs new.name) → IsLawfulState (put_collection new cs)
+pub put_kept : (new : Collection) (cs : List Collection) → IsLawfulState cs → IsKept new → is_full cs new.name ≡ false
+    → new.number ≡ number_or (unused cs) (find_collection cs new.name) → IsLawfulState (put_collection new cs)
 put_kept new cs h one free numbered = at (located nat_list_cmp_total (λ (c : Collection). c.name) cs new.name h.apart)
   where
-    at : Gap (slice_cmp nat_cmp) (λ (c : Collection). c.name) cs new.name ⊎ There (slice_cmp nat_cmp) (λ (c : Collection). c.name) cs new.name → IsLawfulState (put_collection new cs)
+    at : Gap (slice_cmp nat_cmp) (λ (c : Collection). c.name) cs new.name ⊎ There (slice_cmp nat_cmp) (λ (c : Collection). c.name) cs new.name
+        → IsLawfulState (put_collection new cs)
     at (inl g) =
         let put : put_collection new cs ≡ insert cs g.0 new = added cs g.0 new.name new g.1 refl in
         let none = missing cs g.0 new.name g.1 in
@@ -120,7 +127,8 @@ put_kept new cs h one free numbered = at (located nat_list_cmp_total (λ (c : Co
 -- ---- indexes
 
 -- the collections with indexes made in one of them
-pub indexed_lawful : (cs : List Collection) (name : List ℕ) (ns : List NewIndex) (next : List Collection) → IsLawfulState cs → length name ≤ 255 → All IsShortNewIndex ns → indexed cs name ns ≡ Ok next → IsLawfulState next
+pub indexed_lawful : (cs : List Collection) (name : List ℕ) (ns : List NewIndex) (next : List Collection) → IsLawfulState cs → length name ≤ 255
+    → All IsShortNewIndex ns → indexed cs name ns ≡ Ok next → IsLawfulState next
 indexed_lawful cs name ns next h short limits e =
     let put : Collection → Result (List Collection) Refusal = λ c. Ok (put_collection c cs) in
     let p = passed (is_full cs name) refusals.TooMany (with_new_indexes (collection_of cs name) ns >>= put) next e in
@@ -142,7 +150,8 @@ indexed_lawful cs name ns next h short limits e =
     )
 
 -- the collections without indexes in one of them
-pub index_dropped_lawful : (cs : List Collection) (name : List ℕ) (away : DroppedIndexes) (next : List Collection) → IsLawfulState cs → length name ≤ 255 → index_dropped cs name away ≡ Ok next → IsLawfulState next
+pub index_dropped_lawful : (cs : List Collection) (name : List ℕ) (away : DroppedIndexes) (next : List Collection) → IsLawfulState cs → length name ≤ 255
+    → index_dropped cs name away ≡ Ok next → IsLawfulState next
 index_dropped_lawful cs name away next h short e = by (find_collection cs name) refl e
   where
     and_false : (b : Bool) → (b && false) ≡ false
@@ -157,7 +166,8 @@ index_dropped_lawful cs name away next h short e = by (find_collection cs name) 
         let named : name ≡ c.name = found_name cs name c is_found in
         let there : find_collection cs c.name ≡ Some c = subst (λ (n : List ℕ). find_collection cs n ≡ Some c) named is_found in
         let number : number_or (unused cs) (find_collection cs c.name) ≡ c.number = ap (number_or (unused cs)) there in
-        let free : is_full cs c.name ≡ false = ap (λ (o : Option Collection). nat_le 1000 (length cs) && not (is_some o)) there ∙ and_false (nat_le 1000 (length cs)) in
+        let free : is_full cs c.name ≡ false =
+        ap (λ (o : Option Collection). nat_le 1000 (length cs) && not (is_some o)) there ∙ and_false (nat_le 1000 (length cs)) in
         let same : documents_of cs c.name ≡ c.documents = ap documents_or_none there in
         let kept = stored_at cs c.name h.kept in
         let bounds = number_bounds cs c.name h.kept (room cs c.name free) in

@@ -1,5 +1,6 @@
 -- A lawful world steps to a lawful world, and its replies are within their limit.
-use Rattle.std.proofs.Common.{◌≡◌, ◌⊎◌, inl, inr, ℕ, suc, max, min, ◌+◌, ◌-◌, ◌<◌, ◌≤◌, Bool, true, false, List, [], ◌∷◌, ◌++◌, length, length-append, map, set, insert, take, drop, Option, Some, None, Result, Ok, Err, refl, sym, ap, subst, ◌∙◌, arith, zero, remove, lit≤}
+use Rattle.std.proofs.Common.{◌≡◌, ◌⊎◌, inl, inr, ℕ, suc, max, min, ◌+◌, ◌-◌, ◌<◌, ◌≤◌, Bool, true, false, List, [], ◌∷◌, ◌++◌, length, length-append, map, set}
+use Rattle.std.proofs.Common.{insert, take, drop, Option, Some, None, Result, Ok, Err, refl, sym, ap, subst, ◌∙◌, arith, zero, remove, lit≤}
 use Rattle.std.specs.Prelude.{◌&&◌, ◌^◌, not, is_some, nat_le, if◌then◌else◌, codes, unwrap_or, nat_lt, All}
 use Rattle.std.specs.Cmp.Lexicographic.{slice_cmp}
 use Rattle.std.specs.Ordering.{nat_cmp}
@@ -54,12 +55,15 @@ use Rattle.engine.proofs.Listing.{go_into_one}
 use Rattle.engine.proofs.ListingIndexes.{indexes-sendable}
 use Rattle.statements.proofs.ShortIndexes.{short_at}
 use Rattle.database_model.specs.Refusals.{int, total, words, ok_reply}
-use Rattle.commands.specs.Command.{Command, ping, insert as insert_of, find as find_of, count as count_of_all, delete, update, aggregate, create as create_of, drop as drop_of, list_collections, create_indexes, drop_indexes, list_indexes, explain, command_of, IsBounded, get_more, kill_cursors, hello}
+use Rattle.commands.specs.Command.{Command, ping, insert as insert_of, find as find_of, count as count_of_all, delete, update, aggregate, create as create_of}
+use Rattle.commands.specs.Command.{drop as drop_of, list_collections, create_indexes, drop_indexes, list_indexes, explain, command_of, IsBounded, get_more}
+use Rattle.commands.specs.Command.{kill_cursors, hello}
 use Rattle.database_model.specs.Lawful.{IsStored, IsWithin, IsKept, IsLawfulState, IsLawful, AreLawfulCursors}
 use Rattle.index.specs.LawfulState.{AreNamedApart, AreNumberedApart, IsRising}
 use Rattle.statements.specs.Places.{collection_at, no_collection}
 use Rattle.database_model.specs.Insert.{is_full}
-use Rattle.database_model.specs.Cursors.{items_of_documents, batch_of, cursor_reply, number_after, batch_reply, is_refused, new_cursor, open_cursor, first_batch, is_cursor, no_cursor, cursor_at}
+use Rattle.database_model.specs.Cursors.{items_of_documents, batch_of, cursor_reply, number_after, batch_reply, is_refused, new_cursor, open_cursor}
+use Rattle.database_model.specs.Cursors.{first_batch, is_cursor, no_cursor, cursor_at}
 use Rattle.commands.specs.GetMore.{GetMore}
 use Rattle.commands.specs.KillCursors.{KillCursors}
 use Rattle.database_model.specs.GetMore.{batch_len_of, next_batch, run_get_more}
@@ -80,7 +84,8 @@ use Rattle.engine.proofs.Finding.{found_within}
 use Rattle.statements.proofs.Ordered.{Rises, rises_insert, All-inserted, missing, found, added, replaced}
 use Rattle.statements.proofs.Numbers.{found_kept, unused_unused, number_bounds, numbers_set, numbers_insert}
 use Rattle.statements.proofs.NamesApart.{apart_set}
-use Rattle.replies.proofs.SpelledSizes.{create_indexes-sendable, drop_indexes-sendable, ping-sendable, insert-sendable, drop-sendable, explain-sendable, refusal-sendable, batch_items, cursor-sendable, kill-sendable, told_few, hello-sendable}
+use Rattle.replies.proofs.SpelledSizes.{create_indexes-sendable, drop_indexes-sendable, ping-sendable, insert-sendable, drop-sendable, explain-sendable}
+use Rattle.replies.proofs.SpelledSizes.{refusal-sendable, batch_items, cursor-sendable, kill-sendable, told_few, hello-sendable}
 use Rattle.engine.proofs.LawfulCollections.{index_dropped_lawful, indexed_lawful, put_kept, room}
 
 -- ---- one command
@@ -93,13 +98,17 @@ good_one : (w : World) (reply : Pairs) → IsLawful w → IsSendable (ok_reply r
 good_one w reply h s x e = let same : (w, reply) ≡ x = cc in subst (λ (y : World × Pairs). IsLawful y.0 × IsSendable (ok_reply y.1)) same (h, s)
 
 abbrev insert_answer : World → List Pairs → Result Collection Refusal → Result (World × Pairs) Refusal
-insert_answer w documents r = r >>= (λ next. let x : Result (World × Pairs) Refusal = Ok (record w { collections = put_collection next w.collections }, pair (codes "n") (int (length documents)) no_pairs) in x)
+insert_answer w documents r =
+    r >>= (λ next. let x : Result (World × Pairs) Refusal =
+    Ok (record w { collections = put_collection next w.collections }, pair (codes "n") (int (length documents)) no_pairs) in x)
 
-pub good_insert : (w : World) (name : List ℕ) (documents : List Pairs) → IsLawful w → length name ≤ 255 → Good (run_insert w (record { namespace = name; documents = documents }))
+pub good_insert : (w : World) (name : List ℕ) (documents : List Pairs) → IsLawful w → length name ≤ 255
+    → Good (run_insert w (record { namespace = name; documents = documents }))
 unfolding run_insert
 good_insert w name documents h short = at (is_full w.collections name) refl
   where
-    put : (r : Result Collection Refusal) → is_full w.collections name ≡ false → insert_all (collection_of w.collections name) documents ≡ r → Good (insert_answer w documents r)
+    put : (r : Result Collection Refusal) → is_full w.collections name ≡ false → insert_all (collection_of w.collections name) documents ≡ r
+        → Good (insert_answer w documents r)
     put (Err e) free is = λ x f. absurd cc
     put (Ok next) free is =
         let cs = w.collections in
@@ -115,9 +124,11 @@ good_insert w name documents h short = at (is_full w.collections name) refl
         } in
         let p = put_kept next cs h.collections one (subst (λ (n : List ℕ). is_full cs n ≡ false) (sym grown.named) free)
         (grown.numbered ∙ ap (λ (n : List ℕ). number_or (unused cs) (find_collection cs n)) (sym grown.named)) in
-        good_one (record w { collections = put_collection next cs }) (pair (codes "n") (int (length documents)) no_pairs) (record { collections = p; cursors = h.cursors }) (insert-sendable (length documents))
+        good_one (record w { collections = put_collection next cs }) (pair (codes "n") (int (length documents)) no_pairs)
+        (record { collections = p; cursors = h.cursors }) (insert-sendable (length documents))
 
-    at : (b : Bool) → is_full w.collections name ≡ b → Good (unless b refusals.TooMany (insert_answer w documents (insert_all (collection_of w.collections name) documents)))
+    at : (b : Bool) → is_full w.collections name ≡ b
+        → Good (unless b refusals.TooMany (insert_answer w documents (insert_all (collection_of w.collections name) documents)))
     at true full = λ x f. absurd cc
     at false free = put (insert_all (collection_of w.collections name) documents) free refl
 
@@ -138,8 +149,10 @@ module _ (w : World) (connection : ℕ) (name : List ℕ) (rest : List Pairs) wh
       at true e = absurd cc
       at false e =
           let same : with_cursor ≡ opened = cc in
-          let one : AreLawfulCursors (opened_cursor ∷ []) = All-cons (λ (c : Cursor). All IsWithin c.rest) opened_cursor [] stored (λ k d below. absurd (omega (arith, below))) in
-          subst IsLawful same (record { collections = h.collections; cursors = All-append (λ (c : Cursor). All IsWithin c.rest) w.cursors (opened_cursor ∷ []) h.cursors one })
+          let one : AreLawfulCursors (opened_cursor ∷ []) =
+          All-cons (λ (c : Cursor). All IsWithin c.rest) opened_cursor [] stored (λ k d below. absurd (omega (arith, below))) in
+          subst IsLawful same
+          (record { collections = h.collections; cursors = All-append (λ (c : Cursor). All IsWithin c.rest) w.cursors (opened_cursor ∷ []) h.cursors one })
 
 module _ (w : World) (connection : ℕ) (name : List ℕ) (ds : List Pairs) (most : ℕ) where
   abbrev n : ℕ
@@ -169,17 +182,22 @@ module _ (w : World) (connection : ℕ) (name : List ℕ) (ds : List Pairs) (mos
       at true = good_one w (first w.next) h sendable
       at false = part (open_cursor w connection name (drop n ds)) refl
 
-good_find : (w : World) (connection : ℕ) (name : List ℕ) (query : Query) (batch_size : Option ℕ) → IsLawful w → length name ≤ 255 → Good (run_find w connection (record { namespace = name; query = query; batch_size = batch_size }))
+good_find : (w : World) (connection : ℕ) (name : List ℕ) (query : Query) (batch_size : Option ℕ) → IsLawful w → length name ≤ 255
+    → Good (run_find w connection (record { namespace = name; query = query; batch_size = batch_size }))
 unfolding run_find
 good_find w connection name query batch_size h short =
-    good_batch w connection name (found_by query (documents_of w.collections name)) (unwrap_or batch_size 101) h short (found_within query (documents_of w.collections name) (stored_at w.collections name h.collections.kept).1)
+    good_batch w connection name (found_by query (documents_of w.collections name)) (unwrap_or batch_size 101) h short
+    (found_within query (documents_of w.collections name) (stored_at w.collections name h.collections.kept).1)
 
 good_aggregate : (w : World) (connection : ℕ) (c : Aggregate) → IsLawful w → length c.namespace ≤ 255 → Good (run_aggregate w connection c)
 unfolding run_aggregate
 good_aggregate w connection c h short = at (after_pipeline c.pipeline 65535 (documents_of w.collections c.namespace)) refl
   where
-    at : (r : Result (List Pairs) Refusal) → after_pipeline c.pipeline 65535 (documents_of w.collections c.namespace) ≡ r → Good (r >>= (λ ds. first_batch w connection c.namespace ds (batch_of (unwrap_or c.batch_size 101) ds)))
-    at (Ok ds) is = good_batch w connection c.namespace ds (unwrap_or c.batch_size 101) h short (piped_within c.pipeline (documents_of w.collections c.namespace) ds (stored_at w.collections c.namespace h.collections.kept).1 is)
+    at : (r : Result (List Pairs) Refusal) → after_pipeline c.pipeline 65535 (documents_of w.collections c.namespace) ≡ r
+        → Good (r >>= (λ ds. first_batch w connection c.namespace ds (batch_of (unwrap_or c.batch_size 101) ds)))
+    at (Ok ds) is =
+        good_batch w connection c.namespace ds (unwrap_or c.batch_size 101) h short
+        (piped_within c.pipeline (documents_of w.collections c.namespace) ds (stored_at w.collections c.namespace h.collections.kept).1 is)
     at (Err e) is = λ x f. absurd cc
 
 -- ---- open cursors
@@ -205,7 +223,8 @@ module _ (w : World) (c : GetMore) (at : ℕ) (h : IsLawful w) (within : at < le
 
   advanced_lawful : (b : Bool) → AreLawfulCursors (if b then remove w.cursors at else set w.cursors at advanced_cursor)
   advanced_lawful true = All-removed (λ (c : Cursor). All IsWithin c.rest) w.cursors at h.cursors
-  advanced_lawful false = All-set (λ (c : Cursor). All IsWithin c.rest) w.cursors at advanced_cursor (All-drop IsWithin more given_by.rest its_documents) h.cursors
+  advanced_lawful false =
+      All-set (λ (c : Cursor). All IsWithin c.rest) w.cursors at advanced_cursor (All-drop IsWithin more given_by.rest its_documents) h.cursors
 
   good_next : length c.namespace ≤ 255 → Good (Ok (next_batch w c at))
   good_next short = λ x e.
@@ -220,7 +239,8 @@ good_get_more : (w : World) (connection : ℕ) (c : GetMore) → IsLawful w → 
 unfolding run_get_more
 good_get_more w connection c h short = at (position (is_cursor connection c.namespace c.id) w.cursors) refl
   where
-    at : (o : Option ℕ) → position (is_cursor connection c.namespace c.id) w.cursors ≡ o → Good (or_refused o refusals.CursorNotFound >>= (λ place. let x : Result (World × Pairs) Refusal = Ok (next_batch w c place) in x))
+    at : (o : Option ℕ) → position (is_cursor connection c.namespace c.id) w.cursors ≡ o
+        → Good (or_refused o refusals.CursorNotFound >>= (λ place. let x : Result (World × Pairs) Refusal = Ok (next_batch w c place) in x))
     at None is = λ x f. absurd cc
     at (Some place) is = good_next w c place h (position-Some (is_cursor connection c.namespace c.id) w.cursors place no_cursor is).0 short
 
@@ -231,7 +251,8 @@ good_kill_cursors w connection c h few =
     let f = told_few (has_cursor connection c.namespace w.cursors) no_ids c.cursors 1000 (omega (arith, few)) in
     let asked = λ (cursor : Cursor). not (is_asked connection c.namespace c.cursors cursor) in
     good_one (record w { cursors = filter asked w.cursors }) (kill_reply told)
-    (record { collections = h.collections; cursors = All-filter asked (λ (cursor : Cursor). All IsWithin cursor.rest) w.cursors h.cursors }) (kill-sendable told f.0 f.1)
+    (record { collections = h.collections; cursors = All-filter asked (λ (cursor : Cursor). All IsWithin cursor.rest) w.cursors h.cursors })
+    (kill-sendable told f.0 f.1)
 
 good_count : (w : World) (c : Count) → IsLawful w → Good (run_count w c)
 unfolding run_count
@@ -244,7 +265,8 @@ unfolding run_delete
 good_delete w name deletions h =
     let n = length (documents_of w.collections name) - length (after_deletions deletions (documents_of w.collections name)) in
     let collections = deleted_lawful w.collections name deletions h.collections in
-    good_one (record w { collections = deleted_in (find_collection w.collections name) deletions w.collections }) (pair (codes "n") (total n) no_pairs) (record { collections = collections; cursors = h.cursors }) (insert-sendable (min n (2 ^ 31 - 1)))
+    good_one (record w { collections = deleted_in (find_collection w.collections name) deletions w.collections }) (pair (codes "n") (total n) no_pairs)
+    (record { collections = collections; cursors = h.cursors }) (insert-sendable (min n (2 ^ 31 - 1)))
 
 pub good_create : (w : World) (name : List ℕ) → IsLawful w → length name ≤ 255 → Good (run_create w (record { namespace = name }))
 unfolding run_create
@@ -258,7 +280,8 @@ good_create w name h short = λ x e.
 
     made : (cs : List Collection) → created w.collections name ≡ Ok cs → IsLawfulState cs
     made cs e =
-        let p = passed (is_some (find_collection w.collections name)) refusals.NamespaceExists (unless (nat_le 1000 (length w.collections)) refusals.TooMany (Ok (put_collection new w.collections))) cs e in
+        let p = passed (is_some (find_collection w.collections name)) refusals.NamespaceExists
+        (unless (nat_le 1000 (length w.collections)) refusals.TooMany (Ok (put_collection new w.collections))) cs e in
         let q = passed (nat_le 1000 (length w.collections)) refusals.TooMany (Ok (put_collection new w.collections)) cs p.1 in
         let now : put_collection new w.collections ≡ cs = cc in
         let free : is_full w.collections name ≡ false = ap (λ (b : Bool). b && not (is_some (find_collection w.collections name))) q.0 in
@@ -278,9 +301,13 @@ good_drop w name h short = λ x e.
     let reply = drop_reply (index_count w.collections name) name in
     let s = step_of (dropped w.collections name) (λ cs. let r : Result (World × Pairs) Refusal = Ok (record w { collections = cs }, reply) in r) x e in
     let same : (record w { collections = s.0 }, reply) ≡ x = cc in
-    subst (λ (y : World × Pairs). IsLawful y.0 × IsSendable (ok_reply y.1)) same (record { collections = dropped_lawful w.collections name s.0 h.collections s.1; cursors = h.cursors }, drop-sendable (index_count w.collections name) name short)
+    subst (λ (y : World × Pairs). IsLawful y.0 × IsSendable (ok_reply y.1)) same (
+      record { collections = dropped_lawful w.collections name s.0 h.collections s.1; cursors = h.cursors },
+      drop-sendable (index_count w.collections name) name short,
+    )
 
-pub good_create_indexes : (w : World) (name : List ℕ) (ns : List NewIndex) → IsLawful w → length name ≤ 255 → All IsShortNewIndex ns → Good (run_create_indexes w (record { namespace = name; indexes = ns }))
+pub good_create_indexes : (w : World) (name : List ℕ) (ns : List NewIndex) → IsLawful w → length name ≤ 255 → All IsShortNewIndex ns
+    → Good (run_create_indexes w (record { namespace = name; indexes = ns }))
 unfolding run_create_indexes
 good_create_indexes w name ns h short limits = λ x e.
     let is_new = not (is_some (find_collection w.collections name)) in
@@ -292,31 +319,40 @@ good_create_indexes w name ns h short limits = λ x e.
       create_indexes-sendable (index_count w.collections name) (index_count s.0 name) is_new,
     )
 
-pub good_drop_indexes : (w : World) (name : List ℕ) (away : DroppedIndexes) → IsLawful w → length name ≤ 255 → Good (run_drop_indexes w (record { namespace = name; indexes = away }))
+pub good_drop_indexes : (w : World) (name : List ℕ) (away : DroppedIndexes) → IsLawful w → length name ≤ 255
+    → Good (run_drop_indexes w (record { namespace = name; indexes = away }))
 unfolding run_drop_indexes
 good_drop_indexes w name away h short = λ x e.
     let reply = drop_indexes_reply (index_count w.collections name) in
-    let s = step_of (index_dropped w.collections name away) (λ cs. let r : Result (World × Pairs) Refusal = Ok (record w { collections = cs }, reply) in r) x e in
+    let s = step_of (index_dropped w.collections name away)
+    (λ cs. let r : Result (World × Pairs) Refusal = Ok (record w { collections = cs }, reply) in r) x e in
     let same : (record w { collections = s.0 }, reply) ≡ x = cc in
-    subst (λ (y : World × Pairs). IsLawful y.0 × IsSendable (ok_reply y.1)) same
-    (record { collections = index_dropped_lawful w.collections name away s.0 h.collections short s.1; cursors = h.cursors }, drop_indexes-sendable (index_count w.collections name))
+    subst (λ (y : World × Pairs). IsLawful y.0 × IsSendable (ok_reply y.1)) same (
+      record { collections = index_dropped_lawful w.collections name away s.0 h.collections short s.1; cursors = h.cursors },
+      drop_indexes-sendable (index_count w.collections name),
+    )
 
 good_list_collections : (w : World) (c : ListCollections) → IsLawful w → length c.database ≤ 63 → Good (run_list_collections w c)
 unfolding run_list_collections
 good_list_collections w c h short =
     let ds = map listed (names_in (c.database ++ codes ".") w.collections) in
     let one = go_into_one (c.database ++ codes ".") w.collections h.collections.kept h.collections.few in
-    let small : fits_in ds = subst fits_in (take_all (length ds) ds (omega arith)) (subst (λ (n : ℕ). fits_in (take n ds)) one.whole (batch_items (length ds) (900000 - 5) ds one.within)) in
+    let small : fits_in ds =
+    subst fits_in (take_all (length ds) ds (omega arith))
+    (subst (λ (n : ℕ). fits_in (take n ds)) one.whole (batch_items (length ds) (900000 - 5) ds one.within)) in
     good_one w (cursor_reply (codes "firstBatch") ds 0 (c.database ++ codes ".$cmd.listCollections")) h
-    (cursor-sendable (codes "firstBatch") ds 0 (c.database ++ codes ".$cmd.listCollections") (lit≤ tt) small (omega (arith, short, length-append c.database (codes ".$cmd.listCollections"))))
+    (cursor-sendable (codes "firstBatch") ds 0 (c.database ++ codes ".$cmd.listCollections") (lit≤ tt) small
+    (omega (arith, short, length-append c.database (codes ".$cmd.listCollections"))))
 
 good_list_indexes : (w : World) (name : List ℕ) → IsLawful w → length name ≤ 255 → Good (run_list_indexes w (record { namespace = name }))
 unfolding run_list_indexes
 good_list_indexes w name h short = at (find_collection w.collections name) refl
   where
-    at : (o : Option Collection) → find_collection w.collections name ≡ o → Good (or_refused o refusals.NamespaceNotFound >>= (λ found. let r : Result (World × Pairs) Refusal = Ok (w, indexes_reply name found.indexes) in r))
+    at : (o : Option Collection) → find_collection w.collections name ≡ o
+        → Good (or_refused o refusals.NamespaceNotFound >>= (λ found. let r : Result (World × Pairs) Refusal = Ok (w, indexes_reply name found.indexes) in r))
     at None e = λ x f. absurd cc
-    at (Some c) e = good_one w (indexes_reply name c.indexes) h (indexes-sendable c.indexes (found_kept w.collections name c h.collections.kept e).indexes name short)
+    at (Some c) e =
+        good_one w (indexes_reply name c.indexes) h (indexes-sendable c.indexes (found_kept w.collections name c h.collections.kept e).indexes name short)
 
 good_explain : (w : World) (c : Explain) → IsLawful w → Good (run_explain w c)
 unfolding run_explain
@@ -328,7 +364,8 @@ good_explain w c h =
 -- ---- updates
 
 -- what is written to a collection leaves lawful ones
-pub entered_lawful : (cs : List Collection) (name : List ℕ) (ss : List UpdateStatement) (next : List Collection) → IsLawfulState cs → length name ≤ 255 → All (λ (s : UpdateStatement). IsRead s.change) ss
+pub entered_lawful : (cs : List Collection) (name : List ℕ) (ss : List UpdateStatement) (next : List Collection) → IsLawfulState cs → length name ≤ 255
+    → All (λ (s : UpdateStatement). IsRead s.change) ss
     → entered_in name (writes_in name ss cs) cs ≡ Ok next → IsLawfulState next
 entered_lawful cs name ss next h short read e =
     at (writes_in name ss cs) (writes_stored ss (documents_of cs name) (record { read = read; rising = kept.0; stored = kept.1 })) e
@@ -339,8 +376,10 @@ entered_lawful cs name ss next h short read e =
     at : (ws : List DocumentWrite) → All IsStored (documents_in ws) → entered_in name ws cs ≡ Ok next → IsLawfulState next
     at [] stored e = let same : cs ≡ next = cc in subst IsLawfulState same h
     at (w ∷ ws) stored e =
-        let p = passed (is_full cs name) refusals.TooMany (enter_each (collection_of cs name) (w ∷ ws) >>= (λ c. let r : Result (List Collection) Refusal = Ok (put_collection c cs) in r)) next e in
-        let s = step_of (enter_each (collection_of cs name) (w ∷ ws)) (λ c. let r : Result (List Collection) Refusal = Ok (put_collection c cs) in r) next p.1 in
+        let p = passed (is_full cs name) refusals.TooMany
+        (enter_each (collection_of cs name) (w ∷ ws) >>= (λ c. let r : Result (List Collection) Refusal = Ok (put_collection c cs) in r)) next e in
+        let s = step_of (enter_each (collection_of cs name) (w ∷ ws))
+        (λ c. let r : Result (List Collection) Refusal = Ok (put_collection c cs) in r) next p.1 in
         let stays = stays_kept (collection_of cs name) s.0 (w ∷ ws) stored s.1 in
         let bounds = number_bounds cs name h.kept (room cs name p.0) in
         let one : IsKept s.0 = record {
@@ -362,8 +401,11 @@ good_update : (w : World) (c : Update) → IsLawful w → IsBounded (update c) �
 unfolding run_update
 good_update w c h b = λ x e.
     let cs = w.collections in
-    let n = step_of (entered_in c.namespace (writes_in c.namespace c.statements cs) cs) (λ next. run_all c.namespace c.statements cs >>= (λ u. let r : Result (World × Pairs) Refusal = Ok (record w { collections = next }, update_reply u) in r)) x e in
-    let u = step_of (run_all c.namespace c.statements cs) (λ u. let r : Result (World × Pairs) Refusal = Ok (record w { collections = n.0 }, update_reply u) in r) x n.2 in
+    let n = step_of (entered_in c.namespace (writes_in c.namespace c.statements cs) cs)
+    (λ next. run_all c.namespace c.statements cs >>= (λ u. let r : Result (World × Pairs) Refusal = Ok (record w { collections = next }, update_reply u) in r))
+    x e in
+    let u = step_of (run_all c.namespace c.statements cs)
+    (λ u. let r : Result (World × Pairs) Refusal = Ok (record w { collections = n.0 }, update_reply u) in r) x n.2 in
     let s = step_of (run_statements c.namespace 0 c.statements (not_updated cs)) judged u.0 u.1 in
     let p = passed (nat_lt 1048555 (length (spelled (ok_reply (update_reply s.0))))) refusals.BSONObjectTooLarge (Ok s.0) u.0 s.2 in
     let judged_as : s.0 ≡ u.0 = cc in

@@ -1,5 +1,6 @@
 -- The names of a database's collections, and that they all go into one batch.
-use Rattle.std.proofs.Common.{◌≡◌, ℕ, zero, suc, ◌+◌, ◌-◌, ◌*◌, ◌<◌, ◌≤◌, Bool, true, false, List, [], ◌∷◌, ◌++◌, length, drop, get_or, map, take, Option, Some, None, Result, Ok, refl, sym, ap, subst, ◌∙◌, append_assoc, length-append, suc-mul, arith}
+use Rattle.std.proofs.Common.{◌≡◌, ℕ, zero, suc, ◌+◌, ◌-◌, ◌*◌, ◌<◌, ◌≤◌, Bool, true, false, List, [], ◌∷◌, ◌++◌, length, drop, get_or, map, take, Option, Some}
+use Rattle.std.proofs.Common.{None, Result, Ok, refl, sym, ap, subst, ◌∙◌, append_assoc, length-append, suc-mul, arith}
 use Rattle.std.specs.Prelude.{◌||◌, ◌==◌, nat_eq, nat_le, if◌then◌else◌, codes, option_map, string_bytes, All, MatchOption}
 use Rattle.std.specs.Borrow.{Bor}
 use Rattle.std.specs.Fmt.{decimal}
@@ -29,12 +30,15 @@ use Rattle.replies.proofs.Steps.{drop_step}
 
 -- ---- names
 
-pub name-in : (front namespace : List ℕ) (r : Option (Bor (List ℕ))) → MatchOption r (FindsTextPrefix front namespace None) (λ x. StripsPrefix (FindsTextPrefix front) namespace x.now) → option_map (λ s. s.now) r ≡ name_in front namespace
+pub name-in : (front namespace : List ℕ) (r : Option (Bor (List ℕ)))
+    → MatchOption r (FindsTextPrefix front namespace None) (λ x. StripsPrefix (FindsTextPrefix front) namespace x.now)
+    → option_map (λ s. s.now) r ≡ name_in front namespace
 name-in front namespace None h =
     let is : false ≡ starts_with nat_eq namespace front = starts_text false front namespace h in
     ap (λ (b : Bool). if b then Some (drop (length front) namespace) else None) is
 name-in front namespace (Some x) h =
-    let is : true ≡ starts_with nat_eq namespace front = starts_text true front namespace (h.0, h.1, subst (λ (k : ℕ). IsCharBoundary namespace k) (sym h.1.0) h.1.2) in
+    let is : true ≡ starts_with nat_eq namespace front =
+    starts_text true front namespace (h.0, h.1, subst (λ (k : ℕ). IsCharBoundary namespace k) (sym h.1.0) h.1.2) in
     ap (λ (s : List ℕ). let o : Option (List ℕ) = Some s in o) (h.2 ∙ ap (λ (k : ℕ). drop k namespace) h.1.0)
     ∙ ap (λ (b : Bool). if b then Some (drop (length front) namespace) else None) is
 
@@ -42,7 +46,8 @@ name-in front namespace (Some x) h =
 abbrev pub Lists : List ℕ → List Name → ℕ → List Pairs → Type 0
 Lists front ns i ds = map listed (names_behind front (map name_of ns)) ≡ ds ++ map listed (names_behind front (map name_of (drop i ns)))
 
-pub lists-one : (front : List ℕ) (ns : List Name) (i : ℕ) (n : Name) (name : List ℕ) (ds next : List Pairs) → i < length ns → n ≡ get_or ns i n → name_in front (string_bytes n.namespace) ≡ Some name
+pub lists-one : (front : List ℕ) (ns : List Name) (i : ℕ) (n : Name) (name : List ℕ) (ds next : List Pairs) → i < length ns → n ≡ get_or ns i n
+    → name_in front (string_bytes n.namespace) ≡ Some name
     → next ≡ ds ++ listed name ∷ [] → Lists front ns i ds → Lists front ns (i + 1) next
 lists-one front ns i n name ds next within is named grown so_far =
     so_far ∙ ap (λ (xs : List Name). ds ++ map listed (names_behind front (map name_of xs))) (drop_step ns i n within is)
@@ -50,7 +55,8 @@ lists-one front ns i n name ds next within is named grown so_far =
     ∙ sym (append_assoc ds (listed name ∷ []) (map listed (names_behind front (map name_of (drop (i + 1) ns)))))
     ∙ ap (λ (xs : List Pairs). xs ++ map listed (names_behind front (map name_of (drop (i + 1) ns)))) (sym grown)
 
-pub lists-none : (front : List ℕ) (ns : List Name) (i : ℕ) (n : Name) (ds : List Pairs) → i < length ns → n ≡ get_or ns i n → name_in front (string_bytes n.namespace) ≡ None
+pub lists-none : (front : List ℕ) (ns : List Name) (i : ℕ) (n : Name) (ds : List Pairs) → i < length ns → n ≡ get_or ns i n
+    → name_in front (string_bytes n.namespace) ≡ None
     → Lists front ns i ds → Lists front ns (i + 1) ds
 lists-none front ns i n ds within is none so_far =
     so_far ∙ ap (λ (xs : List Name). ds ++ map listed (names_behind front (map name_of xs))) (drop_step ns i n within is)
@@ -61,7 +67,8 @@ names_same : (front : List ℕ) (cs : List Collection) → names_behind front (m
 names_same front [] = refl
 names_same front (c ∷ cs) = ap (with_name (name_in front c.name)) (names_same front cs)
 
-pub listed_same : (front : List ℕ) (ns : List Name) (cs : List Collection) (ds : List Pairs) → map name_of ns ≡ map name_of_collection cs → ds ≡ map listed (names_behind front (map name_of ns)) → ds ≡ map listed (names_in front cs)
+pub listed_same : (front : List ℕ) (ns : List Name) (cs : List Collection) (ds : List Pairs) → map name_of ns ≡ map name_of_collection cs
+    → ds ≡ map listed (names_behind front (map name_of ns)) → ds ≡ map listed (names_in front cs)
 listed_same front ns cs ds read made = made ∙ ap (λ (xs : List (List ℕ × ℕ)). map listed (names_behind front xs)) read ∙ ap (map listed) (names_same front cs)
 
 -- ---- sizes
@@ -82,7 +89,8 @@ names_short front (c ∷ cs) h = at (starts_with nat_eq c.name front) (names_sho
     name = drop (length front) c.name
 
     at : (b : Bool) → AllByRecursion Short (names_in front cs) × (length (names_in front cs) ≤ length cs)
-        → AllByRecursion Short (with_name (if b then Some name else None) (names_in front cs)) × (length (with_name (if b then Some name else None) (names_in front cs)) ≤ suc (length cs))
+        → AllByRecursion Short (with_name (if b then Some name else None) (names_in front cs))
+        × (length (with_name (if b then Some name else None) (names_in front cs)) ≤ suc (length cs))
     at true later = ((omega (arith, drop_shorter (length front) c.name, (All-head IsKept c cs h).short), later.0), omega (arith, later.1))
     at false later = (later.0, omega (arith, later.1))
 
@@ -110,13 +118,17 @@ listed_small (n ∷ ns) h = (listed_size n h.0, listed_small ns h.1)
 
 listed_within : (names : List (List ℕ)) → AllByRecursion Short names → All IsWithin (map listed names)
 listed_within [] h = λ k d below. absurd (omega (arith, below))
-listed_within (n ∷ ns) h = All-cons IsWithin (listed n) (map listed ns) (record { size = omega (arith, listed_size n h.0); depth = omega arith }) (listed_within ns h.1)
+listed_within (n ∷ ns) h =
+    All-cons IsWithin (listed n) (map listed ns) (record { size = omega (arith, listed_size n h.0); depth = omega arith }) (listed_within ns h.1)
 
 -- So many of them fit into a batch of this room, with ten bytes more for each.
-pub all_fit : (size i most room : ℕ) (ds : List Pairs) → length ds ≤ most → i + length ds ≤ 1000 → Small size ds → length ds * (size + 10) ≤ room → batch_len i most room ds ≡ length ds
+pub all_fit : (size i most room : ℕ) (ds : List Pairs) → length ds ≤ most → i + length ds ≤ 1000 → Small size ds → length ds * (size + 10) ≤ room
+    → batch_len i most room ds ≡ length ds
 all_fit size i most room [] few within small fits = refl
 all_fit size i zero room (d ∷ ds) few within small fits = absurd (omega (arith, few))
-all_fit size i (suc most) room (d ∷ ds) few within small fits = step (length ds * (size + 10)) (omega (arith, suc-mul (length ds) (size + 10), fits)) (all_fit size (i + 1) most (room - item_size i d) ds (omega (arith, few)) (omega (arith, within)) small.1)
+all_fit size i (suc most) room (d ∷ ds) few within small fits =
+    step (length ds * (size + 10)) (omega (arith, suc-mul (length ds) (size + 10), fits))
+    (all_fit size (i + 1) most (room - item_size i d) ds (omega (arith, few)) (omega (arith, within)) small.1)
   where
     digits : length (decimal i) ≤ 3
     digits = length-decimal-le 3 i (omega arith) (omega (arith, within)) (omega (arith, within))
@@ -148,7 +160,8 @@ go_into_one front cs kept few =
     let many : length (map listed names) ≡ length names = length-map names listed in
     record {
       within = listed_within names short.0;
-      whole = all_fit 400 0 (length (map listed names)) (900000 - 5) (map listed names) (omega arith) (omega (arith, many, few, short.1)) (listed_small names short.0) (omega (arith, many, few, short.1));
+      whole = all_fit 400 0 (length (map listed names)) (900000 - 5) (map listed names) (omega arith) (omega (arith, many, few, short.1))
+          (listed_small names short.0) (omega (arith, many, few, short.1));
     }
 
 -- ---- the reply
@@ -160,7 +173,8 @@ zero_either : (b : Bool) → zero_if b ≡ 0
 zero_either true = refl
 zero_either false = refl
 
-pub run_list-is : (w : World) (database front namespace : List ℕ) (ds : List Pairs) (n : ℕ) (reply : Pairs) → IsLawfulState w.collections → front ≡ database ++ codes "." → namespace ≡ database ++ codes ".$cmd.listCollections"
+pub run_list-is : (w : World) (database front namespace : List ℕ) (ds : List Pairs) (n : ℕ) (reply : Pairs) → IsLawfulState w.collections
+    → front ≡ database ++ codes "." → namespace ≡ database ++ codes ".$cmd.listCollections"
     → ds ≡ map listed (names_in front w.collections) → n ≡ batch_of (length ds) ds → reply ≡ ok_reply (batch_reply (codes "firstBatch") n ds 0 namespace)
     → with_ok (run_list_collections w (record { database = database })) ≡ Ok (w, reply)
 unfolding run_list_collections

@@ -1,5 +1,6 @@
 -- What is said of a collection's indexes, and that it all goes into one batch.
-use Rattle.std.proofs.Common.{◌≡◌, ℕ, suc, max, ◌+◌, ◌-◌, ◌*◌, ◌<◌, ◌≤◌, Bool, true, false, inl, List, [], ◌∷◌, ◌++◌, length, get_or, drop, map, take, Option, Some, None, Result, Ok, Err, refl, sym, ap, subst, ◌∙◌, append_assoc, arith, lit≤}
+use Rattle.std.proofs.Common.{◌≡◌, ℕ, suc, max, ◌+◌, ◌-◌, ◌*◌, ◌<◌, ◌≤◌, Bool, true, false, inl, List, [], ◌∷◌, ◌++◌, length, get_or, drop, map, take, Option}
+use Rattle.std.proofs.Common.{Some, None, Result, Ok, Err, refl, sym, ap, subst, ◌∙◌, append_assoc, arith, lit≤}
 use Rattle.std.specs.Prelude.{All, codes, if◌then◌else◌, nat_le}
 use Rattle.std.specs.List.{AllByRecursion}
 use Rattle.std.proofs.lemmas.List.Elements.{All-cons}
@@ -44,7 +45,8 @@ Describes is i ds = described_all is ≡ ds ++ map described_index (drop i is)
 pub describes_none : (is : List Definition) (ds : List Pairs) → ds ≡ described_id ∷ [] → Describes is 0 ds
 describes_none is ds e = ap (λ (es : List Pairs). es ++ map described_index is) (sym e)
 
-pub describes_one : (is : List Definition) (k : ℕ) (i : Definition) (ds next : List Pairs) → k < length is → i ≡ get_or is k i → next ≡ ds ++ described_index i ∷ [] → Describes is k ds → Describes is (k + 1) next
+pub describes_one : (is : List Definition) (k : ℕ) (i : Definition) (ds next : List Pairs) → k < length is → i ≡ get_or is k i
+    → next ≡ ds ++ described_index i ∷ [] → Describes is k ds → Describes is (k + 1) next
 describes_one is k i ds next within same grown so_far =
     so_far ∙ ap (λ (xs : List Definition). ds ++ map described_index xs) (drop_step is k i within same)
     ∙ sym (append_assoc ds (described_index i ∷ []) (map described_index (drop (k + 1) is)))
@@ -74,7 +76,8 @@ length-key : (key : Pairs) → length (tree_bytes (document key)) ≡ length (pa
 unfolding tree_bytes
 length-key key = frame_of-length (pairs_bytes key)
 
-described_size : (key : Pairs) (name : List ℕ) (b : Bool) → length (pairs_bytes key) ≤ 1044 → length name ≤ 127 → length (frame_of (pairs_bytes (described key name b))) ≤ 1300
+described_size : (key : Pairs) (name : List ℕ) (b : Bool) → length (pairs_bytes key) ≤ 1044 → length name ≤ 127
+    → length (frame_of (pairs_bytes (described key name b))) ≤ 1300
 described_size key name b small short =
     let last = unique_pairs b in
     let named = pair (codes "name") (words name) last in
@@ -141,10 +144,12 @@ module _ (is : List Definition) (h : AreShortIndexes is) where
       let n = batch_of (length ds) ds in
       let all : take n ds ≡ ds = ap (λ (k : ℕ). take k ds) all_in_one ∙ take_all (length ds) ds (omega arith) in
       cursor-sendable (codes "firstBatch") ds 0 name (lit≤ tt)
-      (subst (λ (es : List Pairs). length (items_bytes 0 (items_of_documents es)) ≤ max (900000 - 5) (65535 + 3)) all (batch_items (length ds) (900000 - 5) ds all_within)) short
+      (subst (λ (es : List Pairs). length (items_bytes 0 (items_of_documents es)) ≤ max (900000 - 5) (65535 + 3)) all
+      (batch_items (length ds) (900000 - 5) ds all_within)) short
 
   -- a batch of all of them
-  pub reply_is : (name : List ℕ) (ds : List Pairs) (n : ℕ) → ds ≡ described_all is → n ≡ batch_of (length ds) ds → batch_reply (codes "firstBatch") n ds 0 name ≡ indexes_reply name is
+  pub reply_is : (name : List ℕ) (ds : List Pairs) (n : ℕ) → ds ≡ described_all is → n ≡ batch_of (length ds) ds
+      → batch_reply (codes "firstBatch") n ds 0 name ≡ indexes_reply name is
   reply_is name ds n made counted =
       let whole : n ≡ length ds = counted ∙ subst (λ (es : List Pairs). batch_of (length es) es ≡ length es) (sym made) all_in_one in
       let all : take n ds ≡ described_all is = take_all n ds (omega (arith, whole)) ∙ made in
@@ -176,12 +181,18 @@ module _ {D : Type 0} (history : D → History) (name : List ℕ) (old mid : Eng
   pub list_missing : Looks history (IsCatalogueOf name) (Ok None) old mid → Performs history run (Err refusals.NamespaceNotFound) old mid
   list_missing first =
       performs_read history old mid run (Err refusals.NamespaceNotFound) first.reads
-      (λ k. (world_same history old mid first.reads, inl (run_list_indexes-none (world old) name (not_catalogued (world old).collections name (first.answers k)))))
+      (λ k. (
+        world_same history old mid first.reads,
+        inl (run_list_indexes-none (world old) name (not_catalogued (world old).collections name (first.answers k))),
+      ))
 
   -- it is there, and these are its indexes
-  pub list_done : (home : Catalogued) → Looks history (IsCatalogueOf name) (Ok (Some home)) old mid → (d : Pairs) → d ≡ ok_reply (indexes_reply name home.indexes.items) → Performs history run (Ok d) old mid
+  pub list_done : (home : Catalogued) → Looks history (IsCatalogueOf name) (Ok (Some home)) old mid → (d : Pairs)
+      → d ≡ ok_reply (indexes_reply name home.indexes.items) → Performs history run (Ok d) old mid
   list_done home first d said =
       performs_read history old mid run (Ok d) first.reads (λ k.
       let t = has_home (world old).collections name home (first.answers k) in
-      let same : ok_reply (indexes_reply name t.collection.indexes) ≡ d = ap (λ (is : List Definition). ok_reply (indexes_reply name is)) t.catalogued.indexed ∙ sym said in
-      ap with_ok (run_list_indexes-is (world old) name t.collection t.found) ∙ (λ i. let r : Result (World × Pairs) Refusal = Ok (sym (world_same history old mid first.reads) i, same i) in r))
+      let same : ok_reply (indexes_reply name t.collection.indexes) ≡ d =
+      ap (λ (is : List Definition). ok_reply (indexes_reply name is)) t.catalogued.indexed ∙ sym said in
+      ap with_ok (run_list_indexes-is (world old) name t.collection t.found)
+      ∙ (λ i. let r : Result (World × Pairs) Refusal = Ok (sym (world_same history old mid first.reads) i, same i) in r))

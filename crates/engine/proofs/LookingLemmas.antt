@@ -25,8 +25,10 @@ use Rattle.queries.proofs.ReadingLemmas.{goes_itself, goes_on, of_file, widen_be
 
 -- ---- what was read of the file
 
-module _ {D : Type 0} (history : D → History) (old new : Engine D) (h : IsSound history old) (told : new.told.value ≡ old.told.value) (cursors : new.cursors ≡ old.cursors) (changes : has_changes new ≡ has_changes old) where
-  pub reads_so : GoesFrom history (file_of old) (file_of new) → ((start now : List Collection) → HasState history (file_of old) start now → HasState history (file_of new) start now) → OnlyReads history old new
+module _ {D : Type 0} (history : D → History) (old new : Engine D) (h : IsSound history old) (told : new.told.value ≡ old.told.value)
+    (cursors : new.cursors ≡ old.cursors) (changes : has_changes new ≡ has_changes old) where
+  pub reads_so : GoesFrom history (file_of old) (file_of new)
+      → ((start now : List Collection) → HasState history (file_of old) start now → HasState history (file_of new) start now) → OnlyReads history old new
   reads_so goes same = record {
     sound = record {
       lawful = subst (λ (t : Known). IsLawfulState t.now) (sym told) h.lawful;
@@ -41,13 +43,15 @@ module _ {D : Type 0} (history : D → History) (old new : Engine D) (h : IsSoun
     changes = changes;
   }
 
-  pub looks_so : {X : Type 0} (Q : List Collection → X → Type 0) (r : Result X Refusal) → Reads history Q r (file_of old) (file_of new) → Looks history Q r old new
+  pub looks_so : {X : Type 0} (Q : List Collection → X → Type 0) (r : Result X Refusal) → Reads history Q r (file_of old) (file_of new)
+      → Looks history Q r old new
   looks_so Q r reads = record {
     reads = reads_so reads.on reads.same;
     answers = λ k. reads.answers k (turn_start old) (world old).collections h.file;
   }
 
-  pub looks_so_of : {A X : Type 0} (Is : List Collection → A → Type 0) (Q : List Collection → A → X → Type 0) (r : Result X Refusal) → ReadsOf history Is Q r (file_of old) (file_of new) → LooksOf history Is Q r old new
+  pub looks_so_of : {A X : Type 0} (Is : List Collection → A → Type 0) (Q : List Collection → A → X → Type 0) (r : Result X Refusal)
+      → ReadsOf history Is Q r (file_of old) (file_of new) → LooksOf history Is Q r old new
   looks_so_of Is Q r reads = record {
     reads = reads_so reads.on reads.same;
     answers = λ k asked is. reads.answers k (turn_start old) (world old).collections h.file asked is;
@@ -84,29 +88,35 @@ module _ {D X : Type 0} (history : D → History) (P : List Collection → X →
   looks_refused Q e looks = record { reads = looks.reads; answers = looks.answers }
 
   -- what is made of an answer, unless memory runs out
-  pub looks_made : {Y : Type 0} (Q : List Collection → Y → Type 0) (x : X) (y : Y) → Looks history P (Ok x) old new → (P (world old).collections x → Q (world old).collections y) → Looks history Q (Ok y) old new
+  pub looks_made : {Y : Type 0} (Q : List Collection → Y → Type 0) (x : X) (y : Y) → Looks history P (Ok x) old new
+      → (P (world old).collections x → Q (world old).collections y) → Looks history Q (Ok y) old new
   looks_made Q x y looks on = record { reads = looks.reads; answers = λ k. on (looks.answers k) }
 
   pub looks_memory : (e : Refusal) → e ≡ refusals.OutOfMemory → OnlyReads history old new → Looks history P (Err e) old new
   looks_memory e is reads = record { reads = reads; answers = λ k. inl is }
 
 -- A look behind another: what the first one gave tells what is asked for next.
-module _ {D X A Y : Type 0} (history : D → History) (P : List Collection → X → Type 0) (Is : List Collection → A → Type 0) (Q : List Collection → A → Y → Type 0) (R : List Collection → Y → Type 0) (a b c : Engine D) (x : X) where
+module _ {D X A Y : Type 0} (history : D → History) (P : List Collection → X → Type 0) (Is : List Collection → A → Type 0) (Q : List Collection → A → Y
+    → Type 0) (R : List Collection → Y → Type 0) (a b c : Engine D) (x : X) where
   pub record IsAsked (now : List Collection) : Type 0 where
     pub asked : A
     pub is : Is now asked
     pub right : (y : Y) → Q now asked y → R now y
 
-  pub looks_behind : (r : Result Y Refusal) → Looks history P (Ok x) a b → LooksOf history Is Q r b c → (P (world a).collections x → IsAsked (world a).collections) → Looks history R r a c
+  pub looks_behind : (r : Result Y Refusal) → Looks history P (Ok x) a b → LooksOf history Is Q r b c
+      → (P (world a).collections x → IsAsked (world a).collections) → Looks history R r a c
   looks_behind r first second ask = record {
     reads = reads_trans history a b c first.reads second.reads;
     answers = λ k.
         let then = ask (first.answers (word_before history (file_of b) (file_of c) second.reads.goes k)) in
-        let there = subst (λ (now : List Collection). (asked : A) → Is now asked → MatchResult r (Q now asked) (HasCause history (file_of b) (file_of c))) (collections_same history a b first.reads) (second.answers k) in
+        let there = subst (λ (now : List Collection). (asked : A) → Is now asked → MatchResult r (Q now asked) (HasCause history (file_of b) (file_of c)))
+        (collections_same history a b first.reads) (second.answers k) in
         either k r then (there then.asked then.is);
   }
     where
-      either : KeepsWord (disk_history history (file_of c)) → (r : Result Y Refusal) (then : IsAsked (world a).collections) → MatchResult r (Q (world a).collections then.asked) (HasCause history (file_of b) (file_of c)) → MatchResult r (R (world a).collections) (HasCause history (file_of a) (file_of c))
+      either : KeepsWord (disk_history history (file_of c)) → (r : Result Y Refusal) (then : IsAsked (world a).collections)
+          → MatchResult r (Q (world a).collections then.asked) (HasCause history (file_of b) (file_of c))
+          → MatchResult r (R (world a).collections) (HasCause history (file_of a) (file_of c))
       either k (Ok y) then right = then.right y right
       either k (Err e) then cause = widen_before history (file_of a) (file_of b) (file_of c) first.reads.goes second.reads.goes k e cause
 
@@ -114,7 +124,8 @@ module _ {D X A Y : Type 0} (history : D → History) (P : List Collection → X
 
 module _ {D : Type 0} (history : D → History) (old new : Engine D) (planned : Result (World × Pairs) Refusal) where
   -- it was refused, by a cause of its own
-  pub performs_refused : (e : Refusal) → OnlyReads history old new → (KeepsWord (disk_history history (file_of new)) → HasCause history (file_of old) (file_of new) e) → Performs history planned (Err e) old new
+  pub performs_refused : (e : Refusal) → OnlyReads history old new
+      → (KeepsWord (disk_history history (file_of new)) → HasCause history (file_of old) (file_of new) e) → Performs history planned (Err e) old new
   performs_refused e reads cause = record {
     sound = reads.sound;
     goes = reads.goes;
@@ -124,7 +135,8 @@ module _ {D : Type 0} (history : D → History) (old new : Engine D) (planned : 
   }
 
   -- all of it was reading
-  pub performs_read : (r : Result Pairs Refusal) → OnlyReads history old new → (KeepsWord (disk_history history (file_of new)) → DoesPlanned history planned r old new) → Performs history planned r old new
+  pub performs_read : (r : Result Pairs Refusal) → OnlyReads history old new
+      → (KeepsWord (disk_history history (file_of new)) → DoesPlanned history planned r old new) → Performs history planned r old new
   performs_read r reads does = record {
     sound = reads.sound;
     goes = reads.goes;
@@ -137,17 +149,24 @@ module _ {D : Type 0} (history : D → History) (old new : Engine D) (planned : 
       either (Ok reply) = tt
       either (Err e) = reads.changes
 
-pub performs_memory : {D : Type 0} (history : D → History) (old new : Engine D) (planned : Result (World × Pairs) Refusal) (e : Refusal) → e ≡ refusals.OutOfMemory → OnlyReads history old new → Performs history planned (Err e) old new
+pub performs_memory : {D : Type 0} (history : D → History) (old new : Engine D) (planned : Result (World × Pairs) Refusal) (e : Refusal)
+    → e ≡ refusals.OutOfMemory → OnlyReads history old new → Performs history planned (Err e) old new
 performs_memory history old new planned e is reads = performs_refused history old new planned e reads (λ k. inl is)
 
 -- What was done behind what was read, where it was planned of the same world.
-module _ {D : Type 0} (history : D → History) (old mid new : Engine D) (reads : OnlyReads history old mid) (there planned : Result (World × Pairs) Refusal) where
+module _ {D : Type 0} (history : D → History) (old mid new : Engine D) (reads : OnlyReads history old mid)
+    (there planned : Result (World × Pairs) Refusal) where
   -- the cause of what came behind, from the beginning
-  cause_wider : (e : Refusal) → GoesFrom history (file_of mid) (file_of new) → FileCause history (file_of mid) (file_of new) (answered (world mid) there).0 e → FileCause history (file_of old) (file_of new) (answered (world mid) there).0 e
-  cause_wider e goes (kind, why) =
-      (kind, λ k. widen_write history (file_of old) (file_of mid) (file_of new) (file_of new) reads.goes goes (goes_itself history (file_of new)) k (answered (world mid) there).0.collections e (why k))
+  cause_wider : (e : Refusal) → GoesFrom history (file_of mid) (file_of new) → FileCause history (file_of mid) (file_of new) (answered (world mid) there).0 e
+      → FileCause history (file_of old) (file_of new) (answered (world mid) there).0 e
+  cause_wider e goes (kind, why) = (
+    kind,
+    λ k. widen_write history (file_of old) (file_of mid) (file_of new) (file_of new) reads.goes goes (goes_itself history (file_of new)) k
+        (answered (world mid) there).0.collections e (why k),
+  )
 
-  pub performs_behind : (r : Result Pairs Refusal) → Performs history there r mid new → (KeepsWord (disk_history history (file_of new)) → there ≡ planned) → Performs history planned r old new
+  pub performs_behind : (r : Result Pairs Refusal) → Performs history there r mid new → (KeepsWord (disk_history history (file_of new)) → there ≡ planned)
+      → Performs history planned r old new
   performs_behind r done same = record {
     sound = done.sound;
     goes = goes_on history (file_of old) (file_of mid) (file_of new) reads.goes done.goes;
@@ -165,5 +184,6 @@ module _ {D : Type 0} (history : D → History) (old mid new : Engine D) (reads 
       either (Err e) is (unchanged, inl refused) = (unchanged ∙ world_same history old mid reads, inl (sym is ∙ refused))
       either (Err e) is (unchanged, inr cause) = (
         unchanged ∙ world_same history old mid reads,
-        inr (subst (λ (w : World). FileCause history (file_of old) (file_of new) w e) ((λ i. (answered (world_same history old mid reads i) (is i)).0)) (cause_wider e done.goes cause)),
+        inr (subst (λ (w : World). FileCause history (file_of old) (file_of new) w e) ((λ i. (answered (world_same history old mid reads i) (is i)).0))
+            (cause_wider e done.goes cause)),
       )

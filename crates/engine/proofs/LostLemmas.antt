@@ -1,5 +1,6 @@
 -- Documents that a delete takes away: without them, by their `_id`s, the documents before are those that are left.
-use Rattle.std.proofs.Common.{◌≡◌, ℕ, zero, suc, ◌<◌, Bool, true, false, List, [], ◌∷◌, ◌++◌, length, get_or, Option, Some, None, refl, sym, ap, subst, ◌∙◌, arith}
+use Rattle.std.proofs.Common.{◌≡◌, ℕ, zero, suc, ◌<◌, Bool, true, false, List, [], ◌∷◌, ◌++◌, length, get_or, Option, Some, None, refl, sym, ap, subst, ◌∙◌}
+use Rattle.std.proofs.Common.{arith}
 use Rattle.std.specs.Prelude.{not, if◌then◌else◌, All}
 use Rattle.std.specs.List.{filter, position}
 use Rattle.std.specs.Ordering.{is_eq}
@@ -48,7 +49,8 @@ Above d x = compare (key_of d) (key_of x) ≡ orders.Less
 passes_each : (gone : List Pairs) (d : Pairs) (ds : List Pairs) → All (Above d) gone → without_each gone (d ∷ ds) ≡ d ∷ without_each gone ds
 passes_each [] d ds above = refl
 passes_each (x ∷ gone) d ds above =
-    ap (without_each gone) (passes_by (key_of x) d ds (All-head (Above d) x gone above)) ∙ passes_each gone d (without_document (key_of x) ds) (All-tail (Above d) x gone above)
+    ap (without_each gone) (passes_by (key_of x) d ds (All-head (Above d) x gone above))
+    ∙ passes_each gone d (without_document (key_of x) ds) (All-tail (Above d) x gone above)
 
 taken_filter : (p : Pairs → Bool) (ds : List Pairs) → IsRising ds → without_each (filter p ds) ds ≡ filter (λ d. not (p d)) ds
 taken_filter p [] up = refl
@@ -57,7 +59,8 @@ taken_filter p (d ∷ ds) up = at (p d) refl (taken_filter p ds (rises_tail comp
     above : All (Above d) ds
     above k x below = up 0 (suc k) x (omega arith) (omega (arith, below))
 
-    at : (b : Bool) → p d ≡ b → without_each (filter p ds) ds ≡ filter (λ x. not (p x)) ds → without_each (filter p (d ∷ ds)) (d ∷ ds) ≡ filter (λ x. not (p x)) (d ∷ ds)
+    at : (b : Bool) → p d ≡ b → without_each (filter p ds) ds ≡ filter (λ x. not (p x)) ds
+        → without_each (filter p (d ∷ ds)) (d ∷ ds) ≡ filter (λ x. not (p x)) (d ∷ ds)
     at true e later = rw e (ap (without_each (filter p ds)) (goes_first d ds) ∙ later)
     at false e later =
         rw e (passes_each (filter p ds) d ds (All-filter p (Above d) ds above) ∙ ap (λ (xs : List Pairs). d ∷ xs) later)
@@ -85,14 +88,16 @@ there_more (x ∷ xs) ys ds first later = (first.0, there_more xs ys (without_do
 
 -- those of greater `_id`s are behind the first
 found_behind : (x d : Pairs) (ds : List Pairs) → Above d x → find_document (d ∷ ds) (key_of x) ≡ find_document ds (key_of x)
-found_behind x d ds above = ap (λ (o : Ordering). if is_eq o then Some d else find_document ds (key_of x)) (flipped compare_total (key_of d) (key_of x) orders.Less above)
+found_behind x d ds above =
+    ap (λ (o : Ordering). if is_eq o then Some d else find_document ds (key_of x)) (flipped compare_total (key_of d) (key_of x) orders.Less above)
 
 there_behind : (gone : List Pairs) (d : Pairs) (ds : List Pairs) → All (Above d) gone → AreThere gone ds → AreThere gone (d ∷ ds)
 there_behind [] d ds above there = tt
 there_behind (x ∷ gone) d ds above there =
     let here = All-head (Above d) x gone above in (
       found_behind x d ds here ∙ there.0,
-      subst (AreThere gone) (sym (passes_by (key_of x) d ds here)) (there_behind gone d (without_document (key_of x) ds) (All-tail (Above d) x gone above) there.1),
+      subst (AreThere gone) (sym (passes_by (key_of x) d ds here))
+          (there_behind gone d (without_document (key_of x) ds) (All-tail (Above d) x gone above) there.1),
     )
 
 place_there : (o : Option ℕ) (ds : List Pairs) → ((i : ℕ) → o ≡ Some i → i < length ds) → IsRising ds → AreThere (taken_at o ds) ds
@@ -103,7 +108,8 @@ place_there (Some i) ds within up = (stands ds i up (within i refl), tt)
     stands [] k up within = absurd (omega (arith, within))
     stands (x ∷ xs) zero up within = first_there x xs
     stands (x ∷ xs) (suc k) up within =
-        found_behind (get_or xs k no_pairs) x xs (up 0 (suc k) no_pairs (omega arith) within) ∙ stands xs k (rises_tail compare key_of x xs up) (omega (arith, within))
+        found_behind (get_or xs k no_pairs) x xs (up 0 (suc k) no_pairs (omega arith) within)
+        ∙ stands xs k (rises_tail compare key_of x xs up) (omega (arith, within))
 
 filter_there : (p : Pairs → Bool) (ds : List Pairs) → IsRising ds → AreThere (filter p ds) ds
 filter_there p [] up = tt
@@ -148,7 +154,8 @@ left_all P d ds h = left_kept P (d ∷ []) ds h
 
 pub taken_kept : (P : Pairs → Type 0) (deletions : List Deletion) (ds : List Pairs) → All P ds → All P (all_taken deletions ds)
 taken_kept P [] ds h = λ k d below. absurd (omega (arith, below))
-taken_kept P (d ∷ rest) ds h = All-append P (taken d ds) (all_taken rest (after_deletion d ds)) (by_all P d ds h) (taken_kept P rest (after_deletion d ds) (left_all P d ds h))
+taken_kept P (d ∷ rest) ds h =
+    All-append P (taken d ds) (all_taken rest (after_deletion d ds)) (by_all P d ds h) (taken_kept P rest (after_deletion d ds) (left_all P d ds h))
 
 -- ---- a delete
 

@@ -25,7 +25,8 @@ use Rattle.engine.specs.declared.engine.Engine.{Engine}
 use Rattle.engine.proofs.OnlyReading.{now_same, word_before, write_cause_from}
 
 -- what is refused by the file is one of its refusals
-of_cause : {D : Type 0} (history : D → History) (after : List Collection) (old new : Engine D) (e : Refusal) → HasWriteCause history after (file_of old) (file_of new) e → IsOfFile e
+of_cause : {D : Type 0} (history : D → History) (after : List Collection) (old new : Engine D) (e : Refusal)
+    → HasWriteCause history after (file_of old) (file_of new) e → IsOfFile e
 of_cause history after old new e (inl (inl memory)) = inl memory
 of_cause history after old new e (inl (inr (inl (is, failed)))) = inr (inl is)
 of_cause history after old new e (inl (inr (inr (is, full)))) = inr (inr is)
@@ -36,13 +37,15 @@ pub planned_is : (cs next : List Collection) (planned : Result (List Collection)
 planned_is cs next planned is = is ∙ ap (λ (p : Result (List Collection) Refusal). Ok (planned_or cs p)) (sym is)
 
 -- edits that lead to what is planned
-pub leads_planned : (edits : List Edit) (cs next : List Collection) (planned : Result (List Collection) Refusal) → planned ≡ Ok next → Leads edits cs next × IsLawfulState next
+pub leads_planned : (edits : List Edit) (cs next : List Collection) (planned : Result (List Collection) Refusal) → planned ≡ Ok next
+    → Leads edits cs next × IsLawfulState next
     → Leads edits cs (planned_or cs planned) × IsLawfulState (planned_or cs planned)
 leads_planned edits cs next planned is led = subst (λ (s : List Collection). Leads edits cs s × IsLawfulState s) (sym (ap (planned_or cs) is)) led
 
 module _ {D : Type 0} (history : D → History) where
   -- while an engine runs, its collections are lawful
-  pub lawful_now : (engine : Engine D) → IsSound history engine → KeepsWord (disk_history history engine) → IsRunning engine → IsLawfulState (world engine).collections
+  pub lawful_now : (engine : Engine D) → IsSound history engine → KeepsWord (disk_history history engine) → IsRunning engine
+      → IsLawfulState (world engine).collections
   lawful_now engine h k running = (h.file running k).now_state
 
   -- it was refused before anything was written
@@ -62,13 +65,15 @@ module _ {D : Type 0} (history : D → History) where
     abbrev after : List Collection
     after = planned_or (world mid).collections (plan (world mid).collections)
 
-    pub makes_written : (r : Result (Unit {0}) Refusal) → (KeepsWord (disk_history history mid) → plan (world mid).collections ≡ Ok after) → Writes history after r mid new → Makes history (plan (world old).collections) r old new
+    pub makes_written : (r : Result (Unit {0}) Refusal) → (KeepsWord (disk_history history mid) → plan (world mid).collections ≡ Ok after)
+        → Writes history after r mid new → Makes history (plan (world old).collections) r old new
     makes_written (Ok tt) plans w = record {
       sound = w.sound;
       goes = laws.goes_further history old.file mid.file new.file reads.goes w.goes;
       start = w.start ∙ ap (λ (k : Known). k.start) reads.told;
       cursors = w.cursors ∙ reads.cursors;
-      does = λ k. ap plan (sym (now_same history old mid reads)) ∙ plans (word_before history mid.file new.file w.goes k) ∙ ap (λ (cs : List Collection). Ok cs) (sym w.ok);
+      does = λ k. ap plan (sym (now_same history old mid reads)) ∙ plans (word_before history mid.file new.file w.goes k)
+          ∙ ap (λ (cs : List Collection). Ok cs) (sym w.ok);
       refused = tt;
     }
     makes_written (Err e) plans w = record {
@@ -78,15 +83,18 @@ module _ {D : Type 0} (history : D → History) where
       cursors = w.cursors ∙ reads.cursors;
       does = λ k. (
         w.err.0 ∙ now_same history old mid reads,
-        inr (write_cause_from history old.file mid.file new.file reads.goes (word_before history mid.file new.file w.goes k) (planned_or (world old).collections (plan (world old).collections)) e
-            (subst (λ (cs : List Collection). HasWriteCause history (planned_or cs (plan cs)) mid.file new.file e) (now_same history old mid reads) (w.cause k))),
+        inr (write_cause_from history old.file mid.file new.file reads.goes (word_before history mid.file new.file w.goes k)
+            (planned_or (world old).collections (plan (world old).collections)) e
+            (subst (λ (cs : List Collection). HasWriteCause history (planned_or cs (plan cs)) mid.file new.file e) (now_same history old mid reads)
+            (w.cause k))),
       );
       refused = w.err.1 ∙ reads.changes;
     }
 
   -- what was made behind reads
   module _ (plan : List Collection → Result (List Collection) Refusal) (old mid new : Engine D) (reads : OnlyReads history old mid) where
-    pub makes_behind : (r : Result (Unit {0}) Refusal) → Makes history (plan (world mid).collections) r mid new → Makes history (plan (world old).collections) r old new
+    pub makes_behind : (r : Result (Unit {0}) Refusal) → Makes history (plan (world mid).collections) r mid new
+        → Makes history (plan (world old).collections) r old new
     makes_behind (Ok tt) m = record {
       sound = m.sound;
       goes = laws.goes_further history old.file mid.file new.file reads.goes m.goes;
@@ -106,7 +114,9 @@ module _ {D : Type 0} (history : D → History) where
             d.0 ∙ same,
             elim d.1 [
               | inl is ↦ inl (ap plan (sym same) ∙ is)
-              | inr cause ↦ inr (write_cause_from history old.file mid.file new.file reads.goes (word_before history mid.file new.file m.goes k) (planned_or (world old).collections (plan (world old).collections)) e
+              | inr cause ↦ inr
+                  (write_cause_from history old.file mid.file new.file reads.goes (word_before history mid.file new.file m.goes k)
+                  (planned_or (world old).collections (plan (world old).collections)) e
                   (subst (λ (cs : List Collection). HasWriteCause history (planned_or cs (plan cs)) mid.file new.file e) same cause))
             ],
           );
@@ -117,7 +127,8 @@ module _ {D : Type 0} (history : D → History) where
 abbrev pub with_reply : World → Pairs → Result (List Collection) Refusal → Result (World × Pairs) Refusal
 with_reply w reply planned = planned >>= (λ cs. Ok (record w { collections = cs }, reply))
 
-module _ {D : Type 0} (history : D → History) (reply : Pairs) (planned : Result (List Collection) Refusal) (run : Result (World × Pairs) Refusal) (old new : Engine D) where
+module _ {D : Type 0} (history : D → History) (reply : Pairs) (planned : Result (List Collection) Refusal) (run : Result (World × Pairs) Refusal)
+    (old new : Engine D) where
   -- there was no memory for the reply
   pub performs_none : IsSound history old → Performs history run (Err refusals.OutOfMemory) old old
   performs_none h = record {
@@ -141,7 +152,8 @@ module _ {D : Type 0} (history : D → History) (reply : Pairs) (planned : Resul
         there : with_ok (Ok (record (world old) { collections = (world new).collections }, reply)) ≡ Ok (world new, d)
         there i = Ok (record { collections = (world new).collections; cursors = (sym makes.cursors i).list; next = (sym makes.cursors i).next }, sym said i)
 
-    refused_so : (p : Result (List Collection) Refusal) → (answered (world old) (with_reply (world old) reply p)).0.collections ≡ planned_or (world old).collections p
+    refused_so : (p : Result (List Collection) Refusal)
+        → (answered (world old) (with_reply (world old) reply p)).0.collections ≡ planned_or (world old).collections p
     refused_so (Ok cs) = refl
     refused_so (Err e) = refl
 
@@ -163,4 +175,8 @@ module _ {D : Type 0} (history : D → History) (reply : Pairs) (planned : Resul
         why : (planned ≡ Err e) ⊎ HasWriteCause history (planned_or (world old).collections planned) (file_of old) (file_of new) e
             → (run ≡ Err e) ⊎ FileCause history (file_of old) (file_of new) (answered (world old) run).0 e
         why (inl refused) = inl (is ∙ ap (with_reply (world old) reply) refused)
-        why (inr cause) = inr (of_cause history (planned_or (world old).collections planned) old new e cause, λ k. subst (λ (cs : List Collection). HasWriteCause history cs (file_of old) (file_of new) e) (sym ends) cause)
+        why (inr cause) =
+            inr (
+              of_cause history (planned_or (world old).collections planned) old new e cause,
+              λ k. subst (λ (cs : List Collection). HasWriteCause history cs (file_of old) (file_of new) e) (sym ends) cause,
+            )

@@ -1,5 +1,6 @@
 -- The documents that the statements of an update may mean are looked up.
-use Rattle.std.proofs.Common.{◌≡◌, ◌⊎◌, ◌<◌, ◌≤◌, inl, inr, ℕ, Bool, true, false, List, [], length, take, Option, Some, None, Result, Ok, Err, refl, sym, ap, subst, ◌∙◌, arith}
+use Rattle.std.proofs.Common.{◌≡◌, ◌⊎◌, ◌<◌, ◌≤◌, inl, inr, ℕ, Bool, true, false, List, [], length, take, Option, Some, None, Result, Ok, Err, refl, sym, ap}
+use Rattle.std.proofs.Common.{subst, ◌∙◌, arith}
 use Rattle.std.specs.Prelude.{◌^◌, ◌-◌, All, MatchResult}
 use Rattle.std.specs.Global.{Vec}
 use Rattle.std.specs.List.{filter}
@@ -91,16 +92,19 @@ module _ {D : Type 0} (history : D → History) (name : List ℕ) (ss : List Upd
       same = now_same history old mid first.reads
 
       at : (q : Result Meant Refusal) → find_collection now name ≡ None → KeepsWord (disk_history history last)
-          → MatchResult q (MeansIn None (world mid).collections ss) (λ e. IsFullWithout (world mid).collections ss e ⊎ HasCause history (file_of mid) (file_of last) e)
+          → MatchResult q (MeansIn None (world mid).collections ss)
+          (λ e. IsFullWithout (world mid).collections ss e ⊎ HasCause history (file_of mid) (file_of last) e)
           → MatchResult q (IsMeant now name ss) (λ e. IsFullFor now name ss e ⊎ HasCause history (file_of old) (file_of last) e)
       at (Ok m) none k right =
           subst (λ (o : Option Collection). MeansIn o now ss m) (sym none) (subst (λ (cs : List Collection). MeansIn None cs ss m) same right)
       at (Err e) none k (inl full) = inl (none, subst (λ (cs : List Collection). IsFullWithout cs ss e) same full)
       at (Err e) none k (inr cause) =
-          inr (cause_from history (file_of old) (file_of mid) (file_of last) first.reads.goes (word_before history (file_of mid) (file_of last) second.reads.goes k) e cause)
+          inr (cause_from history (file_of old) (file_of mid) (file_of last) first.reads.goes
+          (word_before history (file_of mid) (file_of last) second.reads.goes k) e cause)
 
   -- it is there
-  module _ (home : Catalogued) (first : Looks history (IsCatalogueOf name) (Ok (Some home)) old mid) (select : Pairs → Bool) (selects : (d : Pairs) → select d ≡ is_meant ss d) (last : Engine D) where
+  module _ (home : Catalogued) (first : Looks history (IsCatalogueOf name) (Ok (Some home)) old mid) (select : Pairs → Bool) (selects : (d : Pairs)
+      → select d ≡ is_meant ss d) (last : Engine D) where
     abbrev Found : List Collection → Collection → Vec Pairs → Type 0
     Found cs c found = found.items ≡ take (2 ^ 64 - 1) (filter select c.documents)
 
@@ -110,16 +114,19 @@ module _ {D : Type 0} (history : D → History) (name : List ℕ) (ss : List Upd
     same_filter : (ds : List Pairs) → filter select ds ≡ filter (is_meant ss) ds
     same_filter ds = λ i. filter (λ d. selects d i) ds
 
-    means : (c : Collection) → find_collection now name ≡ Some c → c.number ≡ home.number → (found : Vec Pairs) → Found now c found → IsMeant now name ss (meant_of found)
+    means : (c : Collection) → find_collection now name ≡ Some c → c.number ≡ home.number → (found : Vec Pairs) → Found now c found
+        → IsMeant now name ss (meant_of found)
     means c there numbered found is =
         let few : length found.items < 2 ^ 64 - 1 = omega (arith, found.ok.0, found.ok.1, found.small) in
         let all : length (filter select c.documents) ≤ 2 ^ 64 - 1 = omega (arith, length-take (2 ^ 64 - 1) (filter select c.documents), few, ap length is) in
         let same : found.items ≡ filter (is_meant ss) c.documents = is ∙ take_all (2 ^ 64 - 1) (filter select c.documents) all ∙ same_filter c.documents in
         subst (λ (o : Option Collection). MeansIn o now ss (meant_of found)) (sym there) (refl, numbered, same)
 
-    looked : (r : Result (Vec Pairs) Refusal) → LooksOf history (λ cs c. IsHome cs c home) Found r mid last → Looks history (λ cs found. IsMeant cs name ss (meant_of found)) r old last
+    looked : (r : Result (Vec Pairs) Refusal) → LooksOf history (λ cs c. IsHome cs c home) Found r mid last
+        → Looks history (λ cs found. IsMeant cs name ss (meant_of found)) r old last
     looked r second =
-        looks_behind history (IsCatalogueOf name) (λ cs c. IsHome cs c home) Found (λ cs found. IsMeant cs name ss (meant_of found)) old mid last (Some home) r first second (λ p.
+        looks_behind history (IsCatalogueOf name) (λ cs c. IsHome cs c home) Found (λ cs found. IsMeant cs name ss (meant_of found)) old mid last
+        (Some home) r first second (λ p.
         let t = has_home now name home p in
         record {
           asked = t.collection;

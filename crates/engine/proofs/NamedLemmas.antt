@@ -30,7 +30,8 @@ pub record IsFound (now : List Collection) (name : List ℕ) (number : ℕ) : Ty
   pub found : find_collection now name ≡ Some c
   pub numbered : IsNumbered now c number
 
-pub found_so : (now : List Collection) (name : List ℕ) (number : ℕ) → Some number ≡ option_map (λ c. c.number) (find_collection now name) → IsFound now name number
+pub found_so : (now : List Collection) (name : List ℕ) (number : ℕ) → Some number ≡ option_map (λ c. c.number) (find_collection now name)
+    → IsFound now name number
 found_so now name number is = by_found (find_collection now name) refl is
   where
     by_found : (o : Option Collection) → find_collection now name ≡ o → Some number ≡ option_map (λ c. c.number) o → IsFound now name number
@@ -50,7 +51,8 @@ documents_found now name c at = rw at refl
 -- ---- of a collection as the catalogue has it
 
 -- the documents of a sound engine's collections are such as commands store
-pub asked_at_home : {D X : Type 0} (history : D → History) (home : Catalogued) (old new : Engine D) (Q : List Collection → Collection → X → Type 0) (r : Result X Refusal) → IsSound history old
+pub asked_at_home : {D X : Type 0} (history : D → History) (home : Catalogued) (old new : Engine D) (Q : List Collection → Collection → X → Type 0)
+    (r : Result X Refusal) → IsSound history old
     → LooksOf history (IsAsked home) Q r old new → LooksOf history (λ now of. IsHome now of home) Q r old new
 asked_at_home history home old new Q r h looks = record {
   reads = looks.reads;
@@ -59,9 +61,12 @@ asked_at_home history home old new Q r h looks = record {
       looks.answers k of (record { numbered = there.numbered; indexed = there.indexed; stored = kept.lawful.stored });
 }
 
-module _ {D Y : Type 0} (history : D → History) (name : List ℕ) (a b : Engine D) (Q : List Pairs → Y → Type 0) (x : Option Catalogued) (first : Looks history (IsCatalogueOf name) (Ok x) a b) where
+module _ {D Y : Type 0} (history : D → History) (name : List ℕ) (a b : Engine D) (Q : List Pairs → Y → Type 0) (x : Option Catalogued)
+    (first : Looks history (IsCatalogueOf name) (Ok x) a b) where
   -- what was looked up of the collection
-  pub of_home : (c : Engine D) (home : Catalogued) → x ≡ Some home → (r : Result Y Refusal) → LooksOf history (λ now of. IsHome now of home) (λ now of (y : Y). Q of.documents y) r b c → Looks history (λ now (y : Y). Q (documents_of now name) y) r a c
+  pub of_home : (c : Engine D) (home : Catalogued) → x ≡ Some home → (r : Result Y Refusal)
+      → LooksOf history (λ now of. IsHome now of home) (λ now of (y : Y). Q of.documents y) r b c
+      → Looks history (λ now (y : Y). Q (documents_of now name) y) r a c
   of_home c home is r second =
       looks_behind history (IsCatalogueOf name) (λ now of. IsHome now of home) (λ now of (y : Y). Q of.documents y) (λ now (y : Y). Q (documents_of now name) y)
       a b c x r first second (λ p.
@@ -73,7 +78,8 @@ module _ {D Y : Type 0} (history : D → History) (name : List ℕ) (a b : Engin
   pub of_no_home : x ≡ None → (y : Y) → Q [] y → Looks history (λ now (y : Y). Q (documents_of now name) y) (Ok y) a b
   of_no_home is y right =
       looks_made history (IsCatalogueOf name) a b (λ now (y : Y). Q (documents_of now name) y) x y first
-      (λ p. subst (λ (ds : List Pairs). Q ds y) (sym (none_there (world a).collections (not_catalogued (world a).collections name (subst (IsCatalogueOf name (world a).collections) is p)))) right)
+      (λ p. subst (λ (ds : List Pairs). Q ds y)
+      (sym (none_there (world a).collections (not_catalogued (world a).collections name (subst (IsCatalogueOf name (world a).collections) is p)))) right)
     where
       none_there : (now : List Collection) → find_collection now name ≡ None → documents_of now name ≡ []
       none_there now none = rw none refl

@@ -61,9 +61,12 @@ module _ {D : Type 0} (history : D → History) (name : List ℕ) (old mid : Eng
     found_there k = there_of (world old).collections name n (first.answers k)
 
     pub exists_there : Makes history (created (world old).collections name) (Err refusals.NamespaceExists) old mid
-    exists_there = makes_none history (created (world old).collections name) old mid refusals.NamespaceExists first.reads (λ k. let t = found_there k in inl (created_there (world old).collections name t.collection t.found))
+    exists_there =
+        makes_none history (created (world old).collections name) old mid refusals.NamespaceExists first.reads
+        (λ k. let t = found_there k in inl (created_there (world old).collections name t.collection t.found))
 
-  pub exists_some : (found : Option ℕ) → is_some found ≡ true → Looks history (IsNumberOf name) (Ok found) old mid → Makes history (created (world old).collections name) (Err refusals.NamespaceExists) old mid
+  pub exists_some : (found : Option ℕ) → is_some found ≡ true → Looks history (IsNumberOf name) (Ok found) old mid
+      → Makes history (created (world old).collections name) (Err refusals.NamespaceExists) old mid
   exists_some None e first = absurd cc
   exists_some (Some n) e first = exists_there n first
 
@@ -87,48 +90,62 @@ module _ {D : Type 0} (history : D → History) (name : List ℕ) (old mid : Eng
         record { missing = is_missing second.reads k; few = told.0; number = told.1 }
 
     -- there are too many, or the file gave no number
-    pub not_new : (e : Refusal) → NewTries (Err e) → KeepsWord (disk_history history last) → ((find_collection (world old).collections name ≡ None) × IsTooMany (world old).collections e) ⊎ HasCause history (file_of old) (file_of last) e
+    pub not_new : (e : Refusal) → NewTries (Err e) → KeepsWord (disk_history history last)
+        → ((find_collection (world old).collections name ≡ None) × IsTooMany (world old).collections e) ⊎ HasCause history (file_of old) (file_of last) e
     not_new e second k = elim (second.answers k) [
       | inl many ↦ inl (is_missing second.reads k, subst (λ (cs : List Collection). IsTooMany cs e) (now_same history old mid first.reads) many)
       | inr cause ↦ inr (cause_from history old.file mid.file last.file first.reads.goes (word_before history mid.file last.file second.reads.goes k) e cause)
     ]
 
     pub created_refused : (e : Refusal) → NewTries (Err e) → Makes history (created (world old).collections name) (Err e) old last
-    created_refused e second = makes_none history (created (world old).collections name) old last e (reads_on history old mid last first.reads second.reads) (λ k. elim (not_new e second k) [
-      | inl x ↦ inl (created_full (world old).collections name x.0 e x.1)
-      | inr cause ↦ inr cause
-    ])
+    created_refused e second =
+        makes_none history (created (world old).collections name) old last e (reads_on history old mid last first.reads second.reads)
+        (λ k. elim (not_new e second k) [
+          | inl x ↦ inl (created_full (world old).collections name x.0 e x.1)
+          | inr cause ↦ inr cause
+        ])
 
 -- ---- the collection that is made
 
 module _ (cs : List Collection) (name : List ℕ) (n : ℕ) (new : IsNewFor cs name n) where
   pub empty_made : empty_collection name n ≡ with_documents cs name []
-  empty_made i = record { name = name; number = (new.number ∙ ap (number_or (unused cs)) (sym new.missing)) i; documents = []; indexes = indexes_or_none (sym new.missing i) }
+  empty_made i = record
+      { name = name; number = (new.number ∙ ap (number_or (unused cs)) (sym new.missing)) i; documents = []; indexes = indexes_or_none (sym new.missing i) }
 
   pub created_next : created cs name ≡ Ok (put_collection (empty_collection name n) cs)
   created_next = created_new cs name new.missing new.few ∙ ap (λ (c : Collection). Ok (put_collection c cs)) (sym empty_made)
 
-  pub created_leads : (edits : List Edit) → AddsCollection [] edits name n → IsLawfulState cs → Leads edits cs (planned_or cs (created cs name)) × IsLawfulState (planned_or cs (created cs name))
+  pub created_leads : (edits : List Edit) → AddsCollection [] edits name n → IsLawfulState cs
+      → Leads edits cs (planned_or cs (created cs name)) × IsLawfulState (planned_or cs (created cs name))
   created_leads edits adds lawful =
       let fresh : uses cs n ≡ false = ap (uses cs) new.number ∙ unused_unused cs in
-      leads_planned edits cs (put_collection (empty_collection name n) cs) (created cs name) created_next (adds cs cs (λ entries spells. spells) lawful new.missing fresh new.few)
+      leads_planned edits cs (put_collection (empty_collection name n) cs) (created cs name) created_next
+      (adds cs cs (λ entries spells. spells) lawful new.missing fresh new.few)
 
 module _ {D : Type 0} (history : D → History) (name : List ℕ) (old mid : Engine D) where
   -- none was found
-  pub no_number : (found : Option ℕ) → is_some found ≡ false → Looks history (IsNumberOf name) (Ok found) old mid → Looks history (IsNumberOf name) (Ok None) old mid
+  pub no_number : (found : Option ℕ) → is_some found ≡ false → Looks history (IsNumberOf name) (Ok found) old mid
+      → Looks history (IsNumberOf name) (Ok None) old mid
   no_number None e first = first
   no_number (Some n) e first = absurd cc
 
   module _ (first : Looks history (IsNumberOf name) (Ok None) old mid) (last : Engine D) (n : ℕ)
       (second : Tries history (IsNewNumber (world mid).collections) (IsTooMany (world mid).collections) (Ok n) mid last) where
     new_last : KeepsWord (disk_history history last) → IsNewFor (world last).collections name n
-    new_last k = subst (λ (cs : List Collection). IsNewFor cs name n) (sym (now_same history mid last second.reads ∙ now_same history old mid first.reads)) (new_for history name old mid first last n second k)
+    new_last k =
+        subst (λ (cs : List Collection). IsNewFor cs name n) (sym (now_same history mid last second.reads ∙ now_same history old mid first.reads))
+        (new_for history name old mid first last n second k)
 
     pub made_leads : (edits : List Edit) → AddsCollection [] edits name n → KeepsWord (disk_history history last) → IsRunning last
-        → Leads edits (world last).collections (planned_or (world last).collections (created (world last).collections name)) × IsLawfulState (planned_or (world last).collections (created (world last).collections name))
-    made_leads edits adds k running = created_leads (world last).collections name n (new_last k) edits adds (lawful_now history last second.reads.sound k running)
+        → Leads edits (world last).collections (planned_or (world last).collections (created (world last).collections name))
+        × IsLawfulState (planned_or (world last).collections (created (world last).collections name))
+    made_leads edits adds k running =
+        created_leads (world last).collections name n (new_last k) edits adds (lawful_now history last second.reads.sound k running)
 
-    pub made_written : (r : Result (Unit {0}) Refusal) (new : Engine D) → Writes history (planned_or (world last).collections (created (world last).collections name)) r last new → Makes history (created (world old).collections name) r old new
+    pub made_written : (r : Result (Unit {0}) Refusal) (new : Engine D)
+        → Writes history (planned_or (world last).collections (created (world last).collections name)) r last new
+        → Makes history (created (world old).collections name) r old new
     made_written r new writes =
         makes_written history (λ cs. created cs name) old last new (reads_on history old mid last first.reads second.reads) r
-        (λ k. planned_is (world last).collections (put_collection (empty_collection name n) (world last).collections) (created (world last).collections name) (created_next (world last).collections name n (new_last k))) writes
+        (λ k. planned_is (world last).collections (put_collection (empty_collection name n) (world last).collections) (created (world last).collections name)
+        (created_next (world last).collections name n (new_last k))) writes

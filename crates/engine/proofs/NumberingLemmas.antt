@@ -1,5 +1,6 @@
 -- Which numbers collections have, by their names.
-use Rattle.std.proofs.Common.{◌≡◌, ◌≢◌, ℕ, zero, suc, ◌+◌, ◌<◌, ◌≤◌, Bool, true, false, List, [], ◌∷◌, length, map, drop, get_or, set, replicate, refl, sym, ap, ◌∙◌, arith, Result, Ok, Err, inl, inr}
+use Rattle.std.proofs.Common.{◌≡◌, ◌≢◌, ℕ, zero, suc, ◌+◌, ◌<◌, ◌≤◌, Bool, true, false, List, [], ◌∷◌, length, map, drop, get_or, set, replicate, refl, sym, ap}
+use Rattle.std.proofs.Common.{◌∙◌, arith, Result, Ok, Err, inl, inr}
 use Rattle.std.specs.Prelude.{◌==◌, ◌||◌, if◌then◌else◌}
 use Rattle.std.proofs.lemmas.Bool.Decides.{nat_tests}
 use Rattle.std.proofs.lemmas.List.{get_or-replicate, get_or-set_same, get_or-set_other, length-set, length-replicate, drop_all, length-map}
@@ -31,7 +32,8 @@ pub record AreMarkedTo (names : List Name) (i : ℕ) (used : List Bool) : Type 0
 pub marks_none : (names : List Name) (used : List Bool) → used ≡ replicate 1001 false → AreMarkedTo names 0 used
 marks_none names used is = record {
   whole = ap length is ∙ length-replicate 1001 false;
-  marked = λ n below. ap (λ (b : Bool). b || uses (numbered names) n) (ap (λ (bs : List Bool). get_or bs n false) is ∙ get_or-replicate 1001 n false false below);
+  marked = λ n below. ap (λ (b : Bool). b || uses (numbered names) n)
+      (ap (λ (bs : List Bool). get_or bs n false) is ∙ get_or-replicate 1001 n false false below);
 }
 
 or_true : (b : Bool) → (b || true) ≡ true
@@ -42,19 +44,22 @@ or_false : (b : Bool) → (b || false) ≡ b
 or_false true = refl
 or_false false = refl
 
-one_more : (used : List Bool) (k n : ℕ) (rest : Bool) → k < length used → (get_or (set used k true) n false || rest) ≡ (get_or used n false || ((k == n) || rest))
+one_more : (used : List Bool) (k n : ℕ) (rest : Bool) → k < length used
+    → (get_or (set used k true) n false || rest) ≡ (get_or used n false || ((k == n) || rest))
 one_more used k n rest within = by (k == n) refl
   where
     by : (b : Bool) → (k == n) ≡ b → (get_or (set used k true) n false || rest) ≡ (get_or used n false || (b || rest))
     by true is =
         let same : k ≡ n = grind (arith, nat_tests) in
-        let here : get_or (set used k true) n false ≡ true = ap (λ (j : ℕ). get_or (set used k true) j false) (sym same) ∙ get_or-set_same used k true false within in
+        let here : get_or (set used k true) n false ≡ true =
+        ap (λ (j : ℕ). get_or (set used k true) j false) (sym same) ∙ get_or-set_same used k true false within in
         ap (λ (b : Bool). b || rest) here ∙ sym (or_true (get_or used n false))
     by false is =
         let other : n ≢ k = grind (arith, nat_tests) in
         ap (λ (b : Bool). b || rest) (get_or-set_other used k n true false other)
 
-module _ (names : List Name) (i : ℕ) (name : Name) (used : List Bool) (within : i < length names) (is : name ≡ get_or names i name) (far : AreMarkedTo names i used) where
+module _ (names : List Name) (i : ℕ) (name : Name) (used : List Bool) (within : i < length names) (is : name ≡ get_or names i name)
+    (far : AreMarkedTo names i used) where
   abbrev rest : ℕ → Bool
   rest n = uses (numbered (drop (i + 1) names)) n
 
@@ -79,7 +84,8 @@ pub marks_all : (names : List Name) (i : ℕ) (used : List Bool) → length name
 marks_all names i used whole far = record {
   whole = far.whole;
   marked = λ n below.
-      sym (or_false (get_or used n false)) ∙ ap (λ (ns : List Name). get_or used n false || uses (numbered ns) n) (sym (drop_all i names whole)) ∙ far.marked n below;
+      sym (or_false (get_or used n false)) ∙ ap (λ (ns : List Name). get_or used n false || uses (numbered ns) n) (sym (drop_all i names whole))
+      ∙ far.marked n below;
 }
 
 -- ---- the names are those of the collections

@@ -87,7 +87,8 @@ module _ {D : Type 0} (history : D → History) where
     pub tries_on : (r : Result X Refusal) → Tries history IsRight IsRefused r b c → Tries history IsRight IsRefused r a c
     tries_on r later = record { reads = reads_on a b c first later.reads; answers = answered r later.answers }
       where
-        answered : (x : Result X Refusal) → (KeepsWord (disk_history history c) → MatchResult x IsRight (λ e. IsRefused e ⊎ HasCause history (file_of b) (file_of c) e))
+        answered : (x : Result X Refusal)
+            → (KeepsWord (disk_history history c) → MatchResult x IsRight (λ e. IsRefused e ⊎ HasCause history (file_of b) (file_of c) e))
             → KeepsWord (disk_history history c) → MatchResult x IsRight (λ e. IsRefused e ⊎ HasCause history (file_of a) (file_of c) e)
         answered (Ok x) right k = right k
         answered (Err e) right k = elim (right k) [

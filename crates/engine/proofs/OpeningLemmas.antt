@@ -10,7 +10,8 @@ use Rattle.opening.specs.FileOpening.{IsFileOpened}
 use Rattle.engine.specs.Opening.{IsOpened}
 use Rattle.engine.specs.declared.engine.Engine.{Engine}
 
-pub opened_so : {D : Type 0} (history : D → History) (disk : D) (engine : Engine D) → IsFileOpened history disk engine.told.value engine.file → engine.cursors ≡ record { list = []; next = 1 } → engine.is_changed ≡ false → IsOpened history disk engine
+pub opened_so : {D : Type 0} (history : D → History) (disk : D) (engine : Engine D) → IsFileOpened history disk engine.told.value engine.file
+    → engine.cursors ≡ record { list = []; next = 1 } → engine.is_changed ≡ false → IsOpened history disk engine
 opened_so history disk engine o fresh rests = record {
   sound = record {
     lawful = o.lawful;

@@ -22,10 +22,12 @@ use Rattle.engine.proofs.Finding.{stored_within}
 use Rattle.queries.proofs.WithinLemmas.{faultless_within, none_at_fault}
 
 pub piped_within : (stages : List Stage) (ds es : List Pairs) → All IsStored ds → after_pipeline stages 65535 ds ≡ Ok es → All IsWithin es
-piped_within stages ds es h e = faultless_within es (stays_within stages 65535 ds es (none_at_fault ds (λ k d below. stored_within (get_or ds k d) (h k d below))) e)
+piped_within stages ds es h e =
+    faultless_within es (stays_within stages 65535 ds es (none_at_fault ds (λ k d below. stored_within (get_or ds k d) (h k d below))) e)
 
 -- so is what it returns that was made of documents within them
-pub outcome_within : (stages : List Stage) (ds : List Pairs) (r : Result (Vec Pairs) Refusal) → All IsWithin ds → Gives refusals.OutOfMemory (λ v. v.items) r (after_pipeline stages 65535 ds) → IfOk r (λ v. All IsWithin v.items)
+pub outcome_within : (stages : List Stage) (ds : List Pairs) (r : Result (Vec Pairs) Refusal) → All IsWithin ds
+    → Gives refusals.OutOfMemory (λ v. v.items) r (after_pipeline stages 65535 ds) → IfOk r (λ v. All IsWithin v.items)
 outcome_within stages ds (Ok v) h gives = faultless_within v.items (stays_within stages 65535 ds v.items (none_at_fault ds h) gives)
 outcome_within stages ds (Err e) h gives = tt
 

@@ -1,5 +1,6 @@
 -- What an update makes of the documents that are meant is what is planned for all of their collection.
-use Rattle.std.proofs.Common.{◌≡◌, ℕ, suc, ◌<◌, Bool, true, false, List, [], ◌∷◌, length, map, Option, Some, None, Result, Ok, Err, refl, sym, ap, subst, ◌∙◌, arith}
+use Rattle.std.proofs.Common.{◌≡◌, ℕ, suc, ◌<◌, Bool, true, false, List, [], ◌∷◌, length, map, Option, Some, None, Result, Ok, Err, refl, sym, ap, subst, ◌∙◌}
+use Rattle.std.proofs.Common.{arith}
 use Rattle.std.specs.Prelude.{nat_le, if◌then◌else◌, All}
 use Rattle.std.specs.List.{filter}
 use Rattle.std.specs.declared.cmp.Ordering.TheVariants as orders
@@ -55,7 +56,8 @@ pub record Comes (now : List Collection) (name : List ℕ) (ss : List UpdateStat
   pub says : update_reply after ≡ counts_reply r.tally.matched r.tally.modified r.tally.upserted
   pub quiet : after.modified ≡ 0 → after.upserted ≡ no_items → HasNone r.tally
 
-module _ (now : List Collection) (name : List ℕ) (ss : List UpdateStatement) (m : Meant) (h : IsLawfulState now) (read : All (λ (s : UpdateStatement). IsRead s.change) ss) where
+module _ (now : List Collection) (name : List ℕ) (ss : List UpdateStatement) (m : Meant) (h : IsLawfulState now)
+    (read : All (λ (s : UpdateStatement). IsRead s.change) ss) where
   abbrev planned : Result Updated Refusal
   planned = run_statements name 0 ss (not_updated now)
 
@@ -93,7 +95,8 @@ module _ (now : List Collection) (name : List ℕ) (ss : List UpdateStatement) (
       all_listed = record (listed_of r) { documents = put_each (news_of r.writes.items) c.documents }
 
       listed : run_of c.documents ≡ Ok all_listed
-      listed = done_alike ss c.documents read kept.0 kept.1 (news_of r.writes.items) (listed_of r) (ap run_of (sym are) ∙ is) (ap (put_each (news_of r.writes.items)) (sym are) ∙ up.puts)
+      listed = done_alike ss c.documents read kept.0 kept.1 (news_of r.writes.items) (listed_of r) (ap run_of (sym are) ∙ is)
+          (ap (put_each (news_of r.writes.items)) (sym are) ∙ up.puts)
 
       abbrev after_there : Updated
       after_there = listed_in c now all_listed
@@ -139,7 +142,8 @@ module _ (now : List Collection) (name : List ℕ) (ss : List UpdateStatement) (
       none_done = at (nat_le 1000 (length now)) refl
         where
           at : (b : Bool) → nat_le 1000 (length now) ≡ b → planned ≡ Ok (not_updated now)
-          at false room = each_missing name now missing 0 ss 0 0 no_items room ∙ ap (λ (b : Bool). if b then each_in made now (run_of []) else Ok (not_updated now)) makes
+          at false room =
+              each_missing name now missing 0 ss 0 0 no_items room ∙ ap (λ (b : Bool). if b then each_in made now (run_of []) else Ok (not_updated now)) makes
           at true full = each_full name now missing 0 ss 0 0 no_items full ∙ ap (λ (b : Bool). if b then Err refusals.TooMany else Ok (not_updated now)) makes
 
       none_run : run_of m.documents.items ≡ Ok (not_listed [])
@@ -187,7 +191,8 @@ module _ (now : List Collection) (name : List ℕ) (ss : List UpdateStatement) (
 
 -- ---- what is written, and what it comes to
 
-module _ (ss : List UpdateStatement) (m : Meant) (read : All (λ (s : UpdateStatement). IsRead s.change) ss) (now : List Collection) (name : List ℕ) (h : IsLawfulState now) (meant : IsMeant now name ss m) (x : Ran) (ran : IsRan true ss m.documents.items x) where
+module _ (ss : List UpdateStatement) (m : Meant) (read : All (λ (s : UpdateStatement). IsRead s.change) ss) (now : List Collection) (name : List ℕ)
+    (h : IsLawfulState now) (meant : IsMeant now name ss m) (x : Ran) (ran : IsRan true ss m.documents.items x) where
   abbrev all_of_name : List Pairs
   all_of_name = documents_of now name
 
@@ -204,7 +209,8 @@ module _ (ss : List UpdateStatement) (m : Meant) (read : All (λ (s : UpdateStat
   run_meant : AreRun ss m.documents.items
   run_meant = record {
     read = read;
-    rising = subst IsRising (sym among_all) (AllPairs-filter (λ (d e : Pairs). compare (key_of d) (key_of e) ≡ orders.Less) (is_meant ss) all_of_name kept_all.0);
+    rising = subst IsRising (sym among_all)
+        (AllPairs-filter (λ (d e : Pairs). compare (key_of d) (key_of e) ≡ orders.Less) (is_meant ss) all_of_name kept_all.0);
     stored = subst (All IsStored) (sym among_all) (All-filter (is_meant ss) IsStored all_of_name kept_all.1);
   }
 
@@ -225,10 +231,13 @@ module _ (ss : List UpdateStatement) (m : Meant) (read : All (λ (s : UpdateStat
   pub ran_update : IsUpdate now name ss x
   ran_update =
       let written = ran.written run_meant.rising run_meant.stored in
-      let there : AreThere m.documents.items (map seen x.writes.items) = subst (AreThere m.documents.items) (sym ran.writes) (writes_replace ss m.documents.items run_meant) in
+      let there : AreThere m.documents.items (map seen x.writes.items) =
+      subst (AreThere m.documents.items) (sym ran.writes) (writes_replace ss m.documents.items run_meant) in
       record {
         planned = ran.writes ∙ ap (writes_of ss) among_all ∙ writes_of_meant ss all_of_name (record { read = read; rising = kept_all.0; stored = kept_all.1 });
-        writes = writes_among m.documents.items all_of_name x.writes.items (subst (λ (ds : List Pairs). IsSub ds all_of_name) (sym among_all) (sub_filter (is_meant ss) all_of_name kept_all.0)) (written.old refl) there written.storable;
+        writes = writes_among m.documents.items all_of_name x.writes.items
+            (subst (λ (ds : List Pairs). IsSub ds all_of_name) (sym among_all) (sub_filter (is_meant ss) all_of_name kept_all.0))
+            (written.old refl) there written.storable;
         end = ends;
       }
 
@@ -237,4 +246,5 @@ pub full_refused : (now : List Collection) (name : List ℕ) (ss : List UpdateSt
 full_refused now name ss e (missing, (is, makes, many)) =
     let full : nat_le 1000 (length now) ≡ true = grind (arith, nat_tests) in
     ap (λ (r : Result Updated Refusal). r >>= judged)
-    (each_full name now missing 0 ss 0 0 no_items full ∙ ap (λ (b : Bool). if b then Err refusals.TooMany else Ok (not_updated now)) makes ∙ ap (λ (x : Refusal). Err x) (sym is))
+    (each_full name now missing 0 ss 0 0 no_items full ∙ ap (λ (b : Bool). if b then Err refusals.TooMany else Ok (not_updated now)) makes
+    ∙ ap (λ (x : Refusal). Err x) (sym is))

@@ -17,7 +17,8 @@ use Rattle.database_model.specs.ListIndexes.{indexes_reply, run_list_indexes}
 use Rattle.commands.specs.Explain.{Explain}
 use Rattle.database_model.specs.Explain.{run_explain}
 use Rattle.database_model.specs.ListCollections.{run_list_collections}
-use Rattle.commands.specs.Command.{Command, ping, insert, find, count, delete, update, aggregate, create, drop as drop_of, list_collections, create_indexes, drop_indexes, list_indexes, explain, command_of, get_more, kill_cursors, hello}
+use Rattle.commands.specs.Command.{Command, ping, insert, find, count, delete, update, aggregate, create, drop as drop_of, list_collections, create_indexes}
+use Rattle.commands.specs.Command.{drop_indexes, list_indexes, explain, command_of, get_more, kill_cursors, hello}
 use Rattle.index.specs.State.{Collection, find_collection}
 use Rattle.database_model.specs.World.{World, documents_of}
 use Rattle.database_model.specs.Cursors.{batch_of, batch_reply, open_cursor, is_refused, new_cursor, first_batch, is_cursor}
@@ -44,7 +45,8 @@ module _ (w : World) (connection : ℕ) where
   after_opening name ds n r = r >>= (λ after. Ok (after, batch_reply (codes "firstBatch") n ds w.next name))
 
   opened : (b : Bool) (name : List ℕ) (ds rest : List Pairs) (n : ℕ)
-      → Leaves (after_opening name ds n (unless b refusals.TooMany (Ok (record w { cursors = w.cursors ++ new_cursor w.next connection name rest ∷ []; next = w.next + 1 }))))
+      → Leaves (after_opening name ds n
+      (unless b refusals.TooMany (Ok (record w { cursors = w.cursors ++ new_cursor w.next connection name rest ∷ []; next = w.next + 1 }))))
   opened true name ds rest n = refl
   opened false name ds rest n = refl
 
@@ -89,7 +91,9 @@ module _ (w : World) (connection : ℕ) where
   unfolding run_list_indexes
   indexes_listed c = at (find_collection w.collections c.namespace)
     where
-      at : (o : Option Collection) → Leaves (or_refused o refusals.NamespaceNotFound >>= (λ found. let x : Result (World × Pairs) Refusal = Ok (w, indexes_reply c.namespace found.indexes) in x))
+      at : (o : Option Collection)
+          → Leaves (or_refused o refusals.NamespaceNotFound >>=
+          (λ found. let x : Result (World × Pairs) Refusal = Ok (w, indexes_reply c.namespace found.indexes) in x))
       at None = refl
       at (Some found) = refl
 
@@ -121,7 +125,8 @@ module _ (w : World) (connection : ℕ) where
   stepped (Ok body) h = ran (command_of body) h
   stepped (Err fault) h = refl
 
-pub reads_same : (beside : World → Refusal → Type 0) (w new : World) (connection : ℕ) (body : Result Pairs BsonFault) (reply : Pairs) → BodyOnlyReads body → Answers beside w connection body new reply → new.collections ≡ w.collections
+pub reads_same : (beside : World → Refusal → Type 0) (w new : World) (connection : ℕ) (body : Result Pairs BsonFault) (reply : Pairs) → BodyOnlyReads body
+    → Answers beside w connection body new reply → new.collections ≡ w.collections
 reads_same beside w new connection body reply h answers = ⊎_elim
     (λ stepped_so. ap (λ (x : World × Pairs). x.0.collections) stepped_so ∙ stepped w connection body h)
     (λ refused. ap (λ (x : World). x.collections) refused.same)

@@ -1,5 +1,6 @@
 -- A delete over the file: what it takes out of the collections of an engine.
-use Rattle.std.proofs.Common.{◌≡◌, ◌≢◌, inr, ℕ, ◌-◌, Bool, true, false, List, [], ◌∷◌, ◌++◌, length, Option, Some, None, Result, Ok, Err, refl, sym, ap, subst, ◌∙◌, arith}
+use Rattle.std.proofs.Common.{◌≡◌, ◌≢◌, inr, ℕ, ◌-◌, Bool, true, false, List, [], ◌∷◌, ◌++◌, length, Option, Some, None, Result, Ok, Err, refl, sym, ap, subst}
+use Rattle.std.proofs.Common.{◌∙◌, arith}
 use Rattle.std.specs.Prelude.{All, not, if◌then◌else◌, codes}
 use Rattle.std.specs.List.{filter}
 use Rattle.bson.specs.Tree.{Pairs, pair, no_pairs}
@@ -78,14 +79,17 @@ module _ (now : List Collection) (name : List ℕ) (deletions : List Deletion) w
       indexable_there : IsLawfulState now → All (IsIndexable t.home.indexes.items) t.removed.items
       indexable_there lawful =
           subst (λ (is : List Definition). All (IsIndexable is) t.removed.items) indexed_there
-          (subst (All (IsIndexable c.indexes)) (sym removed_is) (taken_kept (IsIndexable c.indexes) deletions c.documents (all_indexable c (kept_there lawful))))
+          (subst (All (IsIndexable c.indexes)) (sym removed_is)
+          (taken_kept (IsIndexable c.indexes) deletions c.documents (all_indexable c (kept_there lawful))))
 
-      leads_there : (edits : List Edit) → IsLawfulState now → TakesOut [] edits t.home.number t.home.indexes.items t.removed.items → Leads edits now (deleted now name deletions) × IsLawfulState (deleted now name deletions)
+      leads_there : (edits : List Edit) → IsLawfulState now → TakesOut [] edits t.home.number t.home.indexes.items t.removed.items
+          → Leads edits now (deleted now name deletions) × IsLawfulState (deleted now name deletions)
       leads_there edits lawful takes =
           let kept = kept_there lawful in
           let left : without_each t.removed.items c.documents ≡ after_deletions deletions c.documents =
           ap (λ (xs : List Pairs). without_each xs c.documents) removed_is ∙ all_lost deletions c.documents kept.rising in
-          let there : AreThere t.removed.items c.documents = subst (λ (xs : List Pairs). AreThere xs c.documents) (sym removed_is) (all_there deletions c.documents kept.rising) in
+          let there : AreThere t.removed.items c.documents =
+          subst (λ (xs : List Pairs). AreThere xs c.documents) (sym removed_is) (all_there deletions c.documents kept.rising) in
           let led = takes now now c (λ entries spells. spells) lawful found_so (is.home c found).0 indexed_there there in
           let arrives : put_collection (record c { documents = without_each t.removed.items c.documents }) now ≡ deleted now name deletions =
           ap (λ (ds : List Pairs). put_collection (record c { documents = ds }) now) left ∙ sym deleted_is in
@@ -95,14 +99,16 @@ module _ (now : List Collection) (name : List ℕ) (deletions : List Deletion) w
       same_there apart none =
           let count = taken_count deletions c.documents in
           let zero : length c.documents - length (after_deletions deletions c.documents) ≡ 0 = omega (arith, count, ap length (sym removed_is ∙ none)) in
-          deleted_is ∙ ap (λ (ds : List Pairs). put_collection (record c { documents = ds }) now) (left_same deletions c.documents zero) ∙ put_same c now apart found_so
+          deleted_is ∙ ap (λ (ds : List Pairs). put_collection (record c { documents = ds }) now) (left_same deletions c.documents zero)
+          ∙ put_same c now apart found_so
 
     -- what is taken may be stored, and the indexes refuse none of it
     pub taken_indexable : IsLawfulState now → All (IsIndexable t.home.indexes.items) t.removed.items
     taken_indexable lawful = at (find_collection now name) refl
       where
         at : (o : Option Collection) → find_collection now name ≡ o → All (IsIndexable t.home.indexes.items) t.removed.items
-        at None missing = let none = is.removed ∙ taken_none missing in subst (All (IsIndexable t.home.indexes.items)) (sym none) (λ k d below. absurd (omega (arith, below)))
+        at None missing = let none = is.removed ∙ taken_none missing in
+            subst (All (IsIndexable t.home.indexes.items)) (sym none) (λ k d below. absurd (omega (arith, below)))
         at (Some c) found = indexable_there c found lawful
 
     -- The edits that take it out lead to what the delete leaves.
@@ -130,17 +136,21 @@ module _ (now : List Collection) (name : List ℕ) (deletions : List Deletion) w
 
 module _ {D : Type 0} (history : D → History) where
   -- a refusal of what was looked up before
-  pub looks_refused : {X Y : Type 0} (P : List Collection → X → Type 0) (Q : List Collection → Y → Type 0) (a b : Engine D) (e : Refusal) → Looks history P (Err e) a b → Looks history Q (Err e) a b
+  pub looks_refused : {X Y : Type 0} (P : List Collection → X → Type 0) (Q : List Collection → Y → Type 0) (a b : Engine D) (e : Refusal)
+      → Looks history P (Err e) a b → Looks history Q (Err e) a b
   looks_refused P Q a b e looks = record { reads = looks.reads; answers = looks.answers }
 
-  pub refused_later : {X Y : Type 0} (P : List Collection → X → Type 0) (Q : List Collection → Y → Type 0) (a b c : Engine D) (e : Refusal) → OnlyReads history a b → Looks history P (Err e) b c → Looks history Q (Err e) a c
+  pub refused_later : {X Y : Type 0} (P : List Collection → X → Type 0) (Q : List Collection → Y → Type 0) (a b c : Engine D) (e : Refusal)
+      → OnlyReads history a b → Looks history P (Err e) b c → Looks history Q (Err e) a c
   refused_later P Q a b c e first looks = record {
     reads = reads_on history a b c first looks.reads;
-    answers = λ k. cause_from history (file_of a) (file_of b) (file_of c) first.goes (word_before history (file_of b) (file_of c) looks.reads.goes k) e (looks.answers k);
+    answers = λ k. cause_from history (file_of a) (file_of b) (file_of c) first.goes (word_before history (file_of b) (file_of c) looks.reads.goes k) e
+        (looks.answers k);
   }
 
   -- the device stopped before
-  pub remove_stopped : (planned : Result (List Collection) Refusal) (old : Engine D) → IsSound history old → (KeepsWord (disk_history history old) → HasCause history (file_of old) (file_of old) refusals.StorageFailed)
+  pub remove_stopped : (planned : Result (List Collection) Refusal) (old : Engine D) → IsSound history old
+      → (KeepsWord (disk_history history old) → HasCause history (file_of old) (file_of old) refusals.StorageFailed)
       → Makes history planned (Err refusals.StorageFailed) old old
   remove_stopped planned old h cause = makes_none history planned old old refusals.StorageFailed (reads_none history old h) (λ k. inr (cause k))
 
@@ -149,7 +159,8 @@ module _ {D : Type 0} (history : D → History) where
     planned engine = Ok (deleted (world engine).collections name deletions)
 
     -- nothing is taken, and nothing written
-    pub removes_nothing : (t : Taken) → IsSound history old → (KeepsWord (disk_history history old) → IsTaken (world old).collections name deletions t) → t.removed.items ≡ [] → Makes history (planned old) (Ok tt) old old
+    pub removes_nothing : (t : Taken) → IsSound history old → (KeepsWord (disk_history history old) → IsTaken (world old).collections name deletions t)
+        → t.removed.items ≡ [] → Makes history (planned old) (Ok tt) old old
     removes_nothing t h is none = record {
       sound = h;
       goes = laws.goes_from_itself history old.file;
@@ -160,7 +171,8 @@ module _ {D : Type 0} (history : D → History) where
     }
 
     -- what is taken was written
-    pub removes_written : (new : Engine D) (r : Result (Unit {0}) Refusal) → IsSound history old → Writes history (deleted (world old).collections name deletions) r old new → Makes history (planned old) r old new
+    pub removes_written : (new : Engine D) (r : Result (Unit {0}) Refusal) → IsSound history old
+        → Writes history (deleted (world old).collections name deletions) r old new → Makes history (planned old) r old new
     removes_written new r h w = makes_written history (λ cs. Ok (deleted cs name deletions)) old old new (reads_none history old h) r (λ k. refl) w
 
     abbrev run : World → Result (World × Pairs) Refusal
@@ -177,12 +189,14 @@ module _ {D : Type 0} (history : D → History) where
     delete_refused new e m = performs_refused history (pair (codes "n") (total count) no_pairs) (planned old) (run (world old)) old new runs e m
 
     -- the reply was made of what was taken
-    pub delete_done : (new : Engine D) (n : ℕ) (d : Pairs) → d ≡ ok_reply (pair (codes "n") (total n) no_pairs) → (KeepsWord (disk_history history new) → n ≡ count) → Makes history (planned old) (Ok tt) old new
+    pub delete_done : (new : Engine D) (n : ℕ) (d : Pairs) → d ≡ ok_reply (pair (codes "n") (total n) no_pairs)
+        → (KeepsWord (disk_history history new) → n ≡ count) → Makes history (planned old) (Ok tt) old new
         → Performs history (run (world old)) (Ok d) old new
     delete_done new n d said many m = record {
       sound = m.sound;
       goes = m.goes;
       start = m.start;
-      does = λ k. (performs_done history (pair (codes "n") (total count) no_pairs) (planned old) (run (world old)) old new runs d (said ∙ ap (λ (x : ℕ). ok_reply (pair (codes "n") (total x) no_pairs)) (many k)) m).does k;
+      does = λ k. (performs_done history (pair (codes "n") (total count) no_pairs) (planned old) (run (world old)) old new runs d
+          (said ∙ ap (λ (x : ℕ). ok_reply (pair (codes "n") (total x) no_pairs)) (many k)) m).does k;
       refused = tt;
     }

@@ -24,12 +24,14 @@ use Rattle.statements.proofs.Ordered.{flipped}
 
 -- ---- a document that is put among others is found by its `_id`, and each other as before
 
-put_found : (new : Pairs) (ds : List Pairs) (id : Tree) → find_document (put_document new ds) id ≡ (if is_eq (compare id (key_of new)) then Some new else find_document ds id)
+put_found : (new : Pairs) (ds : List Pairs) (id : Tree)
+    → find_document (put_document new ds) id ≡ (if is_eq (compare id (key_of new)) then Some new else find_document ds id)
 put_found new [] id = refl
 put_found new (d ∷ ds) id = at (compare (key_of new) (key_of d)) refl (put_found new ds id)
   where
     -- the two have one key
-    tied_to : compare (key_of new) (key_of d) ≡ orders.Equal → (r : Ordering) → compare id (key_of new) ≡ r → compare id (key_of d) ≡ ordering_reverse (ordering_reverse r)
+    tied_to : compare (key_of new) (key_of d) ≡ orders.Equal → (r : Ordering) → compare id (key_of new) ≡ r
+        → compare id (key_of d) ≡ ordering_reverse (ordering_reverse r)
     tied_to is r e =
         flipped compare_total (key_of d) id (ordering_reverse r)
         (sym (compare_total.congr (key_of new) (key_of d) id is) ∙ flipped compare_total id (key_of new) r e)
@@ -47,13 +49,15 @@ put_found new (d ∷ ds) id = at (compare (key_of new) (key_of d)) refl (put_fou
         → (if is_eq r then Some d else find_document (put_document new ds) id)
         ≡ (if is_eq (compare id (key_of new)) then Some new else (if is_eq r then Some d else find_document ds id))
     behind is later orders.Equal e =
-        let other : compare id (key_of new) ≡ orders.Less = compare_total.congr id (key_of d) (key_of new) e ∙ flipped compare_total (key_of new) (key_of d) orders.Greater is in
+        let other : compare id (key_of new) ≡ orders.Less =
+        compare_total.congr id (key_of d) (key_of new) e ∙ flipped compare_total (key_of new) (key_of d) orders.Greater is in
         ap (λ (r : Ordering). if is_eq r then Some new else Some d) (sym other)
     behind is later orders.Less e = later
     behind is later orders.Greater e = later
 
     at : (r : Ordering) → compare (key_of new) (key_of d) ≡ r → Later
-        → find_document (by_order r (new ∷ d ∷ ds) (new ∷ ds) (d ∷ put_document new ds)) id ≡ (if is_eq (compare id (key_of new)) then Some new else find_document (d ∷ ds) id)
+        → find_document (by_order r (new ∷ d ∷ ds) (new ∷ ds) (d ∷ put_document new ds)) id
+        ≡ (if is_eq (compare id (key_of new)) then Some new else find_document (d ∷ ds) id)
     at orders.Less is later = refl
     at orders.Equal is later = instead is (compare id (key_of new)) refl
     at orders.Greater is later = behind is later (compare id (key_of d)) refl
@@ -72,7 +76,8 @@ sub_put new some all sub id d e = put_found new all id ∙ at (is_eq (compare id
     at false f = sub id d f
 
 -- what is found behind a document has a greater key
-found_above : (x : Pairs) (ds : List Pairs) (id : Tree) (d : Pairs) → Each (Above x) ds → find_document ds id ≡ Some d → Above x d × (compare id (key_of d) ≡ orders.Equal)
+found_above : (x : Pairs) (ds : List Pairs) (id : Tree) (d : Pairs) → Each (Above x) ds → find_document ds id ≡ Some d
+    → Above x d × (compare id (key_of d) ≡ orders.Equal)
 found_above x [] id d above e = absurd cc
 found_above x (y ∷ ds) id d above e = at (compare id (key_of y)) refl e (found_above x ds id d above.1)
   where
@@ -98,7 +103,8 @@ sub_ascending p (x ∷ ds) up id d e = at (p x) e (sub_ascending p ds up.1 id d)
     other orders.Less is f = f
     other orders.Greater is f = f
 
-    at : (b : Bool) → find_document (if b then x ∷ filter p ds else filter p ds) id ≡ Some d → (find_document (filter p ds) id ≡ Some d → find_document ds id ≡ Some d) → find_document (x ∷ ds) id ≡ Some d
+    at : (b : Bool) → find_document (if b then x ∷ filter p ds else filter p ds) id ≡ Some d
+        → (find_document (filter p ds) id ≡ Some d → find_document ds id ≡ Some d) → find_document (x ∷ ds) id ≡ Some d
     at true f later = here (is_eq (compare id (key_of x))) later f
     at false f later = other (compare id (key_of x)) refl (later f)
 
@@ -107,10 +113,12 @@ sub_filter p ds up = sub_ascending p ds (ascends ds up)
 
 -- ---- writes
 
-write_among : (some all : List Pairs) (w : Write) → IsSub some all → w.old ≡ replaced_in some w → (w.is_new ≡ false → is_some (find_document some (key_of w.new)) ≡ true) → IsStorable w.new → IsWriteOf all w
+write_among : (some all : List Pairs) (w : Write) → IsSub some all → w.old ≡ replaced_in some w
+    → (w.is_new ≡ false → is_some (find_document some (key_of w.new)) ≡ true) → IsStorable w.new → IsWriteOf all w
 write_among some all w sub old there storable = at w.is_new refl old (find_document some (key_of w.new)) refl
   where
-    at : (b : Bool) → w.is_new ≡ b → w.old ≡ (if b then None else find_document some (key_of w.new)) → (o : Option Pairs) → find_document some (key_of w.new) ≡ o → IsWriteOf all w
+    at : (b : Bool) → w.is_new ≡ b → w.old ≡ (if b then None else find_document some (key_of w.new)) → (o : Option Pairs)
+        → find_document some (key_of w.new) ≡ o → IsWriteOf all w
     at true is e o found = record {
       kind = is ∙ ap (λ (x : Option Pairs). not (is_some x)) (sym e);
       there = subst (λ (x : Option Pairs). IsReplacedIn x w.new all) (sym e) tt;
@@ -123,9 +131,11 @@ write_among some all w sub old there storable = at w.is_new refl old (find_docum
     }
     at false is e None found = absurd (let no : false ≡ true = ap is_some (sym found) ∙ there is in cc)
 
-pub writes_among : (some all : List Pairs) (ws : List Write) → IsSub some all → HaveOld some ws → AreThere some (map seen ws) → All IsStorable (news_of ws) → AreWritesOf all ws
+pub writes_among : (some all : List Pairs) (ws : List Write) → IsSub some all → HaveOld some ws → AreThere some (map seen ws) → All IsStorable (news_of ws)
+    → AreWritesOf all ws
 writes_among some all [] sub old there storable = tt
 writes_among some all (w ∷ ws) sub old there storable = (
   write_among some all w sub old.0 there.0 (All-head IsStorable w.new (news_of ws) storable),
-  writes_among (put_document w.new some) (put_document w.new all) ws (sub_put w.new some all sub) old.1 there.1 (All-tail IsStorable w.new (news_of ws) storable),
+  writes_among (put_document w.new some) (put_document w.new all) ws (sub_put w.new some all sub) old.1 there.1
+      (All-tail IsStorable w.new (news_of ws) storable),
 )

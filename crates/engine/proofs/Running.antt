@@ -1,5 +1,6 @@
 -- What running a command comes to.
-use Rattle.std.proofs.Common.{◌≡◌, inl, inr, ℕ, ◌+◌, ◌-◌, ◌<◌, ◌≤◌, Bool, true, false, List, [], ◌∷◌, ◌++◌, length, take, drop, Option, Some, None, Result, Ok, Err, refl, sym, ap, ◌∙◌, arith}
+use Rattle.std.proofs.Common.{◌≡◌, inl, inr, ℕ, ◌+◌, ◌-◌, ◌<◌, ◌≤◌, Bool, true, false, List, [], ◌∷◌, ◌++◌, length, take, drop, Option, Some, None, Result, Ok}
+use Rattle.std.proofs.Common.{Err, refl, sym, ap, ◌∙◌, arith}
 use Rattle.std.specs.Prelude.{not, nat_le, if◌then◌else◌, codes, unwrap_or, IfOk, IfErr}
 use Rattle.std.proofs.lemmas.Bool.Decides.{nat_tests}
 use Rattle.bson.specs.Tree.{Pairs, pair, no_pairs}
@@ -50,12 +51,14 @@ module _ (w : World) (name : List ℕ) (ds : List Pairs) where
   abbrev answered : Result Collection Refusal → Result (World × Pairs) Refusal
   answered r = r >>= (λ next. let x : Result (World × Pairs) Refusal = Ok (said (put next)) in x)
 
-  done_so : (full : Bool) (r : Result Collection Refusal) (cs : List Collection) → unless full refusals.TooMany (made r) ≡ Ok cs → unless full refusals.TooMany (answered r) ≡ Ok (said cs)
+  done_so : (full : Bool) (r : Result Collection Refusal) (cs : List Collection) → unless full refusals.TooMany (made r) ≡ Ok cs
+      → unless full refusals.TooMany (answered r) ≡ Ok (said cs)
   done_so true r cs e = absurd cc
   done_so false (Err f) cs e = absurd cc
   done_so false (Ok next) cs e = let same : put next ≡ cs = cc in ap (λ (x : List Collection). Ok (said x)) same
 
-  refused_so : (full : Bool) (r : Result Collection Refusal) (e : Refusal) → unless full refusals.TooMany (made r) ≡ Err e → unless full refusals.TooMany (answered r) ≡ Err e
+  refused_so : (full : Bool) (r : Result Collection Refusal) (e : Refusal) → unless full refusals.TooMany (made r) ≡ Err e
+      → unless full refusals.TooMany (answered r) ≡ Err e
   refused_so true r e h = let same : refusals.TooMany ≡ e = cc in ap (λ (x : Refusal). Err x) same
   refused_so false (Err f) e h = let same : f ≡ e = cc in ap (λ (x : Refusal). Err x) same
   refused_so false (Ok next) e h = absurd cc
@@ -75,11 +78,14 @@ module _ (w : World) (connection : ℕ) (name : List ℕ) (documents : List Pair
   abbrev said_with : ℕ → Pairs
   said_with number = batch_reply (codes "firstBatch") n documents number name
 
-  pub whole_batch : (number : ℕ) (reply : Pairs) → length documents ≤ n → reply ≡ ok_reply (said_with number) → with_ok (first_batch w connection name documents n) ≡ Ok (w, reply)
+  pub whole_batch : (number : ℕ) (reply : Pairs) → length documents ≤ n → reply ≡ ok_reply (said_with number)
+      → with_ok (first_batch w connection name documents n) ≡ Ok (w, reply)
   whole_batch number reply fits is = at (nat_le (length documents) n) (grind (arith, nat_tests)) is
     where
       at : (b : Bool) → b ≡ true → reply ≡ ok_reply (cursor_reply (codes "firstBatch") (take n documents) (if b then 0 else number) name)
-          → with_ok ((if b then Ok w else open_cursor w connection name (drop n documents)) >>= (λ after. let x : Result (World × Pairs) Refusal = Ok (after, cursor_reply (codes "firstBatch") (take n documents) (if b then 0 else w.next) name) in x)) ≡ Ok (w, reply)
+          → with_ok ((if b then Ok w else open_cursor w connection name (drop n documents)) >>=
+          (λ after. let x : Result (World × Pairs) Refusal = Ok (after, cursor_reply (codes "firstBatch") (take n documents) (if b then 0 else w.next) name) in
+          x)) ≡ Ok (w, reply)
       at true e is = ap (λ (r : Pairs). let x : Result (World × Pairs) Refusal = Ok (w, r) in x) (sym is)
       at false e is = absurd cc
 
@@ -103,7 +109,8 @@ module _ (w : World) (connection : ℕ) (name : List ℕ) (documents : List Pair
       let part : nat_le (length documents) n ≡ false = grind (arith, nat_tests) in
       ap (λ (b : Bool). after_opening (if b then Ok w else open_cursor w connection name (drop n documents))) part
 
-  pub opened_batch : (number : ℕ) (reply : Pairs) (new : World) → n < length documents → number ≡ w.next → is_refused connection w.cursors w.next ≡ false → new ≡ with_cursor → reply ≡ ok_reply (said_with number)
+  pub opened_batch : (number : ℕ) (reply : Pairs) (new : World) → n < length documents → number ≡ w.next → is_refused connection w.cursors w.next ≡ false
+      → new ≡ with_cursor → reply ≡ ok_reply (said_with number)
       → with_ok (first_batch w connection name documents n) ≡ Ok (new, reply)
   opened_batch number reply new over same free made is =
       ap with_ok (left over ∙ ap after_opening (opened free))
@@ -126,12 +133,15 @@ module _ (w : World) (connection : ℕ) (name : List ℕ) (ds : List Pairs) (mos
   pub given_whole : (n : ℕ) (reply : Pairs) → IsFirstBatch table connection name ds most n reply → length ds ≤ n → with_ok planned ≡ Ok (w, reply)
   given_whole n reply h fits = ap with_ok (of_count n h.count) ∙ whole_batch w connection name ds n w.next reply fits h.says
 
-  pub given_opened : (n : ℕ) (reply : Pairs) (new : World) → IsFirstBatch table connection name ds most n reply → n < length ds → new ≡ with_cursor w connection name ds n → with_ok planned ≡ Ok (new, reply)
-  given_opened n reply new h over made = ap with_ok (of_count n h.count) ∙ opened_batch w connection name ds n w.next reply new over refl (h.free over) made h.says
+  pub given_opened : (n : ℕ) (reply : Pairs) (new : World) → IsFirstBatch table connection name ds most n reply → n < length ds
+      → new ≡ with_cursor w connection name ds n → with_ok planned ≡ Ok (new, reply)
+  given_opened n reply new h over made =
+      ap with_ok (of_count n h.count) ∙ opened_batch w connection name ds n w.next reply new over refl (h.free over) made h.says
 
   pub given_none : (e : Refusal) → IsNoBatch table connection ds most e → Fails refusals.OutOfMemory e planned
   given_none e (inl is) other = absurd (other is)
-  given_none e (inr (is, over, full)) other = refused_batch w connection name ds (batch_of most ds) over full ∙ ap (λ (x : Refusal). let r : Result (World × Pairs) Refusal = Err x in r) (sym is)
+  given_none e (inr (is, over, full)) other =
+      refused_batch w connection name ds (batch_of most ds) over full ∙ ap (λ (x : Refusal). let r : Result (World × Pairs) Refusal = Err x in r) (sym is)
 
 module _ (w : World) (connection : ℕ) (name : List ℕ) (query : Query) (most : ℕ) where
   abbrev sought : Find
@@ -162,11 +172,13 @@ module _ (w : World) (connection : ℕ) (name : List ℕ) (stages : List Stage) 
   unfolding run_aggregate
   run_aggregate-refused e is = ap batched is
 
-pub run_aggregate-default : (w : World) (connection : ℕ) (c : Aggregate) → run_aggregate w connection (record c { batch_size = Some (unwrap_or c.batch_size 101) }) ≡ run_aggregate w connection c
+pub run_aggregate-default : (w : World) (connection : ℕ) (c : Aggregate)
+    → run_aggregate w connection (record c { batch_size = Some (unwrap_or c.batch_size 101) }) ≡ run_aggregate w connection c
 unfolding run_aggregate
 run_aggregate-default w connection c = refl
 
-pub run_find-default : (w : World) (connection : ℕ) (c : Find) → run_find w connection (record c { batch_size = Some (unwrap_or c.batch_size 101) }) ≡ run_find w connection c
+pub run_find-default : (w : World) (connection : ℕ) (c : Find)
+    → run_find w connection (record c { batch_size = Some (unwrap_or c.batch_size 101) }) ≡ run_find w connection c
 unfolding run_find
 run_find-default w connection c = refl
 
@@ -184,19 +196,24 @@ module _ (w : World) (connection : ℕ) (c : GetMore) where
   unfolding run_get_more
   run_get_more-is at e = ap given e
 
-pub run_kill_cursors-is : (w : World) (connection : ℕ) (c : KillCursors) (left : List Cursor) (told : ToldApart) → left ≡ filter (λ cursor. not (is_asked connection c.namespace c.cursors cursor)) w.cursors
-    → told ≡ told_apart (has_cursor connection c.namespace w.cursors) no_ids c.cursors → run_kill_cursors w connection c ≡ Ok (record w { cursors = left }, kill_reply told)
+pub run_kill_cursors-is : (w : World) (connection : ℕ) (c : KillCursors) (left : List Cursor) (told : ToldApart)
+    → left ≡ filter (λ cursor. not (is_asked connection c.namespace c.cursors cursor)) w.cursors
+    → told ≡ told_apart (has_cursor connection c.namespace w.cursors) no_ids c.cursors
+    → run_kill_cursors w connection c ≡ Ok (record w { cursors = left }, kill_reply told)
 unfolding run_kill_cursors
 run_kill_cursors-is w connection c left told is said = λ i. Ok (record w { cursors = sym is i }, kill_reply (sym said i))
 
 -- ---- count and delete
 
-pub run_count-is : (w : World) (c : Count) (n : ℕ) → n ≡ length (window c.skip c.limit (matching c.filter (documents_of w.collections c.namespace))) → run_count w c ≡ Ok (w, pair (codes "n") (total n) no_pairs)
+pub run_count-is : (w : World) (c : Count) (n : ℕ) → n ≡ length (window c.skip c.limit (matching c.filter (documents_of w.collections c.namespace)))
+    → run_count w c ≡ Ok (w, pair (codes "n") (total n) no_pairs)
 unfolding run_count
 run_count-is w c n e = ap (λ (m : ℕ). let x : Result (World × Pairs) Refusal = Ok (w, pair (codes "n") (total m) no_pairs) in x) (sym e)
 
-pub run_delete-is : (w : World) (c : Delete) (cs : List Collection) (n : ℕ) → cs ≡ deleted_in (find_collection w.collections c.namespace) c.deletions w.collections
-    → n ≡ length (documents_of w.collections c.namespace) - length (after_deletions c.deletions (documents_of w.collections c.namespace)) → run_delete w c ≡ Ok (record w { collections = cs }, pair (codes "n") (total n) no_pairs)
+pub run_delete-is : (w : World) (c : Delete) (cs : List Collection) (n : ℕ)
+    → cs ≡ deleted_in (find_collection w.collections c.namespace) c.deletions w.collections
+    → n ≡ length (documents_of w.collections c.namespace) - length (after_deletions c.deletions (documents_of w.collections c.namespace))
+    → run_delete w c ≡ Ok (record w { collections = cs }, pair (codes "n") (total n) no_pairs)
 unfolding run_delete
 run_delete-is w c cs n same e = λ i. Ok (record w { collections = sym same i }, pair (codes "n") (total (sym e i)) no_pairs)
 

@@ -27,7 +27,8 @@ use Rattle.path.specs.declared.refusal.Refusal.TheVariants as refusals
 use Rattle.engine.proofs.LawfulSteps.{Good, good_run}
 
 -- the file has the collections as the turn began, and a tree of those of now
-pub keeps_sound : {D : Type 0} (history : D → History) (old new : Engine D) → IsSound history old → HasState history new.file (turn_start old) (world new).collections → turn_start new ≡ turn_start old → IsLawful (world new)
+pub keeps_sound : {D : Type 0} (history : D → History) (old new : Engine D) → IsSound history old
+    → HasState history new.file (turn_start old) (world new).collections → turn_start new ≡ turn_start old → IsLawful (world new)
     → (has_changes new ≡ false → turn_start new ≡ (world new).collections) → IsSound history new
 keeps_sound history old new h file same lawful quiet = record {
   lawful = lawful.collections;
@@ -38,7 +39,8 @@ keeps_sound history old new h file same lawful quiet = record {
 }
 
 -- what a command makes of a lawful world is lawful
-pub runs_lawful : (w new : World) (connection : ℕ) (c : Command) (r : Result Pairs Refusal) → IsLawful w → IsBounded c → Runs w (run w connection c) new r → IsLawful new
+pub runs_lawful : (w new : World) (connection : ℕ) (c : Command) (r : Result Pairs Refusal) → IsLawful w → IsBounded c → Runs w (run w connection c) new r
+    → IsLawful new
 runs_lawful w new connection c (Err e) h b runs = subst IsLawful (sym runs.0) h
 runs_lawful w new connection c (Ok reply) h b runs =
     at (run w connection c) runs (good_run w connection c h b)
@@ -60,7 +62,8 @@ pub undone_lawful : {D : Type 0} (history : D → History) (engine : Engine D) �
 undone_lawful history engine h =
     record { collections = h.before; cursors = All-filter (λ (c : Cursor). not c.touched) (λ (c : Cursor). All IsWithin c.rest) (world engine).cursors h.cursors }
 
-pub forgotten_lawful : {D : Type 0} (history : D → History) (engine : Engine D) (connection : ℕ) → IsSound history engine → IsLawful (forget (world engine) connection)
+pub forgotten_lawful : {D : Type 0} (history : D → History) (engine : Engine D) (connection : ℕ) → IsSound history engine
+    → IsLawful (forget (world engine) connection)
 forgotten_lawful history engine connection h =
     record { collections = h.lawful; cursors = All-filter (λ (c : Cursor). not (c.connection == connection)) (λ (c : Cursor). All IsWithin c.rest) (world engine).cursors h.cursors }
 
@@ -78,8 +81,10 @@ answers_done w new (Ok x) d h = sym (ap both h)
 pub for_memory : {D : Type 0} (history : D → History) (old new : State D) (planned : World) → FileCause history old new planned refusals.OutOfMemory
 for_memory history old new planned = (inl refl, λ k. inl (inl refl))
 
-pub answers_refused : {D : Type 0} (history : D → History) (old new : Engine D) (planned : Result (World × Pairs) Refusal) (e : Refusal) → DoesPlanned history planned (Err e) old new
-    → ((world new, refusal_reply e) ≡ answered (world old) planned) ⊎ RefusedBeside (FileCause history (file_of old) (file_of new)) (world old) (answered (world old) planned).0 (world new) (refusal_reply e)
+pub answers_refused : {D : Type 0} (history : D → History) (old new : Engine D) (planned : Result (World × Pairs) Refusal) (e : Refusal)
+    → DoesPlanned history planned (Err e) old new
+    → ((world new, refusal_reply e) ≡ answered (world old) planned)
+    ⊎ RefusedBeside (FileCause history (file_of old) (file_of new)) (world old) (answered (world old) planned).0 (world new) (refusal_reply e)
 answers_refused history old new planned e (same, inl is) = inl ((λ i. (same i, refusal_reply e)) ∙ ap (answered (world old)) (sym is))
 answers_refused history old new planned e (same, inr cause) = inr (record { refusal = e; cause = cause; same = same; says = refl })
 
@@ -92,10 +97,12 @@ module _ {D : Type 0} (history : D → History) (old new : Engine D) (planned : 
   does_planned (Err refusals.OutOfMemory) runs = (runs.0, inr (for_memory history (file_of old) (file_of new) (answered (world old) planned).0))
   does_planned (Err e) runs = (runs.0, inl (runs.1 (λ h. absurd cc)))
 
-  pub performs_in_memory : (r : Result Pairs Refusal) → IsSound history old → new.file ≡ old.file → new.told.value ≡ old.told.value → has_changes new ≡ has_changes old → IsLawful (world new) → Runs (world old) planned (world new) r → Performs history planned r old new
+  pub performs_in_memory : (r : Result Pairs Refusal) → IsSound history old → new.file ≡ old.file → new.told.value ≡ old.told.value
+      → has_changes new ≡ has_changes old → IsLawful (world new) → Runs (world old) planned (world new) r → Performs history planned r old new
   performs_in_memory r h file told changes lawful runs = record {
     sound = keeps_sound history old new h
-        (subst (λ (k : Known). HasState history new.file (turn_start old) k.now) (sym told) (subst (λ (f : State D). HasState history f (turn_start old) (world old).collections) (sym file) h.file))
+        (subst (λ (k : Known). HasState history new.file (turn_start old) k.now) (sym told)
+        (subst (λ (f : State D). HasState history f (turn_start old) (world old).collections) (sym file) h.file))
         (ap (λ (k : Known). k.start) told) lawful
         (λ rests. ap (λ (k : Known). k.start) told ∙ h.quiet (sym changes ∙ rests) ∙ sym (ap (λ (k : Known). k.now) told));
     goes = subst (λ (f : State D). GoesFrom history old.file f) (sym file) (laws.goes_from_itself history old.file);
@@ -109,13 +116,16 @@ module _ {D : Type 0} (history : D → History) (old new : Engine D) (planned : 
       either (Err e) = changes
 
 -- the same of a command that was read
-pub performs_told : {D : Type 0} (history : D → History) (old new : Engine D) (connection : ℕ) (c : Command) (r : Result Pairs Refusal) → IsSound history old → IsBounded c → new.file ≡ old.file → new.told ≡ old.told → has_changes new ≡ has_changes old
+pub performs_told : {D : Type 0} (history : D → History) (old new : Engine D) (connection : ℕ) (c : Command) (r : Result Pairs Refusal) → IsSound history old
+    → IsBounded c → new.file ≡ old.file → new.told ≡ old.told → has_changes new ≡ has_changes old
     → Runs (world old) (run (world old) connection c) (world new) r → Performs history (run (world old) connection c) r old new
 performs_told history old new connection c r h b file told changes runs =
     performs_in_memory history old new (run (world old) connection c) r h file (ap (λ (t : Told). t.value) told) changes
     (runs_lawful (world old) (world new) connection c r (lawful_world history old h) b runs) runs
 
 -- what was planned and what was returned, in other words
-pub performs_as : {D : Type 0} (history : D → History) (old new : Engine D) (planned other : Result (World × Pairs) Refusal) (r s : Result Pairs Refusal) → planned ≡ other → r ≡ s → Performs history other s old new → Performs history planned r old new
+pub performs_as : {D : Type 0} (history : D → History) (old new : Engine D) (planned other : Result (World × Pairs) Refusal) (r s : Result Pairs Refusal)
+    → planned ≡ other → r ≡ s → Performs history other s old new → Performs history planned r old new
 performs_as history old new planned other r s is same h =
-    subst (λ (p : Result (World × Pairs) Refusal). Performs history p r old new) (sym is) (subst (λ (x : Result Pairs Refusal). Performs history other x old new) (sym same) h)
+    subst (λ (p : Result (World × Pairs) Refusal). Performs history p r old new) (sym is)
+    (subst (λ (x : Result Pairs Refusal). Performs history other x old new) (sym same) h)

@@ -47,10 +47,12 @@ module _ (cs : List Collection) (name : List ℕ) where
   -- it is there
   module _ (c : Collection) (found : find_collection cs name ≡ Some c) where
     pub it_is : collection_of cs name ≡ c
-    it_is i = record { name = found_name cs name c found i; number = number_or (unused cs) (found i); documents = documents_or_none (found i); indexes = indexes_or_none (found i) }
+    it_is i = record
+        { name = found_name cs name c found i; number = number_or (unused cs) (found i); documents = documents_or_none (found i); indexes = indexes_or_none (found i) }
 
     as_it_was : states.IsLawfulState cs → put_collection (collection_of cs name) cs ≡ cs
-    as_it_was h = ap (λ (x : Collection). put_collection x cs) it_is ∙ put_same c cs h.apart (subst (λ (n : List ℕ). find_collection cs n ≡ Some c) (found_name cs name c found) found)
+    as_it_was h = ap (λ (x : Collection). put_collection x cs) it_is
+        ∙ put_same c cs h.apart (subst (λ (n : List ℕ). find_collection cs n ≡ Some c) (found_name cs name c found) found)
 
     pub noted_there : (home : Catalogued) → catalogued_of home ≡ catalogued_in c → AreNoted cs name home [] (collection_of cs name)
     noted_there home told = record {
@@ -70,9 +72,11 @@ module _ (cs : List Collection) (name : List ℕ) where
 
     module _ (home : Catalogued) (numbered : home.number ≡ unused cs) where
       made_so : empty_collection name home.number ≡ collection_of cs name
-      made_so i = record { name = name; number = (numbered ∙ ap (number_or (unused cs)) (sym none)) i; documents = documents_or_none (sym none i); indexes = indexes_or_none (sym none i) }
+      made_so i = record
+          { name = name; number = (numbered ∙ ap (number_or (unused cs)) (sym none)) i; documents = documents_or_none (sym none i); indexes = indexes_or_none (sym none i) }
 
-      pub noted_new : (edits : List Edit) → home.indexes.items ≡ [] → AddsCollection [] edits name home.number → AreNoted cs name home edits (collection_of cs name)
+      pub noted_new : (edits : List Edit) → home.indexes.items ≡ [] → AddsCollection [] edits name home.number
+          → AreNoted cs name home edits (collection_of cs name)
       noted_new edits plain adds = record {
         named = refl;
         numbered = ap (number_or (unused cs)) none ∙ sym numbered;
@@ -80,7 +84,8 @@ module _ (cs : List Collection) (name : List ℕ) where
         room = not_full;
         leads = λ lawful.
             let fresh : uses cs home.number ≡ false = ap (uses cs) numbered ∙ unused_unused cs in
-            subst (λ (c : Collection). Leads edits cs (put_collection c cs) × states.IsLawfulState (put_collection c cs)) made_so (adds cs cs (λ entries spells. spells) lawful none fresh few);
+            subst (λ (c : Collection). Leads edits cs (put_collection c cs) × states.IsLawfulState (put_collection c cs)) made_so
+            (adds cs cs (λ entries spells. spells) lawful none fresh few);
       }
 
 -- ---- one document more
@@ -90,7 +95,8 @@ stored_storable ps d passed is readable = storable d (subst IsStored (sym is) (k
 
 -- one whose `_id` has a short text may be stored
 pub storable_text : (d : Pairs) (text : List ℕ) → MayBePut d → text ≡ tree_text (key_of d) → length text ≤ 500 → IsStorable d
-storable_text d text may is short = record { lawful = may.lawful; size = may.size; depth = may.depth; key = may.key; short = subst (λ (t : List ℕ). length t ≤ 500) is short }
+storable_text d text may is short = record
+    { lawful = may.lawful; size = may.size; depth = may.depth; key = may.key; short = subst (λ (t : List ℕ). length t ≤ 500) is short }
 
 -- so each may be put that may be stored
 pub may_put : (d : Pairs) → IsStorable d → MayBePut d
@@ -103,7 +109,8 @@ refused_unchecked c ps e refused = ap (λ (r : Result Tree Refusal). r >>= (λ i
 -- what is stored of a document enters
 pub enters_checked : (c : Collection) (ps d : Pairs) → checked ps ≡ Ok (key_of ps) → d ≡ id_first ps → entering None d c ≡ insert_one c ps
 unfolding insert_one
-enters_checked c ps d passed is = ap (λ (x : Pairs). entering None x c) is ∙ sym (ap (λ (r : Result Tree Refusal). r >>= (λ id. entering None (id_first ps) c)) passed)
+enters_checked c ps d passed is =
+    ap (λ (x : Pairs). entering None x c) is ∙ sym (ap (λ (r : Result Tree Refusal). r >>= (λ id. entering None (id_first ps) c)) passed)
 
 -- ---- document after document
 
@@ -118,7 +125,8 @@ module _ (cs : List Collection) (name : List ℕ) (all : List Pairs) (first : Co
   so_far_none home edits noted = record { reached = first; noted = noted; same = refl }
 
   module _ (home : Catalogued) (edits : List Edit) (ps : Pairs) (left : List Pairs) (far : IsSoFar cs name home edits all (ps ∷ left) first) where
-    pub so_far_one : (home_after : Catalogued) (next : List Edit) → HasNoted cs name home_after next (insert_one far.reached ps) → IsSoFar cs name home_after next all left first
+    pub so_far_one : (home_after : Catalogued) (next : List Edit) → HasNoted cs name home_after next (insert_one far.reached ps)
+        → IsSoFar cs name home_after next all left first
     so_far_one home_after next has = record {
       reached = has.next;
       noted = has.noted;
@@ -136,15 +144,18 @@ module _ (cs : List Collection) (name : List ℕ) (all : List Pairs) (first : Co
 abbrev put_in : List Collection → Collection → Result (List Collection) Refusal
 put_in cs c = Ok (put_collection c cs)
 
-pub inserted_there : (cs : List Collection) (name : List ℕ) (all : List Pairs) (r : Result Collection Refusal) → is_full cs name ≡ false → insert_all (collection_of cs name) all ≡ r
+pub inserted_there : (cs : List Collection) (name : List ℕ) (all : List Pairs) (r : Result Collection Refusal) → is_full cs name ≡ false
+    → insert_all (collection_of cs name) all ≡ r
     → inserted cs name all ≡ (r >>= put_in cs)
 inserted_there cs name all r room is =
     ap (λ (b : Bool). unless b refusals.TooMany (insert_all (collection_of cs name) all >>= put_in cs)) room
     ∙ ap (λ (q : Result Collection Refusal). q >>= put_in cs) is
 
-pub inserted_full : (cs : List Collection) (name : List ℕ) (all : List Pairs) (e : Refusal) → (e ≡ refusals.TooMany) × (is_full cs name ≡ true) → inserted cs name all ≡ Err e
+pub inserted_full : (cs : List Collection) (name : List ℕ) (all : List Pairs) (e : Refusal) → (e ≡ refusals.TooMany) × (is_full cs name ≡ true)
+    → inserted cs name all ≡ Err e
 inserted_full cs name all e (is, full) =
-    ap (λ (b : Bool). unless b refusals.TooMany (insert_all (collection_of cs name) all >>= put_in cs)) full ∙ ap (λ (x : Refusal). let r : Result (List Collection) Refusal = Err x in r) (sym is)
+    ap (λ (b : Bool). unless b refusals.TooMany (insert_all (collection_of cs name) all >>= put_in cs)) full
+    ∙ ap (λ (x : Refusal). let r : Result (List Collection) Refusal = Err x in r) (sym is)
 
 pub full_of : (cs : List Collection) (name : List ℕ) → find_collection cs name ≡ None → 1000 ≤ length cs → is_full cs name ≡ true
 full_of cs name none many =

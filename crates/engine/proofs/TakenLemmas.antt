@@ -42,7 +42,8 @@ module _ (name : List ℕ) (deletions : List Deletion) where
     pub there : HasHome now name home
 
   -- what is taken of them is what is taken of all
-  meant_taken : (home : Catalogued) (now : List Collection) (found : List Pairs) (t : Taken) → AreMeant home now found → length found < 2 ^ 64 - 1 → t.home ≡ home
+  meant_taken : (home : Catalogued) (now : List Collection) (found : List Pairs) (t : Taken) → AreMeant home now found → length found < 2 ^ 64 - 1
+      → t.home ≡ home
       → t.removed.items ≡ all_taken deletions found → IsTaken now name deletions t
   meant_taken home now found t h few same made =
       let all = filter (is_deleted deletions) (documents_of now name) in
@@ -87,14 +88,17 @@ module _ {D : Type 0} (history : D → History) (name : List ℕ) (deletions : L
     pub takes_none : x ≡ None → (t : Taken) → t.removed.items ≡ [] → Looks history (λ now t. IsTaken now name deletions t) (Ok t) a b
     takes_none is t empty =
         looks_made history (IsCatalogueOf name) a b (λ now t. IsTaken now name deletions t) x t first
-        (λ p. none_taken name deletions (world a).collections t (not_catalogued (world a).collections name (subst (IsCatalogueOf name (world a).collections) is p)) empty)
+        (λ p. none_taken name deletions (world a).collections t
+        (not_catalogued (world a).collections name (subst (IsCatalogueOf name (world a).collections) is p)) empty)
 
     -- the documents that a statement matches were looked up
     pub meant_found : (c : Engine D) (home : Catalogued) → x ≡ Some home → (r : Result (Vec Pairs) Refusal)
-        → LooksOf history (λ now of. IsHome now of home) (λ now of (found : Vec Pairs). found.items ≡ take (2 ^ 64 - 1) (filter (is_deleted deletions) of.documents)) r b c
+        → LooksOf history (λ now of. IsHome now of home)
+        (λ now of (found : Vec Pairs). found.items ≡ take (2 ^ 64 - 1) (filter (is_deleted deletions) of.documents)) r b c
         → Looks history (λ now (found : Vec Pairs). AreMeant name deletions home now found.items) r a c
     meant_found c home is r second =
-        looks_behind history (IsCatalogueOf name) (λ now of. IsHome now of home) (λ now of (found : Vec Pairs). found.items ≡ take (2 ^ 64 - 1) (filter (is_deleted deletions) of.documents))
+        looks_behind history (IsCatalogueOf name) (λ now of. IsHome now of home)
+        (λ now of (found : Vec Pairs). found.items ≡ take (2 ^ 64 - 1) (filter (is_deleted deletions) of.documents))
         (λ now (found : Vec Pairs). AreMeant name deletions home now found.items) a b c x r first second (λ p.
         let now = (world a).collections in
         let f = has_home now name home (subst (IsCatalogueOf name now) is p) in
@@ -102,13 +106,16 @@ module _ {D : Type 0} (history : D → History) (name : List ℕ) (deletions : L
           asked = f.collection;
           is = f.catalogued;
           right = λ y right. record {
-            first = right ∙ ap (λ (ds : List Pairs). take (2 ^ 64 - 1) (filter (is_deleted deletions) ds)) (sym (documents_found now name f.collection f.found));
+            first = right
+                ∙ ap (λ (ds : List Pairs). take (2 ^ 64 - 1) (filter (is_deleted deletions) ds)) (sym (documents_found now name f.collection f.found));
             there = f;
           };
         })
 
-  pub takes_meant : (home : Catalogued) (found : Vec Pairs) (t : Taken) → Looks history (λ now (found : Vec Pairs). AreMeant name deletions home now found.items) (Ok found) a b
-      → length found.items < 2 ^ 64 - 1 → t.home ≡ home → t.removed.items ≡ all_taken deletions found.items → Looks history (λ now t. IsTaken now name deletions t) (Ok t) a b
+  pub takes_meant : (home : Catalogued) (found : Vec Pairs) (t : Taken)
+      → Looks history (λ now (found : Vec Pairs). AreMeant name deletions home now found.items) (Ok found) a b
+      → length found.items < 2 ^ 64 - 1 → t.home ≡ home → t.removed.items ≡ all_taken deletions found.items
+      → Looks history (λ now t. IsTaken now name deletions t) (Ok t) a b
   takes_meant home found t looks few same made =
       looks_made history (λ now (found : Vec Pairs). AreMeant name deletions home now found.items) a b (λ now t. IsTaken now name deletions t) found t looks
       (λ h. meant_taken name deletions home (world a).collections found.items t h few same made)

@@ -1,5 +1,6 @@
 -- Documents that are noted as removed with their entries in indexes, one after the other, and what that leaves.
-use Rattle.std.proofs.Common.{◌≡◌, ◌≢◌, inl, inr, ℕ, zero, suc, ◌+◌, ◌<◌, ◌≤◌, Bool, true, false, List, [], ◌∷◌, ◌++◌, length, take, drop, map, get_or, Option, Some, Ok, Err, refl, sym, ap, subst, ◌∙◌, arith}
+use Rattle.std.proofs.Common.{◌≡◌, ◌≢◌, inl, inr, ℕ, zero, suc, ◌+◌, ◌<◌, ◌≤◌, Bool, true, false, List, [], ◌∷◌, ◌++◌, length, take, drop, map, get_or, Option}
+use Rattle.std.proofs.Common.{Some, Ok, Err, refl, sym, ap, subst, ◌∙◌, arith}
 use Rattle.std.specs.Prelude.{if◌then◌else◌, unwrap_or, All}
 use Rattle.std.specs.Ordering.{is_eq}
 use Rattle.std.specs.declared.cmp.Ordering.{Ordering}
@@ -60,7 +61,8 @@ around (x ∷ ds) id d is = by (is_eq (compare id (key_of x))) is (around ds id 
 
 -- ---- what edits take out
 
-pub takes_one : (old new : List Edit) (number : ℕ) (indexes : List Definition) (d : Pairs) → DeletesFrom old new number indexes d → TakesOut old new number indexes (d ∷ [])
+pub takes_one : (old new : List Edit) (number : ℕ) (indexes : List Definition) (d : Pairs) → DeletesFrom old new number indexes d
+    → TakesOut old new number indexes (d ∷ [])
 takes_one old new number indexes d deletes a b c leads lawful found numbered indexed there =
     let s = around c.documents (key_of d) d there.0 in
     let now : Collection = record c { documents = s.front ++ s.back } in
@@ -74,7 +76,8 @@ takes_none : (edits : List Edit) (number : ℕ) (indexes : List Definition) → 
 takes_none edits number indexes a b c leads lawful found numbered indexed there =
     subst (λ (s : List Collection). Leads edits a s × IsLawfulState s) (sym (put_same c b lawful.apart found)) (leads, lawful)
 
-takes_more : (old mid new : List Edit) (number : ℕ) (indexes : List Definition) (d : Pairs) (rest : List Pairs) → TakesOut old mid number indexes (d ∷ []) → TakesOut mid new number indexes rest
+takes_more : (old mid new : List Edit) (number : ℕ) (indexes : List Definition) (d : Pairs) (rest : List Pairs) → TakesOut old mid number indexes (d ∷ [])
+    → TakesOut mid new number indexes rest
     → TakesOut old new number indexes (d ∷ rest)
 takes_more old mid new number indexes d rest first later a b c leads lawful found numbered indexed there =
     let one = first a b c leads lawful found numbered indexed (there.0, tt) in
@@ -95,7 +98,8 @@ module _ {X : Type 0} (lent : X → Pairs) (old mid : List Edit) (number : ℕ) 
   pub takes_on : (next : List Edit) (x : X) (d : Pairs) → i < length all → x ≡ get_or all i x → d ≡ lent x → TakesOut mid next number indexes (d ∷ [])
       → TakesLeft old mid number indexes (map lent all) (map lent (drop i all)) → TakesLeft old next number indexes (map lent all) (map lent (drop (i + 1) all))
   takes_on next x d within is same one left new rest =
-      let step : map lent (drop i all) ≡ d ∷ map lent (drop (i + 1) all) = ap (map lent) (drop_step all i x within is) ∙ ap (λ (e : Pairs). e ∷ map lent (drop (i + 1) all)) (sym same) in
+      let step : map lent (drop i all) ≡ d ∷ map lent (drop (i + 1) all) =
+      ap (map lent) (drop_step all i x within is) ∙ ap (λ (e : Pairs). e ∷ map lent (drop (i + 1) all)) (sym same) in
       left new (subst (TakesOut mid new number indexes) (sym step) (takes_more mid next new number indexes d (map lent (drop (i + 1) all)) one rest))
 
   pub takes_all : length all ≤ i → TakesLeft old mid number indexes (map lent all) (map lent (drop i all)) → TakesOut old mid number indexes (map lent all)
@@ -104,12 +108,14 @@ module _ {X : Type 0} (lent : X → Pairs) (old mid : List Edit) (number : ℕ) 
   -- what holds of all of them holds of the one at hand
   pub item_all : (P : Pairs → Type 0) (x : X) (d : Pairs) → i < length all → x ≡ get_or all i x → d ≡ lent x → All P (map lent all) → All P (d ∷ [])
   item_all P x d within is same each =
-      let step : map lent (drop i all) ≡ d ∷ map lent (drop (i + 1) all) = ap (map lent) (drop_step all i x within is) ∙ ap (λ (e : Pairs). e ∷ map lent (drop (i + 1) all)) (sym same) in
+      let step : map lent (drop i all) ≡ d ∷ map lent (drop (i + 1) all) =
+      ap (map lent) (drop_step all i x within is) ∙ ap (λ (e : Pairs). e ∷ map lent (drop (i + 1) all)) (sym same) in
       let left : All P (d ∷ map lent (drop (i + 1) all)) = subst (All P) (drop-map lent i all ∙ step) (All-drop P i (map lent all) each) in
       All-cons P d [] (All-head P d (map lent (drop (i + 1) all)) left) (λ k e below. absurd (omega (arith, below)))
 
 -- where the indexes refuse a document nothing, its keys were refused for want of memory
-pub keyed_memory : (indexes : List Definition) (d : Pairs) (e : Refusal) → All (IsIndexable indexes) (d ∷ []) → (e ≢ refusals.OutOfMemory → keys_in_all indexes d ≡ Err e) → e ≡ refusals.OutOfMemory
+pub keyed_memory : (indexes : List Definition) (d : Pairs) (e : Refusal) → All (IsIndexable indexes) (d ∷ [])
+    → (e ≢ refusals.OutOfMemory → keys_in_all indexes d ≡ Err e) → e ≡ refusals.OutOfMemory
 keyed_memory indexes d e all refused = elim (memory_or e refused) [
   | inl memory ↦ memory
   | inr is ↦ (let both : Ok (map (λ i. encoded_keys i.fields d) indexes) ≡ Err e = sym (All-head (IsIndexable indexes) d [] all).keyed ∙ is in absurd cc)
@@ -121,7 +127,8 @@ keyed_memory indexes d e all refused = elim (memory_or e refused) [
 pub all_indexable : (c : Collection) → IsKept c → All (IsIndexable c.indexes) c.documents
 all_indexable c kept = all_of (IsIndexable c.indexes) c.documents (λ d stands. record {
   storable = storable_of c d kept stands;
-  keyed = all_keyed c.indexes d (λ i listed. of_all (λ e. keys_in i.fields e ≡ Ok (encoded_keys i.fields e)) c.documents d (listed_of c i kept listed).keys stands);
+  keyed = all_keyed c.indexes d
+      (λ i listed. of_all (λ e. keys_in i.fields e ≡ Ok (encoded_keys i.fields e)) c.documents d (listed_of c i kept listed).keys stands);
 })
 
 pub first_there : (d : Pairs) (ds : List Pairs) → find_document (d ∷ ds) (key_of d) ≡ Some d

@@ -1,5 +1,6 @@
 -- Entries of a collection's documents are removed from an index, batch after batch.
-use Rattle.std.proofs.Common.{◌≡◌, ◌≢◌, inl, inr, ◌+◌, ◌<◌, ℕ, zero, suc, Bool, true, false, List, [], ◌++◌, length, get_or, take, drop, map, Result, Ok, Err, refl, sym, ap, subst, ◌∙◌, append_assoc, append-nil}
+use Rattle.std.proofs.Common.{◌≡◌, ◌≢◌, inl, inr, ◌+◌, ◌<◌, ℕ, zero, suc, Bool, true, false, List, [], ◌++◌, length, get_or, take, drop, map, Result, Ok, Err}
+use Rattle.std.proofs.Common.{refl, sym, ap, subst, ◌∙◌, append_assoc, append-nil}
 use Rattle.std.specs.Prelude.{All}
 use Rattle.std.specs.Global.{Vec}
 use Rattle.std.specs.List.{flat_map}
@@ -39,22 +40,26 @@ pub removed_none : (edits : List Edit) (number : ℕ) (i : Definition) → HasRe
 removed_none edits number i = (removes_one_more edits number i).0
 
 -- those of the next document too
-pub removed_next : (old mid new : List Edit) (number : ℕ) (i : Definition) (ds : List Pairs) (k : ℕ) (d : Pairs) → k < length ds → d ≡ get_or ds k d → HasRemovedEntries old mid number i (take k ds)
+pub removed_next : (old mid new : List Edit) (number : ℕ) (i : Definition) (ds : List Pairs) (k : ℕ) (d : Pairs) → k < length ds → d ≡ get_or ds k d
+    → HasRemovedEntries old mid number i (take k ds)
     → GoesOnBy mid (removals (index_entries number d i)) new → HasRemovedEntries old new number i (take (k + 1) ds)
 removed_next old mid new number i ds k d within is removed goes =
     subst (HasRemovedEntries old new number i) (sym (taken_next ds k d within is)) ((removes_one_more old number i).1 mid new (take k ds) d removed goes)
 
 -- those of some documents, and of others behind them
-pub removed_further : (old mid new : List Edit) (number : ℕ) (i : Definition) (ds es : List Pairs) → HasRemovedEntries old mid number i ds → HasRemovedEntries mid new number i es
+pub removed_further : (old mid new : List Edit) (number : ℕ) (i : Definition) (ds es : List Pairs) → HasRemovedEntries old mid number i ds
+    → HasRemovedEntries mid new number i es
     → HasRemovedEntries old new number i (ds ++ es)
 removed_further old mid new number i ds es first later =
     let entries : Pairs → List Entry = λ d. index_entries number d i in
     let split : removals (flat_map entries (ds ++ es)) ≡ removals (flat_map entries ds) ++ removals (flat_map entries es) =
     ap removals (flat_map-append entries ds es) ∙ map-append removal_of (flat_map entries ds) (flat_map entries es) in
-    subst (λ (xs : List Edit). GoesOnBy old xs new) (sym split) (goes_on old (removals (flat_map entries ds)) mid (removals (flat_map entries es)) new first later)
+    subst (λ (xs : List Edit). GoesOnBy old xs new) (sym split)
+    (goes_on old (removals (flat_map entries ds)) mid (removals (flat_map entries es)) new first later)
 
 -- an index that doesn't refuse a document refuses it for want of memory alone
-pub unkeyed_memory : (i : Definition) (d : Pairs) (e : Refusal) → HasKeysIn i d → (e ≢ refusals.OutOfMemory → keys_in i.fields d ≡ Err e) → e ≡ refusals.OutOfMemory
+pub unkeyed_memory : (i : Definition) (d : Pairs) (e : Refusal) → HasKeysIn i d → (e ≢ refusals.OutOfMemory → keys_in i.fields d ≡ Err e)
+    → e ≡ refusals.OutOfMemory
 unkeyed_memory i d e has refused = elim (memory_or e refused) [
   | inl memory ↦ memory
   | inr is ↦ (let both : Ok (encoded_keys i.fields d) ≡ Err e = sym has.keyed ∙ is in absurd cc)
@@ -66,7 +71,8 @@ fits_these P ds es same asks all = asks (subst (All P) (sym same) all)
 
 -- ---- a batch
 
-module _ {D : Type 0} (history : D → History) (old : Engine D) (h : IsSound history old) (number : ℕ) (i : Definition) (before after : List Edit) (walk later : Walk) (file : State D) where
+module _ {D : Type 0} (history : D → History) (old : Engine D) (h : IsSound history old) (number : ℕ) (i : Definition) (before after : List Edit)
+    (walk later : Walk) (file : State D) where
   abbrev new : Engine D
   new = record old { file = file }
 
@@ -122,7 +128,8 @@ pub record Unindexed (number : ℕ) (i : Definition) (before after : List Edit) 
   pub unindexing : IsUnindexing i walk now left
 
 -- so it is after some batches
-pub record HasUnindexedTo {D : Type 0} (history : D → History) (number : ℕ) (i : Definition) (before after : List Edit) (walk : Walk) (old new : Engine D) : Type 0 where
+pub record HasUnindexedTo {D : Type 0} (history : D → History) (number : ℕ) (i : Definition) (before after : List Edit) (walk : Walk)
+    (old new : Engine D) : Type 0 where
   pub reads : OnlyReads history old new
   pub running : IsRunning new
   pub answers : KeepsWord (disk_history history new) → (c : Collection) → IsIndexedBy number i (world old).collections c
@@ -135,7 +142,8 @@ module _ {D : Type 0} (history : D → History) (number : ℕ) (i : Definition) 
   pub unindexed_without_memory : IsSound history old → Unindexes before (Err refusals.OutOfMemory) old
   unindexed_without_memory h = record { reads = reads_none history old h; answers = λ k c is. inl refl }
 
-  pub unindexed_none : (walk : Walk) → IsSound history old → IsRunning old → BeginsWalk history old.file number walk → HasUnindexedTo history number i before before walk old old
+  pub unindexed_none : (walk : Walk) → IsSound history old → IsRunning old → BeginsWalk history old.file number walk
+      → HasUnindexedTo history number i before before walk old old
   unindexed_none walk h running begins = record {
     reads = reads_none history old h;
     running = running;
@@ -155,15 +163,19 @@ module _ {D : Type 0} (history : D → History) (number : ℕ) (i : Definition) 
     same_now : (world mid).collections ≡ (world old).collections
     same_now = now_same history old mid far.reads
 
-    left_now : OnlyReads history mid new → KeepsWord (disk_history history new) → (c : Collection) → IsIndexedBy number i (world old).collections c → Unindexed number i before edits walk (world mid).collections c
-    left_now more k c is = subst (λ (cs : List Collection). Unindexed number i before edits walk cs c) (sym same_now) (far.answers (word_before history mid.file new.file more.goes k) c is)
+    left_now : OnlyReads history mid new → KeepsWord (disk_history history new) → (c : Collection) → IsIndexedBy number i (world old).collections c
+        → Unindexed number i before edits walk (world mid).collections c
+    left_now more k c is =
+        subst (λ (cs : List Collection). Unindexed number i before edits walk cs c) (sym same_now)
+        (far.answers (word_before history mid.file new.file more.goes k) c is)
 
     pub unindexed_refused : (last : List Edit) (e : Refusal) → Step (Err e) → Unindexes last (Err e) new
     unindexed_refused last e step = record {
       reads = reads_on history old mid new far.reads step.reads;
       answers = λ k c is.
           let l = left_now step.reads k c is in
-          cause_from history old.file mid.file new.file far.reads.goes (word_before history mid.file new.file step.reads.goes k) e (step.answers k l.left l.unindexing);
+          cause_from history old.file mid.file new.file far.reads.goes (word_before history mid.file new.file step.reads.goes k) e
+          (step.answers k l.left l.unindexing);
     }
 
     pub unindexed_on : Step (Ok true) → HasUnindexedTo history number i before after later old new

@@ -1,5 +1,6 @@
 -- What an update comes to.
-use Rattle.std.proofs.Common.{◌≡◌, ◌≢◌, ◌⊎◌, inl, inr, ℕ, ◌<◌, ◌≤◌, Bool, true, false, List, [], ◌∷◌, length, map, Result, Ok, Err, refl, sym, ap, subst, ◌∙◌, arith}
+use Rattle.std.proofs.Common.{◌≡◌, ◌≢◌, ◌⊎◌, inl, inr, ℕ, ◌<◌, ◌≤◌, Bool, true, false, List, [], ◌∷◌, length, map, Result, Ok, Err, refl, sym, ap, subst, ◌∙◌}
+use Rattle.std.proofs.Common.{arith}
 use Rattle.std.specs.Prelude.{All, nat_lt}
 use Rattle.std.proofs.lemmas.Bool.Decides.{nat_tests}
 use Rattle.bson.specs.Tree.{Pairs, no_pairs}
@@ -73,12 +74,15 @@ module _ (now : List Collection) (name : List ℕ) (ss : List UpdateStatement) (
         replied = said;
       }
 
-  replied_refused : (end : Result Tally Refusal) (e : Refusal) → EndsIn now name ss ws end → RepliesTo end (Err e) → (run_all name ss now ≡ Err e) ⊎ (e ≡ refusals.OutOfMemory)
+  replied_refused : (end : Result Tally Refusal) (e : Refusal) → EndsIn now name ss ws end → RepliesTo end (Err e)
+      → (run_all name ss now ≡ Err e) ⊎ (e ≡ refusals.OutOfMemory)
   replied_refused (Err f) e ends replies = let same : f ≡ e = cc in inl (ends ∙ ap (λ (x : Refusal). let r : Result Updated Refusal = Err x in r) same)
   replied_refused (Ok t) e ends (inl memory) = inr memory
   replied_refused (Ok t) e ends (inr (is, long)) =
-      let long_so : 1048555 < length (spelled (ok_reply (update_reply ends.after))) = subst (λ (ps : Pairs). 1048555 < length (spelled (ok_reply ps))) (sym ends.counts) long in
-      inl (ap (λ (r : Result Updated Refusal). r >>= judged) ends.planned ∙ too_long ends.after long_so ∙ ap (λ (x : Refusal). let r : Result Updated Refusal = Err x in r) (sym is))
+      let long_so : 1048555 < length (spelled (ok_reply (update_reply ends.after))) =
+      subst (λ (ps : Pairs). 1048555 < length (spelled (ok_reply ps))) (sym ends.counts) long in
+      inl (ap (λ (r : Result Updated Refusal). r >>= judged) ends.planned ∙ too_long ends.after long_so
+      ∙ ap (λ (x : Refusal). let r : Result Updated Refusal = Err x in r) (sym is))
 
 -- ---- what is planned
 
@@ -104,9 +108,11 @@ module _ (name : List ℕ) (ss : List UpdateStatement) where
     plan_full e (missing, (is_many, makes, many)) = at (writes_in name ss cs) refl
       where
         at : (ws : List DocumentWrite) → writes_in name ss cs ≡ ws → plan cs ≡ Err e
-        at [] is = plan_entered (Ok cs) (ap (λ (v : List DocumentWrite). entered_in name v cs) is) ∙ all_refused cs e (full_refused cs name ss e (missing, (is_many, makes, many)))
+        at [] is = plan_entered (Ok cs) (ap (λ (v : List DocumentWrite). entered_in name v cs) is)
+            ∙ all_refused cs e (full_refused cs name ss e (missing, (is_many, makes, many)))
         at (w ∷ ws) is =
-            plan_entered (Err e) (ap (λ (v : List DocumentWrite). entered_in name v cs) is ∙ written_full cs name (w ∷ ws) e (is_many, full_of cs name missing many))
+            plan_entered (Err e)
+            (ap (λ (v : List DocumentWrite). entered_in name v cs) is ∙ written_full cs name (w ∷ ws) e (is_many, full_of cs name missing many))
 
     module _ (x : Ran) (u : IsUpdate cs name ss x) where
       entered_seen : (ws : List Write) → x.writes.items ≡ ws → entered_in name (writes_in name ss cs) cs ≡ entered_in name (map seen ws) cs
@@ -132,20 +138,24 @@ module _ (name : List ℕ) (ss : List UpdateStatement) where
         written_refused : (e : Refusal) → written_in name (map seen x.writes.items) cs ≡ Err e → plan cs ≡ Err e
         written_refused e is = plan_entered (Err e) (entered_written ∙ is)
 
-        ran_refused : (next : List Collection) → written_in name (map seen x.writes.items) cs ≡ Ok next → (e : Refusal) → run_all name ss cs ≡ Err e → plan cs ≡ Err e
+        ran_refused : (next : List Collection) → written_in name (map seen x.writes.items) cs ≡ Ok next → (e : Refusal) → run_all name ss cs ≡ Err e
+            → plan cs ≡ Err e
         ran_refused next is e refused = plan_entered (Ok next) (entered_written ∙ is) ∙ all_refused next e refused
 
-        written_done : (next : List Collection) → written_in name (map seen x.writes.items) cs ≡ Ok next → (after : Updated) → run_all name ss cs ≡ Ok after → plan cs ≡ Ok next
+        written_done : (next : List Collection) → written_in name (map seen x.writes.items) cs ≡ Ok next → (after : Updated) → run_all name ss cs ≡ Ok after
+            → plan cs ≡ Ok next
         written_done next is after done = plan_entered (Ok next) (entered_written ∙ is) ∙ all_done next after done
 
       -- nothing is written where no statement changes a document or makes one
-      nothing_written : (w : World) → w.collections ≡ cs → (t : Tally) → x.end ≡ Ok t → ChangesNone w (update (record { namespace = name; statements = ss })) → x.writes.items ≡ []
+      nothing_written : (w : World) → w.collections ≡ cs → (t : Tally) → x.end ≡ Ok t → ChangesNone w (update (record { namespace = name; statements = ss }))
+          → x.writes.items ≡ []
       nothing_written w same t is none =
           let c : ComesTo cs name ss x.writes.items t = subst (EndsIn cs name ss x.writes.items) is u.end in
           let counts = none c.after (ap (λ (ds : List Collection). run_statements name 0 ss (not_updated ds)) same ∙ c.planned) in
           c.quiet counts.0 counts.1
 
-  pub updated_lawful : (now : List Collection) → IsLawfulState now → length name ≤ 255 → All (λ (s : UpdateStatement). IsRead s.change) ss → IsLawfulState (planned_or now (plan now))
+  pub updated_lawful : (now : List Collection) → IsLawfulState now → length name ≤ 255 → All (λ (s : UpdateStatement). IsRead s.change) ss
+      → IsLawfulState (planned_or now (plan now))
   updated_lawful now h short read = at (plan now) refl
     where
       at : (p : Result (List Collection) Refusal) → plan now ≡ p → IsLawfulState (planned_or now p)
@@ -189,10 +199,12 @@ module _ {D : Type 0} (history : D → History) (name : List ℕ) (ss : List Upd
   refused_makes new e makes = performs_refused history (reply_in (run_all name ss now)) (plan name ss now) (run (world old)) old new runs e makes
 
   -- it was refused before anything was written
-  unwritten : (mid : Engine D) (e : Refusal) → OnlyReads history old mid → (KeepsWord (disk_history history mid) → (plan name ss now ≡ Err e) ⊎ HasCause history (file_of old) (file_of mid) e) → Runs (Err e) mid
+  unwritten : (mid : Engine D) (e : Refusal) → OnlyReads history old mid
+      → (KeepsWord (disk_history history mid) → (plan name ss now ≡ Err e) ⊎ HasCause history (file_of old) (file_of mid) e) → Runs (Err e) mid
   unwritten mid e reads why = refused_makes mid e (makes_none history (plan name ss now) old mid e reads why)
 
-  done_makes : (new : Engine D) (d : Pairs) → (KeepsWord (disk_history history new) → IsReplied now name ss d) → Makes history (plan name ss now) (Ok tt) old new → Runs (Ok d) new
+  done_makes : (new : Engine D) (d : Pairs) → (KeepsWord (disk_history history new) → IsReplied now name ss d)
+      → Makes history (plan name ss now) (Ok tt) old new → Runs (Ok d) new
   done_makes new d replied makes = record {
     sound = makes.sound;
     goes = makes.goes;
@@ -234,7 +246,8 @@ module _ {D : Type 0} (history : D → History) (name : List ℕ) (ss : List Upd
         does = λ k.
             let u = tries.answers k in
             let r = replied_done now name ss x.writes.items x.end d u.end replies in
-            nothing_done name ss now x u none r.after r.is ∙ ap (λ (cs : List Collection). let q : Result (List Collection) Refusal = Ok cs in q) (sym (now_same history old mid tries.reads));
+            nothing_done name ss now x u none r.after r.is
+            ∙ ap (λ (cs : List Collection). let q : Result (List Collection) Refusal = Ok cs in q) (sym (now_same history old mid tries.reads));
         refused = tt;
       })
 
@@ -260,13 +273,17 @@ module _ {D : Type 0} (history : D → History) (name : List ℕ) (ss : List Upd
       pub update_unnoted : (e : Refusal) → Edits_of (Err e) → Runs (Err e) last
       update_unnoted e notes = unwritten last e (reads_on history old mid last tries.reads notes.reads) (λ k.
           elim (notes.answers k (its_writes notes.reads k)) [
-            | inl is ↦ inl (written_refused name ss now x (its_update notes.reads k) some e (ap (written_in name (map seen x.writes.items)) (sym same_mid) ∙ is))
-            | inr cause ↦ inr (cause_from history old.file mid.file last.file tries.reads.goes (word_before history mid.file last.file notes.reads.goes k) e cause)
+            | inl is ↦ inl
+                (written_refused name ss now x (its_update notes.reads k) some e (ap (written_in name (map seen x.writes.items)) (sym same_mid) ∙ is))
+            | inr cause ↦ inr
+                (cause_from history old.file mid.file last.file tries.reads.goes (word_before history mid.file last.file notes.reads.goes k) e cause)
           ])
 
       module _ (edits : List Edit) (notes : Edits_of (Ok edits)) where
         noted_now : KeepsWord (disk_history history last) → ArePlanned edits now (written_in name (map seen x.writes.items) now)
-        noted_now k = subst (λ (cs : List Collection). ArePlanned edits cs (written_in name (map seen x.writes.items) cs)) same_mid (notes.answers k (its_writes notes.reads k))
+        noted_now k =
+            subst (λ (cs : List Collection). ArePlanned edits cs (written_in name (map seen x.writes.items) cs)) same_mid
+            (notes.answers k (its_writes notes.reads k))
 
         all_reads : OnlyReads history old last
         all_reads = reads_on history old mid last tries.reads notes.reads
@@ -289,14 +306,17 @@ module _ {D : Type 0} (history : D → History) (name : List ℕ) (ss : List Upd
               let u = its_update notes.reads k in
               let p = noted_now k in
               let r = replied_done now name ss x.writes.items x.end d u.end replies in
-              let there : ArePlanned edits now (plan name ss now) = record { next = p.next; is = written_done name ss now x u some p.next p.is r.after r.is; leads = p.leads } in
+              let there : ArePlanned edits now
+              (plan name ss now) = record { next = p.next; is = written_done name ss now x u some p.next p.is r.after r.is; leads = p.leads } in
               subst (λ (cs : List Collection). ArePlanned edits cs (plan name ss cs)) (sym same_last) there
 
           pub update_leads : KeepsWord (disk_history history last) → IsRunning last
-              → Leads edits (world last).collections (planned_or (world last).collections (plan name ss (world last).collections)) × states.IsLawfulState (planned_or (world last).collections (plan name ss (world last).collections))
+              → Leads edits (world last).collections (planned_or (world last).collections (plan name ss (world last).collections))
+              × states.IsLawfulState (planned_or (world last).collections (plan name ss (world last).collections))
           update_leads k running =
               let p = planned_now k in
-              leads_planned edits (world last).collections p.next (plan name ss (world last).collections) p.is (p.leads (lawful_now history last notes.reads.sound k running))
+              leads_planned edits (world last).collections p.next (plan name ss (world last).collections) p.is
+              (p.leads (lawful_now history last notes.reads.sound k running))
 
           module _ (new : Engine D) where
             abbrev Written : Result (Unit {0}) Refusal → Type 0
@@ -317,7 +337,8 @@ module _ {D : Type 0} (history : D → History) (name : List ℕ) (ss : List Upd
                 replied_done now name ss x.writes.items x.end d u.end replies) (writes_made (Ok tt) writes)
 
             -- no document changed, so none was written
-            pub nothing_changed : Written (Ok tt) → KeepsWord (disk_history history new) → ChangesNone (world old) (update (record { namespace = name; statements = ss })) → has_changes new ≡ has_changes old
+            pub nothing_changed : Written (Ok tt) → KeepsWord (disk_history history new)
+                → ChangesNone (world old) (update (record { namespace = name; statements = ss })) → has_changes new ≡ has_changes old
             nothing_changed writes k none = at x.end refl replies
               where
                 u : IsUpdate now name ss x

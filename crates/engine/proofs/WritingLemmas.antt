@@ -33,10 +33,12 @@ module _ {D : Type 0} (history : D → History) (old : Engine D) (h : IsSound hi
     cause = λ k. inl (inr (inl (refl, inl stopped)));
   }
 
-  module _ (edits : List Edit) (after : List Collection) (leads : KeepsWord (disk_history history old) → IsRunning old → Leads edits (world old).collections after × states.IsLawfulState after)
+  module _ (edits : List Edit) (after : List Collection) (leads : KeepsWord (disk_history history old) → IsRunning old
+      → Leads edits (world old).collections after × states.IsLawfulState after)
       (running : IsRunning old) (file : State D) where
     -- they were put into it
-    pub writes_done : (told : Told) → told.value ≡ record { start = old.told.value.start; now = after } → IsLawfulState after → Applies history edits (Ok tt) old.file file
+    pub writes_done : (told : Told) → told.value ≡ record { start = old.told.value.start; now = after } → IsLawfulState after
+        → Applies history edits (Ok tt) old.file file
         → Writes history after (Ok tt) old (record old { file = file; told = told; is_changed = true })
     writes_done told is lawful applies = record {
       sound = record {

@@ -25,7 +25,8 @@ month_here zero year month days h = refl
 month_here (suc most) year month days h =
     sym (ap (λ (b : Bool). cond b (month, days) (month_from most year (month + 1) (days - month_len year month))) (lt-ltb days (month_len year month) h))
 
-pub month_next : (most year month days : ℕ) → 0 < most → month_len year month ≤ days → month_from most year month days ≡ month_from (most - 1) year (month + 1) (days - month_len year month)
+pub month_next : (most year month days : ℕ) → 0 < most → month_len year month ≤ days
+    → month_from most year month days ≡ month_from (most - 1) year (month + 1) (days - month_len year month)
 unfolding month_from
 month_next zero year month days some h = absurd (omega arith)
 month_next (suc most) year month days some h =

@@ -1,5 +1,6 @@
 -- What std's `parse` gives of a whole number, in the words of the definitions here.
-use Rattle.std.proofs.Common.{◌≡◌, ℕ, zero, suc, ℤ, pos, neg_ℤ, ◌<◌, ◌≤◌, ◌^◌, Bool, true, false, cond, ◌&&◌, List, [], ◌∷◌, length, Result, Ok, Err, refl, sym, ap, arith, rules}
+use Rattle.std.proofs.Common.{◌≡◌, ℕ, zero, suc, ℤ, pos, neg_ℤ, ◌<◌, ◌≤◌, ◌^◌, Bool, true, false, cond, ◌&&◌, List, [], ◌∷◌, length, Result, Ok, Err, refl, sym}
+use Rattle.std.proofs.Common.{ap, arith, rules}
 use Rattle.std.specs.Prelude.{◌==◌, MatchResult}
 use Rattle.std.specs.Result.{OkIff}
 use Rattle.std.specs.List.{list_all}
@@ -71,7 +72,8 @@ plain_tells most s (Err e) is h =
     let big : most ≤ digits_value 10 s = omega arith in
     le-ltb (digits_value 10 s) most big
 
-tells : {E : Type 0} (w : Width) → 0 < 2 ^ hbits w → (s : List ℕ) (r : Result ℤ E) → ParsesSigned w 10 s r → is_whole s ≡ true → Tells r (2 ^ hbits w) (whole_value s)
+tells : {E : Type 0} (w : Width) → 0 < 2 ^ hbits w → (s : List ℕ) (r : Result ℤ E) → ParsesSigned w 10 s r → is_whole s ≡ true
+    → Tells r (2 ^ hbits w) (whole_value s)
 unfolding is_whole whole_value
 tells w some [] r h is = absurd cc
 tells w some (c ∷ cs) r h is = by (c == 45) refl is
@@ -81,12 +83,14 @@ tells w some (c ∷ cs) r h is = by (c == 45) refl is
     by true e d = minus_tells (2 ^ hbits w) cs r some d (parse_signed_minus own w (c ∷ cs) r h (eqb-true c 45 e))
     by false e d = plain_tells (2 ^ hbits w) (c ∷ cs) r d (parse_signed_digits own w (c ∷ cs) r h (are_digits-parts (c ∷ cs) d).1)
 
-pub whole_ok : (E : Type 0) (w : Width) → 0 < 2 ^ hbits w → (fault : ExtJsonFault) (s : List ℕ) (z : ℤ) → ParsesSigned {E = E} w 10 s (Ok z) → is_whole s ≡ true → whole_in (is_within (2 ^ hbits w)) fault s ≡ Ok z
+pub whole_ok : (E : Type 0) (w : Width) → 0 < 2 ^ hbits w → (fault : ExtJsonFault) (s : List ℕ) (z : ℤ) → ParsesSigned {E = E} w 10 s (Ok z)
+    → is_whole s ≡ true → whole_in (is_within (2 ^ hbits w)) fault s ≡ Ok z
 whole_ok E w some fault s z h is =
     let t = tells {E = E} w some s (Ok z) h is in
     rw (is, t.0) (ap Ok (sym t.1))
 
-pub whole_fails : (E : Type 0) (w : Width) → 0 < 2 ^ hbits w → (fault : ExtJsonFault) (s : List ℕ) (e : E) → ParsesSigned {E = E} w 10 s (Err e) → is_whole s ≡ true → whole_in (is_within (2 ^ hbits w)) fault s ≡ Err faults.Range
+pub whole_fails : (E : Type 0) (w : Width) → 0 < 2 ^ hbits w → (fault : ExtJsonFault) (s : List ℕ) (e : E) → ParsesSigned {E = E} w 10 s (Err e)
+    → is_whole s ≡ true → whole_in (is_within (2 ^ hbits w)) fault s ≡ Err faults.Range
 whole_fails E w some fault s e h is =
     let t = tells {E = E} w some s (Err e) h is in
     rw (is, t) refl

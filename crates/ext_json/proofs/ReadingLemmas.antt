@@ -1,5 +1,6 @@
 -- Pairs and items that are read one after the other, as a loop does.
-use Rattle.std.proofs.Common.{◌≡◌, ℕ, zero, suc, ◌+◌, ◌-◌, ◌<◌, ◌≤◌, Bool, true, false, cond, ◌||◌, List, [], ◌∷◌, ◌++◌, Option, Some, None, Result, Ok, Err, refl, sym, ap, subst, ◌∙◌, arith}
+use Rattle.std.proofs.Common.{◌≡◌, ℕ, zero, suc, ◌+◌, ◌-◌, ◌<◌, ◌≤◌, Bool, true, false, cond, ◌||◌, List, [], ◌∷◌, ◌++◌, Option, Some, None, Result, Ok, Err}
+use Rattle.std.proofs.Common.{refl, sym, ap, subst, ◌∙◌, arith}
 use Rattle.std.specs.Prelude.{◌==◌}
 use Rattle.std.specs.Str.{bytes_eq}
 use Rattle.std.specs.List.{list_any}
@@ -15,7 +16,8 @@ use Rattle.bson.specs.Lawful.{levels, pairs_levels, items_levels, NoZero, IsName
 use Rattle.bson.specs.Reading.{stands_in}
 use Rattle.bson.specs.EditsLaws.{pairs_of-push, items_of-push, IsDocument-append, IsArray-append, pairs_levels-append, items_levels-append}
 use Rattle.ext_json.specs.Tokens.{first, rest, key_at}
-use Rattle.ext_json.specs.Reading.{has_name, new_name, pairs_by, is_end, items_by, most_turns, value_by, value_at, as_document, as_array, pairs_within, items_within}
+use Rattle.ext_json.specs.Reading.{has_name, new_name, pairs_by, is_end, items_by, most_turns, value_by, value_at, as_document, as_array, pairs_within}
+use Rattle.ext_json.specs.Reading.{items_within}
 use Rattle.ext_json.specs.declared.fault.ExtJsonFault.{ExtJsonFault}
 use Rattle.ext_json.specs.declared.fault.ExtJsonFault.TheVariants as faults
 
@@ -55,21 +57,27 @@ or_swap true false c = refl
 or_swap false true c = refl
 or_swap false false c = refl
 
-stands_push : (ps : List Pair) (p : Pair) (other : List ℕ) → stands_in (names_of (ps ++ p ∷ [])) other ≡ (bytes_eq other p.name || stands_in (names_of ps) other)
+stands_push : (ps : List Pair) (p : Pair) (other : List ℕ)
+    → stands_in (names_of (ps ++ p ∷ [])) other ≡ (bytes_eq other p.name || stands_in (names_of ps) other)
 stands_push [] p other = refl
 stands_push (q ∷ qs) p other =
-    ap (λ (b : Bool). bytes_eq other q.name || b) (stands_push qs p other) ∙ or_swap (bytes_eq other q.name) (bytes_eq other p.name) (stands_in (names_of qs) other)
+    ap (λ (b : Bool). bytes_eq other q.name || b) (stands_push qs p other)
+    ∙ or_swap (bytes_eq other q.name) (bytes_eq other p.name) (stands_in (names_of qs) other)
 
-pub names_push : (names new : List (List ℕ)) (ps : List Pair) (p : Pair) (name : List ℕ) → p.name ≡ name → ((other : List ℕ) → stands_in names other ≡ stands_in (names_of ps) other)
-    → ((other : List ℕ) → stands_in new other ≡ (bytes_eq other name || stands_in names other)) → (other : List ℕ) → stands_in new other ≡ stands_in (names_of (ps ++ p ∷ [])) other
+pub names_push : (names new : List (List ℕ)) (ps : List Pair) (p : Pair) (name : List ℕ) → p.name ≡ name
+    → ((other : List ℕ) → stands_in names other ≡ stands_in (names_of ps) other)
+    → ((other : List ℕ) → stands_in new other ≡ (bytes_eq other name || stands_in names other)) → (other : List ℕ)
+    → stands_in new other ≡ stands_in (names_of (ps ++ p ∷ [])) other
 names_push names new ps p name is same grown other =
-    grown other ∙ ap (λ (b : Bool). bytes_eq other name || b) (same other) ∙ ap (λ (n : List ℕ). bytes_eq other n || stands_in (names_of ps) other) (sym is) ∙ sym (stands_push ps p other)
+    grown other ∙ ap (λ (b : Bool). bytes_eq other name || b) (same other) ∙ ap (λ (n : List ℕ). bytes_eq other n || stands_in (names_of ps) other) (sym is)
+    ∙ sym (stands_push ps p other)
 
 -- a name that may stand behind some is none of them
 new_name-is_new : (stood : List ℕ → Bool) (name : List ℕ) → new_name stood name ≡ Ok tt → stood name ≡ false
 new_name-is_new stood name = by (list_any (λ b. b == 0) name) (stood name)
   where
-    by : (zero_in is_in : Bool) → ◌≡◌ {A = Result (Unit {0}) ExtJsonFault} (cond zero_in (Err faults.Name) (cond is_in (Err faults.Repeated) (Ok tt))) (Ok tt) → is_in ≡ false
+    by : (zero_in is_in : Bool) → ◌≡◌ {A = Result (Unit {0}) ExtJsonFault} (cond zero_in (Err faults.Name) (cond is_in (Err faults.Repeated) (Ok tt))) (Ok tt)
+        → is_in ≡ false
     by true b e = absurd cc
     by false true e = absurd cc
     by false false e = refl
@@ -85,7 +93,8 @@ value_is (suc more) t ts = refl
 pub value_as : (more : ℕ) (t u : Token) (ts us : List Token) → t ≡ u → ts ≡ us → value_by (pairs_within more) (items_within more) t ts ≡ value_at more u us
 value_as more t u ts us e f = (λ i. value_by (pairs_within more) (items_within more) (e i) (f i)) ∙ value_is more u us
 
-pub some_pairs_within : (more : ℕ) (name : Option (List ℕ)) (ts : List Token) → 0 < more → as_document (pairs_by (value_at (more - 1)) most_turns no_pairs name ts) ≡ pairs_within more name ts
+pub some_pairs_within : (more : ℕ) (name : Option (List ℕ)) (ts : List Token) → 0 < more
+    → as_document (pairs_by (value_at (more - 1)) most_turns no_pairs name ts) ≡ pairs_within more name ts
 unfolding pairs_within
 some_pairs_within zero name ts some = absurd (omega arith)
 some_pairs_within (suc more) name ts some =
@@ -107,18 +116,22 @@ unfolding items_within
 items_deep zero ts e = refl
 items_deep (suc more) ts e = absurd (omega arith)
 
-pub document_fails : (more : ℕ) (name : Option (List ℕ)) (ts : List Token) (e : ExtJsonFault) → 0 < more → Fails faults.Memory e (pairs_by (value_at (more - 1)) most_turns no_pairs name ts)
+pub document_fails : (more : ℕ) (name : Option (List ℕ)) (ts : List Token) (e : ExtJsonFault) → 0 < more
+    → Fails faults.Memory e (pairs_by (value_at (more - 1)) most_turns no_pairs name ts)
     → Fails faults.Memory e (pairs_within more name ts)
 document_fails more name ts e some f = λ other. sym (some_pairs_within more name ts some) ∙ ap as_document (f other)
 
-pub document_found : (more : ℕ) (name : Option (List ℕ)) (ts us : List Token) (ps : Pairs) → 0 < more → pairs_by (value_at (more - 1)) most_turns no_pairs name ts ≡ Ok (ps, us)
+pub document_found : (more : ℕ) (name : Option (List ℕ)) (ts us : List Token) (ps : Pairs) → 0 < more
+    → pairs_by (value_at (more - 1)) most_turns no_pairs name ts ≡ Ok (ps, us)
     → pairs_within more name ts ≡ Ok (document ps, us)
 document_found more name ts us ps some e = sym (some_pairs_within more name ts some) ∙ ap as_document e
 
-pub array_fails : (more : ℕ) (ts : List Token) (e : ExtJsonFault) → 0 < more → Fails faults.Memory e (items_by (value_at (more - 1)) most_turns no_items ts) → Fails faults.Memory e (items_within more ts)
+pub array_fails : (more : ℕ) (ts : List Token) (e : ExtJsonFault) → 0 < more → Fails faults.Memory e (items_by (value_at (more - 1)) most_turns no_items ts)
+    → Fails faults.Memory e (items_within more ts)
 array_fails more ts e some f = λ other. sym (some_items_within more ts some) ∙ ap as_array (f other)
 
-pub array_found : (more : ℕ) (ts us : List Token) (vs : Items) → 0 < more → items_by (value_at (more - 1)) most_turns no_items ts ≡ Ok (vs, us) → items_within more ts ≡ Ok (array vs, us)
+pub array_found : (more : ℕ) (ts us : List Token) (vs : Items) → 0 < more → items_by (value_at (more - 1)) most_turns no_items ts ≡ Ok (vs, us)
+    → items_within more ts ≡ Ok (array vs, us)
 array_found more ts us vs some e = sym (some_items_within more ts some) ∙ ap as_array e
 
 -- ---- turns
@@ -134,7 +147,8 @@ turns_over turn le = le
 -- ---- pairs
 
 -- from this name on the pairs go on as from the first
-pub record PairsSoFar (more : ℕ) (start : Option (List ℕ)) (all : List Token) (turn : ℕ) (ps : List Pair) (name : Option (List ℕ)) (ts : List Token) : Type 0 where
+pub record PairsSoFar (more : ℕ) (start : Option (List ℕ)) (all : List Token) (turn : ℕ) (ps : List Pair) (name : Option (List ℕ))
+    (ts : List Token) : Type 0 where
   pub planned : pairs_by (value_at more) most_turns no_pairs start all ≡ pairs_by (value_at more) (most_turns - turn) (pairs_of ps) name ts
   pub lawful : IsDocument (pairs_of ps)
   pub depth : pairs_levels (pairs_of ps) ≤ more
@@ -149,51 +163,64 @@ pairs_start more start all ps none = subst (λ (qs : List Pair). PairsSoFar more
 turn_left : (turn : ℕ) → turn < most_turns → most_turns - turn ≡ suc (most_turns - (turn + 1))
 turn_left turn lt = omega arith
 
-pub pairs_over : (more : ℕ) (start : Option (List ℕ)) (all : List Token) (turn : ℕ) (ps : List Pair) (ts : List Token) → PairsSoFar more start all turn ps None ts → turn < most_turns
+pub pairs_over : (more : ℕ) (start : Option (List ℕ)) (all : List Token) (turn : ℕ) (ps : List Pair) (ts : List Token)
+    → PairsSoFar more start all turn ps None ts → turn < most_turns
     → pairs_by (value_at more) most_turns no_pairs start all ≡ Ok (pairs_of ps, ts)
 unfolding pairs_by
 pairs_over more start all turn ps ts h lt = h.planned ∙ ap (λ (n : ℕ). pairs_by (value_at more) n (pairs_of ps) None ts) (turn_left turn lt)
 
-pub pairs_ended : (more : ℕ) (start : Option (List ℕ)) (all : List Token) (turn : ℕ) (ps : List Pair) (name : Option (List ℕ)) (ts : List Token) → PairsSoFar more start all turn ps name ts → most_turns ≤ turn
+pub pairs_ended : (more : ℕ) (start : Option (List ℕ)) (all : List Token) (turn : ℕ) (ps : List Pair) (name : Option (List ℕ)) (ts : List Token)
+    → PairsSoFar more start all turn ps name ts → most_turns ≤ turn
     → pairs_by (value_at more) most_turns no_pairs start all ≡ Err faults.Syntax
 unfolding pairs_by
-pairs_ended more start all turn ps name ts h le = h.planned ∙ ap (λ (n : ℕ). pairs_by (value_at more) n (pairs_of ps) name ts) (let e : most_turns - turn ≡ 0 = omega arith in e)
+pairs_ended more start all turn ps name ts h le =
+    h.planned ∙ ap (λ (n : ℕ). pairs_by (value_at more) n (pairs_of ps) name ts) (let e : most_turns - turn ≡ 0 = omega arith in e)
 
 -- what comes next, in one turn
-pair_step : (more : ℕ) (start : Option (List ℕ)) (all : List Token) (turn : ℕ) (ps : List Pair) (name : List ℕ) (ts : List Token) → PairsSoFar more start all turn ps (Some name) ts → turn < most_turns
+pair_step : (more : ℕ) (start : Option (List ℕ)) (all : List Token) (turn : ℕ) (ps : List Pair) (name : List ℕ) (ts : List Token)
+    → PairsSoFar more start all turn ps (Some name) ts → turn < most_turns
     → pairs_by (value_at more) most_turns no_pairs start all ≡ pairs_by (value_at more) (suc (most_turns - (turn + 1))) (pairs_of ps) (Some name) ts
 pair_step more start all turn ps name ts h lt = h.planned ∙ ap (λ (n : ℕ). pairs_by (value_at more) n (pairs_of ps) (Some name) ts) (turn_left turn lt)
 
-stood_as : (names : List (List ℕ)) (ps : List Pair) (name : List ℕ) → ((other : List ℕ) → stands_in names other ≡ stands_in (names_of ps) other) → new_name (stands_in names) name ≡ new_name (has_name (pairs_of ps)) name
+stood_as : (names : List (List ℕ)) (ps : List Pair) (name : List ℕ) → ((other : List ℕ) → stands_in names other ≡ stands_in (names_of ps) other)
+    → new_name (stands_in names) name ≡ new_name (has_name (pairs_of ps)) name
 stood_as names ps name same =
     ap (λ (b : Bool). cond (list_any (λ x. x == 0) name) (Err faults.Name) (cond b (Err faults.Repeated) (Ok tt))) (same name ∙ stands-has_name ps name)
 
-fails_as : {X Y : Type 0} (e : ExtJsonFault) (p : Result X ExtJsonFault) (q : Result Y ExtJsonFault) → (p ≡ Err e → q ≡ Err e) → Fails faults.Memory e p → Fails faults.Memory e q
+fails_as : {X Y : Type 0} (e : ExtJsonFault) (p : Result X ExtJsonFault) (q : Result Y ExtJsonFault) → (p ≡ Err e → q ≡ Err e) → Fails faults.Memory e p
+    → Fails faults.Memory e q
 fails_as e p q f h = λ other. f (h other)
 
-pub name_fails : (more : ℕ) (start : Option (List ℕ)) (all : List Token) (turn : ℕ) (ps : List Pair) (name : List ℕ) (ts : List Token) (names : List (List ℕ)) (e : ExtJsonFault)
+pub name_fails : (more : ℕ) (start : Option (List ℕ)) (all : List Token) (turn : ℕ) (ps : List Pair) (name : List ℕ) (ts : List Token) (names : List (List ℕ))
+    (e : ExtJsonFault)
     → PairsSoFar more start all turn ps (Some name) ts → turn < most_turns → ((other : List ℕ) → stands_in names other ≡ stands_in (names_of ps) other)
     → Fails faults.Memory e (new_name (stands_in names) name) → Fails faults.Memory e (pairs_by (value_at more) most_turns no_pairs start all)
 unfolding pairs_by
 name_fails more start all turn ps name ts names e h lt same f =
     λ other. let g = sym (stood_as names ps name same) ∙ f other in pair_step more start all turn ps name ts h lt ∙ rw g refl
 
-pub value_fails : (more : ℕ) (start : Option (List ℕ)) (all : List Token) (turn : ℕ) (ps : List Pair) (name : List ℕ) (ts : List Token) (names : List (List ℕ)) (e : ExtJsonFault)
+pub value_fails : (more : ℕ) (start : Option (List ℕ)) (all : List Token) (turn : ℕ) (ps : List Pair) (name : List ℕ) (ts : List Token) (names : List (List ℕ))
+    (e : ExtJsonFault)
     → PairsSoFar more start all turn ps (Some name) ts → turn < most_turns → ((other : List ℕ) → stands_in names other ≡ stands_in (names_of ps) other)
-    → new_name (stands_in names) name ≡ Ok tt → Fails faults.Memory e (value_at more (first ts) (rest ts)) → Fails faults.Memory e (pairs_by (value_at more) most_turns no_pairs start all)
+    → new_name (stands_in names) name ≡ Ok tt → Fails faults.Memory e (value_at more (first ts) (rest ts))
+    → Fails faults.Memory e (pairs_by (value_at more) most_turns no_pairs start all)
 unfolding pairs_by
 value_fails more start all turn ps name ts names e h lt same is f =
     λ other. let g = sym (stood_as names ps name same) ∙ is in let v = f other in pair_step more start all turn ps name ts h lt ∙ rw (g, v) refl
 
-pub key_fails : (more : ℕ) (start : Option (List ℕ)) (all : List Token) (turn : ℕ) (ps : List Pair) (name : List ℕ) (ts us : List Token) (names : List (List ℕ)) (t : Tree) (e : ExtJsonFault)
+pub key_fails : (more : ℕ) (start : Option (List ℕ)) (all : List Token) (turn : ℕ) (ps : List Pair) (name : List ℕ) (ts us : List Token)
+    (names : List (List ℕ)) (t : Tree) (e : ExtJsonFault)
     → PairsSoFar more start all turn ps (Some name) ts → turn < most_turns → ((other : List ℕ) → stands_in names other ≡ stands_in (names_of ps) other)
-    → new_name (stands_in names) name ≡ Ok tt → value_at more (first ts) (rest ts) ≡ Ok (t, us) → key_at us ≡ Err e → pairs_by (value_at more) most_turns no_pairs start all ≡ Err e
+    → new_name (stands_in names) name ≡ Ok tt → value_at more (first ts) (rest ts) ≡ Ok (t, us) → key_at us ≡ Err e
+    → pairs_by (value_at more) most_turns no_pairs start all ≡ Err e
 unfolding pairs_by
 key_fails more start all turn ps name ts us names t e h lt same is v k =
     let g = sym (stood_as names ps name same) ∙ is in pair_step more start all turn ps name ts h lt ∙ rw (g, v, k) refl
 
-pair_read_as : (more : ℕ) (start : Option (List ℕ)) (all : List Token) (turn : ℕ) (ps : List Pair) (p : Pair) (ts us : List Token) (names : List (List ℕ)) (next : Option (List ℕ)) (vs : List Token)
-    → PairsSoFar more start all turn ps (Some p.name) ts → turn < most_turns → more ≤ 99 → ((other : List ℕ) → stands_in names other ≡ stands_in (names_of ps) other)
+pair_read_as : (more : ℕ) (start : Option (List ℕ)) (all : List Token) (turn : ℕ) (ps : List Pair) (p : Pair) (ts us : List Token) (names : List (List ℕ))
+    (next : Option (List ℕ)) (vs : List Token)
+    → PairsSoFar more start all turn ps (Some p.name) ts → turn < most_turns → more ≤ 99
+    → ((other : List ℕ) → stands_in names other ≡ stands_in (names_of ps) other)
     → new_name (stands_in names) p.name ≡ Ok tt → value_at more (first ts) (rest ts) ≡ Ok (tree p.value, us) → key_at us ≡ Ok (next, vs)
     → IsName p.name → IsTree (tree p.value) → levels (tree p.value) ≤ more
     → PairsSoFar more start all (turn + 1) (ps ++ p ∷ []) next vs
@@ -201,10 +228,13 @@ unfolding pairs_by
 pair_read_as more start all turn ps p ts us names next vs h lt deep same is v k named lawful fits =
     let g = sym (stood_as names ps p.name same) ∙ is in
     let lacks : Lacks (pairs_of ps) p.name = Lacks-from_name (pairs_of ps) p.name (new_name-is_new (has_name (pairs_of ps)) p.name g) in
-    let step : pairs_by (value_at more) most_turns no_pairs start all ≡ pairs_by (value_at more) (most_turns - (turn + 1)) (append (pairs_of ps) (pair p.name (tree p.value) no_pairs)) next vs
+    let step : pairs_by (value_at more) most_turns no_pairs start all
+    ≡ pairs_by (value_at more) (most_turns - (turn + 1)) (append (pairs_of ps) (pair p.name (tree p.value) no_pairs)) next vs
     = pair_step more start all turn ps p.name ts h lt ∙ rw (g, v, k) refl in
-    let doc : IsDocument (append (pairs_of ps) (pair p.name (tree p.value) no_pairs)) = IsDocument-append (pairs_of ps) p.name (tree p.value) h.lawful named lawful (omega arith) lacks in
-    let depth : pairs_levels (append (pairs_of ps) (pair p.name (tree p.value) no_pairs)) ≤ more = omega (arith, pairs_levels-append (pairs_of ps) (pair p.name (tree p.value) no_pairs), h.depth) in
+    let doc : IsDocument (append (pairs_of ps) (pair p.name (tree p.value) no_pairs)) =
+    IsDocument-append (pairs_of ps) p.name (tree p.value) h.lawful named lawful (omega arith) lacks in
+    let depth : pairs_levels (append (pairs_of ps) (pair p.name (tree p.value) no_pairs)) ≤ more =
+    omega (arith, pairs_levels-append (pairs_of ps) (pair p.name (tree p.value) no_pairs), h.depth) in
     let pushed = pairs_of-push ps p in
     record {
       planned = step ∙ ap (λ (qs : Pairs). pairs_by (value_at more) (most_turns - (turn + 1)) qs next vs) (sym pushed);
@@ -212,8 +242,10 @@ pair_read_as more start all turn ps p ts us names next vs h lt deep same is v k 
       depth = omega (arith, depth, ap pairs_levels pushed);
     }
 
-pub pair_read : (more : ℕ) (start : Option (List ℕ)) (all : List Token) (turn : ℕ) (ps : List Pair) (p : Pair) (name : List ℕ) (ts us : List Token) (names : List (List ℕ)) (next : Option (List ℕ)) (vs : List Token)
-    → p.name ≡ name → PairsSoFar more start all turn ps (Some name) ts → turn < most_turns → more ≤ 99 → ((other : List ℕ) → stands_in names other ≡ stands_in (names_of ps) other)
+pub pair_read : (more : ℕ) (start : Option (List ℕ)) (all : List Token) (turn : ℕ) (ps : List Pair) (p : Pair) (name : List ℕ) (ts us : List Token)
+    (names : List (List ℕ)) (next : Option (List ℕ)) (vs : List Token)
+    → p.name ≡ name → PairsSoFar more start all turn ps (Some name) ts → turn < most_turns → more ≤ 99
+    → ((other : List ℕ) → stands_in names other ≡ stands_in (names_of ps) other)
     → new_name (stands_in names) name ≡ Ok tt → value_at more (first ts) (rest ts) ≡ Ok (tree p.value, us) → key_at us ≡ Ok (next, vs)
     → IsName name → IsTree (tree p.value) → levels (tree p.value) ≤ more
     → PairsSoFar more start all (turn + 1) (ps ++ p ∷ []) next vs
@@ -239,7 +271,8 @@ item_step : (more : ℕ) (all : List Token) (turn : ℕ) (vs : List Value) (ts :
     → items_by (value_at more) most_turns no_items all ≡ items_by (value_at more) (suc (most_turns - (turn + 1))) (items_of vs) ts
 item_step more all turn vs ts h lt = h.planned ∙ ap (λ (n : ℕ). items_by (value_at more) n (items_of vs) ts) (turn_left turn lt)
 
-pub items_over : (more : ℕ) (all : List Token) (turn : ℕ) (vs : List Value) (ts : List Token) → ItemsSoFar more all turn vs ts → turn < most_turns → is_end (first ts) ≡ true
+pub items_over : (more : ℕ) (all : List Token) (turn : ℕ) (vs : List Value) (ts : List Token) → ItemsSoFar more all turn vs ts → turn < most_turns
+    → is_end (first ts) ≡ true
     → items_by (value_at more) most_turns no_items all ≡ Ok (items_of vs, rest ts)
 unfolding items_by
 items_over more all turn vs ts h lt is = item_step more all turn vs ts h lt ∙ rw is refl
@@ -247,21 +280,26 @@ items_over more all turn vs ts h lt is = item_step more all turn vs ts h lt ∙ 
 pub items_ended : (more : ℕ) (all : List Token) (turn : ℕ) (vs : List Value) (ts : List Token) → ItemsSoFar more all turn vs ts → most_turns ≤ turn
     → items_by (value_at more) most_turns no_items all ≡ Err faults.Syntax
 unfolding items_by
-items_ended more all turn vs ts h le = h.planned ∙ ap (λ (n : ℕ). items_by (value_at more) n (items_of vs) ts) (let e : most_turns - turn ≡ 0 = omega arith in e)
+items_ended more all turn vs ts h le =
+    h.planned ∙ ap (λ (n : ℕ). items_by (value_at more) n (items_of vs) ts) (let e : most_turns - turn ≡ 0 = omega arith in e)
 
-pub item_fails : (more : ℕ) (all : List Token) (turn : ℕ) (vs : List Value) (ts : List Token) (e : ExtJsonFault) → ItemsSoFar more all turn vs ts → turn < most_turns → is_end (first ts) ≡ false
+pub item_fails : (more : ℕ) (all : List Token) (turn : ℕ) (vs : List Value) (ts : List Token) (e : ExtJsonFault) → ItemsSoFar more all turn vs ts
+    → turn < most_turns → is_end (first ts) ≡ false
     → Fails faults.Memory e (value_at more (first ts) (rest ts)) → Fails faults.Memory e (items_by (value_at more) most_turns no_items all)
 unfolding items_by
 item_fails more all turn vs ts e h lt is f = λ other. let v = f other in item_step more all turn vs ts h lt ∙ rw (is, v) refl
 
-pub item_read : (more : ℕ) (all : List Token) (turn : ℕ) (vs : List Value) (v : Value) (ts us : List Token) → ItemsSoFar more all turn vs ts → turn < most_turns → more ≤ 98 → is_end (first ts) ≡ false
+pub item_read : (more : ℕ) (all : List Token) (turn : ℕ) (vs : List Value) (v : Value) (ts us : List Token) → ItemsSoFar more all turn vs ts
+    → turn < most_turns → more ≤ 98 → is_end (first ts) ≡ false
     → value_at more (first ts) (rest ts) ≡ Ok (tree v, us) → IsTree (tree v) → levels (tree v) ≤ more → ItemsSoFar more all (turn + 1) (vs ++ v ∷ []) us
 unfolding items_by
 item_read more all turn vs v ts us h lt deep is e lawful fits =
-    let step : items_by (value_at more) most_turns no_items all ≡ items_by (value_at more) (most_turns - (turn + 1)) (append_items (items_of vs) (item (tree v) no_items)) us
+    let step : items_by (value_at more) most_turns no_items all
+    ≡ items_by (value_at more) (most_turns - (turn + 1)) (append_items (items_of vs) (item (tree v) no_items)) us
     = item_step more all turn vs ts h lt ∙ rw (is, e) refl in
     let arr : IsArray (append_items (items_of vs) (item (tree v) no_items)) = IsArray-append (items_of vs) (tree v) h.lawful lawful (omega arith) in
-    let depth : items_levels (append_items (items_of vs) (item (tree v) no_items)) ≤ more = omega (arith, items_levels-append (items_of vs) (item (tree v) no_items), h.depth) in
+    let depth : items_levels (append_items (items_of vs) (item (tree v) no_items)) ≤ more =
+    omega (arith, items_levels-append (items_of vs) (item (tree v) no_items), h.depth) in
     let pushed = items_of-push vs v in
     record {
       planned = step ∙ ap (λ (us' : Items). items_by (value_at more) (most_turns - (turn + 1)) us' us) (sym pushed);

@@ -1,5 +1,6 @@
 -- What canonical writing put for a value that holds no other is read back.
-use Rattle.std.proofs.Common.{◌≡◌, ◌≢◌, ℕ, zero, suc, ℤ, pos, negsuc, neg_ℤ, ◌+◌, ◌*◌, ◌/◌, ◌%◌, ◌<◌, ◌^◌, Bool, true, false, cond, List, [], ◌∷◌, ◌++◌, length, Some, Ok, codes, FitsSigned, w32, w64, refl, sym, ap, subst, ◌∙◌, arith}
+use Rattle.std.proofs.Common.{◌≡◌, ◌≢◌, ℕ, zero, suc, ℤ, pos, negsuc, neg_ℤ, ◌+◌, ◌*◌, ◌/◌, ◌%◌, ◌<◌, ◌^◌, Bool, true, false, cond, List, [], ◌∷◌, ◌++◌, length}
+use Rattle.std.proofs.Common.{Some, Ok, codes, FitsSigned, w32, w64, refl, sym, ap, subst, ◌∙◌, arith}
 use Rattle.std.specs.Prelude.{◌==◌, nat_lt, decimal}
 use Rattle.std.specs.Fmt.{signed_decimal}
 use Rattle.std.specs.List.{list_all}
@@ -56,7 +57,8 @@ whole_digits (c ∷ cs) d = by (c == 45) refl
     minus_first b e h = let g = (are_digits-parts (45 ∷ cs) (subst (λ (x : ℕ). are_digits (x ∷ cs) ≡ true) e h)).1 in cc
 
     by : (b : Bool) → (c == 45) ≡ b
-        → (cond b (are_digits cs) (are_digits (c ∷ cs)) ≡ true) × (cond b (neg_ℤ (pos (digits_value 10 cs))) (pos (digits_value 10 (c ∷ cs))) ≡ pos (digits_value 10 (c ∷ cs)))
+        → (cond b (are_digits cs) (are_digits (c ∷ cs)) ≡ true)
+        × (cond b (neg_ℤ (pos (digits_value 10 cs))) (pos (digits_value 10 (c ∷ cs))) ≡ pos (digits_value 10 (c ∷ cs)))
     by true e = absurd (minus_first c (eqb-true c 45 e) d)
     by false e = (d, refl)
 
@@ -70,7 +72,8 @@ whole_decimal (negsuc n) h =
     let small : suc n < 2 ^ 64 = omega arith in
     (digits_of_decimal (suc n) small, ap (λ (m : ℕ). neg_ℤ (pos m)) (digits_value-decimal own (suc n) small))
 
-within : (k : ℕ) (z : ℤ) → is_within k z ≡ true → is_whole (signed_decimal z) ≡ true → whole_value (signed_decimal z) ≡ z → (fault : ExtJsonFault) → whole_in (is_within k) fault (signed_decimal z) ≡ Ok z
+within : (k : ℕ) (z : ℤ) → is_within k z ≡ true → is_whole (signed_decimal z) ≡ true → whole_value (signed_decimal z) ≡ z → (fault : ExtJsonFault)
+    → whole_in (is_within k) fault (signed_decimal z) ≡ Ok z
 within k z fits is same fault =
     let fits_as = ap (is_within k) same ∙ fits in
     rw (is, fits_as) (ap Ok same)
@@ -129,7 +132,8 @@ base64_back bytes h = ap or_wrapper (decode_of-encode_of standard bytes refl h)
 
 -- ---- wrappers
 
-opened : (more : ℕ) (name : List ℕ) (w : Wrapper) (ts : List Token) → wrapper_named name ≡ Some w → value_at more json.begin_object (json.key name ∷ ts) ≡ wrapped_at w ts
+opened : (more : ℕ) (name : List ℕ) (w : Wrapper) (ts : List Token) → wrapper_named name ≡ Some w
+    → value_at more json.begin_object (json.key name ∷ ts) ≡ wrapped_at w ts
 opened more name w ts e = sym (value_is more json.begin_object (json.key name ∷ ts)) ∙ rw e refl
 
 int32_name : wrapper_named (codes "$numberInt") ≡ Some wrappers.NumberInt
@@ -164,47 +168,64 @@ max_key_name : wrapper_named (codes "$maxKey") ≡ Some wrappers.MaxKey
 unfolding is_unsupported known_wrapper
 max_key_name = refl
 
-int32_wrapped : (z : ℤ) (us : List Token) → FitsSigned w32 z → wrapped_at wrappers.NumberInt (json.string (signed_decimal z) ∷ json.end_object ∷ us) ≡ Ok (scalar (int32 z), us)
+int32_wrapped : (z : ℤ) (us : List Token) → FitsSigned w32 z
+    → wrapped_at wrappers.NumberInt (json.string (signed_decimal z) ∷ json.end_object ∷ us) ≡ Ok (scalar (int32 z), us)
 unfolding wrapped_at content_at
 int32_wrapped z us h = rw (int32_back z h) refl
 
-int64_wrapped : (z : ℤ) (us : List Token) → FitsSigned w64 z → wrapped_at wrappers.NumberLong (json.string (signed_decimal z) ∷ json.end_object ∷ us) ≡ Ok (scalar (int64 z), us)
+int64_wrapped : (z : ℤ) (us : List Token) → FitsSigned w64 z
+    → wrapped_at wrappers.NumberLong (json.string (signed_decimal z) ∷ json.end_object ∷ us) ≡ Ok (scalar (int64 z), us)
 unfolding wrapped_at content_at
 int64_wrapped z us h = rw (int64_back z h faults.Wrapper) refl
 
-object_id_wrapped : (bytes : List ℕ) (us : List Token) → length bytes ≡ 12 → IsBytes bytes → wrapped_at wrappers.ObjectId (json.string (encode_lower bytes) ∷ json.end_object ∷ us) ≡ Ok (scalar (object_id bytes), us)
+object_id_wrapped : (bytes : List ℕ) (us : List Token) → length bytes ≡ 12 → IsBytes bytes
+    → wrapped_at wrappers.ObjectId (json.string (encode_lower bytes) ∷ json.end_object ∷ us) ≡ Ok (scalar (object_id bytes), us)
 unfolding wrapped_at content_at
 object_id_wrapped bytes us len h = rw (object_id_back bytes len h) refl
 
 date_wrapped : (z : ℤ) (us : List Token) → FitsSigned w64 z
-    → wrapped_at wrappers.Date (json.begin_object ∷ json.key (codes "$numberLong") ∷ json.string (signed_decimal z) ∷ json.end_object ∷ json.end_object ∷ us) ≡ Ok (scalar (date z), us)
+    → wrapped_at wrappers.Date (json.begin_object ∷ json.key (codes "$numberLong") ∷ json.string (signed_decimal z) ∷ json.end_object ∷ json.end_object ∷ us)
+    ≡ Ok (scalar (date z), us)
 unfolding wrapped_at content_at date_at
 date_wrapped z us h = rw (int64_back z h faults.Wrapper) refl
 
 binary_two : (bytes subtype : List ℕ) (us : List Token)
-    → two_at (codes "base64") (codes "subType") (json.begin_object ∷ json.key (codes "base64") ∷ json.string bytes ∷ json.key (codes "subType") ∷ json.string subtype ∷ json.end_object ∷ us) ≡ Ok ((json.string bytes, json.string subtype), us)
+    → two_at (codes "base64") (codes "subType")
+    (json.begin_object ∷ json.key (codes "base64") ∷ json.string bytes ∷ json.key (codes "subType") ∷ json.string subtype ∷ json.end_object ∷ us)
+    ≡ Ok ((json.string bytes, json.string subtype), us)
 unfolding two_at
 binary_two bytes subtype us = refl
 
 binary_wrapped : (subtype : ℕ) (bytes : List ℕ) (us : List Token) → subtype ≢ 2 → subtype < 256 → IsBytes bytes
-    → wrapped_at wrappers.Binary (json.begin_object ∷ json.key (codes "base64") ∷ json.string (encode_of standard bytes) ∷ json.key (codes "subType") ∷ json.string (encode_lower (subtype ∷ [])) ∷ json.end_object ∷ json.end_object ∷ us)
+    → wrapped_at wrappers.Binary
+    (json.begin_object ∷ json.key (codes "base64") ∷ json.string (encode_of standard bytes) ∷ json.key (codes "subType")
+    ∷ json.string (encode_lower (subtype ∷ [])) ∷ json.end_object ∷ json.end_object ∷ us)
     ≡ Ok (scalar (binary subtype bytes), us)
 unfolding wrapped_at content_at binary_at
 binary_wrapped subtype bytes us other lt h =
     rw (binary_two (encode_of standard bytes) (encode_lower (subtype ∷ [])) (json.end_object ∷ us), subtype_back subtype lt other, base64_back bytes h) refl
 
 timestamp_two : (seconds count : List ℕ) (us : List Token)
-    → two_at (codes "t") (codes "i") (json.begin_object ∷ json.key (codes "t") ∷ json.number seconds ∷ json.key (codes "i") ∷ json.number count ∷ json.end_object ∷ us) ≡ Ok ((json.number seconds, json.number count), us)
+    → two_at (codes "t") (codes "i")
+    (json.begin_object ∷ json.key (codes "t") ∷ json.number seconds ∷ json.key (codes "i") ∷ json.number count ∷ json.end_object ∷ us)
+    ≡ Ok ((json.number seconds, json.number count), us)
 unfolding two_at
 timestamp_two seconds count us = refl
 
 timestamp_wrapped : (n : ℕ) (us : List Token) → n < 2 ^ 64
-    → wrapped_at wrappers.Timestamp (json.begin_object ∷ json.key (codes "t") ∷ json.number (decimal (n / 2 ^ 32)) ∷ json.key (codes "i") ∷ json.number (decimal (n % 2 ^ 32)) ∷ json.end_object ∷ json.end_object ∷ us)
+    → wrapped_at wrappers.Timestamp
+    (json.begin_object ∷ json.key (codes "t") ∷ json.number (decimal (n / 2 ^ 32)) ∷ json.key (codes "i") ∷ json.number (decimal (n % 2 ^ 32))
+    ∷ json.end_object ∷ json.end_object ∷ us)
     ≡ Ok (scalar (timestamp n), us)
 unfolding wrapped_at content_at timestamp_at
 timestamp_wrapped n us h =
     let whole : n / 2 ^ 32 * 2 ^ 32 + n % 2 ^ 32 ≡ n = omega arith in
-    rw (timestamp_two (decimal (n / 2 ^ 32)) (decimal (n % 2 ^ 32)) (json.end_object ∷ us), half_back (n / 2 ^ 32) (omega arith), half_back (n % 2 ^ 32) (omega arith), whole) refl
+    rw (
+      timestamp_two (decimal (n / 2 ^ 32)) (decimal (n % 2 ^ 32)) (json.end_object ∷ us),
+      half_back (n / 2 ^ 32) (omega arith),
+      half_back (n % 2 ^ 32) (omega arith),
+      whole,
+    ) refl
 
 min_key_wrapped : (us : List Token) → wrapped_at wrappers.MinKey (json.number (codes "1") ∷ json.end_object ∷ us) ≡ Ok (scalar min_key, us)
 unfolding wrapped_at content_at one_at

@@ -1,5 +1,6 @@
 -- What canonical writing put for a document is read back.
-use Rattle.std.proofs.Common.{◌≡◌, ◌≢◌, ℕ, zero, suc, ◌+◌, ◌-◌, ◌/◌, ◌%◌, ◌<◌, ◌≤◌, ◌^◌, Bool, true, false, List, [], ◌∷◌, ◌++◌, length, Some, None, Result, Ok, refl, sym, ap, subst, ◌∙◌, append_assoc, arith, lit<}
+use Rattle.std.proofs.Common.{◌≡◌, ◌≢◌, ℕ, zero, suc, ◌+◌, ◌-◌, ◌/◌, ◌%◌, ◌<◌, ◌≤◌, ◌^◌, Bool, true, false, List, [], ◌∷◌, ◌++◌, length, Some, None, Result, Ok}
+use Rattle.std.proofs.Common.{refl, sym, ap, subst, ◌∙◌, append_assoc, arith, lit<}
 use Rattle.std.specs.Prelude.{◌==◌, ◌||◌}
 use Rattle.std.specs.List.{list_any}
 use Rattle.std.proofs.lemmas.Bool.{eqb-true}
@@ -11,7 +12,8 @@ use Rattle.json.specs.Print.{ArePrintable, IsNumber}
 use Rattle.json.proofs.Printed.Tokens.{tokens-print}
 use Rattle.json.proofs.Printed.Decimals.{IsNumber-decimal}
 use Rattle.bson.specs.Lawful.{levels, pairs_levels, items_levels, NoZero, IsName, Lacks, IsScalar, IsTree, IsPairs, IsItems, IsDocument}
-use Rattle.bson.specs.Tree.{Scalar, text, binary, object_id, boolean, date, null, int32, timestamp, int64, min_key, max_key, Tree, scalar, document, array, Pairs, no_pairs, pair, append, Items, no_items, item, append_items}
+use Rattle.bson.specs.Tree.{Scalar, text, binary, object_id, boolean, date, null, int32, timestamp, int64, min_key, max_key, Tree, scalar, document, array}
+use Rattle.bson.specs.Tree.{Pairs, no_pairs, pair, append, Items, no_items, item, append_items}
 use Rattle.bson.specs.Edits.{pairs_len, items_len}
 use Rattle.bson.specs.EditsLaws.{append-none, append-one, append_items-none, append_items-one}
 use Rattle.ext_json.specs.Written.{scalar_tokens, tree_tokens, pairs_tokens, items_tokens, document_tokens, canonical_text}
@@ -93,7 +95,8 @@ some_token (scalar max_key) = omega arith
 some_token (document ps) = omega arith
 some_token (array ts) = omega arith
 
-pair-length : (name : List ℕ) (t : Tree) (qs : Pairs) → length (pairs_tokens Canonical (pair name t qs)) ≡ 1 + length (tree_tokens Canonical t) + length (pairs_tokens Canonical qs)
+pair-length : (name : List ℕ) (t : Tree) (qs : Pairs)
+    → length (pairs_tokens Canonical (pair name t qs)) ≡ 1 + length (tree_tokens Canonical t) + length (pairs_tokens Canonical qs)
 unfolding pairs_tokens
 pair-length name t qs = omega (arith, length-append (tree_tokens Canonical t) (pairs_tokens Canonical qs))
 
@@ -119,14 +122,17 @@ items_len-tokens (item t ts) = omega (arith, item-length t ts, some_token t, ite
 
 -- ---- one turn
 
-pairs_end : (value : Token → List Token → Result (Tree × List Token) ExtJsonFault) (turns : ℕ) (done : Pairs) (us : List Token) → 0 < turns → pairs_by value turns done None us ≡ Ok (append done no_pairs, us)
+pairs_end : (value : Token → List Token → Result (Tree × List Token) ExtJsonFault) (turns : ℕ) (done : Pairs) (us : List Token) → 0 < turns
+    → pairs_by value turns done None us ≡ Ok (append done no_pairs, us)
 unfolding pairs_by
 pairs_end value zero done us some = absurd (omega arith)
 pairs_end value (suc turns) done us some = ap (λ (ps : Pairs). Ok (ps, us)) (sym (append-none done))
 
-pair_turn : (value : Token → List Token → Result (Tree × List Token) ExtJsonFault) (turns : ℕ) (done : Pairs) (name : List ℕ) (t : Tree) (qs : Pairs) (us : List Token) (r : Result (Pairs × List Token) ExtJsonFault)
+pair_turn : (value : Token → List Token → Result (Tree × List Token) ExtJsonFault) (turns : ℕ) (done : Pairs) (name : List ℕ) (t : Tree) (qs : Pairs)
+    (us : List Token) (r : Result (Pairs × List Token) ExtJsonFault)
     → 0 < turns → new_name (has_name done) name ≡ Ok tt
-    → value (first (tree_tokens Canonical t ++ (pairs_tokens Canonical qs ++ json.end_object ∷ us))) (rest (tree_tokens Canonical t ++ (pairs_tokens Canonical qs ++ json.end_object ∷ us))) ≡ Ok (t, pairs_tokens Canonical qs ++ json.end_object ∷ us)
+    → value (first (tree_tokens Canonical t ++ (pairs_tokens Canonical qs ++ json.end_object ∷ us)))
+    (rest (tree_tokens Canonical t ++ (pairs_tokens Canonical qs ++ json.end_object ∷ us))) ≡ Ok (t, pairs_tokens Canonical qs ++ json.end_object ∷ us)
     → pairs_by value (turns - 1) (append done (pair name t no_pairs)) (first_name qs) (after_name qs us) ≡ r
     → pairs_by value turns done (Some name) (after_name (pair name t qs) us) ≡ r
 unfolding pairs_by
@@ -134,7 +140,8 @@ pair_turn value zero done name t qs us r some new v more = absurd (omega arith)
 pair_turn value (suc turns) done name t qs us r some new v more =
     let left : suc turns - 1 ≡ turns = omega arith in
     let next = subst (λ (n : ℕ). pairs_by value n (append done (pair name t no_pairs)) (first_name qs) (after_name qs us) ≡ r) left more in
-    ap (λ (ts : List Token). pairs_by value (suc turns) done (Some name) ts) (append_assoc (tree_tokens Canonical t) (pairs_tokens Canonical qs) (json.end_object ∷ us))
+    ap (λ (ts : List Token). pairs_by value (suc turns) done (Some name) ts)
+    (append_assoc (tree_tokens Canonical t) (pairs_tokens Canonical qs) (json.end_object ∷ us))
     ∙ rw (new, v, key_of qs us) next
 
 items_end : (value : Token → List Token → Result (Tree × List Token) ExtJsonFault) (turns : ℕ) (done : Items) (us : List Token) → 0 < turns
@@ -143,9 +150,11 @@ unfolding items_by items_tokens
 items_end value zero done us some = absurd (omega arith)
 items_end value (suc turns) done us some = ap (λ (ts : Items). Ok (ts, us)) (sym (append_items-none done))
 
-item_turn : (value : Token → List Token → Result (Tree × List Token) ExtJsonFault) (turns : ℕ) (done : Items) (t : Tree) (vs : Items) (us : List Token) (r : Result (Items × List Token) ExtJsonFault)
+item_turn : (value : Token → List Token → Result (Tree × List Token) ExtJsonFault) (turns : ℕ) (done : Items) (t : Tree) (vs : Items) (us : List Token)
+    (r : Result (Items × List Token) ExtJsonFault)
     → 0 < turns
-    → value (first (tree_tokens Canonical t ++ (items_tokens Canonical vs ++ json.end_array ∷ us))) (rest (tree_tokens Canonical t ++ (items_tokens Canonical vs ++ json.end_array ∷ us))) ≡ Ok (t, items_tokens Canonical vs ++ json.end_array ∷ us)
+    → value (first (tree_tokens Canonical t ++ (items_tokens Canonical vs ++ json.end_array ∷ us)))
+    (rest (tree_tokens Canonical t ++ (items_tokens Canonical vs ++ json.end_array ∷ us))) ≡ Ok (t, items_tokens Canonical vs ++ json.end_array ∷ us)
     → items_by value (turns - 1) (append_items done (item t no_items)) (items_tokens Canonical vs ++ json.end_array ∷ us) ≡ r
     → items_by value turns done (items_tokens Canonical (item t vs) ++ json.end_array ∷ us) ≡ r
 unfolding items_by items_tokens
@@ -164,7 +173,8 @@ document_back : (more : ℕ) (ps : Pairs) (us : List Token) → 0 < more → wra
 unfolding tree_tokens
 document_back more ps us some plain read =
     sym (value_is more json.begin_object ((pairs_tokens Canonical ps ++ json.end_object ∷ []) ++ us))
-    ∙ rw (append_assoc (pairs_tokens Canonical ps) (json.end_object ∷ []) us, key_of ps us, plain) (document_found more (first_name ps) (after_name ps us) us ps some read)
+    ∙ rw (append_assoc (pairs_tokens Canonical ps) (json.end_object ∷ []) us, key_of ps us, plain)
+    (document_found more (first_name ps) (after_name ps us) us ps some read)
 
 array_back : (more : ℕ) (ts : Items) (us : List Token) → 0 < more
     → items_by (value_at (more - 1)) most_turns no_items (items_tokens Canonical ts ++ json.end_array ∷ us) ≡ Ok (ts, us)
@@ -172,9 +182,11 @@ array_back : (more : ℕ) (ts : Items) (us : List Token) → 0 < more
 unfolding tree_tokens
 array_back more ts us some read =
     sym (value_is more json.begin_array ((items_tokens Canonical ts ++ json.end_array ∷ []) ++ us))
-    ∙ rw (append_assoc (items_tokens Canonical ts) (json.end_array ∷ []) us) (array_found more (items_tokens Canonical ts ++ json.end_array ∷ us) us ts some read)
+    ∙ rw (append_assoc (items_tokens Canonical ts) (json.end_array ∷ []) us)
+    (array_found more (items_tokens Canonical ts ++ json.end_array ∷ us) us ts some read)
 
-leaf_back : (more : ℕ) (s : Scalar) (us : List Token) → IsScalar s → value_at more (first (tree_tokens Canonical (scalar s) ++ us)) (rest (tree_tokens Canonical (scalar s) ++ us)) ≡ Ok (scalar s, us)
+leaf_back : (more : ℕ) (s : Scalar) (us : List Token) → IsScalar s
+    → value_at more (first (tree_tokens Canonical (scalar s) ++ us)) (rest (tree_tokens Canonical (scalar s) ++ us)) ≡ Ok (scalar s, us)
 unfolding tree_tokens
 leaf_back more s us h = scalar_back more s us h
 
@@ -184,22 +196,27 @@ mutual
   value_back more (scalar s) us l w d n = leaf_back more s us l
   value_back more (document ps) us l w d n =
       document_back more ps us (omega arith) w.0
-      (pairs_back (more - 1) most_turns no_pairs ps us l w.1 (omega arith) (omega (arith, pairs_len-tokens ps, document-length ps)) (omega (arith, document-length ps)))
+      (pairs_back (more - 1) most_turns no_pairs ps us l w.1 (omega arith) (omega (arith, pairs_len-tokens ps, document-length ps))
+      (omega (arith, document-length ps)))
   value_back more (array ts) us l w d n =
       array_back more ts us (omega arith)
       (items_back (more - 1) most_turns no_items ts us l w (omega arith) (omega (arith, items_len-tokens ts, array-length ts)) (omega (arith, array-length ts)))
 
-  pairs_back : (more turns : ℕ) (done ps : Pairs) (us : List Token) → IsPairs (append done ps) → PairsHaveNoWrapper ps → pairs_levels ps ≤ more → pairs_len ps < turns → length (pairs_tokens Canonical ps) ≤ most_turns
+  pairs_back : (more turns : ℕ) (done ps : Pairs) (us : List Token) → IsPairs (append done ps) → PairsHaveNoWrapper ps → pairs_levels ps ≤ more
+      → pairs_len ps < turns → length (pairs_tokens Canonical ps) ≤ most_turns
       → pairs_by (value_at more) turns done (first_name ps) (after_name ps us) ≡ Ok (append done ps, us)
   pairs_back more turns done no_pairs us l w d n s = pairs_end (value_at more) turns done us (omega arith)
   pairs_back more turns done (pair name t qs) us l w d n s =
       pair_turn (value_at more) turns done name t qs us (Ok (append done (pair name t qs), us)) (omega arith)
       (new_ok done name (at_seam done name t qs l).0 (lacks_before done name t qs l))
-      (value_back more t (pairs_tokens Canonical qs ++ json.end_object ∷ us) (at_seam done name t qs l).1 w.0 (omega arith) (omega (arith, pair-length name t qs)))
-      (pairs_back more (turns - 1) (append done (pair name t no_pairs)) qs us (subst IsPairs (sym (append-one done name t qs)) l) w.1 (omega arith) (omega arith) (omega (arith, pair-length name t qs))
+      (value_back more t (pairs_tokens Canonical qs ++ json.end_object ∷ us) (at_seam done name t qs l).1 w.0 (omega arith)
+      (omega (arith, pair-length name t qs)))
+      (pairs_back more (turns - 1) (append done (pair name t no_pairs)) qs us (subst IsPairs (sym (append-one done name t qs)) l) w.1 (omega arith)
+      (omega arith) (omega (arith, pair-length name t qs))
       ∙ ap (λ (ps : Pairs). Ok (ps, us)) (append-one done name t qs))
 
-  items_back : (more turns : ℕ) (done ts : Items) (us : List Token) → IsItems ts → ItemsHaveNoWrapper ts → items_levels ts ≤ more → items_len ts < turns → length (items_tokens Canonical ts) ≤ most_turns
+  items_back : (more turns : ℕ) (done ts : Items) (us : List Token) → IsItems ts → ItemsHaveNoWrapper ts → items_levels ts ≤ more → items_len ts < turns
+      → length (items_tokens Canonical ts) ≤ most_turns
       → items_by (value_at more) turns done (items_tokens Canonical ts ++ json.end_array ∷ us) ≡ Ok (append_items done ts, us)
   items_back more turns done no_items us l w d n s = items_end (value_at more) turns done us (omega arith)
   items_back more turns done (item t vs) us l w d n s =
@@ -249,7 +266,8 @@ mutual
   items_printable no_items h = tt
   items_printable (item t ts) h = printed_both (tree_tokens Canonical t) (items_tokens Canonical ts) (tree_printable t h.0) (items_printable ts h.1)
 
-tokens_back : (ps : Pairs) → pairs_by (value_at 99) most_turns no_pairs (first_name ps) (after_name ps []) ≡ Ok (ps, []) → document_in (tree_tokens Canonical (document ps)) ≡ Ok ps
+tokens_back : (ps : Pairs) → pairs_by (value_at 99) most_turns no_pairs (first_name ps) (after_name ps []) ≡ Ok (ps, [])
+    → document_in (tree_tokens Canonical (document ps)) ≡ Ok ps
 unfolding tree_tokens
 tokens_back ps read = rw (key_of ps [], read) refl
 
@@ -257,9 +275,11 @@ fewer : (n : ℕ) → n < 2 ^ 64 → n ≤ most_turns
 unfolding most_turns
 fewer n h = omega arith
 
-pub canonical_back : (ps : Pairs) → IsDocument ps → PairsHaveNoWrapper ps → length (document_tokens Canonical ps) < 2 ^ 64 → document_at (canonical_text ps) ≡ Ok ps
+pub canonical_back : (ps : Pairs) → IsDocument ps → PairsHaveNoWrapper ps → length (document_tokens Canonical ps) < 2 ^ 64
+    → document_at (canonical_text ps) ≡ Ok ps
 unfolding document_at
 canonical_back ps h w n =
     let few : length (tree_tokens Canonical (document ps)) ≤ most_turns = fewer _ n in
     ap document_in (tokens-print (tree_tokens Canonical (document ps)) (tree_printable (document ps) h.lawful))
-    ∙ tokens_back ps (pairs_back 99 most_turns no_pairs ps [] h.lawful w h.depth (omega (arith, pairs_len-tokens ps, document-length ps)) (omega (arith, document-length ps)))
+    ∙ tokens_back ps
+    (pairs_back 99 most_turns no_pairs ps [] h.lawful w h.depth (omega (arith, pairs_len-tokens ps, document-length ps)) (omega (arith, document-length ps)))

@@ -18,18 +18,21 @@ use Rattle.bson.specs.EditsLaws.{pairs_of-push, items_of-push}
 use Rattle.ext_json.specs.declared.form.Form.{Form}
 use Rattle.ext_json.specs.Written.{CanWrite, tree_tokens, pairs_tokens, items_tokens}
 
-pub pairs_tokens-push : (form : Form) (ps : Pairs) (name : List ℕ) (t : Tree) → pairs_tokens form (append ps (pair name t no_pairs)) ≡ pairs_tokens form ps ++ json.key name ∷ tree_tokens form t
+pub pairs_tokens-push : (form : Form) (ps : Pairs) (name : List ℕ) (t : Tree)
+    → pairs_tokens form (append ps (pair name t no_pairs)) ≡ pairs_tokens form ps ++ json.key name ∷ tree_tokens form t
 unfolding pairs_tokens
 pairs_tokens-push form no_pairs name t = ap (λ (ts : List Token). json.key name ∷ ts) (append-nil (tree_tokens form t))
 pairs_tokens-push form (pair other u ps) name t =
     ap (λ (ts : List Token). json.key other ∷ (tree_tokens form u ++ ts)) (pairs_tokens-push form ps name t)
     ∙ ap (λ (ts : List Token). json.key other ∷ ts) (sym (append_assoc (tree_tokens form u) (pairs_tokens form ps) (json.key name ∷ tree_tokens form t)))
 
-pub items_tokens-push : (form : Form) (ts : Items) (t : Tree) → items_tokens form (append_items ts (item t no_items)) ≡ items_tokens form ts ++ tree_tokens form t
+pub items_tokens-push : (form : Form) (ts : Items) (t : Tree)
+    → items_tokens form (append_items ts (item t no_items)) ≡ items_tokens form ts ++ tree_tokens form t
 unfolding items_tokens
 items_tokens-push form no_items t = append-nil (tree_tokens form t)
 items_tokens-push form (item u ts) t =
-    ap (λ (us : List Token). tree_tokens form u ++ us) (items_tokens-push form ts t) ∙ sym (append_assoc (tree_tokens form u) (items_tokens form ts) (tree_tokens form t))
+    ap (λ (us : List Token). tree_tokens form u ++ us) (items_tokens-push form ts t)
+    ∙ sym (append_assoc (tree_tokens form u) (items_tokens form ts) (tree_tokens form t))
 
 -- one pair more
 pub pair_put : (form : Form) (ps : List Pair) (i : ℕ) (p : Pair) (front old named new : List Token) → i < length ps → p ≡ get_or ps i p
@@ -38,7 +41,8 @@ pub pair_put : (form : Form) (ps : List Pair) (i : ℕ) (p : Pair) (front old na
 pair_put form ps i p front old named new lt is e f g =
     let one : take (i + 1) ps ≡ take i ps ++ p ∷ [] = take_more ps i p lt ∙ ap (λ (q : Pair). take i ps ++ q ∷ []) (sym is) in
     let grown : pairs_tokens form (pairs_of (take (i + 1) ps)) ≡ pairs_tokens form (pairs_of (take i ps)) ++ json.key p.name ∷ tree_tokens form (tree p.value)
-    = ap (λ (xs : List Pair). pairs_tokens form (pairs_of xs)) one ∙ ap (pairs_tokens form) (pairs_of-push (take i ps) p) ∙ pairs_tokens-push form (pairs_of (take i ps)) p.name (tree p.value) in
+    = ap (λ (xs : List Pair). pairs_tokens form (pairs_of xs)) one ∙ ap (pairs_tokens form) (pairs_of-push (take i ps) p)
+    ∙ pairs_tokens-push form (pairs_of (take i ps)) p.name (tree p.value) in
     g ∙ ap (λ (xs : List Token). xs ++ tree_tokens form (tree p.value)) f
     ∙ append_assoc old (json.key p.name ∷ []) (tree_tokens form (tree p.value))
     ∙ ap (λ (xs : List Token). xs ++ json.key p.name ∷ tree_tokens form (tree p.value)) e
@@ -52,7 +56,8 @@ pub item_put : (form : Form) (vs : List Value) (i : ℕ) (v : Value) (front old 
 item_put form vs i v front old new lt is e g =
     let one : take (i + 1) vs ≡ take i vs ++ v ∷ [] = take_more vs i v lt ∙ ap (λ (w : Value). take i vs ++ w ∷ []) (sym is) in
     let grown : items_tokens form (items_of (take (i + 1) vs)) ≡ items_tokens form (items_of (take i vs)) ++ tree_tokens form (tree v)
-    = ap (λ (xs : List Value). items_tokens form (items_of xs)) one ∙ ap (items_tokens form) (items_of-push (take i vs) v) ∙ items_tokens-push form (items_of (take i vs)) (tree v) in
+    = ap (λ (xs : List Value). items_tokens form (items_of xs)) one ∙ ap (items_tokens form) (items_of-push (take i vs) v)
+    ∙ items_tokens-push form (items_of (take i vs)) (tree v) in
     g ∙ ap (λ (xs : List Token). xs ++ tree_tokens form (tree v)) e
     ∙ append_assoc front (items_tokens form (items_of (take i vs))) (tree_tokens form (tree v))
     ∙ ap (λ (xs : List Token). front ++ xs) (sym grown)
@@ -69,7 +74,8 @@ no_item_put form (v ∷ vs) front = sym (append-nil front)
 
 -- all of them, and the end
 pub document_put : (form : Form) (ps : List Pair) (d : Pairs) (i : ℕ) (before old new : List Token) → length ps ≤ i → pairs_of ps ≡ d
-    → old ≡ (before ++ json.begin_object ∷ []) ++ pairs_tokens form (pairs_of (take i ps)) → new ≡ old ++ json.end_object ∷ [] → new ≡ before ++ tree_tokens form (document d)
+    → old ≡ (before ++ json.begin_object ∷ []) ++ pairs_tokens form (pairs_of (take i ps)) → new ≡ old ++ json.end_object ∷ []
+    → new ≡ before ++ tree_tokens form (document d)
 unfolding tree_tokens
 document_put form ps d i before old new le same e g =
     let all : pairs_of (take i ps) ≡ d = ap pairs_of (take_all i ps le) ∙ same in
@@ -79,7 +85,8 @@ document_put form ps d i before old new le same e g =
     ∙ append_assoc before (json.begin_object ∷ []) (pairs_tokens form d ++ json.end_object ∷ [])
 
 pub array_put : (form : Form) (vs : List Value) (ts : Items) (i : ℕ) (before old new : List Token) → length vs ≤ i → items_of vs ≡ ts
-    → old ≡ (before ++ json.begin_array ∷ []) ++ items_tokens form (items_of (take i vs)) → new ≡ old ++ json.end_array ∷ [] → new ≡ before ++ tree_tokens form (array ts)
+    → old ≡ (before ++ json.begin_array ∷ []) ++ items_tokens form (items_of (take i vs)) → new ≡ old ++ json.end_array ∷ []
+    → new ≡ before ++ tree_tokens form (array ts)
 unfolding tree_tokens
 array_put form vs ts i before old new le same e g =
     let all : items_of (take i vs) ≡ ts = ap items_of (take_all i vs le) ∙ same in

@@ -82,16 +82,20 @@ module _ (descending : Bool) where
   back_told l f b h = sym (precedes-less descending (key_cmp l f)) ∙ h
 
   first_of_all : (k : Key) (ls : List Key)
-      → (precedes descending (key_cmp k (first_key descending k ls)) ≡ false) × AllByRecursion (λ l. precedes descending (key_cmp l (first_key descending k ls)) ≡ false) ls
+      → (precedes descending (key_cmp k (first_key descending k ls)) ≡ false)
+      × AllByRecursion (λ l. precedes descending (key_cmp l (first_key descending k ls)) ≡ false) ls
   unfolding in_order
   first_of_all k [] = (told k k (same_key (in_order descending) (directed_total descending) k), tt)
   first_of_all k (l ∷ ls) = by (precedes descending (key_cmp l k)) refl (first_of_all l ls) (first_of_all k ls)
     where
       by : (b : Bool) → precedes descending (key_cmp l k) ≡ b
-          → (precedes descending (key_cmp l (first_key descending l ls)) ≡ false) × AllByRecursion (λ m. precedes descending (key_cmp m (first_key descending l ls)) ≡ false) ls
-          → (precedes descending (key_cmp k (first_key descending k ls)) ≡ false) × AllByRecursion (λ m. precedes descending (key_cmp m (first_key descending k ls)) ≡ false) ls
+          → (precedes descending (key_cmp l (first_key descending l ls)) ≡ false)
+          × AllByRecursion (λ m. precedes descending (key_cmp m (first_key descending l ls)) ≡ false) ls
+          → (precedes descending (key_cmp k (first_key descending k ls)) ≡ false)
+          × AllByRecursion (λ m. precedes descending (key_cmp m (first_key descending k ls)) ≡ false) ls
           → (precedes descending (key_cmp k (first_key descending (if b then l else k) ls)) ≡ false)
-          × ((precedes descending (key_cmp l (first_key descending (if b then l else k) ls)) ≡ false) × AllByRecursion (λ m. precedes descending (key_cmp m (first_key descending (if b then l else k) ls)) ≡ false) ls)
+          × ((precedes descending (key_cmp l (first_key descending (if b then l else k) ls)) ≡ false)
+          × AllByRecursion (λ m. precedes descending (key_cmp m (first_key descending (if b then l else k) ls)) ≡ false) ls)
       by true e low high =
           let f = first_key descending l ls in
           let below = less_is (in_order descending l k) (back_told l k true e) in
@@ -108,7 +112,8 @@ module _ (descending : Bool) where
       front m (zero, lt, is) = (0, omega arith, is)
       front m (suc i, lt, is) = (suc (suc i), omega (arith, lt), is)
 
-      by : (b : Bool) → Contains (l ∷ ls) (first_key descending l ls) → Contains (k ∷ ls) (first_key descending k ls) → Contains (k ∷ l ∷ ls) (first_key descending (if b then l else k) ls)
+      by : (b : Bool) → Contains (l ∷ ls) (first_key descending l ls) → Contains (k ∷ ls) (first_key descending k ls)
+          → Contains (k ∷ l ∷ ls) (first_key descending (if b then l else k) ls)
       by true low high = Contains-append_right (k ∷ []) (l ∷ ls) (first_key descending l ls) low
       by false low high = front (first_key descending k ls) high
 

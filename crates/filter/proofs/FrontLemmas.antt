@@ -35,7 +35,8 @@ module _ {A : Type 0} (cmp : A → A → Ordering) where
   length-insert x [] = refl
   length-insert x (y ∷ ys) = by (cmp x y) (length-insert x ys)
     where
-      by : (c : Ordering) → length (insert_in_order cmp x ys) ≡ suc (length ys) → length (put_before c x y (insert_in_order cmp x ys) ys) ≡ suc (suc (length ys))
+      by : (c : Ordering) → length (insert_in_order cmp x ys) ≡ suc (length ys)
+          → length (put_before c x y (insert_in_order cmp x ys) ys) ≡ suc (suc (length ys))
       by Less later = refl
       by Equal later = refl
       by Greater later = ap suc later
@@ -85,8 +86,10 @@ module _ {A : Type 0} (cmp : A → A → Ordering) where
     is_put b [] = record { front = []; back = []; whole = refl; put = refl; above = tt }
     is_put b (y ∷ ys) = by (cmp b y) refl (is_put b ys)
       where
-        first : (c : Ordering) → cmp b y ≡ c → is_lt c ≡ is_lt c → put_before c b y (insert_in_order cmp b ys) ys ≡ b ∷ y ∷ ys → below cmp total y b ≡ false → IsPut b (y ∷ ys)
-        first c e s p n = record { front = []; back = y ∷ ys; whole = refl; put = ap (λ (o : Ordering). put_before o b y (insert_in_order cmp b ys) ys) e ∙ p; above = n }
+        first : (c : Ordering) → cmp b y ≡ c → is_lt c ≡ is_lt c → put_before c b y (insert_in_order cmp b ys) ys ≡ b ∷ y ∷ ys → below cmp total y b ≡ false
+            → IsPut b (y ∷ ys)
+        first c e s p n = record
+            { front = []; back = y ∷ ys; whole = refl; put = ap (λ (o : Ordering). put_before o b y (insert_in_order cmp b ys) ys) e ∙ p; above = n }
 
         by : (c : Ordering) → cmp b y ≡ c → IsPut b ys → IsPut b (y ∷ ys)
         by Less e later = first Less e refl refl (not_above cmp total b y Less e)
@@ -113,23 +116,29 @@ module _ {A : Type 0} (cmp : A → A → Ordering) where
     first-of-last b (x ∷ xs) back h = (h.0, first-of-last b xs back h.1)
 
     -- the first ones don't change where such a value is left out behind as many
-    without-last : (n : ℕ) (xs : List A) (b : A) (zs : List A) → n ≤ length xs → IsLast xs b → take n (sorted cmp (xs ++ b ∷ zs)) ≡ take n (sorted cmp (xs ++ zs))
+    without-last : (n : ℕ) (xs : List A) (b : A) (zs : List A) → n ≤ length xs → IsLast xs b
+        → take n (sorted cmp (xs ++ b ∷ zs)) ≡ take n (sorted cmp (xs ++ zs))
     without-last n xs b zs few last =
         let p = is_put b (sorted cmp zs) in
         let room : n ≤ length (onto xs p.front) = omega (arith, few, length-onto xs p.front) in
-        let with_it : sorted cmp (xs ++ b ∷ zs) ≡ onto xs p.front ++ b ∷ p.back = sorted-onto xs (b ∷ zs) ∙ ap (onto xs) p.put ∙ onto-front xs p.front (b ∷ p.back) (first-of-last b xs p.back last) in
-        let without : sorted cmp (xs ++ zs) ≡ onto xs p.front ++ p.back = sorted-onto xs zs ∙ ap (onto xs) p.whole ∙ onto-front xs p.front p.back (last-below b xs p.back last p.above) in
+        let with_it : sorted cmp (xs ++ b ∷ zs) ≡ onto xs p.front ++ b ∷ p.back =
+        sorted-onto xs (b ∷ zs) ∙ ap (onto xs) p.put ∙ onto-front xs p.front (b ∷ p.back) (first-of-last b xs p.back last) in
+        let without : sorted cmp (xs ++ zs) ≡ onto xs p.front ++ p.back =
+        sorted-onto xs zs ∙ ap (onto xs) p.whole ∙ onto-front xs p.front p.back (last-below b xs p.back last p.above) in
         ap (take n) with_it ∙ take-front n (onto xs p.front) (b ∷ p.back) room ∙ sym (take-front n (onto xs p.front) p.back room) ∙ ap (take n) (sym without)
 
-    without-lasts : (n : ℕ) (xs bs zs : List A) → n ≤ length xs → AllByRecursion (IsLast xs) bs → take n (sorted cmp (xs ++ (bs ++ zs))) ≡ take n (sorted cmp (xs ++ zs))
+    without-lasts : (n : ℕ) (xs bs zs : List A) → n ≤ length xs → AllByRecursion (IsLast xs) bs
+        → take n (sorted cmp (xs ++ (bs ++ zs))) ≡ take n (sorted cmp (xs ++ zs))
     without-lasts n xs [] zs few h = refl
     without-lasts n xs (b ∷ bs) zs few h = without-last n xs b (bs ++ zs) few h.0 ∙ without-lasts n xs bs zs few h.1
 
-    all-not-below : (x : A) (xs bs : List A) → AllByRecursion (λ y. below cmp total y x ≡ false) (xs ++ bs) → AllByRecursion (λ b. below cmp total b x ≡ false) bs
+    all-not-below : (x : A) (xs bs : List A) → AllByRecursion (λ y. below cmp total y x ≡ false) (xs ++ bs)
+        → AllByRecursion (λ b. below cmp total b x ≡ false) bs
     all-not-below x [] bs h = h
     all-not-below x (y ∷ ys) bs h = all-not-below x ys bs h.1
 
-    lasts-more : (x : A) (xs bs : List A) → AllByRecursion (λ b. below cmp total b x ≡ false) bs → AllByRecursion (IsLast xs) bs → AllByRecursion (IsLast (x ∷ xs)) bs
+    lasts-more : (x : A) (xs bs : List A) → AllByRecursion (λ b. below cmp total b x ≡ false) bs → AllByRecursion (IsLast xs) bs
+        → AllByRecursion (IsLast (x ∷ xs)) bs
     lasts-more x xs [] h t = tt
     lasts-more x xs (b ∷ bs) h t = ((h.0, t.0), lasts-more x xs bs h.1 t.1)
 
@@ -143,7 +152,9 @@ module _ {A : Type 0} (cmp : A → A → Ordering) where
 
     -- what is sorted first may come sorted
     sorted-twice : (xs ys : List A) → sorted cmp (sorted cmp xs ++ ys) ≡ sorted cmp (xs ++ ys)
-    sorted-twice xs ys = one_rising (below cmp total) (weak cmp total) (sorted cmp (sorted cmp xs ++ ys)) (sorted cmp (xs ++ ys)) (Rises-sorted cmp total (sorted cmp xs ++ ys)) (Rises-sorted cmp total (xs ++ ys)) same
+    sorted-twice xs ys =
+        one_rising (below cmp total) (weak cmp total) (sorted cmp (sorted cmp xs ++ ys)) (sorted cmp (xs ++ ys)) (Rises-sorted cmp total (sorted cmp xs ++ ys))
+        (Rises-sorted cmp total (xs ++ ys)) same
       where
         same : (w : A) → filter (ties (below cmp total) w) (sorted cmp (sorted cmp xs ++ ys)) ≡ filter (ties (below cmp total) w) (sorted cmp (xs ++ ys))
         same w =

@@ -1,5 +1,6 @@
 -- What a projection leaves is a document, and one pair or one item more of it.
-use Rattle.std.proofs.Common.{◌≡◌, ℕ, ◌+◌, ◌<◌, ◌≤◌, max, Bool, true, false, List, length, drop, get_or, Option, Some, None, refl, sym, ap, subst, ◌∙◌, arith, inl, inr}
+use Rattle.std.proofs.Common.{◌≡◌, ℕ, ◌+◌, ◌<◌, ◌≤◌, max, Bool, true, false, List, length, drop, get_or, Option, Some, None, refl, sym, ap, subst, ◌∙◌, arith}
+use Rattle.std.proofs.Common.{inl, inr}
 use Rattle.std.specs.Prelude.{◌⊎◌, not, if◌then◌else◌, option_map}
 use Rattle.std.specs.List.{list_any}
 use Rattle.bson.specs.Tree.{Tree, scalar, document, array, Pairs, no_pairs, pair, append, Items, no_items, item, append_items}
@@ -18,7 +19,8 @@ only-some : (b : Bool) (t u : Tree) → only b t ≡ Some u → t ≡ u
 only-some true t u e = cc
 only-some false t u e = absurd cc
 
-pick-some : (includes : Bool) (paths : List Path) (whole : Tree) (part : Option Tree) (u : Tree) → pick includes paths whole part ≡ Some u → (whole ≡ u) ⊎ (part ≡ Some u)
+pick-some : (includes : Bool) (paths : List Path) (whole : Tree) (part : Option Tree) (u : Tree) → pick includes paths whole part ≡ Some u
+    → (whole ≡ u) ⊎ (part ≡ Some u)
 pick-some includes paths whole part u e = by (is_none paths) (list_any is_end paths) e
   where
     by : (a b : Bool) → (if a then only (not includes) whole else if b then only includes whole else part) ≡ Some u → (whole ≡ u) ⊎ (part ≡ Some u)
@@ -26,8 +28,10 @@ pick-some includes paths whole part u e = by (is_none paths) (list_any is_end pa
     by false true e = inl (only-some includes whole u e)
     by false false e = inr e
 
-added : (name : List ℕ) (t : Tree) (ps : Pairs) → IsPairs (pair name t ps) → (qs : Pairs) (o : Option Tree) → ((u : Tree) → o ≡ Some u → IsTree u × (levels u ≤ levels t))
-    → IsPairs qs × (pairs_levels qs ≤ pairs_levels ps) → Lacks qs name → IsPairs (add_pair name o qs) × (pairs_levels (add_pair name o qs) ≤ max (levels t) (pairs_levels ps))
+added : (name : List ℕ) (t : Tree) (ps : Pairs) → IsPairs (pair name t ps) → (qs : Pairs) (o : Option Tree)
+    → ((u : Tree) → o ≡ Some u → IsTree u × (levels u ≤ levels t))
+    → IsPairs qs × (pairs_levels qs ≤ pairs_levels ps) → Lacks qs name
+    → IsPairs (add_pair name o qs) × (pairs_levels (add_pair name o qs) ≤ max (levels t) (pairs_levels ps))
 added name t ps h qs None kept rest lacks = (rest.0, omega (arith, rest.1))
 added name t ps h qs (Some u) kept rest lacks = let k = kept u refl in ((h.0, k.0, lacks, rest.0), omega (arith, k.1, rest.1))
 
@@ -66,12 +70,15 @@ module _ (includes : Bool) where
           (subst IsTree same inner.0, omega (arith, ap levels same, inner.1))
     ]
 
-    pub of_pairs-kept : (paths : List Path) (ps : Pairs) → IsPairs ps → IsPairs (of_pairs includes paths ps) × (pairs_levels (of_pairs includes paths ps) ≤ pairs_levels ps)
+    pub of_pairs-kept : (paths : List Path) (ps : Pairs) → IsPairs ps
+        → IsPairs (of_pairs includes paths ps) × (pairs_levels (of_pairs includes paths ps) ≤ pairs_levels ps)
     of_pairs-kept paths no_pairs h = (tt, omega arith)
     of_pairs-kept paths (pair name t ps) h =
-        added name t ps h (of_pairs includes paths ps) (of_tree includes (below name paths) t) (λ u e. of_tree-kept (below name paths) t u h.1 e) (of_pairs-kept paths ps h.3) (Lacks-of paths ps name h.2)
+        added name t ps h (of_pairs includes paths ps) (of_tree includes (below name paths) t) (λ u e. of_tree-kept (below name paths) t u h.1 e)
+        (of_pairs-kept paths ps h.3) (Lacks-of paths ps name h.2)
 
-    pub of_items-kept : (paths : List Path) (ts : Items) → IsItems ts → IsItems (of_items includes paths ts) × (items_levels (of_items includes paths ts) ≤ items_levels ts)
+    pub of_items-kept : (paths : List Path) (ts : Items) → IsItems ts
+        → IsItems (of_items includes paths ts) × (items_levels (of_items includes paths ts) ≤ items_levels ts)
     of_items-kept paths no_items h = (tt, omega arith)
     of_items-kept paths (item t ts) h =
         put t ts (of_items includes paths ts) (of_tree includes paths t) (λ u e. of_tree-kept paths t u h.0 e) (of_items-kept paths ts h.1)
@@ -96,20 +103,25 @@ item_added : (ts us : Items) (o : Option Tree) → append_items (append_items ts
 item_added ts us None = ap (λ (vs : Items). append_items vs us) (append_items-none ts)
 item_added ts us (Some t) = append_items-one ts t us
 
-pub pairs_more : (includes : Bool) (paths inner : List Path) (ps : List Pair) (i : ℕ) (p : Pair) (name : List ℕ) (value : Option Value) (out next whole : Pairs) → i < length ps → p ≡ get_or ps i p → name ≡ p.name
-    → inner ≡ below name paths → option_map tree value ≡ of_tree includes inner (tree p.value) → next ≡ append out (add_pair p.name (option_map tree value) no_pairs)
+pub pairs_more : (includes : Bool) (paths inner : List Path) (ps : List Pair) (i : ℕ) (p : Pair) (name : List ℕ) (value : Option Value)
+    (out next whole : Pairs) → i < length ps → p ≡ get_or ps i p → name ≡ p.name
+    → inner ≡ below name paths → option_map tree value ≡ of_tree includes inner (tree p.value)
+    → next ≡ append out (add_pair p.name (option_map tree value) no_pairs)
     → append out (of_pairs includes paths (pairs_of (drop i ps))) ≡ whole → append next (of_pairs includes paths (pairs_of (drop (i + 1) ps))) ≡ whole
 pairs_more includes paths inner ps i p name value out next whole lt is named inside left grown so_far =
     let rest = of_pairs includes paths (pairs_of (drop (i + 1) ps)) in
     ap (λ (qs : Pairs). append qs rest) grown
     ∙ pair_added out rest p.name (option_map tree value)
-    ∙ ap (λ (o : Option Tree). append out (add_pair p.name o rest)) (left ∙ (λ j. of_tree includes ((inside ∙ ap (λ (n : List ℕ). below n paths) named) j) (tree p.value)))
+    ∙ ap (λ (o : Option Tree). append out (add_pair p.name o rest))
+    (left ∙ (λ j. of_tree includes ((inside ∙ ap (λ (n : List ℕ). below n paths) named) j) (tree p.value)))
     ∙ sym (ap (λ (qs : List Pair). append out (of_pairs includes paths (pairs_of qs))) (drop_step ps i p lt is))
     ∙ so_far
 
-pub items_more : (includes : Bool) (paths : List Path) (vs : List Value) (i : ℕ) (v : Value) (value : Option Value) (out next whole : Items) → i < length vs → v ≡ get_or vs i v
+pub items_more : (includes : Bool) (paths : List Path) (vs : List Value) (i : ℕ) (v : Value) (value : Option Value) (out next whole : Items) → i < length vs
+    → v ≡ get_or vs i v
     → option_map tree value ≡ of_tree includes paths (tree v) → next ≡ append_items out (add_item (option_map tree value) no_items)
-    → append_items out (of_items includes paths (items_of (drop i vs))) ≡ whole → append_items next (of_items includes paths (items_of (drop (i + 1) vs))) ≡ whole
+    → append_items out (of_items includes paths (items_of (drop i vs))) ≡ whole
+    → append_items next (of_items includes paths (items_of (drop (i + 1) vs))) ≡ whole
 items_more includes paths vs i v value out next whole lt is left grown so_far =
     let rest = of_items includes paths (items_of (drop (i + 1) vs)) in
     ap (λ (us : Items). append_items us rest) grown
@@ -118,10 +130,12 @@ items_more includes paths vs i v value out next whole lt is left grown so_far =
     ∙ sym (ap (λ (ws : List Value). append_items out (of_items includes paths (items_of ws))) (drop_step vs i v lt is))
     ∙ so_far
 
-pub pairs_end : (includes : Bool) (paths : List Path) (ps : List Pair) (i : ℕ) (out whole : Pairs) → length ps ≤ i → append out (of_pairs includes paths (pairs_of (drop i ps))) ≡ whole → out ≡ whole
+pub pairs_end : (includes : Bool) (paths : List Path) (ps : List Pair) (i : ℕ) (out whole : Pairs) → length ps ≤ i
+    → append out (of_pairs includes paths (pairs_of (drop i ps))) ≡ whole → out ≡ whole
 pairs_end includes paths ps i out whole le so_far =
     sym (append-none out) ∙ sym (ap (λ (qs : List Pair). append out (of_pairs includes paths (pairs_of qs))) (drop_all i ps le)) ∙ so_far
 
-pub items_end : (includes : Bool) (paths : List Path) (vs : List Value) (i : ℕ) (out whole : Items) → length vs ≤ i → append_items out (of_items includes paths (items_of (drop i vs))) ≡ whole → out ≡ whole
+pub items_end : (includes : Bool) (paths : List Path) (vs : List Value) (i : ℕ) (out whole : Items) → length vs ≤ i
+    → append_items out (of_items includes paths (items_of (drop i vs))) ≡ whole → out ≡ whole
 items_end includes paths vs i out whole le so_far =
     sym (append_items-none out) ∙ sym (ap (λ (ws : List Value). append_items out (of_items includes paths (items_of ws))) (drop_all i vs le)) ∙ so_far

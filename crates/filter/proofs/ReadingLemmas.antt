@@ -1,5 +1,6 @@
 -- Steps of reading: one pair or one item more.
-use Rattle.std.proofs.Common.{◌≡◌, ℕ, zero, suc, ◌+◌, ◌<◌, ◌≤◌, false, List, [], ◌∷◌, ◌++◌, length, take, drop, get_or, Result, Ok, Err, refl, sym, ap, ◌∙◌, arith, drop-cons}
+use Rattle.std.proofs.Common.{◌≡◌, ℕ, zero, suc, ◌+◌, ◌<◌, ◌≤◌, false, List, [], ◌∷◌, ◌++◌, length, take, drop, get_or, Result, Ok, Err, refl, sym, ap, ◌∙◌}
+use Rattle.std.proofs.Common.{arith, drop-cons}
 use Rattle.std.specs.Prelude.{◌≢◌, ◌==◌}
 use Rattle.std.specs.Result.{IsErrAnd}
 use Rattle.std.proofs.lemmas.List.{drop_all, take_more}
@@ -42,7 +43,8 @@ pub append_conditions-none : (rs : Conditions) → append_conditions rs no_condi
 append_conditions-none no_conditions = refl
 append_conditions-none (condition r rs) = ap (condition r) (append_conditions-none rs)
 
-pub append_conditions-push : (out : List Made) (m : Made) (qs : Conditions) → append_conditions (conditions_of (out ++ m ∷ [])) qs ≡ append_conditions (conditions_of out) (condition (condition_of m) qs)
+pub append_conditions-push : (out : List Made) (m : Made) (qs : Conditions)
+    → append_conditions (conditions_of (out ++ m ∷ [])) qs ≡ append_conditions (conditions_of out) (condition (condition_of m) qs)
 append_conditions-push [] m qs = refl
 append_conditions-push (n ∷ ns) m qs = ap (condition (condition_of n)) (append_conditions-push ns m qs)
 
@@ -57,11 +59,15 @@ pub joined-none : (left : Result Conditions Refusal) → joined [] left ≡ left
 joined-none (Ok rs) = refl
 joined-none (Err e) = refl
 
-pub joined-more : (one : Result Condition Refusal) (others : Result Conditions Refusal) (out next : List Made) (m : Made) → one ≡ Ok (condition_of m) → next ≡ out ++ m ∷ [] → joined next others ≡ joined out (first one others)
-joined-more one (Ok rs) out next m is grown = ap (λ (ms : List Made). joined ms (Ok rs)) grown ∙ ap Ok (append_conditions-push out m rs) ∙ ap (λ (r : Result Condition Refusal). joined out (first r (Ok rs))) (sym is)
+pub joined-more : (one : Result Condition Refusal) (others : Result Conditions Refusal) (out next : List Made) (m : Made) → one ≡ Ok (condition_of m)
+    → next ≡ out ++ m ∷ [] → joined next others ≡ joined out (first one others)
+joined-more one (Ok rs) out next m is grown =
+    ap (λ (ms : List Made). joined ms (Ok rs)) grown ∙ ap Ok (append_conditions-push out m rs)
+    ∙ ap (λ (r : Result Condition Refusal). joined out (first r (Ok rs))) (sym is)
 joined-more one (Err e) out next m is grown = ap (λ (r : Result Condition Refusal). joined out (first r (Err e))) (sym is)
 
-pub joined-refused : (one : Result Condition Refusal) (others : Result Conditions Refusal) (out : List Made) (e : Refusal) → one ≡ Err e → joined out (first one others) ≡ Err e
+pub joined-refused : (one : Result Condition Refusal) (others : Result Conditions Refusal) (out : List Made) (e : Refusal) → one ≡ Err e
+    → joined out (first one others) ≡ Err e
 joined-refused one others out e is = ap (λ (r : Result Condition Refusal). joined out (first r others)) is
 
 module _ (one : List ℕ → Tree → Result Condition Refusal) (read : Pairs → Result Conditions Refusal) (none : read no_pairs ≡ Ok no_conditions)
@@ -73,43 +79,56 @@ module _ (one : List ℕ → Tree → Result Condition Refusal) (read : Pairs �
       ∙ more p.name (tree p.value) (pairs_of (drop (i + 1) ps))
       ∙ ap (λ (n : List ℕ). first (one n (tree p.value)) (read (pairs_of (drop (i + 1) ps)))) (sym named)
 
-  pub pairs_more : (ps : List Pair) (i : ℕ) (p : Pair) (name : List ℕ) (out next : List Made) (m : Made) (planned : Result Conditions Refusal) → i < length ps → p ≡ get_or ps i p → name ≡ p.name
-      → one name (tree p.value) ≡ Ok (condition_of m) → next ≡ out ++ m ∷ [] → joined out (read (pairs_of (drop i ps))) ≡ planned → joined next (read (pairs_of (drop (i + 1) ps))) ≡ planned
+  pub pairs_more : (ps : List Pair) (i : ℕ) (p : Pair) (name : List ℕ) (out next : List Made) (m : Made) (planned : Result Conditions Refusal) → i < length ps
+      → p ≡ get_or ps i p → name ≡ p.name
+      → one name (tree p.value) ≡ Ok (condition_of m) → next ≡ out ++ m ∷ [] → joined out (read (pairs_of (drop i ps))) ≡ planned
+      → joined next (read (pairs_of (drop (i + 1) ps))) ≡ planned
   pairs_more ps i p name out next m planned lt is named made grown so_far =
-      joined-more (one name (tree p.value)) (read (pairs_of (drop (i + 1) ps))) out next m made grown ∙ sym (ap (joined out) (taken ps i p name lt is named)) ∙ so_far
+      joined-more (one name (tree p.value)) (read (pairs_of (drop (i + 1) ps))) out next m made grown ∙ sym (ap (joined out) (taken ps i p name lt is named))
+      ∙ so_far
 
-  pub pairs_refused : (ps : List Pair) (i : ℕ) (p : Pair) (name : List ℕ) (out : List Made) (e : Refusal) (planned : Result Conditions Refusal) → i < length ps → p ≡ get_or ps i p → name ≡ p.name
+  pub pairs_refused : (ps : List Pair) (i : ℕ) (p : Pair) (name : List ℕ) (out : List Made) (e : Refusal) (planned : Result Conditions Refusal) → i < length ps
+      → p ≡ get_or ps i p → name ≡ p.name
       → one name (tree p.value) ≡ Err e → joined out (read (pairs_of (drop i ps))) ≡ planned → planned ≡ Err e
   pairs_refused ps i p name out e planned lt is named made so_far =
       sym so_far ∙ ap (joined out) (taken ps i p name lt is named) ∙ joined-refused (one name (tree p.value)) (read (pairs_of (drop (i + 1) ps))) out e made
 
-  pub pairs_end : (ps : List Pair) (i : ℕ) (out : List Made) (planned : Result Conditions Refusal) → length ps ≤ i → joined out (read (pairs_of (drop i ps))) ≡ planned → planned ≡ Ok (conditions_of out)
+  pub pairs_end : (ps : List Pair) (i : ℕ) (out : List Made) (planned : Result Conditions Refusal) → length ps ≤ i
+      → joined out (read (pairs_of (drop i ps))) ≡ planned → planned ≡ Ok (conditions_of out)
   pairs_end ps i out planned le so_far =
-      sym so_far ∙ ap (λ (qs : List Pair). joined out (read (pairs_of qs))) (drop_all i ps le) ∙ ap (joined out) none ∙ ap Ok (append_conditions-none (conditions_of out))
+      sym so_far ∙ ap (λ (qs : List Pair). joined out (read (pairs_of qs))) (drop_all i ps le) ∙ ap (joined out) none
+      ∙ ap Ok (append_conditions-none (conditions_of out))
 
 module _ (one : Tree → Result Condition Refusal) (read : Items → Result Conditions Refusal) (none : read no_items ≡ Ok no_conditions)
     (more : (t : Tree) (ts : Items) → read (item t ts) ≡ first (one t) (read ts)) where
-  took : (vs : List Value) (i : ℕ) (v : Value) → i < length vs → v ≡ get_or vs i v → read (items_of (drop i vs)) ≡ first (one (tree v)) (read (items_of (drop (i + 1) vs)))
+  took : (vs : List Value) (i : ℕ) (v : Value) → i < length vs → v ≡ get_or vs i v
+      → read (items_of (drop i vs)) ≡ first (one (tree v)) (read (items_of (drop (i + 1) vs)))
   took vs i v lt is = ap (λ (ws : List Value). read (items_of ws)) (drop_step vs i v lt is) ∙ more (tree v) (items_of (drop (i + 1) vs))
 
-  pub items_more : (vs : List Value) (i : ℕ) (v : Value) (out next : List Made) (m : Made) (planned : Result Conditions Refusal) → i < length vs → v ≡ get_or vs i v
-      → one (tree v) ≡ Ok (condition_of m) → next ≡ out ++ m ∷ [] → joined out (read (items_of (drop i vs))) ≡ planned → joined next (read (items_of (drop (i + 1) vs))) ≡ planned
+  pub items_more : (vs : List Value) (i : ℕ) (v : Value) (out next : List Made) (m : Made) (planned : Result Conditions Refusal) → i < length vs
+      → v ≡ get_or vs i v
+      → one (tree v) ≡ Ok (condition_of m) → next ≡ out ++ m ∷ [] → joined out (read (items_of (drop i vs))) ≡ planned
+      → joined next (read (items_of (drop (i + 1) vs))) ≡ planned
   items_more vs i v out next m planned lt is made grown so_far =
       joined-more (one (tree v)) (read (items_of (drop (i + 1) vs))) out next m made grown ∙ sym (ap (joined out) (took vs i v lt is)) ∙ so_far
 
-  pub items_refused : (vs : List Value) (i : ℕ) (v : Value) (out : List Made) (e : Refusal) (planned : Result Conditions Refusal) → i < length vs → v ≡ get_or vs i v
+  pub items_refused : (vs : List Value) (i : ℕ) (v : Value) (out : List Made) (e : Refusal) (planned : Result Conditions Refusal) → i < length vs
+      → v ≡ get_or vs i v
       → one (tree v) ≡ Err e → joined out (read (items_of (drop i vs))) ≡ planned → planned ≡ Err e
   items_refused vs i v out e planned lt is made so_far =
       sym so_far ∙ ap (joined out) (took vs i v lt is) ∙ joined-refused (one (tree v)) (read (items_of (drop (i + 1) vs))) out e made
 
-  pub items_end : (vs : List Value) (i : ℕ) (out : List Made) (planned : Result Conditions Refusal) → length vs ≤ i → joined out (read (items_of (drop i vs))) ≡ planned → planned ≡ Ok (conditions_of out)
+  pub items_end : (vs : List Value) (i : ℕ) (out : List Made) (planned : Result Conditions Refusal) → length vs ≤ i
+      → joined out (read (items_of (drop i vs))) ≡ planned → planned ≡ Ok (conditions_of out)
   items_end vs i out planned le so_far =
-      sym so_far ∙ ap (λ (ws : List Value). joined out (read (items_of ws))) (drop_all i vs le) ∙ ap (joined out) none ∙ ap Ok (append_conditions-none (conditions_of out))
+      sym so_far ∙ ap (λ (ws : List Value). joined out (read (items_of ws))) (drop_all i vs le) ∙ ap (joined out) none
+      ∙ ap Ok (append_conditions-none (conditions_of out))
 
 -- ---- conditions to be equal to each item
 
 pub equals_more : (vs : List Value) (i : ℕ) (v : Value) (out next : List Made) (m : Made) (planned : Conditions) → i < length vs → v ≡ get_or vs i v
-    → condition_of m ≡ asks (equal (tree v)) → next ≡ out ++ m ∷ [] → append_conditions (conditions_of out) (equals (items_of (drop i vs))) ≡ planned → append_conditions (conditions_of next) (equals (items_of (drop (i + 1) vs))) ≡ planned
+    → condition_of m ≡ asks (equal (tree v)) → next ≡ out ++ m ∷ [] → append_conditions (conditions_of out) (equals (items_of (drop i vs))) ≡ planned
+    → append_conditions (conditions_of next) (equals (items_of (drop (i + 1) vs))) ≡ planned
 equals_more vs i v out next m planned lt at made grown so_far =
     ap (λ (ms : List Made). append_conditions (conditions_of ms) (equals (items_of (drop (i + 1) vs)))) grown
     ∙ append_conditions-push out m (equals (items_of (drop (i + 1) vs)))
@@ -127,7 +146,8 @@ conditions_of-append : (ms ns : List Made) → conditions_of (ms ++ ns) ≡ appe
 conditions_of-append [] ns = refl
 conditions_of-append (m ∷ ms) ns = ap (condition (condition_of m)) (conditions_of-append ms ns)
 
-pub copied : (rs : List Made) (i : ℕ) (r m : Made) (out next : List Made) → i < length rs → r ≡ get_or rs i r → condition_of m ≡ condition_of r → next ≡ out ++ m ∷ []
+pub copied : (rs : List Made) (i : ℕ) (r m : Made) (out next : List Made) → i < length rs → r ≡ get_or rs i r → condition_of m ≡ condition_of r
+    → next ≡ out ++ m ∷ []
     → conditions_of out ≡ conditions_of (take i rs) → conditions_of next ≡ conditions_of (take (i + 1) rs)
 copied rs i r m out next lt at made grown so_far =
     ap conditions_of grown

@@ -1,5 +1,6 @@
 -- Steps of reading and applying a sort.
-use Rattle.std.proofs.Common.{◌≡◌, ℕ, zero, suc, ◌+◌, ◌-◌, ◌<◌, ◌≤◌, Bool, true, false, List, [], ◌∷◌, ◌++◌, length, drop, get_or, map, Option, Some, None, Result, Ok, Err, refl, sym, ap, subst, ◌∙◌, arith}
+use Rattle.std.proofs.Common.{◌≡◌, ℕ, zero, suc, ◌+◌, ◌-◌, ◌<◌, ◌≤◌, Bool, true, false, List, [], ◌∷◌, ◌++◌, length, drop, get_or, map, Option, Some, None}
+use Rattle.std.proofs.Common.{Result, Ok, Err, refl, sym, ap, subst, ◌∙◌, arith}
 use Rattle.std.specs.List.{flat_map}
 use Rattle.std.specs.Option.{unwrap_or}
 use Rattle.std.specs.Cmp.{IsTotalOrder, on_total, then_total, back_total}
@@ -21,7 +22,8 @@ use Rattle.value_order.specs.View.{key_of}
 use Rattle.value_order.specs.declared.texts.KeyPart.{KeyPart}
 use Rattle.filter.specs.Sort.{SortField, keys_of, first_key, key_among, sort_key, in_direction, compare_by, sorted, order}
 use Rattle.filter.specs.SortReading.{read_field, read_fields}
-use Rattle.filter.specs.SortKeys.{field_of, earlier, first_of, document_keys, first_or_null, keys_cmp, keys_held, ranked_cmp, numbered, with_keys, ranked_of, arranged}
+use Rattle.filter.specs.SortKeys.{field_of, earlier, first_of, document_keys, first_or_null, keys_cmp, keys_held, ranked_cmp, numbered, with_keys, ranked_of}
+use Rattle.filter.specs.SortKeys.{arranged}
 use Rattle.filter.specs.declared.sort.Field.{Field}
 use Rattle.filter.specs.declared.sorting.Ranked.{Ranked}
 use Rattle.filter.proofs.ReadingLemmas.{drop_step}
@@ -41,10 +43,12 @@ map-push : (out : List Field) (f : Field) (fs : List SortField) → map field_of
 map-push [] f fs = refl
 map-push (g ∷ gs) f fs = ap (λ (hs : List SortField). field_of g ∷ hs) (map-push gs f fs)
 
-joined-more : (one : Result SortField Refusal) (others : Result (List SortField) Refusal) (out next : List Field) (f : Field) → one ≡ Ok (field_of f) → next ≡ out ++ f ∷ []
+joined-more : (one : Result SortField Refusal) (others : Result (List SortField) Refusal) (out next : List Field) (f : Field) → one ≡ Ok (field_of f)
+    → next ≡ out ++ f ∷ []
     → joined (map field_of next) others ≡ joined (map field_of out) (then_fields one others)
 joined-more one (Ok fs) out next f is grown =
-    ap (λ (gs : List Field). Ok (map field_of gs ++ fs)) grown ∙ ap Ok (map-push out f fs) ∙ ap (λ (r : Result SortField Refusal). joined (map field_of out) (then_fields r (Ok fs))) (sym is)
+    ap (λ (gs : List Field). Ok (map field_of gs ++ fs)) grown ∙ ap Ok (map-push out f fs)
+    ∙ ap (λ (r : Result SortField Refusal). joined (map field_of out) (then_fields r (Ok fs))) (sym is)
 joined-more one (Err e) out next f is grown = ap (λ (r : Result SortField Refusal). joined (map field_of out) (then_fields r (Err e))) (sym is)
 
 taken : (more : ℕ) (ps : List Pair) (i : ℕ) (p : Pair) (name : List ℕ) → i < length ps → p ≡ get_or ps i p → name ≡ p.name
@@ -56,20 +60,26 @@ taken more ps i p name lt is named =
 one_less : (n : ℕ) → n < 32 → 32 - n ≡ suc (32 - (n + 1))
 one_less n h = omega arith
 
-pub fields_more : (ps : List Pair) (i : ℕ) (p : Pair) (name : List ℕ) (out next : List Field) (f : Field) (n : ℕ) (planned : Result (List SortField) Refusal) → i < length ps → p ≡ get_or ps i p → name ≡ p.name
+pub fields_more : (ps : List Pair) (i : ℕ) (p : Pair) (name : List ℕ) (out next : List Field) (f : Field) (n : ℕ) (planned : Result (List SortField) Refusal)
+    → i < length ps → p ≡ get_or ps i p → name ≡ p.name
     → read_field name (tree p.value) ≡ Ok (field_of f) → next ≡ out ++ f ∷ [] → length out < 32 → n ≡ length out + 1
-    → joined (map field_of out) (read_fields (32 - length out) (pairs_of (drop i ps))) ≡ planned → joined (map field_of next) (read_fields (32 - n) (pairs_of (drop (i + 1) ps))) ≡ planned
+    → joined (map field_of out) (read_fields (32 - length out) (pairs_of (drop i ps))) ≡ planned
+    → joined (map field_of next) (read_fields (32 - n) (pairs_of (drop (i + 1) ps))) ≡ planned
 fields_more ps i p name out next f n planned lt is named made grown room counted so_far =
     ap (λ (k : ℕ). joined (map field_of next) (read_fields (32 - k) (pairs_of (drop (i + 1) ps)))) counted
     ∙ joined-more (read_field name (tree p.value)) (read_fields (32 - (length out + 1)) (pairs_of (drop (i + 1) ps))) out next f made grown
-    ∙ sym (ap (joined (map field_of out)) (ap (λ (k : ℕ). read_fields k (pairs_of (drop i ps))) (one_less (length out) room) ∙ taken (32 - (length out + 1)) ps i p name lt is named))
+    ∙ sym (ap (joined (map field_of out))
+    (ap (λ (k : ℕ). read_fields k (pairs_of (drop i ps))) (one_less (length out) room) ∙ taken (32 - (length out + 1)) ps i p name lt is named))
     ∙ so_far
 
-pub fields_refused : (ps : List Pair) (i : ℕ) (p : Pair) (name : List ℕ) (out : List Field) (e : Refusal) (planned : Result (List SortField) Refusal) → i < length ps → p ≡ get_or ps i p → name ≡ p.name
-    → read_field name (tree p.value) ≡ Err e → length out < 32 → joined (map field_of out) (read_fields (32 - length out) (pairs_of (drop i ps))) ≡ planned → planned ≡ Err e
+pub fields_refused : (ps : List Pair) (i : ℕ) (p : Pair) (name : List ℕ) (out : List Field) (e : Refusal) (planned : Result (List SortField) Refusal)
+    → i < length ps → p ≡ get_or ps i p → name ≡ p.name
+    → read_field name (tree p.value) ≡ Err e → length out < 32 → joined (map field_of out) (read_fields (32 - length out) (pairs_of (drop i ps))) ≡ planned
+    → planned ≡ Err e
 fields_refused ps i p name out e planned lt is named made room so_far =
     sym so_far
-    ∙ ap (joined (map field_of out)) (ap (λ (k : ℕ). read_fields k (pairs_of (drop i ps))) (one_less (length out) room) ∙ taken (32 - (length out + 1)) ps i p name lt is named)
+    ∙ ap (joined (map field_of out))
+    (ap (λ (k : ℕ). read_fields k (pairs_of (drop i ps))) (one_less (length out) room) ∙ taken (32 - (length out + 1)) ps i p name lt is named)
     ∙ ap (λ (r : Result SortField Refusal). joined (map field_of out) (then_fields r (read_fields (32 - (length out + 1)) (pairs_of (drop (i + 1) ps))))) made
 
 -- ---- the order of keys
@@ -98,7 +108,8 @@ keys_by [] a b = refl
 keys_by (field ∷ fields) a b = ap (ordering_then (in_direction field.1 (key_cmp (sort_key field a) (sort_key field b)))) (keys_by fields a b)
 
 fields_total : (fields : List SortField) → IsTotalOrder (compare_by fields)
-fields_total fields = subst (λ (R : Pairs → Pairs → Ordering). IsTotalOrder R) (λ i a b. keys_by fields a b i) (on_total (document_keys fields) (keys_total fields))
+fields_total fields =
+    subst (λ (R : Pairs → Pairs → Ordering). IsTotalOrder R) (λ i a b. keys_by fields a b i) (on_total (document_keys fields) (keys_total fields))
 
 pub orders_stably : OrdersStably
 orders_stably fields = (
@@ -129,13 +140,15 @@ pub field_ties : (fields : List Field) (a b : List KeyPart) (i : ℕ) (f : Field
     → keys_cmp (map field_of (drop (i + 1) fields)) (map key_of (drop (i + 1) a)) (map key_of (drop (i + 1) b)) ≡ whole
 field_ties fields a b i f whole lt is tied so_far =
     (λ j. keys_cmp (map field_of (drop (i + 1) fields)) (sym (keys_after a i) j) (sym (keys_after b i) j))
-    ∙ ap (λ (o : Ordering). ordering_then o (keys_cmp (map field_of (drop (i + 1) fields)) (drop 1 (map key_of (drop i a))) (drop 1 (map key_of (drop i b))))) (sym tied)
+    ∙ ap (λ (o : Ordering). ordering_then o (keys_cmp (map field_of (drop (i + 1) fields)) (drop 1 (map key_of (drop i a))) (drop 1 (map key_of (drop i b)))))
+    (sym tied)
     ∙ sym (ap (λ (fs : List Field). keys_cmp (map field_of fs) (map key_of (drop i a)) (map key_of (drop i b))) (drop_step fields i f lt is))
     ∙ so_far
 
 -- ---- one key
 
-first_of-append : (descending : Bool) (found : Option Key) (ks ls : List Key) → first_of descending found (ks ++ ls) ≡ first_of descending (first_of descending found ks) ls
+first_of-append : (descending : Bool) (found : Option Key) (ks ls : List Key)
+    → first_of descending found (ks ++ ls) ≡ first_of descending (first_of descending found ks) ls
 first_of-append descending found [] ls = refl
 first_of-append descending found (k ∷ ks) ls = first_of-append descending (Some (earlier descending found k)) ks ls
 
@@ -148,8 +161,10 @@ key_among-first descending [] = refl
 key_among-first descending (k ∷ ks) = sym (ap (λ (o : Option Key). unwrap_or o (value (scalar null))) (first_of-some descending k ks))
 
 -- what was reached, one more
-pub reached_more : (descending : Bool) (rs : List Held) (i : ℕ) (r : Held) (found next whole : Option Key) → i < length rs → r ≡ get_or rs i r → next ≡ first_of descending found (keys_of (reached r))
-    → first_of descending found (flat_map keys_of (map reached (drop i rs))) ≡ whole → first_of descending next (flat_map keys_of (map reached (drop (i + 1) rs))) ≡ whole
+pub reached_more : (descending : Bool) (rs : List Held) (i : ℕ) (r : Held) (found next whole : Option Key) → i < length rs → r ≡ get_or rs i r
+    → next ≡ first_of descending found (keys_of (reached r))
+    → first_of descending found (flat_map keys_of (map reached (drop i rs))) ≡ whole
+    → first_of descending next (flat_map keys_of (map reached (drop (i + 1) rs))) ≡ whole
 reached_more descending rs i r found next whole lt is grown so_far =
     ap (λ (o : Option Key). first_of descending o (flat_map keys_of (map reached (drop (i + 1) rs)))) grown
     ∙ sym (first_of-append descending found (keys_of (reached r)) (flat_map keys_of (map reached (drop (i + 1) rs))))
@@ -160,7 +175,8 @@ pub reached_all : (f : Field) (ps : Pairs) (rs : List Held) (i : ℕ) (found : O
     → first_of f.descending found (flat_map keys_of (map reached (drop i rs))) ≡ first_of f.descending None (flat_map keys_of (map reached rs))
     → unwrap_or found (value (scalar null)) ≡ sort_key (field_of f) ps
 reached_all f ps rs i found le is so_far =
-    ap (λ (o : Option Key). unwrap_or o (value (scalar null))) (sym (ap (λ (qs : List Held). first_of f.descending found (flat_map keys_of (map reached qs))) (drop_all i rs le)) ∙ so_far)
+    ap (λ (o : Option Key). unwrap_or o (value (scalar null)))
+    (sym (ap (λ (qs : List Held). first_of f.descending found (flat_map keys_of (map reached qs))) (drop_all i rs le)) ∙ so_far)
     ∙ sym (key_among-first f.descending (flat_map keys_of (map reached rs)))
     ∙ ap (λ (all : List Reached). key_among f.descending (flat_map keys_of all)) is
 
@@ -194,12 +210,14 @@ numbered-documents n [] = refl
 numbered-documents n (ps ∷ documents) = ap (λ (qs : List Pairs). ps ∷ qs) (numbered-documents (n + 1) documents)
 
 pub arranged-documents : (fields : List SortField) (documents : List Pairs) → map (λ p. p.0) (arranged fields documents) ≡ order fields documents
-arranged-documents fields documents = sorted-map (λ p. p.0) (compare_by fields) (numbered 0 documents) ∙ ap (sorted (compare_by fields)) (numbered-documents 0 documents)
+arranged-documents fields documents =
+    sorted-map (λ p. p.0) (compare_by fields) (numbered 0 documents) ∙ ap (sorted (compare_by fields)) (numbered-documents 0 documents)
 
 map-place : (rs : List Ranked) → map (λ p. p.1) (map at_place rs) ≡ map (λ r. r.place) rs
 map-place [] = refl
 map-place (r ∷ rs) = ap (λ (ns : List ℕ). r.place ∷ ns) (map-place rs)
 
-pub places_in_order : (fields : List SortField) (rs sorts : List Ranked) (documents : List Pairs) → map ranked_of rs ≡ map (with_keys fields) (numbered 0 documents)
+pub places_in_order : (fields : List SortField) (rs sorts : List Ranked) (documents : List Pairs)
+    → map ranked_of rs ≡ map (with_keys fields) (numbered 0 documents)
     → sorts ≡ sorted (ranked_cmp fields) rs → map (λ r. r.place) sorts ≡ map (λ p. p.1) (arranged fields documents)
 places_in_order fields rs sorts documents made is = sym (map-place sorts) ∙ ap (map (λ p. p.1)) (ranked_in_order fields rs sorts documents made is)

@@ -35,7 +35,10 @@ module _ {X : Type 0} (lt : X → X → Bool) where
 
   pub Rises-far : (xs : List X) → ((i j : ℕ) (d : X) → i ≤ j → j < length xs → lt (get_or xs j d) (get_or xs i d) ≡ false) → Rises xs
   Rises-far [] far = tt
-  Rises-far (x ∷ xs) far = (none_below x xs (λ k within. far 0 (suc k) x (omega arith) (omega arith)), Rises-far xs (λ i j d le within. far (suc i) (suc j) d (omega arith) (omega arith)))
+  Rises-far (x ∷ xs) far = (
+    none_below x xs (λ k within. far 0 (suc k) x (omega arith) (omega arith)),
+    Rises-far xs (λ i j d le within. far (suc i) (suc j) d (omega arith) (omega arith)),
+  )
 
   next_above : (xs : List X) → Rises xs → (k : ℕ) (d : X) → suc k < length xs → lt (get_or xs (suc k) d) (get_or xs k d) ≡ false
   next_above [] h k d within = absurd (omega arith)
@@ -87,9 +90,12 @@ module _ {X : Type 0} (lt : X → X → Bool) where
         let above : lt y z ≡ false = member (ties lt y) (λ w. lt w z ≡ false) (z ∷ zs) (filter (ties lt y) ys) y here (irreflexive z, s.0) in
         let below : lt z y ≡ false = member (ties lt z) (λ w. lt w y ≡ false) (y ∷ ys) (filter (ties lt z) zs) z there (irreflexive y, r.0) in
         let tied : ties lt y z ≡ true = λ i. not (above i) && not (below i) in
-        let first : y ∷ filter (ties lt y) ys ≡ z ∷ filter (ties lt y) zs = sym here ∙ ap (λ (b : Bool). cond b (z ∷ filter (ties lt y) zs) (filter (ties lt y) zs)) tied in
+        let first : y ∷ filter (ties lt y) ys ≡ z ∷ filter (ties lt y) zs =
+        sym here ∙ ap (λ (b : Bool). cond b (z ∷ filter (ties lt y) zs) (filter (ties lt y) zs)) tied in
         let same : y ≡ z = cc in
-        let rest : ys ≡ zs = one_rising ys zs r.1 s.1 (λ x. without_first y z (filter (ties lt x) ys) (filter (ties lt x) zs) (ties lt x y) (ties lt x z) (ap (ties lt x) same) (e x)) in
+        let rest : ys ≡ zs =
+        one_rising ys zs r.1 s.1
+        (λ x. without_first y z (filter (ties lt x) ys) (filter (ties lt x) zs) (ties lt x y) (ties lt x z) (ap (ties lt x) same) (e x)) in
         λ i. same i ∷ rest i
 
 -- ---- what inserting makes
@@ -132,7 +138,8 @@ module _ {A : Type 0} (cmp : A → A → Ordering) where
         let no_less : below y x ≡ false = weak.chain y w x (second_false (below w y) (below y w) b) (first_false (below w x) (below x w) a) in
         absurd cc
 
-    passed : (x y : A) (inserted rest : List A) (a b : Bool) → (a ≡ true → b ≡ true → ⊥) → inserted ≡ cond a (x ∷ rest) rest → cond b (y ∷ inserted) inserted ≡ cond a (x ∷ cond b (y ∷ rest) rest) (cond b (y ∷ rest) rest)
+    passed : (x y : A) (inserted rest : List A) (a b : Bool) → (a ≡ true → b ≡ true → ⊥) → inserted ≡ cond a (x ∷ rest) rest
+        → cond b (y ∷ inserted) inserted ≡ cond a (x ∷ cond b (y ∷ rest) rest) (cond b (y ∷ rest) rest)
     passed x y inserted rest true true n e = absurd (n refl refl)
     passed x y inserted rest true false n e = e
     passed x y inserted rest false true n e = ap (λ (zs : List A). y ∷ zs) e
@@ -146,7 +153,8 @@ module _ {A : Type 0} (cmp : A → A → Ordering) where
             → filter (ties below w) (put_before c x y (insert_in_order cmp x ys) ys) ≡ filter (ties below w) (x ∷ y ∷ ys)
         by Less e later = refl
         by Equal e later = refl
-        by Greater e later = passed x y (filter (ties below w) (insert_in_order cmp x ys)) (filter (ties below w) ys) (ties below w x) (ties below w y) (apart w x y e) later
+        by Greater e later =
+            passed x y (filter (ties below w) (insert_in_order cmp x ys)) (filter (ties below w) ys) (ties below w x) (ties below w y) (apart w x y e) later
 
     pub filter-sorted : (w : A) (xs : List A) → filter (ties below w) (sorted cmp xs) ≡ filter (ties below w) xs
     filter-sorted w [] = refl

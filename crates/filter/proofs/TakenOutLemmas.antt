@@ -1,5 +1,6 @@
 -- Documents that are taken out of their places one by one.
-use Rattle.std.proofs.Common.{◌≡◌, ℕ, zero, suc, ◌+◌, ◌<◌, ◌≤◌, List, [], ◌∷◌, ◌++◌, length, set, drop, get_or, map, refl, sym, ap, ◌∙◌, arith, append_assoc, append-nil}
+use Rattle.std.proofs.Common.{◌≡◌, ℕ, zero, suc, ◌+◌, ◌<◌, ◌≤◌, List, [], ◌∷◌, ◌++◌, length, set, drop, get_or, map, refl, sym, ap, ◌∙◌, arith, append_assoc}
+use Rattle.std.proofs.Common.{append-nil}
 use Rattle.std.specs.Prelude.{◌≢◌}
 use Rattle.std.specs.List.{AllByRecursion}
 use Rattle.std.specs.declared.cmp.Ordering.{Ordering}
@@ -26,7 +27,8 @@ Apart (p ∷ ps) = AllByRecursion (λ q. q.1 ≢ p.1) ps × Apart ps
 
 -- ---- at the start
 
-first_dropped : (documents : List Pairs) (i : ℕ) (d : Pairs) (ds : List Pairs) → drop i documents ≡ d ∷ ds → StandsIn documents (d, i) × (drop (suc i) documents ≡ ds)
+first_dropped : (documents : List Pairs) (i : ℕ) (d : Pairs) (ds : List Pairs) → drop i documents ≡ d ∷ ds
+    → StandsIn documents (d, i) × (drop (suc i) documents ≡ ds)
 first_dropped [] zero d ds e = absurd cc
 first_dropped [] (suc i) d ds e = absurd cc
 first_dropped (c ∷ cs) zero d ds e = (record { within = omega arith; is = λ x. cc }, cc)
@@ -64,7 +66,8 @@ module _ (cmp : Pairs × ℕ → Pairs × ℕ → Ordering) where
   Apart-sorted (p ∷ ps) h = Apart-insert p (sorted cmp ps) (All-sorted cmp (λ q. q.1 ≢ p.1) ps h.0) (Apart-sorted ps h.1)
 
 pub arranged-stand : (fields : List SortField) (documents : List Pairs) → StandIn documents (arranged fields documents)
-arranged-stand fields documents = All-sorted (on (λ p. p.0) (compare_by fields)) (StandsIn documents) (numbered 0 documents) (numbered-stand documents 0 documents refl)
+arranged-stand fields documents =
+    All-sorted (on (λ p. p.0) (compare_by fields)) (StandsIn documents) (numbered 0 documents) (numbered-stand documents 0 documents refl)
 
 pub arranged-apart : (fields : List SortField) (documents : List Pairs) → Apart (arranged fields documents)
 arranged-apart fields documents = Apart-sorted (on (λ p. p.0) (compare_by fields)) (numbered 0 documents) (numbered-apart 0 documents)
@@ -92,11 +95,14 @@ taken_more ps i place n out next whole d grown is so_far =
     ∙ sym (ap (λ (qs : List (Pairs × ℕ)). out ++ map (λ p. p.0) qs) n.is)
     ∙ so_far
 
-pub taken_all : (ps : List (Pairs × ℕ)) (i : ℕ) (out whole : List Pairs) → length (map (λ p. p.1) ps) ≤ i → out ++ map (λ p. p.0) (drop i ps) ≡ whole → out ≡ whole
+pub taken_all : (ps : List (Pairs × ℕ)) (i : ℕ) (out whole : List Pairs) → length (map (λ p. p.1) ps) ≤ i → out ++ map (λ p. p.0) (drop i ps) ≡ whole
+    → out ≡ whole
 taken_all ps i out whole le so_far =
-    sym (append-nil out) ∙ sym (ap (λ (qs : List (Pairs × ℕ)). out ++ map (λ p. p.0) qs) (drop_all i ps (omega (arith, length-map ps (λ (p : Pairs × ℕ). p.1))))) ∙ so_far
+    sym (append-nil out)
+    ∙ sym (ap (λ (qs : List (Pairs × ℕ)). out ++ map (λ p. p.0) qs) (drop_all i ps (omega (arith, length-map ps (λ (p : Pairs × ℕ). p.1))))) ∙ so_far
 
-pub still_there : (documents : List Pairs) (place : ℕ) (ps : List (Pairs × ℕ)) → AllByRecursion (λ q. q.1 ≢ place) ps → StandIn documents ps → StandIn (set documents place no_pairs) ps
+pub still_there : (documents : List Pairs) (place : ℕ) (ps : List (Pairs × ℕ)) → AllByRecursion (λ q. q.1 ≢ place) ps → StandIn documents ps
+    → StandIn (set documents place no_pairs) ps
 still_there documents place [] other h = tt
 still_there documents place (p ∷ ps) other h = (
   record {

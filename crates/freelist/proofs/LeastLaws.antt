@@ -38,7 +38,8 @@ none_found n (s ∷ pages) e k = elim (cases_Bool (is_free_state s)) [
   | inr not_so ↦ later not_so (none_found (n + 1) pages (rw not_so at e)) k
 ]
   where
-    later : is_free_state s ≡ false → ((j : ℕ) → is_free_state (get_or pages j states.Retired) ≡ false) → (j : ℕ) → is_free_state (get_or (s ∷ pages) j states.Retired) ≡ false
+    later : is_free_state s ≡ false → ((j : ℕ) → is_free_state (get_or pages j states.Retired) ≡ false) → (j : ℕ)
+        → is_free_state (get_or (s ∷ pages) j states.Retired) ≡ false
     later not_so rest zero = not_so
     later not_so rest (suc j) = rest j
 
@@ -54,7 +55,8 @@ takes_least pages p e =
     let positive : nat_lt 0 p ≡ true = (let least : 0 < p = omega (arith, f.is) in grind (arith, nat_tests)) in
     (rw positive (least_is_free pages p e), less f.at f.is f.before)
   where
-    less : (at : ℕ) → p ≡ 1 + at → ((k : ℕ) → k < at → is_free_state (get_or (drop 1 pages) k states.Retired) ≡ false) → (k : ℕ) → k < p → is_free pages k ≡ false
+    less : (at : ℕ) → p ≡ 1 + at → ((k : ℕ) → k < at → is_free_state (get_or (drop 1 pages) k states.Retired) ≡ false) → (k : ℕ) → k < p
+        → is_free pages k ≡ false
     less at is before zero h = refl
     less at is before (suc k) h =
         let there : is_free_state (get_or pages (suc k) states.Retired) ≡ false =

@@ -46,11 +46,13 @@ rewind-append (x ∷ xs) ys pages = ap (undo x) (rewind-append xs ys pages)
 pub put_back : (pages : List PageState) (p : ℕ) (was now : PageState) → get_or pages p states.Retired ≡ was → set (set pages p now) p was ≡ pages
 put_back pages p was now is = set-set pages p now was ∙ ap (set pages p) (sym is) ∙ set-get_or pages p states.Retired
 
-pub CanRewind-push : (turn : List Change) (x : Change) (pages : List PageState) → CanUndo x pages → CanRewind turn (undo x pages) → CanRewind (turn ++ x ∷ []) pages
+pub CanRewind-push : (turn : List Change) (x : Change) (pages : List PageState) → CanUndo x pages → CanRewind turn (undo x pages)
+    → CanRewind (turn ++ x ∷ []) pages
 CanRewind-push [] x pages one h = (one, tt)
 CanRewind-push (y ∷ turn) x pages one h = (subst (CanUndo y) (sym (rewind-append turn (x ∷ []) pages)) h.0, CanRewind-push turn x pages one h.1)
 
-pub CanRewind-pop : (turn : List Change) (x : Change) (pages : List PageState) → CanRewind (turn ++ x ∷ []) pages → CanUndo x pages × CanRewind turn (undo x pages)
+pub CanRewind-pop : (turn : List Change) (x : Change) (pages : List PageState) → CanRewind (turn ++ x ∷ []) pages
+    → CanUndo x pages × CanRewind turn (undo x pages)
 CanRewind-pop [] x pages h = (h.0, tt)
 CanRewind-pop (y ∷ turn) x pages h =
     let later = CanRewind-pop turn x pages h.1 in
@@ -62,7 +64,8 @@ pub record Untouched (turn : List Change) (pages : List PageState) (q : ℕ) : T
   pub same : rewind turn (set pages q states.Free) ≡ set (rewind turn pages) q states.Free
   pub can : CanRewind turn (set pages q states.Free)
 
-pub untouched : (turn : List Change) (pages : List PageState) (q : ℕ) → get_or pages q states.Free ≡ states.Retired → times q (retired_in turn) ≡ 0 → CanRewind turn pages → Untouched turn pages q
+pub untouched : (turn : List Change) (pages : List PageState) (q : ℕ) → get_or pages q states.Free ≡ states.Retired → times q (retired_in turn) ≡ 0
+    → CanRewind turn pages → Untouched turn pages q
 untouched [] pages q is none can = record { waits = is; same = refl; can = tt }
 untouched (changes.Taken p ∷ turn) pages q is none can = next (untouched turn pages q is none can.1)
   where
@@ -70,14 +73,19 @@ untouched (changes.Taken p ∷ turn) pages q is none can = next (untouched turn 
     next later = record {
       waits = get_or-set_other (rewind turn pages) p q states.Free states.Free (λ e. other (sym e)) ∙ later.waits;
       same = ap (λ (xs : List PageState). set xs p states.Free) later.same ∙ set_comm (rewind turn pages) q p states.Free states.Free (λ e. other (sym e));
-      can = (ap (λ (xs : List PageState). get_or xs p states.Retired) later.same ∙ get_or-set_other (rewind turn pages) q p states.Free states.Retired other ∙ can.0, later.can);
+      can = (
+        ap (λ (xs : List PageState). get_or xs p states.Retired) later.same ∙ get_or-set_other (rewind turn pages) q p states.Free states.Retired other
+            ∙ can.0,
+        later.can,
+      );
     }
       where
         other : p ≢ q
         other e =
             let within : p < length (rewind turn pages) = below (rewind turn pages) p states.InUse can.0 (λ d. cc) in
             let one : get_or (rewind turn pages) p states.Free ≡ states.Retired = ap (λ (k : ℕ). get_or (rewind turn pages) k states.Free) e ∙ later.waits in
-            let two : get_or (rewind turn pages) p states.Free ≡ states.InUse = get_or_default (rewind turn pages) p states.Free states.Retired within ∙ can.0 in
+            let two : get_or (rewind turn pages) p states.Free ≡ states.InUse =
+            get_or_default (rewind turn pages) p states.Free states.Retired within ∙ can.0 in
             cc
 untouched (changes.Retired p v ∷ turn) pages q is none can = next (untouched turn pages q is (omega (arith, none)) can.1)
   where
@@ -88,5 +96,9 @@ untouched (changes.Retired p v ∷ turn) pages q is none can = next (untouched t
     next later = record {
       waits = get_or-set_other (rewind turn pages) p q states.InUse states.Free (λ e. other (sym e)) ∙ later.waits;
       same = ap (λ (xs : List PageState). set xs p states.InUse) later.same ∙ set_comm (rewind turn pages) q p states.Free states.InUse (λ e. other (sym e));
-      can = (ap (λ (xs : List PageState). get_or xs p states.Free) later.same ∙ get_or-set_other (rewind turn pages) q p states.Free states.Free other ∙ can.0, later.can);
+      can = (
+        ap (λ (xs : List PageState). get_or xs p states.Free) later.same ∙ get_or-set_other (rewind turn pages) q p states.Free states.Free other
+            ∙ can.0,
+        later.can,
+      );
     }

@@ -9,7 +9,8 @@ use Rattle.freelist.specs.declared.states.PageState.{PageState}
 use Rattle.freelist.specs.declared.states.PageState.TheVariants as states
 
 -- pages in front that aren't free are passed over
-passed_over : (k n : ℕ) (pages : List PageState) → k ≤ length pages → ((i : ℕ) → i < k → is_free_state (get_or pages i states.Retired) ≡ false) → first_free n pages ≡ first_free (n + k) (drop k pages)
+passed_over : (k n : ℕ) (pages : List PageState) → k ≤ length pages → ((i : ℕ) → i < k → is_free_state (get_or pages i states.Retired) ≡ false)
+    → first_free n pages ≡ first_free (n + k) (drop k pages)
 passed_over zero n pages h none = ap (λ (m : ℕ). first_free m pages) (omega arith)
 passed_over (suc k) n [] h none = absurd (omega (arith, h))
 passed_over (suc k) n (s ∷ pages) h none =
@@ -24,7 +25,8 @@ least_from start pages is =
     ∙ ap (first_free (1 + (start - 1))) (drop-drop (start - 1) 1 pages)
     ∙ ap (λ (m : ℕ). first_free m (drop m pages)) front
 
-pub least_here : (start : ℕ) (pages : List PageState) (s : PageState) → IsStart start pages → start < length pages → s ≡ get_or pages start s → is_free_state s ≡ true → Some start ≡ least_free pages
+pub least_here : (start : ℕ) (pages : List PageState) (s : PageState) → IsStart start pages → start < length pages → s ≡ get_or pages start s
+    → is_free_state s ≡ true → Some start ≡ least_free pages
 least_here start pages s is within here free =
     let at : drop start pages ≡ s ∷ drop (start + 1) pages = drop_more pages start s within ∙ ap (λ (x : PageState). x ∷ drop (start + 1) pages) (sym here) in
     sym (least_from start pages is ∙ ap (first_free start) at ∙ rw free refl)
@@ -34,7 +36,8 @@ least_none start pages is past = sym (least_from start pages is ∙ ap (first_fr
 
 -- ---- a pin
 
-pub without_at : (version : ℕ) (pins : List ℕ) (i : ℕ) → i < length pins → ((k : ℕ) → k < i → get_or pins k 0 ≢ version) → get_or pins i 0 ≡ version → without version pins ≡ remove pins i
+pub without_at : (version : ℕ) (pins : List ℕ) (i : ℕ) → i < length pins → ((k : ℕ) → k < i → get_or pins k 0 ≢ version) → get_or pins i 0 ≡ version
+    → without version pins ≡ remove pins i
 without_at version [] i within none here = absurd (omega (arith, within))
 without_at version (p ∷ pins) zero within none here =
     let same : (p == version) ≡ true = grind (arith, nat_tests) in

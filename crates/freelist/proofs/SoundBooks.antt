@@ -1,5 +1,6 @@
 -- What each call keeps of a sound book.
-use Rattle.std.proofs.Common.{◌≡◌, ◌<◌, ◌≤◌, ◌+◌, ℕ, zero, suc, Bool, true, false, List, [], ◌∷◌, ◌++◌, length, sym, ap, ◌∙◌, arith, refl, inl, inr, set, replicate}
+use Rattle.std.proofs.Common.{◌≡◌, ◌<◌, ◌≤◌, ◌+◌, ℕ, zero, suc, Bool, true, false, List, [], ◌∷◌, ◌++◌, length, sym, ap, ◌∙◌, arith, refl, inl, inr, set}
+use Rattle.std.proofs.Common.{replicate}
 use Rattle.std.specs.Prelude.{◌&&◌, get_or, not, nat_lt}
 use Rattle.std.specs.List.{list_all}
 use Rattle.std.proofs.lemmas.Bool.Decides.{nat_tests}
@@ -9,7 +10,8 @@ use Rattle.std.proofs.lemmas.List.Folds.{list_any-append, list_all-append}
 use Rattle.freelist.proofs.LeastLaws.{least_is_free}
 use Rattle.std.proofs.Common.{subst, take, drop}
 use Rattle.freelist.proofs.Rewinding.{free_is, used_is, below, one_same, one_other, put_back, CanRewind-push, CanRewind-pop, untouched}
-use Rattle.freelist.specs.Book.{undo, rewind, undone, CanRewind, Book, with_used, opened, is_free, is_in_use, is_free_state, is_used_state, is_pinned, retired_in, kept, freed, taken, retired, committed, without}
+use Rattle.freelist.specs.Book.{undo, rewind, undone, CanRewind, Book, with_used, opened, is_free, is_in_use, is_free_state, is_used_state, is_pinned}
+use Rattle.freelist.specs.Book.{retired_in, kept, freed, taken, retired, committed, without}
 use Rattle.freelist.specs.Sound.{one_of, times, is_free_by_definition, retired_count, IsSound, StaysSound}
 use Rattle.freelist.specs.declared.states.PageState.{PageState}
 use Rattle.freelist.specs.declared.states.PageState.TheVariants as states
@@ -40,7 +42,8 @@ retired_in_taken [] p = refl
 retired_in_taken (changes.Taken q ∷ turn) p = retired_in_taken turn p
 retired_in_taken (changes.Retired q v ∷ turn) p = ap (λ (rs : List Retirement). record { page = q; version = v } ∷ rs) (retired_in_taken turn p)
 
-pub retired_in_retired : (turn : List Change) (p v : ℕ) → retired_in (turn ++ changes.Retired p v ∷ []) ≡ retired_in turn ++ record { page = p; version = v } ∷ []
+pub retired_in_retired : (turn : List Change) (p v : ℕ)
+    → retired_in (turn ++ changes.Retired p v ∷ []) ≡ retired_in turn ++ record { page = p; version = v } ∷ []
 retired_in_retired [] p v = refl
 retired_in_retired (changes.Taken q ∷ turn) p v = retired_in_retired turn p v
 retired_in_retired (changes.Retired q w ∷ turn) p v = ap (λ (rs : List Retirement). record { page = q; version = w } ∷ rs) (retired_in_retired turn p v)
@@ -58,7 +61,8 @@ freed_listed : (r : Retirement) (rs : List Retirement) (others : ℕ → ℕ) (p
     → (k : ℕ) → others k + times k rs ≡ retired_count (get_or (set pages r.page states.Free) k states.Free)
 freed_listed r rs others pages h k = elim (cases_eq k r.page) [
   | inl same ↦
-      let none : retired_count (get_or (set pages r.page states.Free) k states.Free) ≡ 0 = ap (λ (j : ℕ). retired_count (get_or (set pages r.page states.Free) j states.Free)) same ∙ ap retired_count (freed_page pages r.page) in
+      let none : retired_count (get_or (set pages r.page states.Free) k states.Free) ≡ 0 =
+      ap (λ (j : ℕ). retired_count (get_or (set pages r.page states.Free) j states.Free)) same ∙ ap retired_count (freed_page pages r.page) in
       omega (arith, h k, one_same k r same, one_at_most (get_or pages k states.Free), none)
   | inr other ↦ omega (arith, h k, one_other k r other, ap retired_count (get_or-set_other pages r.page k states.Free states.Free other))
 ]
@@ -143,13 +147,19 @@ taken_sound b p free sound = record {
     within : p < length b.states
     within = below b.states p states.Free was (λ e. cc)
 
-    listed : (page : ℕ) → times page b.waiting + times page (retired_in (b.turn ++ changes.Taken p ∷ [])) ≡ retired_count (get_or (set b.states p states.InUse) page states.Free)
+    listed : (page : ℕ)
+        → times page b.waiting
+        + times page (retired_in (b.turn ++ changes.Taken p ∷ [])) ≡ retired_count (get_or (set b.states p states.InUse) page states.Free)
     listed page =
         let turn : times page (retired_in (b.turn ++ changes.Taken p ∷ [])) ≡ times page (retired_in b.turn) = ap (times page) (retired_in_taken b.turn p) in
         elim (cases_eq page p) [
           | inl same ↦
-              let now : retired_count (get_or (set b.states p states.InUse) page states.Free) ≡ 0 = ap (λ (k : ℕ). retired_count (get_or (set b.states p states.InUse) k states.Free)) same ∙ ap retired_count (get_or-set_same b.states p states.InUse states.Free within) in
-              let before : retired_count (get_or b.states page states.Free) ≡ 0 = ap (λ (k : ℕ). retired_count (get_or b.states k states.Free)) same ∙ ap retired_count (get_or_default b.states p states.Free states.Retired within ∙ was) in
+              let now : retired_count (get_or (set b.states p states.InUse) page states.Free) ≡ 0 =
+              ap (λ (k : ℕ). retired_count (get_or (set b.states p states.InUse) k states.Free)) same
+              ∙ ap retired_count (get_or-set_same b.states p states.InUse states.Free within) in
+              let before : retired_count (get_or b.states page states.Free) ≡ 0 =
+              ap (λ (k : ℕ). retired_count (get_or b.states k states.Free)) same
+              ∙ ap retired_count (get_or_default b.states p states.Free states.Retired within ∙ was) in
               omega (arith, sound.listed page, turn, now, before)
           | inr other ↦ omega (arith, sound.listed page, turn, ap retired_count (get_or-set_other b.states p page states.InUse states.Free other))
         ]
@@ -174,25 +184,44 @@ retired_sound b p v sound = elim (cases_Bool (is_in_use b.states p)) [
         within : p < length b.states
         within = below b.states p states.InUse was (λ e. cc)
 
-        listed : (page : ℕ) → times page b.waiting + times page (retired_in (b.turn ++ changes.Retired p v ∷ [])) ≡ retired_count (get_or (set b.states p states.Retired) page states.Free)
+        listed : (page : ℕ)
+            → times page b.waiting
+            + times page (retired_in (b.turn ++ changes.Retired p v ∷ [])) ≡ retired_count (get_or (set b.states p states.Retired) page states.Free)
         listed page =
-            let turn : times page (retired_in (b.turn ++ changes.Retired p v ∷ [])) ≡ times page (retired_in b.turn) + (one_of page (record { page = p; version = v }) + 0) = ap (times page) (retired_in_retired b.turn p v) ∙ times-append page (retired_in b.turn) (record { page = p; version = v } ∷ []) in
+            let turn : times page (retired_in (b.turn ++ changes.Retired p v ∷ [])) ≡ times page (retired_in b.turn)
+            + (one_of page (record { page = p; version = v }) + 0) =
+            ap (times page) (retired_in_retired b.turn p v) ∙ times-append page (retired_in b.turn) (record { page = p; version = v } ∷ []) in
             elim (cases_eq page p) [
               | inl same ↦
-                  let now : retired_count (get_or (set b.states p states.Retired) page states.Free) ≡ 1 = ap (λ (k : ℕ). retired_count (get_or (set b.states p states.Retired) k states.Free)) same ∙ ap retired_count (get_or-set_same b.states p states.Retired states.Free within) in
-                  let before : retired_count (get_or b.states page states.Free) ≡ 0 = ap (λ (k : ℕ). retired_count (get_or b.states k states.Free)) same ∙ ap retired_count (get_or_default b.states p states.Free states.Retired within ∙ was) in
+                  let now : retired_count (get_or (set b.states p states.Retired) page states.Free) ≡ 1 =
+                  ap (λ (k : ℕ). retired_count (get_or (set b.states p states.Retired) k states.Free)) same
+                  ∙ ap retired_count (get_or-set_same b.states p states.Retired states.Free within) in
+                  let before : retired_count (get_or b.states page states.Free) ≡ 0 =
+                  ap (λ (k : ℕ). retired_count (get_or b.states k states.Free)) same
+                  ∙ ap retired_count (get_or_default b.states p states.Free states.Retired within ∙ was) in
                   omega (arith, sound.listed page, turn, now, before, one_same page (record { page = p; version = v }) same)
-              | inr other ↦ omega (arith, sound.listed page, turn, one_other page (record { page = p; version = v }) other, ap retired_count (get_or-set_other b.states p page states.Retired states.Free other))
+              | inr other ↦ omega (
+                arith,
+                sound.listed page,
+                turn,
+                one_other page (record { page = p; version = v }) other,
+                ap retired_count (get_or-set_other b.states p page states.Retired states.Free other),
+              )
             ]
 
 committed_sound : (b : Book) (version : ℕ) → IsSound b → IsSound (committed version b)
 committed_sound b version sound = record {
-  listed = λ page. omega (arith, settled b.pins (retired_in b.turn) (λ k. times k b.waiting) b.states sound.listed page, times-append page b.waiting (kept b.pins (retired_in b.turn)));
+  listed = λ page. omega (
+    arith,
+    settled b.pins (retired_in b.turn) (λ k. times k b.waiting) b.states sound.listed page,
+    times-append page b.waiting (kept b.pins (retired_in b.turn)),
+  );
   needed = list_all-append _ b.waiting (kept b.pins (retired_in b.turn)) ∙ rw sound.needed (kept_pinned b.pins (retired_in b.turn));
   undoable = tt;
 }
 
-unpinned_sound : (b : Book) (pins : List ℕ) → IsSound b → IsSound (record b { states = freed pins b.waiting b.states; waiting = kept pins b.waiting; pins = pins })
+unpinned_sound : (b : Book) (pins : List ℕ) → IsSound b
+    → IsSound (record b { states = freed pins b.waiting b.states; waiting = kept pins b.waiting; pins = pins })
 unpinned_sound b pins sound = record {
   listed = λ page. omega (arith, settled pins b.waiting (λ k. times k (retired_in b.turn)) b.states (λ k. omega (arith, sound.listed k)) page);
   needed = kept_pinned pins b.waiting;
@@ -200,8 +229,10 @@ unpinned_sound b pins sound = record {
 }
 
 -- a change is taken back
-popped_sound : (b : Book) (front : List Change) (x : Change) (pages : List PageState) → IsSound (record b { states = pages; turn = front ++ x ∷ [] }) → IsSound (record b { states = undo x pages; turn = front })
-popped_sound b front (changes.Taken p) pages sound = record { listed = listed; needed = sound.needed; undoable = (CanRewind-pop front (changes.Taken p) pages sound.undoable).1 }
+popped_sound : (b : Book) (front : List Change) (x : Change) (pages : List PageState) → IsSound (record b { states = pages; turn = front ++ x ∷ [] })
+    → IsSound (record b { states = undo x pages; turn = front })
+popped_sound b front
+    (changes.Taken p) pages sound = record { listed = listed; needed = sound.needed; undoable = (CanRewind-pop front (changes.Taken p) pages sound.undoable).1 }
   where
     listed : (page : ℕ) → times page b.waiting + times page (retired_in front) ≡ retired_count (get_or (set pages p states.Free) page states.Free)
     listed page =
@@ -210,33 +241,52 @@ popped_sound b front (changes.Taken p) pages sound = record { listed = listed; n
         elim (cases_eq page p) [
           | inl same ↦
               let within : p < length pages = below pages p states.InUse was (λ e. cc) in
-              let now : retired_count (get_or (set pages p states.Free) page states.Free) ≡ 0 = ap (λ (k : ℕ). retired_count (get_or (set pages p states.Free) k states.Free)) same ∙ ap retired_count (freed_page pages p) in
-              let before : retired_count (get_or pages page states.Free) ≡ 0 = ap (λ (k : ℕ). retired_count (get_or pages k states.Free)) same ∙ ap retired_count (get_or_default pages p states.Free states.Retired within ∙ was) in
+              let now : retired_count (get_or (set pages p states.Free) page states.Free) ≡ 0 =
+              ap (λ (k : ℕ). retired_count (get_or (set pages p states.Free) k states.Free)) same ∙ ap retired_count (freed_page pages p) in
+              let before : retired_count (get_or pages page states.Free) ≡ 0 =
+              ap (λ (k : ℕ). retired_count (get_or pages k states.Free)) same
+              ∙ ap retired_count (get_or_default pages p states.Free states.Retired within ∙ was) in
               omega (arith, sound.listed page, turn, now, before)
           | inr other ↦ omega (arith, sound.listed page, turn, ap retired_count (get_or-set_other pages p page states.Free states.Free other))
         ]
-popped_sound b front (changes.Retired p v) pages sound = record { listed = listed; needed = sound.needed; undoable = (CanRewind-pop front (changes.Retired p v) pages sound.undoable).1 }
+popped_sound b front
+    (changes.Retired p v) pages sound = record
+    { listed = listed; needed = sound.needed; undoable = (CanRewind-pop front (changes.Retired p v) pages sound.undoable).1 }
   where
     listed : (page : ℕ) → times page b.waiting + times page (retired_in front) ≡ retired_count (get_or (set pages p states.InUse) page states.Free)
     listed page =
-        let turn : times page (retired_in (front ++ changes.Retired p v ∷ [])) ≡ times page (retired_in front) + (one_of page (record { page = p; version = v }) + 0) = ap (times page) (retired_in_retired front p v) ∙ times-append page (retired_in front) (record { page = p; version = v } ∷ []) in
+        let turn : times page (retired_in (front ++ changes.Retired p v ∷ [])) ≡ times page (retired_in front)
+        + (one_of page (record { page = p; version = v }) + 0) =
+        ap (times page) (retired_in_retired front p v) ∙ times-append page (retired_in front) (record { page = p; version = v } ∷ []) in
         let was : get_or pages p states.Free ≡ states.Retired = (CanRewind-pop front (changes.Retired p v) pages sound.undoable).0 in
         elim (cases_eq page p) [
           | inl same ↦
-              let now : retired_count (get_or (set pages p states.InUse) page states.Free) ≡ 0 = ap (λ (k : ℕ). retired_count (get_or (set pages p states.InUse) k states.Free)) same ∙ used_page pages p in
-              let before : retired_count (get_or pages page states.Free) ≡ 1 = ap (λ (k : ℕ). retired_count (get_or pages k states.Free)) same ∙ ap retired_count was in
+              let now : retired_count (get_or (set pages p states.InUse) page states.Free) ≡ 0 =
+              ap (λ (k : ℕ). retired_count (get_or (set pages p states.InUse) k states.Free)) same ∙ used_page pages p in
+              let before : retired_count (get_or pages page states.Free) ≡ 1 =
+              ap (λ (k : ℕ). retired_count (get_or pages k states.Free)) same ∙ ap retired_count was in
               omega (arith, sound.listed page, turn, now, before, one_same page (record { page = p; version = v }) same)
-          | inr other ↦ omega (arith, sound.listed page, turn, one_other page (record { page = p; version = v }) other, ap retired_count (get_or-set_other pages p page states.InUse states.Free other))
+          | inr other ↦ omega (
+            arith,
+            sound.listed page,
+            turn,
+            one_other page (record { page = p; version = v }) other,
+            ap retired_count (get_or-set_other pages p page states.InUse states.Free other),
+          )
         ]
 
-rewound_sound : (b : Book) (front later : List Change) (pages : List PageState) → IsSound (record b { states = pages; turn = front ++ later }) → IsSound (record b { states = rewind later pages; turn = front })
+rewound_sound : (b : Book) (front later : List Change) (pages : List PageState) → IsSound (record b { states = pages; turn = front ++ later })
+    → IsSound (record b { states = rewind later pages; turn = front })
 rewound_sound b front [] pages sound = subst (λ (turn : List Change). IsSound (record b { states = pages; turn = turn })) (append-nil front) sound
 rewound_sound b front (x ∷ later) pages sound =
     popped_sound b front x (rewind later pages)
-    (rewound_sound b (front ++ x ∷ []) later pages (subst (λ (turn : List Change). IsSound (record b { states = pages; turn = turn })) (sym (append_assoc front (x ∷ []) later)) sound))
+    (rewound_sound b (front ++ x ∷ []) later pages
+    (subst (λ (turn : List Change). IsSound (record b { states = pages; turn = turn })) (sym (append_assoc front (x ∷ []) later)) sound))
 
 undone_sound : (b : Book) (mark : ℕ) → IsSound b → IsSound (undone mark b)
-undone_sound b mark sound = rewound_sound b (take mark b.turn) (drop mark b.turn) b.states (subst (λ (turn : List Change). IsSound (record b { turn = turn })) (sym (take-append-drop mark b.turn)) sound)
+undone_sound b mark sound =
+    rewound_sound b (take mark b.turn) (drop mark b.turn) b.states
+    (subst (λ (turn : List Change). IsSound (record b { turn = turn })) (sym (take-append-drop mark b.turn)) sound)
 
 pub stays_sound : (b : Book) → IsSound b → StaysSound b
 stays_sound b sound = record {
@@ -256,14 +306,16 @@ none_retired zero page = refl
 none_retired (suc n) zero = refl
 none_retired (suc n) (suc page) = none_retired n page
 
-used_not_retired : (pages : List PageState) (p page : ℕ) → retired_count (get_or pages page states.Free) ≡ 0 → retired_count (get_or (set pages p states.InUse) page states.Free) ≡ 0
+used_not_retired : (pages : List PageState) (p page : ℕ) → retired_count (get_or pages page states.Free) ≡ 0
+    → retired_count (get_or (set pages p states.InUse) page states.Free) ≡ 0
 used_not_retired [] p page h = refl
 used_not_retired (s ∷ pages) zero zero h = refl
 used_not_retired (s ∷ pages) zero (suc page) h = h
 used_not_retired (s ∷ pages) (suc p) zero h = h
 used_not_retired (s ∷ pages) (suc p) (suc page) h = used_not_retired pages p page h
 
-with_used_listed : (in_use : List ℕ) (pages : List PageState) (page : ℕ) → retired_count (get_or pages page states.Free) ≡ 0 → retired_count (get_or (with_used in_use pages) page states.Free) ≡ 0
+with_used_listed : (in_use : List ℕ) (pages : List PageState) (page : ℕ) → retired_count (get_or pages page states.Free) ≡ 0
+    → retired_count (get_or (with_used in_use pages) page states.Free) ≡ 0
 with_used_listed [] pages page h = h
 with_used_listed (p ∷ in_use) pages page h = with_used_listed in_use (set pages p states.InUse) page (used_not_retired pages p page h)
 

@@ -17,7 +17,8 @@ use Rattle.freelist.specs.declared.turns.Change.{Change}
 pub undone-undone : (m n : ℕ) (b : Book) → m ≤ n → n ≤ length b.turn → undone m (undone n b) ≡ undone m b
 undone-undone m n b less within =
     let long : m ≤ length (take n b.turn) = omega (arith, length-take-le n b.turn within, less) in
-    let parts : drop m b.turn ≡ drop m (take n b.turn) ++ drop n b.turn = ap (drop m) (sym (take-append-drop n b.turn)) ∙ drop-append-le m (take n b.turn) (drop n b.turn) long in
+    let parts : drop m b.turn ≡ drop m (take n b.turn) ++ drop n b.turn =
+    ap (drop m) (sym (take-append-drop n b.turn)) ∙ drop-append-le m (take n b.turn) (drop n b.turn) long in
     let states : rewind (drop m (take n b.turn)) (rewind (drop n b.turn) b.states) ≡ rewind (drop m b.turn) b.states =
     sym (ap (λ (xs : List Change). rewind xs b.states) parts ∙ rewind-append (drop m (take n b.turn)) (drop n b.turn) b.states) in
     λ i. record b { states = states i; turn = take-take m n b.turn less i }
@@ -50,11 +51,15 @@ module _ (b c : Book) (f : Follows b c) where
 
   given_follows : (found : Option ℕ) → least_free c.states ≡ found → Follows b (given found c)
   given_follows None e = record { more = f.more; noted = f.noted; back = f.back; waiting = f.waiting; pins = f.pins; version = f.version }
-  given_follows (Some p) e = one_more (changes.Taken p) (set c.states p states.InUse) (put_back c.states p states.Free states.InUse (free_is (get_or c.states p states.Retired) (least_is_free c.states p e)))
+  given_follows (Some p) e =
+      one_more (changes.Taken p) (set c.states p states.InUse)
+      (put_back c.states p states.Free states.InUse (free_is (get_or c.states p states.Retired) (least_is_free c.states p e)))
 
   retired_follows : (p v : ℕ) → Follows b (retired p v c)
   retired_follows p v = elim (cases_Bool (is_in_use c.states p)) [
-    | inl so ↦ rw so (one_more (changes.Retired p v) (set c.states p states.Retired) (put_back c.states p states.InUse states.Retired (used_is (get_or c.states p states.Retired) so)))
+    | inl so ↦ rw so
+        (one_more (changes.Retired p v) (set c.states p states.Retired)
+        (put_back c.states p states.InUse states.Retired (used_is (get_or c.states p states.Retired) so)))
     | inr not_so ↦ rw not_so f
   ]
 
@@ -71,4 +76,6 @@ leads_back b c f =
     λ i. record { states = states i; waiting = f.waiting i; turn = front i; pins = f.pins i; version = f.version i; full_takes = c.full_takes }
 
 pub undoing_leads_back : (b : Book) (calls : List Call) → undone (length b.turn) (after calls b) ≡ record b { full_takes = (after calls b).full_takes }
-undoing_leads_back b calls = leads_back b (after calls b) (after_follows b b calls (record { more = []; noted = sym (append-nil b.turn); back = refl; waiting = refl; pins = refl; version = refl }))
+undoing_leads_back b calls =
+    leads_back b (after calls b)
+    (after_follows b b calls (record { more = []; noted = sym (append-nil b.turn); back = refl; waiting = refl; pins = refl; version = refl }))

@@ -12,7 +12,8 @@ pub record IsOneMore {X : Type 0} (f : X → X) (now first : List X) (i : ℕ) :
   pub done : take (suc i) now ≡ map f (take (suc i) first)
   pub left : drop (suc i) now ≡ drop (suc i) first
 
-pub one_more : {X : Type 0} (f : X → X) (now first : List X) (i : ℕ) (any new : X) → i < length now → take i now ≡ map f (take i first) → drop i now ≡ drop i first → new ≡ f (get_or now i any) → IsOneMore f (set now i new) first i
+pub one_more : {X : Type 0} (f : X → X) (now first : List X) (i : ℕ) (any new : X) → i < length now → take i now ≡ map f (take i first)
+    → drop i now ≡ drop i first → new ≡ f (get_or now i any) → IsOneMore f (set now i new) first i
 one_more f [] first i any new within t d n = absurd (omega arith)
 one_more f (m ∷ ms) [] zero any new within t d n = absurd cc
 one_more f (m ∷ ms) [] (suc i) any new within t d n = absurd cc

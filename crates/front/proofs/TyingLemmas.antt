@@ -1,9 +1,11 @@
 -- Loans and sockets stay tied.
-use Rattle.std.proofs.Common.{◌≡◌, ◌≢◌, ℕ, zero, suc, ◌<◌, ◌≤◌, Bool, true, false, List, [], ◌∷◌, ◌++◌, length, take, drop, append-nil, set, get_or, map, replicate, Option, Some, None, refl, sym, ap, subst, ◌∙◌, inl, inr, ◌⊎◌, arith}
+use Rattle.std.proofs.Common.{◌≡◌, ◌≢◌, ℕ, zero, suc, ◌<◌, ◌≤◌, Bool, true, false, List, [], ◌∷◌, ◌++◌, length, take, drop, append-nil, set, get_or, map}
+use Rattle.std.proofs.Common.{replicate, Option, Some, None, refl, sym, ap, subst, ◌∙◌, inl, inr, ◌⊎◌, arith}
 use Rattle.std.specs.Prelude.{◌==◌, if◌then◌else◌}
 use Rattle.std.proofs.lemmas.Bool.Decides.{nat_tests}
 use Rattle.std.proofs.lemmas.Bool.{cases_lt}
-use Rattle.std.proofs.lemmas.List.{get_or-set_other, get_or-set_same, length-set, length-map, get_or-map, get_or-replicate, get_or_past, length-replicate, drop_all, take_all}
+use Rattle.std.proofs.lemmas.List.{get_or-set_other, get_or-set_same, length-set, length-map, get_or-map, get_or-replicate, get_or_past, length-replicate}
+use Rattle.std.proofs.lemmas.List.{drop_all, take_all}
 use Rattle.front.specs.Fronting.{answered}
 use Rattle.front.specs.Lending.{loan_at, borrower, left_borrower, after_end}
 use Rattle.front.specs.Serving.{OthersStay}
@@ -27,19 +29,22 @@ some_is x y e = cc
 -- ---- who borrows after a change of the loans
 
 -- after a loan: as before, or it is the loan's
-borrower_after : (loans : List (Option Loan)) (id : ℕ) (loan : Loan) (k m : ℕ) → borrower (loan_at (set loans id (Some loan)) k) ≡ Some m → ((k ≡ id) × (loan.socket ≡ Some m)) ⊎ (borrower (loan_at loans k) ≡ Some m)
+borrower_after : (loans : List (Option Loan)) (id : ℕ) (loan : Loan) (k m : ℕ) → borrower (loan_at (set loans id (Some loan)) k) ≡ Some m
+    → ((k ≡ id) × (loan.socket ≡ Some m)) ⊎ (borrower (loan_at loans k) ≡ Some m)
 borrower_after [] id loan k m e = inr e
 borrower_after (x ∷ xs) zero loan zero m e = inl (refl, e)
 borrower_after (x ∷ xs) zero loan (suc k) m e = inr e
 borrower_after (x ∷ xs) (suc id) loan zero m e = inr e
 borrower_after (x ∷ xs) (suc id) loan (suc k) m e = step (borrower_after xs id loan k m e)
   where
-    step : ((k ≡ id) × (loan.socket ≡ Some m)) ⊎ (borrower (loan_at xs k) ≡ Some m) → ((suc k ≡ suc id) × (loan.socket ≡ Some m)) ⊎ (borrower (loan_at xs k) ≡ Some m)
+    step : ((k ≡ id) × (loan.socket ≡ Some m)) ⊎ (borrower (loan_at xs k) ≡ Some m)
+        → ((suc k ≡ suc id) × (loan.socket ≡ Some m)) ⊎ (borrower (loan_at xs k) ≡ Some m)
     step (inl h) = inl (ap suc h.0, h.1)
     step (inr h) = inr h
 
 -- after a connection came back: as before, of another connection
-borrower_left : (loans : List (Option Loan)) (owner k m : ℕ) → borrower (loan_at (set loans owner None) k) ≡ Some m → (k ≢ owner) × (borrower (loan_at loans k) ≡ Some m)
+borrower_left : (loans : List (Option Loan)) (owner k m : ℕ) → borrower (loan_at (set loans owner None) k) ≡ Some m
+    → (k ≢ owner) × (borrower (loan_at loans k) ≡ Some m)
 borrower_left [] owner k m e = absurd cc
 borrower_left (x ∷ xs) zero zero m e = absurd cc
 borrower_left (x ∷ xs) zero (suc k) m e = (λ f. absurd cc, e)
@@ -59,7 +64,8 @@ left_is n m (Some other) e = at (other == n) refl e
         let apart : other ≢ n = grind (arith, nat_tests) in
         (λ f. apart (some_is other m e ∙ f), e)
 
-borrower_ended : (loans : List (Option Loan)) (n k m : ℕ) → borrower (loan_at (map (after_end n) loans) k) ≡ Some m → (m ≢ n) × (borrower (loan_at loans k) ≡ Some m)
+borrower_ended : (loans : List (Option Loan)) (n k m : ℕ) → borrower (loan_at (map (after_end n) loans) k) ≡ Some m
+    → (m ≢ n) × (borrower (loan_at loans k) ≡ Some m)
 borrower_ended [] n k m e = absurd cc
 borrower_ended (None ∷ xs) n zero m e = absurd cc
 borrower_ended (Some loan ∷ xs) n zero m e = left_is n m loan.socket e
@@ -68,8 +74,10 @@ borrower_ended (x ∷ xs) n (suc k) m e = borrower_ended xs n k m e
 -- ---- they stay tied
 
 -- a socket that waited goes on waiting
-pub tied_socket : (loans : List (Option Loan)) (ss : List Socket) (n : ℕ) (any new : Socket) → AreTied loans ss → n < length ss → (is_asked (get_or ss n any).job ≡ true → is_asked new.job ≡ true) → AreTied loans (set ss n new)
-tied_socket loans ss n any new tied within goes = record { asked = λ k m d e inside. at k m d e (subst (λ (l : ℕ). m < l) (length-set ss n new) inside) (same_or_not m n); once = tied.once }
+pub tied_socket : (loans : List (Option Loan)) (ss : List Socket) (n : ℕ) (any new : Socket) → AreTied loans ss → n < length ss
+    → (is_asked (get_or ss n any).job ≡ true → is_asked new.job ≡ true) → AreTied loans (set ss n new)
+tied_socket loans ss n any new tied within goes = record
+    { asked = λ k m d e inside. at k m d e (subst (λ (l : ℕ). m < l) (length-set ss n new) inside) (same_or_not m n); once = tied.once }
   where
     at : (k m : ℕ) (d : Socket) → borrower (loan_at loans k) ≡ Some m → m < length ss → (m ≡ n) ⊎ (m ≢ n) → is_asked (get_or (set ss n new) m d).job ≡ true
     at k m d e inside (inl same) =
@@ -79,10 +87,12 @@ tied_socket loans ss n any new tied within goes = record { asked = λ k m d e in
     at k m d e inside (inr apart) = ap (λ (s : Socket). is_asked s.job) (get_or-set_other ss n m new d apart) ∙ tied.asked k m d e inside
 
 -- a connection is lent to a socket that didn't wait
-pub tied_lent : (loans after : List (Option Loan)) (ss : List Socket) (n : ℕ) (any new : Socket) → AreTied loans ss → n < length ss → IsLent (Some n) loans after → is_asked (get_or ss n any).job ≡ false → is_asked new.job ≡ true → AreTied after (set ss n new)
+pub tied_lent : (loans after : List (Option Loan)) (ss : List Socket) (n : ℕ) (any new : Socket) → AreTied loans ss → n < length ss
+    → IsLent (Some n) loans after → is_asked (get_or ss n any).job ≡ false → is_asked new.job ≡ true → AreTied after (set ss n new)
 tied_lent loans after ss n any new tied within lent free waits =
     subst (λ (ls : List (Option Loan)). AreTied ls (set ss n new)) (sym lent.lent) (record {
-      asked = λ k m d e inside. at k m d (subst (λ (l : ℕ). m < l) (length-set ss n new) inside) (borrower_after loans lent.id lent.loan k m e) (same_or_not m n);
+      asked = λ k m d e inside. at k m d (subst (λ (l : ℕ). m < l) (length-set ss n new) inside) (borrower_after loans lent.id lent.loan k m e)
+          (same_or_not m n);
       once = λ k o m e f. only k o m (borrower_after loans lent.id lent.loan k m e) (borrower_after loans lent.id lent.loan o m f);
     })
   where
@@ -115,8 +125,10 @@ tied_lent loans after ss n any new tied within lent free waits =
     only k o m (inr old) (inr older) = tied.once k o m old older
 
 -- what a step does with a socket
-pub tied_asked : (loans after : List (Option Loan)) (ss : List Socket) (n : ℕ) (any new : Socket) → AreTied loans ss → n < length ss → Asks n loans after (get_or ss n any) new → AreTied after (set ss n new)
-tied_asked loans after ss n any new tied within (inl h) = subst (λ (ls : List (Option Loan)). AreTied ls (set ss n new)) (sym h.0) (tied_socket loans ss n any new tied within h.1)
+pub tied_asked : (loans after : List (Option Loan)) (ss : List Socket) (n : ℕ) (any new : Socket) → AreTied loans ss → n < length ss
+    → Asks n loans after (get_or ss n any) new → AreTied after (set ss n new)
+tied_asked loans after ss n any new tied within (inl h) =
+    subst (λ (ls : List (Option Loan)). AreTied ls (set ss n new)) (sym h.0) (tied_socket loans ss n any new tied within h.1)
 tied_asked loans after ss n any new tied within (inr h) = tied_lent loans after ss n any new tied within h.0 h.1 h.2
 
 -- a connection is lent to none
@@ -125,7 +137,8 @@ tied_to_none loans after ss tied (inl same) = subst (λ (ls : List (Option Loan)
 tied_to_none loans after ss tied (inr lent) =
     subst (λ (ls : List (Option Loan)). AreTied ls ss) (sym lent.lent) (record {
       asked = λ k m d e inside. tied.asked k m d (before k m (borrower_after loans lent.id lent.loan k m e)) inside;
-      once = λ k o m e f. tied.once k o m (before k m (borrower_after loans lent.id lent.loan k m e)) (before o m (borrower_after loans lent.id lent.loan o m f));
+      once = λ k o m e f. tied.once k o m (before k m (borrower_after loans lent.id lent.loan k m e))
+          (before o m (borrower_after loans lent.id lent.loan o m f));
     })
   where
     before : (k m : ℕ) → ((k ≡ lent.id) × (lent.loan.socket ≡ Some m)) ⊎ (borrower (loan_at loans k) ≡ Some m) → borrower (loan_at loans k) ≡ Some m
@@ -135,7 +148,8 @@ tied_to_none loans after ss tied (inr lent) =
     before k m (inr old) = old
 
 -- a connection comes back, and no socket changes but its borrower
-pub tied_back : (loans after : List (Option Loan)) (owner : ℕ) (ss new : List Socket) → AreTied loans ss → after ≡ set loans owner None → OthersStay ss (borrower (loan_at loans owner)) new → AreTied after new
+pub tied_back : (loans after : List (Option Loan)) (owner : ℕ) (ss new : List Socket) → AreTied loans ss → after ≡ set loans owner None
+    → OthersStay ss (borrower (loan_at loans owner)) new → AreTied after new
 tied_back loans after owner ss new tied is stay =
     subst (λ (ls : List (Option Loan)). AreTied ls new) (sym is) (record {
       asked = λ k m d e inside. at k m d (borrower_left loans owner k m e) (subst (λ (l : ℕ). m < l) stay.length inside);
@@ -148,7 +162,8 @@ tied_back loans after owner ss new tied is stay =
         ap (λ (s : Socket). is_asked s.job) same ∙ tied.asked k m d h.1 inside
 
 -- a socket ends
-pub tied_end : (loans after : List (Option Loan)) (ss : List Socket) (n : ℕ) (new : Socket) → AreTied loans ss → after ≡ map (after_end n) loans → AreTied after (set ss n new)
+pub tied_end : (loans after : List (Option Loan)) (ss : List Socket) (n : ℕ) (new : Socket) → AreTied loans ss → after ≡ map (after_end n) loans
+    → AreTied after (set ss n new)
 tied_end loans after ss n new tied is =
     subst (λ (ls : List (Option Loan)). AreTied ls (set ss n new)) (sym is) (record {
       asked = λ k m d e inside. at k m d (borrower_ended loans n k m e) (subst (λ (l : ℕ). m < l) (length-set ss n new) inside);
@@ -191,7 +206,8 @@ tied_new loans ss is =
 
 -- ---- what is done first with a socket, and then
 
-pub asks_after : (n : ℕ) (loans after : List (Option Loan)) (s t u : Socket) → (is_asked s.job ≡ true → is_asked t.job ≡ true) → Asks n loans after t u → Asks n loans after s u
+pub asks_after : (n : ℕ) (loans after : List (Option Loan)) (s t u : Socket) → (is_asked s.job ≡ true → is_asked t.job ≡ true) → Asks n loans after t u
+    → Asks n loans after s u
 asks_after n loans after s t u goes (inl h) = inl (h.0, λ e. h.1 (goes e))
 asks_after n loans after s t u goes (inr h) = inr (h.0, at (is_asked s.job) refl, h.2)
   where
@@ -211,16 +227,20 @@ written len old new same is =
     ∙ take_all len new (omega (arith, same, is))
 
 -- a connection comes back
-pub tied_written : (loans after : List (Option Loan)) (owner len : ℕ) (ss given new : List Socket) → AreTied loans ss → after ≡ set loans owner None → given ≡ ss → length given ≡ len → OthersStay given (borrower (loan_at loans owner)) new → AreTied after (take len (new ++ drop (length new) ss))
+pub tied_written : (loans after : List (Option Loan)) (owner len : ℕ) (ss given new : List Socket) → AreTied loans ss → after ≡ set loans owner None
+    → given ≡ ss → length given ≡ len → OthersStay given (borrower (loan_at loans owner)) new → AreTied after (take len (new ++ drop (length new) ss))
 tied_written loans after owner len ss given new tied is same fits stay =
-    let others : OthersStay ss (borrower (loan_at loans owner)) new = subst (λ (os : List Socket). OthersStay os (borrower (loan_at loans owner)) new) same stay in
+    let others : OthersStay ss (borrower (loan_at loans owner)) new =
+    subst (λ (os : List Socket). OthersStay os (borrower (loan_at loans owner)) new) same stay in
     subst (AreTied after) (sym (written len ss new others.length (ap length (sym same) ∙ fits))) (tied_back loans after owner ss new tied is others)
 
 -- answers are handed out
-pub tied_given : (loans : List (Option Loan)) (len : ℕ) (ss given new : List Socket) → AreTied loans ss → given ≡ ss → length given ≡ len → new ≡ map answered given → AreTied loans (take len (new ++ drop (length new) ss))
+pub tied_given : (loans : List (Option Loan)) (len : ℕ) (ss given new : List Socket) → AreTied loans ss → given ≡ ss → length given ≡ len
+    → new ≡ map answered given → AreTied loans (take len (new ++ drop (length new) ss))
 tied_given loans len ss given new tied same fits is =
     let all : new ≡ map answered ss = is ∙ ap (map answered) same in
-    subst (AreTied loans) (sym (written len ss new (ap length all ∙ length-map ss answered) (ap length (sym same) ∙ fits))) (tied_answered loans ss new tied all)
+    subst (AreTied loans) (sym (written len ss new (ap length all ∙ length-map ss answered) (ap length (sym same) ∙ fits)))
+    (tied_answered loans ss new tied all)
 
 -- a socket ends that isn't there
 pub tied_over : (loans after : List (Option Loan)) (ss : List Socket) (n : ℕ) → AreTied loans ss → after ≡ map (after_end n) loans → AreTied after ss
@@ -231,5 +251,7 @@ tied_over loans after ss n tied is =
     })
 
 -- a step with a socket that was there
-pub tied_step : (loans after : List (Option Loan)) (ss : List Socket) (n : ℕ) (any before new : Socket) → AreTied loans ss → n < length ss → before ≡ get_or ss n any → Asks n loans after before new → AreTied after (set ss n new)
-tied_step loans after ss n any before new tied within is asks = tied_asked loans after ss n any new tied within (subst (λ (s : Socket). Asks n loans after s new) is asks)
+pub tied_step : (loans after : List (Option Loan)) (ss : List Socket) (n : ℕ) (any before new : Socket) → AreTied loans ss → n < length ss
+    → before ≡ get_or ss n any → Asks n loans after before new → AreTied after (set ss n new)
+tied_step loans after ss n any before new tied within is asks =
+    tied_asked loans after ss n any new tied within (subst (λ (s : Socket). Asks n loans after s new) is asks)

@@ -1,5 +1,6 @@
 -- What stands from a key on, and what is known of what is found.
-use Rattle.std.proofs.Common.{◌≡◌, ℕ, suc, Bool, true, false, not, ◌&&◌, List, [], ◌∷◌, ◌++◌, length, get_or, map, take, drop, Option, Some, inl, inr, refl, sym, ap, subst, ◌∙◌, arith}
+use Rattle.std.proofs.Common.{◌≡◌, ℕ, suc, Bool, true, false, not, ◌&&◌, List, [], ◌∷◌, ◌++◌, length, get_or, map, take, drop, Option, Some, inl, inr, refl}
+use Rattle.std.proofs.Common.{sym, ap, subst, ◌∙◌, arith}
 use Rattle.std.specs.Prelude.{All}
 use Rattle.std.specs.Int.{w32, to_be_bytes}
 use Rattle.std.specs.List.{AllPairs}
@@ -60,26 +61,32 @@ later_window low key to (x ∷ xs) above =
         → keep_if (IsAtLeast key x.key && w) x (window key to xs) ≡ entries_at key (keep_if (IsAtLeast low x.key && w) x (window low to xs))
     by true is_l true is_k true later =
         ap (λ (b : Bool). keep_if (b && true) x (window key to xs)) is_k ∙ ap (λ (ys : List Entry). x ∷ ys) later
-        ∙ sym (ap (λ (b : Bool). keep_if b x (entries_at key (window low to xs))) is_k) ∙ sym (ap (λ (b : Bool). entries_at key (keep_if (b && true) x (window low to xs))) is_l)
+        ∙ sym (ap (λ (b : Bool). keep_if b x (entries_at key (window low to xs))) is_k)
+        ∙ sym (ap (λ (b : Bool). entries_at key (keep_if (b && true) x (window low to xs))) is_l)
     by true is_l false is_k true later =
         ap (λ (b : Bool). keep_if (b && true) x (window key to xs)) is_k ∙ later
-        ∙ sym (ap (λ (b : Bool). keep_if b x (entries_at key (window low to xs))) is_k) ∙ sym (ap (λ (b : Bool). entries_at key (keep_if (b && true) x (window low to xs))) is_l)
+        ∙ sym (ap (λ (b : Bool). keep_if b x (entries_at key (window low to xs))) is_k)
+        ∙ sym (ap (λ (b : Bool). entries_at key (keep_if (b && true) x (window low to xs))) is_l)
     by false is_l true is_k w later = absurd (let f : true ≡ false = sym (at_least_both low key x.key above is_k) ∙ is_l in cc)
     by false is_l false is_k true later =
-        ap (λ (b : Bool). keep_if (b && true) x (window key to xs)) is_k ∙ later ∙ sym (ap (λ (b : Bool). entries_at key (keep_if (b && true) x (window low to xs))) is_l)
+        ap (λ (b : Bool). keep_if (b && true) x (window key to xs)) is_k ∙ later
+        ∙ sym (ap (λ (b : Bool). entries_at key (keep_if (b && true) x (window low to xs))) is_l)
     by l is_l k is_k false later =
-        ap (λ (b : Bool). keep_if b x (window key to xs)) (neither (IsAtLeast key x.key)) ∙ later ∙ sym (ap (λ (b : Bool). entries_at key (keep_if b x (window low to xs))) (neither (IsAtLeast low x.key)))
+        ap (λ (b : Bool). keep_if b x (window key to xs)) (neither (IsAtLeast key x.key)) ∙ later
+        ∙ sym (ap (λ (b : Bool). entries_at key (keep_if b x (window low to xs))) (neither (IsAtLeast low x.key)))
       where
         neither : (b : Bool) → (b && false) ≡ false
         neither true = refl
         neither false = refl
 
-entries_of_documents : (number : ℕ) (key : List ℕ) (ds : List Pairs) → entries_at key (map (document_entry number) ds) ≡ map (document_entry number) (documents_at number key ds)
+entries_of_documents : (number : ℕ) (key : List ℕ) (ds : List Pairs)
+    → entries_at key (map (document_entry number) ds) ≡ map (document_entry number) (documents_at number key ds)
 entries_of_documents number key [] = refl
 entries_of_documents number key (d ∷ ds) = by (IsAtLeast key (document_entry number d).key) (entries_of_documents number key ds)
   where
     by : (b : Bool) → entries_at key (map (document_entry number) ds) ≡ map (document_entry number) (documents_at number key ds)
-        → keep_if b (document_entry number d) (entries_at key (map (document_entry number) ds)) ≡ map (document_entry number) (keep_if b d (documents_at number key ds))
+        → keep_if b (document_entry number d) (entries_at key (map (document_entry number) ds))
+        ≡ map (document_entry number) (keep_if b d (documents_at number key ds))
     by true later = ap (λ (xs : List Entry). document_entry number d ∷ xs) later
     by false later = later
 
@@ -128,7 +135,8 @@ module _ (number : ℕ) where
       let x = get_or ds i d in
       let y = get_or ds j d in
       same_numbers number (tree_text (key_of x)) (tree_text (key_of y))
-      ∙ texts_order directions.Ascending (value (key_of x)) (value (key_of y)) (id_is_key x (stored i d (omega (arith, lt, below)))) (id_is_key y (stored j d below)) ∙ rising i j d lt below
+      ∙ texts_order directions.Ascending (value (key_of x)) (value (key_of y)) (id_is_key x (stored i d (omega (arith, lt, below))))
+      (id_is_key y (stored j d below)) ∙ rising i j d lt below
 
   keyed_rest : (d : Pairs) (ds : List Pairs) → AreKeyed (d ∷ ds) → AreKeyed ds
   keyed_rest d ds h = λ i j e lt below. h (suc i) (suc j) e (omega (arith, lt)) (omega (arith, below))
@@ -167,7 +175,8 @@ module _ (number : ℕ) where
 
   -- what is above what isn't below a key isn't below that key
   at_least_above : (key k l : List ℕ) → IsAtLeast key k ≡ true → IsUnder k l → IsAtLeast key l ≡ true
-  at_least_above key k l at under = at_least_both key k l (λ less_k. absurd (let f : false ≡ true = ap (λ (o : Ordering). not (is_lt o)) (sym less_k) ∙ at in cc)) (over k l under)
+  at_least_above key k l at under =
+      at_least_both key k l (λ less_k. absurd (let f : false ≡ true = ap (λ (o : Ordering). not (is_lt o)) (sym less_k) ∙ at in cc)) (over k l under)
 
   below_it : (key k : List ℕ) → IsUnder k key → IsAtLeast key k ≡ false
   below_it key k under = ap (λ (o : Ordering). not (is_lt o)) under
@@ -190,7 +199,8 @@ module _ (number : ℕ) where
   in_middle x [] ys = inl refl
   in_middle x (z ∷ xs) ys = inr (in_middle x xs ys)
 
-  behind : (key : List ℕ) (ds : List Pairs) (entries others : List Entry) (next : Entry) → AreKeyed ds → map (document_entry number) (documents_at number key ds) ≡ entries ++ next ∷ others
+  behind : (key : List ℕ) (ds : List Pairs) (entries others : List Entry) (next : Entry) → AreKeyed ds
+      → map (document_entry number) (documents_at number key ds) ≡ entries ++ next ∷ others
       → documents_at number next.key ds ≡ drop (length entries) (documents_at number key ds)
   behind key [] [] others next h e = absurd cc
   behind key [] (x ∷ entries) others next h e = absurd cc
@@ -224,9 +234,13 @@ module _ (number : ℕ) where
               absurd (let g : true ≡ false = sym (at_least_above key next.key (key_at d) high next_under) ∙ is in cc)
       at_next true is [] f later =
           let here : document_entry number d ≡ next = first_is f in
-          let all_above : documents_at number next.key ds ≡ ds = all_from next.key ds (λ x g. ap (λ (y : Entry). IsAtLeast y.key (key_at x)) (sym here) ∙ over (key_at d) (key_at x) (first_of (λ p q. IsUnder (key_at p) (key_at q)) d ds x h g)) in
-          let all_left : left ≡ ds = all_from key ds (λ x g. at_least_above key (key_at d) (key_at x) is (first_of (λ p q. IsUnder (key_at p) (key_at q)) d ds x h g)) in
-          ap (λ (b : Bool). keep_if b d (documents_at number next.key ds)) (ap (λ (y : Entry). IsAtLeast y.key (key_at d)) (sym here) ∙ not_under_itself (key_at d))
+          let all_above : documents_at number next.key ds ≡ ds =
+          all_from next.key ds (λ x g. ap (λ (y : Entry). IsAtLeast y.key (key_at x)) (sym here)
+          ∙ over (key_at d) (key_at x) (first_of (λ p q. IsUnder (key_at p) (key_at q)) d ds x h g)) in
+          let all_left : left ≡ ds =
+          all_from key ds (λ x g. at_least_above key (key_at d) (key_at x) is (first_of (λ p q. IsUnder (key_at p) (key_at q)) d ds x h g)) in
+          ap (λ (b : Bool). keep_if b d (documents_at number next.key ds))
+          (ap (λ (y : Entry). IsAtLeast y.key (key_at d)) (sym here) ∙ not_under_itself (key_at d))
           ∙ ap (λ (es : List Pairs). d ∷ es) (all_above ∙ sym all_left)
       at_next true is (x ∷ xs) f later =
           let rest = rest_is f in
@@ -234,7 +248,8 @@ module _ (number : ℕ) where
           skipped (below_it next.key (key_at d) (above next from)) ∙ later xs rest
 
   -- the first of a list of entries are those of its first documents
-  firsts : (ds : List Pairs) (entries rest : List Entry) → map (document_entry number) ds ≡ entries ++ rest → entries ≡ map (document_entry number) (take (length entries) ds)
+  firsts : (ds : List Pairs) (entries rest : List Entry) → map (document_entry number) ds ≡ entries ++ rest
+      → entries ≡ map (document_entry number) (take (length entries) ds)
   firsts ds [] rest e = refl
   firsts [] (x ∷ entries) rest e = absurd cc
   firsts (d ∷ ds) (x ∷ entries) rest e = λ i. sym (first_is e) i ∷ firsts ds entries rest (rest_is e) i
@@ -244,5 +259,7 @@ goes_on_behind number key ds entries others next rising stored e =
     let from = is_from number key ds next (subst (λ (ys : List Entry). Among next ys) (sym e) (in_middle number next entries others)) in (
       firsts number (documents_at number key ds) entries (next ∷ others) e,
       behind number key ds entries others next (keyed number ds rising stored) e,
-      λ under. absurd (let g : true ≡ false = sym (ap is_lt under) ∙ ap (λ (x : Entry). is_lt (key_cmp x.key (key_under number 0 []))) from.is ∙ not_below_first number (tree_text (key_of from.document)) in cc),
+      λ under. absurd (let g : true ≡ false =
+          sym (ap is_lt under) ∙ ap (λ (x : Entry). is_lt (key_cmp x.key (key_under number 0 []))) from.is
+          ∙ not_below_first number (tree_text (key_of from.document)) in cc),
     )

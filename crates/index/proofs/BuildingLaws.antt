@@ -24,7 +24,8 @@ pub go_where_they_lead : GoWhereTheyLead
 go_where_they_lead = goes_there
 
 -- W makes an edit of an entry
-one_more : (W : Entry → Edit) (old mid new : List Edit) (number : ℕ) (i : Definition) (ds : List Pairs) (d : Pairs) → GoesOnBy old (map W (flat_map (λ e. index_entries number e i) ds)) mid
+one_more : (W : Entry → Edit) (old mid new : List Edit) (number : ℕ) (i : Definition) (ds : List Pairs) (d : Pairs)
+    → GoesOnBy old (map W (flat_map (λ e. index_entries number e i) ds)) mid
     → GoesOnBy mid (map W (index_entries number d i)) new → GoesOnBy old (map W (flat_map (λ e. index_entries number e i) (ds ++ d ∷ []))) new
 one_more W old mid new number i ds d first second =
     let all = flat_map (λ (e : Pairs). index_entries number e i) ds in
@@ -76,8 +77,10 @@ makes_index_of_all old mid new a b c i lead entries catalogue may =
     let now : Collection = record c { indexes = c.indexes ++ i ∷ [] } in
     let all = entries_in c i in
     let step : Leads (puts (all ++ catalogue_entry now ∷ [])) b (put_collection now b) =
-    exchanged_leads [] (all ++ catalogue_entry now ∷ []) b c now may (put_last (catalogue_entry now) all (collection_entries c) (collection_entries now) (made c i)) in
-    goes_there old (puts all ++ put_of (catalogue_entry now) ∷ []) new a b (put_collection now b) (goes_on old (puts all) mid (put_of (catalogue_entry now) ∷ []) new entries catalogue) lead
+    exchanged_leads [] (all ++ catalogue_entry now ∷ []) b c now may
+    (put_last (catalogue_entry now) all (collection_entries c) (collection_entries now) (made c i)) in
+    goes_there old (puts all ++ put_of (catalogue_entry now) ∷ []) new a b (put_collection now b)
+    (goes_on old (puts all) mid (put_of (catalogue_entry now) ∷ []) new entries catalogue) lead
     (subst (λ (es : List Edit). Leads es b (put_collection now b)) (map-append put_of all (catalogue_entry now ∷ [])) step)
 
 pub drops_index_of_all : DropsIndexOfAll

@@ -1,5 +1,6 @@
 -- The catalogue's document of a collection is one that BSON can spell, and tells its number and its indexes.
-use Rattle.std.proofs.Common.{◌≡◌, ℕ, zero, suc, ◌+◌, ◌*◌, ◌<◌, ◌≤◌, Bool, true, false, ◌&&◌, nat_lt, List, [], ◌∷◌, ◌++◌, length, Option, Some, None, Ok, refl, sym, ap, ◌∙◌, arith, codes, length-append}
+use Rattle.std.proofs.Common.{◌≡◌, ℕ, zero, suc, ◌+◌, ◌*◌, ◌<◌, ◌≤◌, Bool, true, false, ◌&&◌, nat_lt, List, [], ◌∷◌, ◌++◌, length, Option, Some, None, Ok, refl}
+use Rattle.std.proofs.Common.{sym, ap, ◌∙◌, arith, codes, length-append}
 use Rattle.std.specs.Prelude.{pos, slice_index, if◌then◌else◌}
 use Rattle.std.specs.List.{AllByRecursion, list_any}
 use Rattle.std.proofs.lemmas.Fmt.{length-decimal-le}
@@ -57,7 +58,10 @@ spelled_pairs : (d : Definition) → IsDefinition d → IsPairs (spelled d)
 spelled_pairs d h = (
   plain_name (codes "i") refl,
   omega (arith, ints, h.most),
-  (differ (codes "i") (codes "name") refl, (differ (codes "i") (codes "key") refl, (differ (codes "i") (codes "unique") refl, (differ (codes "i") (codes "multi") refl, tt)))),
+  (
+    differ (codes "i") (codes "name") refl,
+    (differ (codes "i") (codes "key") refl, (differ (codes "i") (codes "unique") refl, (differ (codes "i") (codes "multi") refl, tt))),
+  ),
   (
     plain_name (codes "name") refl,
     h.is_text,
@@ -81,7 +85,12 @@ items_flat (d ∷ ds) = omega (arith, items_flat ds, key_levels d.fields)
 
 value_lawful : (n : ℕ) (ds : List Definition) → n ≤ 1000 → AllByRecursion IsDefinition ds → IsDocument (catalogue_value n ds)
 value_lawful n ds most h = record {
-  lawful = (plain_name (codes "n") refl, omega (arith, ints, most), (differ (codes "n") (codes "x") refl, tt), (plain_name (codes "x") refl, items_lawful ds h, tt, tt));
+  lawful = (
+    plain_name (codes "n") refl,
+    omega (arith, ints, most),
+    (differ (codes "n") (codes "x") refl, tt),
+    (plain_name (codes "x") refl, items_lawful ds h, tt, tt),
+  );
   depth = omega (arith, items_flat ds);
 }
 
@@ -160,12 +169,20 @@ definition_size d h =
     let middle : length (pairs_bytes third) ≤ 1080 = omega (arith, c, tail, key, document_size (key_document d.fields)) in
     omega (arith, document_size (spelled d), f, int_size d.number, e, text_size d.name, h.short, middle)
 
-items_size : (i : ℕ) (ds : List Definition) → i + length ds ≤ 99 → AllByRecursion IsDefinition ds → length (items_bytes i (definition_items ds)) ≤ 1310 * length ds
+items_size : (i : ℕ) (ds : List Definition) → i + length ds ≤ 99 → AllByRecursion IsDefinition ds
+    → length (items_bytes i (definition_items ds)) ≤ 1310 * length ds
 items_size i [] few h = omega (arith, no_items_size i)
 items_size i (d ∷ ds) few h =
-    omega (arith, items_size-item i (document (spelled d)) (definition_items ds), definition_size d h.0, length-decimal-le 2 i (omega arith) (omega (arith, few)) (omega (arith, few)), items_size (i + 1) ds (omega (arith, few)) h.1)
+    omega (
+      arith,
+      items_size-item i (document (spelled d)) (definition_items ds),
+      definition_size d h.0,
+      length-decimal-le 2 i (omega arith) (omega (arith, few)) (omega (arith, few)),
+      items_size (i + 1) ds (omega (arith, few)) h.1,
+    )
 
-pub value_size : (n : ℕ) (ds : List Definition) → length ds ≤ 16 → AllByRecursion IsDefinition ds → length (frame_of (pairs_bytes (catalogue_value n ds))) ≤ 65535
+pub value_size : (n : ℕ) (ds : List Definition) → length ds ≤ 16 → AllByRecursion IsDefinition ds
+    → length (frame_of (pairs_bytes (catalogue_value n ds))) ≤ 65535
 value_size n ds few h =
     let last = pair (codes "x") (array (definition_items ds)) no_pairs in
     let a = pairs_size-pair (codes "x") (array (definition_items ds)) no_pairs in
@@ -173,7 +190,8 @@ value_size n ds few h =
     let all : length (items_bytes 0 (definition_items ds)) ≤ 20960 = omega (arith, items_size 0 ds (omega (arith, few)) h, few) in
     omega (arith, frame_of-length (pairs_bytes (catalogue_value n ds)), b, int_size n, a, array_size (definition_items ds), all, none_size)
 
-pub value_spells : (n : ℕ) (ds : List Definition) → n ≤ 1000 → length ds ≤ 16 → AllByRecursion IsDefinition ds → SpellsDocument (frame_of (pairs_bytes (catalogue_value n ds))) (catalogue_value n ds)
+pub value_spells : (n : ℕ) (ds : List Definition) → n ≤ 1000 → length ds ≤ 16 → AllByRecursion IsDefinition ds
+    → SpellsDocument (frame_of (pairs_bytes (catalogue_value n ds))) (catalogue_value n ds)
 value_spells n ds most few h = record { lawful = value_lawful n ds most h; spelled = refl; size = omega (arith, value_size n ds few h) }
 
 -- ---- what it tells
@@ -209,14 +227,17 @@ same_items [] (j ∷ js) h g e = absurd cc
 same_items (i ∷ is) [] h g e = absurd cc
 same_items (i ∷ is) (j ∷ js) h g e = λ t. same_definition i j h.0 g.0 (ap first_pairs e) t ∷ same_items is js h.1 g.1 (ap later_items e) t
 
-same_parts : (m n : ℕ) (is js : List Definition) → AllByRecursion IsDefinition is → AllByRecursion IsDefinition js → catalogue_value m is ≡ catalogue_value n js → (m ≡ n) × (is ≡ js)
+same_parts : (m n : ℕ) (is js : List Definition) → AllByRecursion IsDefinition is → AllByRecursion IsDefinition js
+    → catalogue_value m is ≡ catalogue_value n js → (m ≡ n) × (is ≡ js)
 unfolding number_in items_in
 same_parts m n is js h g e = (ap number_in e, same_items is js h g (ap items_in e))
 
 -- two collections of which the catalogue says the same have one number and the same indexes
-pub same_value : (m n : ℕ) (is js : List Definition) → m ≤ 1000 → n ≤ 1000 → length is ≤ 16 → length js ≤ 16 → AllByRecursion IsDefinition is → AllByRecursion IsDefinition js
+pub same_value : (m n : ℕ) (is js : List Definition) → m ≤ 1000 → n ≤ 1000 → length is ≤ 16 → length js ≤ 16 → AllByRecursion IsDefinition is
+    → AllByRecursion IsDefinition js
     → frame_of (pairs_bytes (catalogue_value m is)) ≡ frame_of (pairs_bytes (catalogue_value n js)) → (m ≡ n) × (is ≡ js)
 same_value m n is js low high few short h g e =
     same_parts m n is js h g
-    (one_spelling (frame_of (pairs_bytes (catalogue_value m is))) (frame_of (pairs_bytes (catalogue_value n js))) [] [] (catalogue_value m is) (catalogue_value n js)
+    (one_spelling (frame_of (pairs_bytes (catalogue_value m is))) (frame_of (pairs_bytes (catalogue_value n js))) [] [] (catalogue_value m is)
+    (catalogue_value n js)
     (value_spells m is low few h) (value_spells n js high short g) (ap (λ (xs : List ℕ). xs ++ []) e)).0

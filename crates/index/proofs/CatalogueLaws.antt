@@ -1,5 +1,6 @@
 -- A definition is read back from its document, and from no other.
-use Rattle.std.proofs.Common.{◌≡◌, ℕ, ◌≤◌, Bool, true, false, ◌||◌, ◌&&◌, nat_lt, List, [], ◌∷◌, length, Option, Some, None, Result, Ok, refl, ap, ◌∙◌, arith, codes}
+use Rattle.std.proofs.Common.{◌≡◌, ℕ, ◌≤◌, Bool, true, false, ◌||◌, ◌&&◌, nat_lt, List, [], ◌∷◌, length, Option, Some, None, Result, Ok, refl, ap, ◌∙◌, arith}
+use Rattle.std.proofs.Common.{codes}
 use Rattle.std.specs.Prelude.{if◌then◌else◌}
 use Rattle.std.specs.List.{AllByRecursion}
 use Rattle.std.specs.Option.{option_and_then, option_map}
@@ -57,7 +58,8 @@ record AreParts (a : Option ℕ) (b : Option (List ℕ)) (c : Option (List Field
   unique : p ≡ Some d.is_unique
   multi : q ≡ Some d.is_multi
 
-all_found : (a : Option ℕ) (b : Option (List ℕ)) (c : Option (List Field)) (p q : Option Bool) (d : Definition) → all_of a b c p q ≡ Some d → AreParts a b c p q d
+all_found : (a : Option ℕ) (b : Option (List ℕ)) (c : Option (List Field)) (p q : Option Bool) (d : Definition) → all_of a b c p q ≡ Some d
+    → AreParts a b c p q d
 all_found (Some n) (Some s) (Some fs) (Some u) (Some m) d e =
     let same : record { number = n; name = s; fields = fs; is_unique = u; is_multi = m } ≡ d = cc in
     record {

@@ -1,5 +1,6 @@
 -- Definitions as documents.
-use Rattle.std.proofs.Common.{◌≡◌, ℕ, zero, suc, ◌+◌, ◌<◌, ◌≤◌, Bool, true, false, ◌||◌, nat_lt, List, [], ◌∷◌, ◌++◌, length, drop, get_or, Option, Some, None, Result, Ok, Err, refl, sym, ap, subst, ◌∙◌, arith}
+use Rattle.std.proofs.Common.{◌≡◌, ℕ, zero, suc, ◌+◌, ◌<◌, ◌≤◌, Bool, true, false, ◌||◌, nat_lt, List, [], ◌∷◌, ◌++◌, length, drop, get_or, Option, Some, None}
+use Rattle.std.proofs.Common.{Result, Ok, Err, refl, sym, ap, subst, ◌∙◌, arith}
 use Rattle.std.specs.Prelude.{◌≢◌, pos, negsuc, if◌then◌else◌}
 use Rattle.std.specs.List.{AllByRecursion}
 use Rattle.std.specs.Option.{option_and_then, option_map}
@@ -29,7 +30,8 @@ pub lacks : (ps : Pairs) (name : List ℕ) → lookup ps name ≡ None → Lacks
 lacks no_pairs name e = tt
 lacks (pair other t ps) name e = at (bytes_eq name other) refl e (λ f. lacks ps name f)
   where
-    at : (b : Bool) → bytes_eq name other ≡ b → (if b then Some t else lookup ps name) ≡ None → (lookup ps name ≡ None → Lacks ps name) → Lacks (pair other t ps) name
+    at : (b : Bool) → bytes_eq name other ≡ b → (if b then Some t else lookup ps name) ≡ None → (lookup ps name ≡ None → Lacks ps name)
+        → Lacks (pair other t ps) name
     at true is e rest = absurd cc
     at false is e rest = (differ name other is, rest e)
 
@@ -73,10 +75,12 @@ pub number_found : (t : Tree) (m : ℕ) → number_in t ≡ Some m → (t ≡ sc
 number_found (scalar (int32 (pos n))) m e = let h = number_lawful n m e in (ap (λ (k : ℕ). scalar (int32 (pos k))) h.0, h.1, h.2)
 number_found other m e = absurd cc
 
-name_lawful : (s found : List ℕ) → (if nat_lt (length s) 1 || nat_lt 127 (length s) then None else Some s) ≡ Some found → (s ≡ found) × (1 ≤ length found) × (length found ≤ 127)
+name_lawful : (s found : List ℕ) → (if nat_lt (length s) 1 || nat_lt 127 (length s) then None else Some s) ≡ Some found
+    → (s ≡ found) × (1 ≤ length found) × (length found ≤ 127)
 name_lawful s found e = by (nat_lt (length s) 1) refl (nat_lt 127 (length s)) refl e
   where
-    by : (a : Bool) → nat_lt (length s) 1 ≡ a → (b : Bool) → nat_lt 127 (length s) ≡ b → (if a || b then None else Some s) ≡ Some found → (s ≡ found) × (1 ≤ length found) × (length found ≤ 127)
+    by : (a : Bool) → nat_lt (length s) 1 ≡ a → (b : Bool) → nat_lt 127 (length s) ≡ b → (if a || b then None else Some s) ≡ Some found
+        → (s ≡ found) × (1 ≤ length found) × (length found ≤ 127)
     by true small b large e = absurd cc
     by false small true large e = absurd cc
     by false small false large e =
@@ -104,7 +108,8 @@ unnamed (Err fault) f e = absurd cc
 path_named : (name : List ℕ) (way : Direction) (f : Field) → field_named name way ≡ Ok f → (name ≡ f.path) × (way ≡ f.direction) × IsPath name
 path_named name way f e = by (path_fault name (parts_of name)) refl e
   where
-    by : (o : Option PathFault) → path_fault name (parts_of name) ≡ o → (fault_or o (parts_of name) >>= λ _. Ok (record { path = name; direction = way })) ≡ Ok f → (name ≡ f.path) × (way ≡ f.direction) × IsPath name
+    by : (o : Option PathFault) → path_fault name (parts_of name) ≡ o
+        → (fault_or o (parts_of name) >>= λ _. Ok (record { path = name; direction = way })) ≡ Ok f → (name ≡ f.path) × (way ≡ f.direction) × IsPath name
     by None none e =
         let same : record { path = name; direction = way } ≡ f = cc in
         (ap (λ (g : Field). g.path) same, ap (λ (g : Field). g.direction) same, ap (λ (o : Option PathFault). fault_or o (parts_of name)) none)
@@ -134,7 +139,8 @@ fields_found no_pairs [] e = (refl, tt)
 fields_found no_pairs (f ∷ fs) e = absurd cc
 fields_found (pair name t ps) fs e = by (field_in name t) refl (fields_in ps) refl e (λ gs. fields_found ps gs)
   where
-    by : (one : Option Field) → field_in name t ≡ one → (more : Option (List Field)) → fields_in ps ≡ more → option_and_then (λ f. option_map (λ gs. f ∷ gs) more) one ≡ Some fs
+    by : (one : Option Field) → field_in name t ≡ one → (more : Option (List Field)) → fields_in ps ≡ more
+        → option_and_then (λ f. option_map (λ gs. f ∷ gs) more) one ≡ Some fs
         → ((gs : List Field) → fields_in ps ≡ Some gs → (ps ≡ key_document gs) × AllByRecursion (λ f. IsPath f.path) gs)
         → (pair name t ps ≡ key_document fs) × AllByRecursion (λ f. IsPath f.path) fs
     by None first more rest e later = absurd cc
@@ -149,7 +155,8 @@ fields_found (pair name t ps) fs e = by (field_in name t) refl (fields_in ps) re
 counted_found : (gs fs : List Field) → counted gs ≡ Some fs → (gs ≡ fs) × (1 ≤ length fs) × (length fs ≤ 4)
 counted_found gs fs e = by (nat_lt (length gs) 1) refl (nat_lt 4 (length gs)) refl e
   where
-    by : (a : Bool) → nat_lt (length gs) 1 ≡ a → (b : Bool) → nat_lt 4 (length gs) ≡ b → (if a || b then None else Some gs) ≡ Some fs → (gs ≡ fs) × (1 ≤ length fs) × (length fs ≤ 4)
+    by : (a : Bool) → nat_lt (length gs) 1 ≡ a → (b : Bool) → nat_lt 4 (length gs) ≡ b → (if a || b then None else Some gs) ≡ Some fs
+        → (gs ≡ fs) × (1 ≤ length fs) × (length fs ≤ 4)
     by true small b large e = absurd cc
     by false small true large e = absurd cc
     by false small false large e =
@@ -168,7 +175,8 @@ key_found (document ps) fs e h = by (fields_in ps) refl e
         (ap document told.0, record { some = many.1; most = many.2; paths = told.1; distinct = subst IsPairs told.0 h })
 key_found other fs e h = absurd cc
 
-pub lawful_parts : (n : ℕ) (s : List ℕ) (fs : List Field) (u m : Bool) (t v w : Tree) → number_in t ≡ Some n → name_in v ≡ Some s → key_in w ≡ Some fs → IsTree v → IsTree w → IsDefinition (definition_of n s fs u m)
+pub lawful_parts : (n : ℕ) (s : List ℕ) (fs : List Field) (u m : Bool) (t v w : Tree) → number_in t ≡ Some n → name_in v ≡ Some s → key_in w ≡ Some fs
+    → IsTree v → IsTree w → IsDefinition (definition_of n s fs u m)
 lawful_parts n s fs u m t v w number name key g h =
     let numbered = number_found t n number in
     let named = name_found v s name in
@@ -185,7 +193,8 @@ other_length (a ∷ b ∷ c ∷ d ∷ []) h = refl
 other_length (a ∷ b ∷ c ∷ d ∷ e ∷ []) h = absurd (h refl)
 other_length (a ∷ b ∷ c ∷ d ∷ e ∷ f ∷ ps) h = refl
 
-pub five_pairs : (ps : List Pair) (a b c d e : Pair) → 5 ≤ length ps → length ps < 6 → a ≡ get_or ps 0 a → b ≡ get_or ps 1 b → c ≡ get_or ps 2 c → d ≡ get_or ps 3 d → e ≡ get_or ps 4 e
+pub five_pairs : (ps : List Pair) (a b c d e : Pair) → 5 ≤ length ps → length ps < 6 → a ≡ get_or ps 0 a → b ≡ get_or ps 1 b → c ≡ get_or ps 2 c
+    → d ≡ get_or ps 3 d → e ≡ get_or ps 4 e
     → pairs_of ps ≡ pairs_of (a ∷ b ∷ c ∷ d ∷ e ∷ [])
 five_pairs [] a b c d e low high p q r s t = absurd (omega arith)
 five_pairs (v ∷ []) a b c d e low high p q r s t = absurd (omega arith)

@@ -1,5 +1,6 @@
 -- What the catalogue says of a collection with indexes is read back.
-use Rattle.std.proofs.Common.{◌≡◌, ℕ, Bool, true, false, not, ◌+◌, ◌<◌, ◌≤◌, List, [], ◌∷◌, ◌++◌, length, get_or, drop, Option, Some, None, Result, Ok, Err, codes, refl, sym, ap, subst, unwrap_or, ◌∙◌, append_assoc, append-nil}
+use Rattle.std.proofs.Common.{◌≡◌, ℕ, Bool, true, false, not, ◌+◌, ◌<◌, ◌≤◌, List, [], ◌∷◌, ◌++◌, length, get_or, drop, Option, Some, None, Result, Ok, Err}
+use Rattle.std.proofs.Common.{codes, refl, sym, ap, subst, unwrap_or, ◌∙◌, append_assoc, append-nil}
 use Rattle.std.specs.Prelude.{IfOk}
 use Rattle.std.proofs.lemmas.Slice.Eq.{bytes_eq-Decides}
 use Rattle.std.specs.Str.{bytes_eq}
@@ -26,11 +27,13 @@ use Rattle.index.proofs.OneStateLaws.{lawful_indexes}
 pub all_back : (ds : List Definition) → AllByRecursion IsDefinition ds → definitions_in (definition_items ds) ≡ Some ds
 all_back [] h = refl
 all_back (d ∷ ds) h =
-    ap (option_and_then (λ (e : Definition). option_map (λ es. e ∷ es) (definitions_in (definition_items ds)))) (reads_back d h.0) ∙ ap (option_map (λ es. d ∷ es)) (all_back ds h.1)
+    ap (option_and_then (λ (e : Definition). option_map (λ es. e ∷ es) (definitions_in (definition_items ds)))) (reads_back d h.0)
+    ∙ ap (option_map (λ es. d ∷ es)) (all_back ds h.1)
 
 -- ---- a loop over values
 
-longer : (got : List Definition) (d : Definition) (rest : Option (List Definition)) → option_map (λ ds. (got ++ d ∷ []) ++ ds) rest ≡ option_map (λ ds. got ++ ds) (option_map (λ ds. d ∷ ds) rest)
+longer : (got : List Definition) (d : Definition) (rest : Option (List Definition))
+    → option_map (λ ds. (got ++ d ∷ []) ++ ds) rest ≡ option_map (λ ds. got ++ ds) (option_map (λ ds. d ∷ ds) rest)
 longer got d None = refl
 longer got d (Some ds) = ap (λ (es : List Definition). Some es) (append_assoc got (d ∷ []) ds)
 
@@ -40,14 +43,17 @@ first_read vs i v found below is told =
     ap (λ (ws : List Value). definitions_in (items_of ws)) (from_there vs i v below is)
     ∙ ap (option_and_then (λ (d : Definition). option_map (λ ds. d ∷ ds) (definitions_in (items_of (drop (i + 1) vs))))) (sym told)
 
-pub read_more : (vs : List Value) (i : ℕ) (v : Value) (got new : List Definition) (d : Definition) (whole : Option (List Definition)) → i < length vs → v ≡ get_or vs i v → Some d ≡ item_in (tree v) → new ≡ got ++ d ∷ []
-    → option_map (λ ds. got ++ ds) (definitions_in (items_of (drop i vs))) ≡ whole → option_map (λ ds. new ++ ds) (definitions_in (items_of (drop (i + 1) vs))) ≡ whole
+pub read_more : (vs : List Value) (i : ℕ) (v : Value) (got new : List Definition) (d : Definition) (whole : Option (List Definition)) → i < length vs
+    → v ≡ get_or vs i v → Some d ≡ item_in (tree v) → new ≡ got ++ d ∷ []
+    → option_map (λ ds. got ++ ds) (definitions_in (items_of (drop i vs))) ≡ whole
+    → option_map (λ ds. new ++ ds) (definitions_in (items_of (drop (i + 1) vs))) ≡ whole
 read_more vs i v got new d whole below is told grown so_far =
     let rest = definitions_in (items_of (drop (i + 1) vs)) in
     ap (λ (xs : List Definition). option_map (λ ds. xs ++ ds) rest) grown ∙ longer got d rest
     ∙ sym (ap (option_map (λ (ds : List Definition). got ++ ds)) (first_read vs i v (Some d) below is told)) ∙ so_far
 
-pub read_none : (vs : List Value) (i : ℕ) (v : Value) (got : List Definition) (whole : Option (List Definition)) → i < length vs → v ≡ get_or vs i v → None ≡ item_in (tree v)
+pub read_none : (vs : List Value) (i : ℕ) (v : Value) (got : List Definition) (whole : Option (List Definition)) → i < length vs → v ≡ get_or vs i v
+    → None ≡ item_in (tree v)
     → option_map (λ ds. got ++ ds) (definitions_in (items_of (drop i vs))) ≡ whole → None ≡ whole
 read_none vs i v got whole below is told so_far =
     sym (ap (option_map (λ (ds : List Definition). got ++ ds)) (first_read vs i v None below is told)) ∙ so_far
@@ -68,8 +74,10 @@ same_items : (ts us : Items) → Some (array ts) ≡ Some (array us) → ts ≡ 
 unfolding items_of_array
 same_items ts us e = ap items_of_array e
 
-pub indexes_back : {E : Type 0} (r : Result (Option (Vec Definition)) E) (ps : Pairs) (ts : Items) (ws : Items) → IfOk r (λ found. option_map (λ v. v.items) found ≡ definitions_in ws) → ws ≡ ts → lookup ps (codes "x") ≡ Some (array ts)
-    → IfOk r (λ found. (number : ℕ) (is : List Definition) → AllByRecursion IsDefinition is → ps ≡ catalogue_value number is → option_map (λ v. v.items) found ≡ Some is)
+pub indexes_back : {E : Type 0} (r : Result (Option (Vec Definition)) E) (ps : Pairs) (ts : Items) (ws : Items)
+    → IfOk r (λ found. option_map (λ v. v.items) found ≡ definitions_in ws) → ws ≡ ts → lookup ps (codes "x") ≡ Some (array ts)
+    → IfOk r (λ found. (number : ℕ) (is : List Definition) → AllByRecursion IsDefinition is → ps ≡ catalogue_value number is
+    → option_map (λ v. v.items) found ≡ Some is)
 indexes_back (Ok found) ps ts ws h same there = λ number is lawful e.
     let back : ts ≡ definition_items is = same_items ts (definition_items is) (sym there ∙ ap (λ (qs : Pairs). lookup qs (codes "x")) e) in
     h ∙ ap definitions_in (same ∙ back) ∙ all_back is lawful
@@ -82,7 +90,8 @@ same_list {is} e = ap (λ (o : Option (List Definition)). unwrap_or o is) e
 
 pub kept_spells : (c : Collection) (bytes : List ℕ) → IsKept c → bytes ≡ catalogue_bytes c → SpellsDocument bytes (catalogue_value c.number c.indexes)
 kept_spells c bytes h e =
-    subst (λ (bs : List ℕ). SpellsDocument bs (catalogue_value c.number c.indexes)) (sym e) (value_spells c.number c.indexes h.most h.few (lawful_indexes c.indexes c.documents h.indexes))
+    subst (λ (bs : List ℕ). SpellsDocument bs (catalogue_value c.number c.indexes)) (sym e)
+    (value_spells c.number c.indexes h.most h.few (lawful_indexes c.indexes c.documents h.indexes))
 
 pub kept_lawful : (c : Collection) → IsKept c → AllByRecursion IsDefinition c.indexes
 kept_lawful c h = lawful_indexes c.indexes c.documents h.indexes

@@ -31,23 +31,27 @@ behind_none (item t ts) = ap (item t) (behind_none ts)
 pub from_there : {X : Type 0} (xs : List X) (i : ℕ) (x : X) → i < length xs → x ≡ get_or xs i x → drop i xs ≡ x ∷ drop (i + 1) xs
 from_there xs i x below is = at_drop_more (λ ys. ys) xs i x below ∙ ap (λ y. y ∷ drop (i + 1) xs) (sym is)
 
-pub item_more : (ds : List Definition) (i : ℕ) (d : Definition) (vs new : List Value) (v : Value) (whole : Items) → i < length ds → d ≡ get_or ds i d → new ≡ vs ++ v ∷ [] → tree v ≡ document (spelled d)
+pub item_more : (ds : List Definition) (i : ℕ) (d : Definition) (vs new : List Value) (v : Value) (whole : Items) → i < length ds → d ≡ get_or ds i d
+    → new ≡ vs ++ v ∷ [] → tree v ≡ document (spelled d)
     → append_items (items_of vs) (definition_items (drop i ds)) ≡ whole → append_items (items_of new) (definition_items (drop (i + 1) ds)) ≡ whole
 item_more ds i d vs new v whole below is grown spells so_far =
     let rest = definition_items (drop (i + 1) ds) in
     ap (λ (ws : List Value). append_items (items_of ws) rest) grown ∙ items_after vs v rest ∙ ap (λ t. append_items (items_of vs) (item t rest)) spells
     ∙ sym (ap (λ (es : List Definition). append_items (items_of vs) (definition_items es)) (from_there ds i d below is)) ∙ so_far
 
-pub items_end : (ds : List Definition) (i : ℕ) (vs : List Value) (whole : Items) → length ds ≤ i → append_items (items_of vs) (definition_items (drop i ds)) ≡ whole → items_of vs ≡ whole
+pub items_end : (ds : List Definition) (i : ℕ) (vs : List Value) (whole : Items) → length ds ≤ i
+    → append_items (items_of vs) (definition_items (drop i ds)) ≡ whole → items_of vs ≡ whole
 items_end ds i vs whole past so_far =
     sym (behind_none (items_of vs)) ∙ sym (ap (λ (es : List Definition). append_items (items_of vs) (definition_items es)) (drop_all i ds past)) ∙ so_far
 
 pub lawful_more : (ds : List Definition) (i : ℕ) (d : Definition) → i < length ds → d ≡ get_or ds i d → IsDefinition d
-    → (AllByRecursion IsDefinition (drop i ds) → AllByRecursion IsDefinition ds) → AllByRecursion IsDefinition (drop (i + 1) ds) → AllByRecursion IsDefinition ds
+    → (AllByRecursion IsDefinition (drop i ds) → AllByRecursion IsDefinition ds) → AllByRecursion IsDefinition (drop (i + 1) ds)
+    → AllByRecursion IsDefinition ds
 lawful_more ds i d below is lawful so_far later =
     so_far (subst (λ (es : List Definition). AllByRecursion IsDefinition es) (sym (from_there ds i d below is)) (lawful, later))
 
-pub lawful_end : (ds : List Definition) (i : ℕ) → length ds ≤ i → (AllByRecursion IsDefinition (drop i ds) → AllByRecursion IsDefinition ds) → AllByRecursion IsDefinition ds
+pub lawful_end : (ds : List Definition) (i : ℕ) → length ds ≤ i → (AllByRecursion IsDefinition (drop i ds) → AllByRecursion IsDefinition ds)
+    → AllByRecursion IsDefinition ds
 lawful_end ds i past so_far = so_far (subst (λ (es : List Definition). AllByRecursion IsDefinition es) (sym (drop_all i ds past)) tt)
 
 pub definitions_array : (ds : List Definition) → AllByRecursion IsDefinition ds → IsArray (definition_items ds)
@@ -55,7 +59,8 @@ definitions_array ds h = record { lawful = items_lawful ds h; depth = omega (ari
 
 -- ---- its bytes
 
-pub short_bytes : {E : Type 0} (r : Result (Vec ℕ) E) (d : Pairs) → length (frame_of (pairs_bytes d)) ≤ 65535 → IfOk r (λ b. SpellsDocument b.items d) → IfOk r (λ b. length b.items ≤ 65535)
+pub short_bytes : {E : Type 0} (r : Result (Vec ℕ) E) (d : Pairs) → length (frame_of (pairs_bytes d)) ≤ 65535 → IfOk r (λ b. SpellsDocument b.items d)
+    → IfOk r (λ b. length b.items ≤ 65535)
 short_bytes (Ok b) d small h = let e : length b.items ≡ length (frame_of (pairs_bytes d)) = ap length h.spelled in omega (arith, e, small)
 short_bytes (Err e) d small h = h
 
@@ -64,10 +69,12 @@ some_short bytes x short e = let same : bytes ≡ x = cc in subst (λ (ys : List
 
 -- ---- its put
 
-pub edit_is : (old new : List Edit) (k l v w : List ℕ) → k ≡ l → v ≡ w → new ≡ with_edit (record { key = k; value = Some v }) old → new ≡ with_edit (record { key = l; value = Some w }) old
+pub edit_is : (old new : List Edit) (k l v w : List ℕ) → k ≡ l → v ≡ w → new ≡ with_edit (record { key = k; value = Some v }) old
+    → new ≡ with_edit (record { key = l; value = Some w }) old
 edit_is old new k l v w keys values made = made ∙ (λ t. with_edit (record { key = keys t; value = Some (values t) }) old)
 
-pub notes_of : (old new : List Edit) (name : List ℕ) (number : ℕ) (is : List Definition) → LeadsWith old (catalogue_put name number is) new → NotesIndexesOf old new name number is
+pub notes_of : (old new : List Edit) (name : List ℕ) (number : ℕ) (is : List Definition) → LeadsWith old (catalogue_put name number is) new
+    → NotesIndexesOf old new name number is
 notes_of old new name number is leads a b c lead named num alike may =
     let now : Collection = record c { indexes = is } in
     leads a b (put_collection now b) lead

@@ -16,7 +16,8 @@ makes_collection cs name number lawful missing still =
     let new = empty_collection name number in
     let after = put_collection new cs in
     let same = none_without cs name missing in
-    let new_there : (x : Entry) → Among x (collection_entries new) → Among x (state_entries after) = λ x p. among_each collection_entries x new after (among_put new cs new lawful.apart (inl refl)) p in
+    let new_there : (x : Entry) → Among x (collection_entries new)
+    → Among x (state_entries after) = λ x p. among_each collection_entries x new after (among_put new cs new lawful.apart (inl refl)) p in
     let old_there : (x : Entry) → Among x (state_entries cs) → Among x (state_entries after) =
     λ x p. let d = among_flat collection_entries x cs p in
     among_each collection_entries x d.0 after (among_put new cs d.0 lawful.apart (inr (subst (λ (ds : List Collection). Among d.0 ds) (sym same) d.1))) d.2 in
@@ -46,6 +47,7 @@ drops_collection cs c lawful found =
       from = λ x p. inr (was x p);
       away = λ x p k.
           let d = among_flat collection_entries x after p in
-          let same : d.0 ≡ c = one_home cs d.0 c x k.0 lawful (without_in cs c.name d.0 d.1) (found_in cs c.name c found) (one_of d.0 x d.2) (one_of c k.0 k.1) (sym k.2) in
+          let same : d.0 ≡ c =
+          one_home cs d.0 c x k.0 lawful (without_in cs c.name d.0 d.1) (found_in cs c.name c found) (one_of d.0 x d.2) (one_of c k.0 k.1) (sym k.2) in
           absurd (without_other cs c.name d.0 lawful.apart d.1 (sym (ap (λ (y : Collection). y.name) same)));
     }))

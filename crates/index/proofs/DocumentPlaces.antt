@@ -57,7 +57,8 @@ placed d (x ∷ ds) h = by (compare (key_of d) (key_of x)) refl (placed d ds (re
     put_is o is = ap (λ (p : Ordering). by_order p (d ∷ x ∷ ds) (d ∷ ds) (x ∷ put_document d ds)) is
 
     by : (o : Ordering) → compare (key_of d) (key_of x) ≡ o → IsBetween d ds ⊎ IsInstead d ds → IsBetween d (x ∷ ds) ⊎ IsInstead d (x ∷ ds)
-    by orders.Less less later = inl (record { front = []; back = x ∷ ds; split = refl; put = put_is orders.Less less; behind = λ e g. absurd g; before = above })
+    by orders.Less less later =
+        inl (record { front = []; back = x ∷ ds; split = refl; put = put_is orders.Less less; behind = λ e g. absurd g; before = above })
       where
         above : (e : Pairs) → Among e (x ∷ ds) → IsBelow d e
         above e (inl is) = subst (λ (f : Pairs). IsBelow d f) (sym is) less
@@ -72,7 +73,8 @@ placed d (x ∷ ds) h = by (compare (key_of d) (key_of x)) refl (placed d ds (re
       behind = λ e g. absurd g;
       before = λ e there.
           let over : compare (key_of e) (key_of x) ≡ orders.Greater = turned (key_of x) (key_of e) orders.Less (first_of IsBelow x ds e h there) in
-          turned (key_of e) (key_of d) orders.Greater (sym (alike_right compare_total (key_of x) (key_of d) (key_of e) (turned (key_of d) (key_of x) orders.Equal tied)) ∙ over);
+          turned (key_of e) (key_of d) orders.Greater
+          (sym (alike_right compare_total (key_of x) (key_of d) (key_of e) (turned (key_of d) (key_of x) orders.Equal tied)) ∙ over);
     })
     by orders.Greater over later =
         let under : IsBelow x d = turned (key_of d) (key_of x) orders.Greater over in

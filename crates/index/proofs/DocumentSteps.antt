@@ -50,11 +50,14 @@ inserts_document c front back d split cs h =
 -- ---- one less
 
 -- the others have another `_id`
-not_twice : (c : Collection) (front back : List Pairs) (d e : Pairs) → IsKept c → c.documents ≡ front ++ d ∷ back → Among e (front ++ back) → tree_text (key_of e) ≡ tree_text (key_of d) → ⊥
+not_twice : (c : Collection) (front back : List Pairs) (d e : Pairs) → IsKept c → c.documents ≡ front ++ d ∷ back → Among e (front ++ back)
+    → tree_text (key_of e) ≡ tree_text (key_of d) → ⊥
 not_twice c front back d e kept split there same =
     let in_all : (x : Pairs) → Among x (front ++ d ∷ back) → Among x c.documents = λ x g. subst (λ (ds : List Pairs). Among x ds) (sym split) g in
-    let equal = same_id e d (storable_of c e kept (in_all e (among_around e d front back there))) (storable_of c d kept (in_all d (among_there d front back))) same in
-    by equal (others_of (λ x y. compare (key_of x) (key_of y) ≡ Less) e d front back (subst (λ (ds : List Pairs). AllPairs (λ x y. compare (key_of x) (key_of y) ≡ Less) ds) split kept.rising) there)
+    let equal = same_id e d (storable_of c e kept (in_all e (among_around e d front back there)))
+    (storable_of c d kept (in_all d (among_there d front back))) same in
+    by equal (others_of (λ x y. compare (key_of x) (key_of y) ≡ Less) e d front back
+    (subst (λ (ds : List Pairs). AllPairs (λ x y. compare (key_of x) (key_of y) ≡ Less) ds) split kept.rising) there)
   where
     by : compare (key_of e) (key_of d) ≡ Equal → (compare (key_of e) (key_of d) ≡ Less) ⊎ (compare (key_of d) (key_of e) ≡ Less) → ⊥
     by equal (inl less) = not_both (compare (key_of e) (key_of d)) less equal
@@ -65,10 +68,12 @@ id_text : (c : Collection) (x : Entry) → IsDocumentOf c x ⊎ IsKeyOf c x → 
 id_text c x (inl d) = tree_text (key_of d.document)
 id_text c x (inr k) = tree_text (key_of k.document)
 
-same_ids : (c : Collection) (x y : Entry) → IsKept c → (p : IsDocumentOf c x ⊎ IsKeyOf c x) (q : IsDocumentOf c y ⊎ IsKeyOf c y) → x.key ≡ y.key → id_text c x p ≡ id_text c y q
+same_ids : (c : Collection) (x y : Entry) → IsKept c → (p : IsDocumentOf c x ⊎ IsKeyOf c x) (q : IsDocumentOf c y ⊎ IsKeyOf c y) → x.key ≡ y.key
+    → id_text c x p ≡ id_text c y q
 unfolding id_text
 same_ids c x y kept (inl d) (inl e) same =
-    same_rest c.number c.number 0 0 (tree_text (key_of d.document)) (tree_text (key_of e.document)) (sym (ap (λ (z : Entry). z.key) d.is) ∙ same ∙ ap (λ (z : Entry). z.key) e.is)
+    same_rest c.number c.number 0 0 (tree_text (key_of d.document)) (tree_text (key_of e.document))
+    (sym (ap (λ (z : Entry). z.key) d.is) ∙ same ∙ ap (λ (z : Entry). z.key) e.is)
 same_ids c x y kept (inl d) (inr k) same = absurd (document_or_key c c x y kept kept d k same)
 same_ids c x y kept (inr k) (inl d) same = absurd (document_or_key c c y x kept kept d k (sym same))
 same_ids c x y kept (inr h) (inr g) same =

@@ -38,7 +38,8 @@ or_value (Some v) w = Some v
 pub value_append : (k : List ℕ) (xs ys : List Entry) → value_at k (xs ++ ys) ≡ or_value (value_at k xs) (value_at k ys)
 value_append k [] ys = refl
 value_append k (x ∷ xs) ys =
-    elim (is_eq (key_cmp x.key k)) as (λ (b : Bool). (if b then Some x.value else value_at k (xs ++ ys)) ≡ or_value (if b then Some x.value else value_at k xs) (value_at k ys))
+    elim (is_eq (key_cmp x.key k)) as
+    (λ (b : Bool). (if b then Some x.value else value_at k (xs ++ ys)) ≡ or_value (if b then Some x.value else value_at k xs) (value_at k ys))
     [ true ↦ refl | false ↦ value_append k xs ys ]
 
 neither : (b : Bool) → (let none : Option (List ℕ) = None in none) ≡ (if b then None else None)
@@ -81,7 +82,9 @@ edited_value : (k key : List ℕ) (v : Option (List ℕ)) → value_at k (entrie
 edited_value k key None = neither (is_eq (key_cmp key k))
 edited_value k key (Some v) = refl
 
-picked : (o : Ordering) (v w : Option (List ℕ)) → or_value (if is_lt (ordering_reverse o) then w else None) (or_value (if is_eq o then v else None) (if is_lt o then w else None)) ≡ (if is_eq o then v else w)
+picked : (o : Ordering) (v w : Option (List ℕ))
+    → or_value (if is_lt (ordering_reverse o) then w else None) (or_value (if is_eq o then v else None) (if is_lt o then w else None))
+    ≡ (if is_eq o then v else w)
 picked Less v w = refl
 picked Equal None w = refl
 picked Equal (Some v) w = refl
@@ -95,7 +98,8 @@ edit_value k e xs =
     before_value e.key k xs ∙ ap (λ (o : Ordering). if is_lt o then value_at k xs else None) (turned k e.key) in
     value_append k (before e.key xs) (entries_at e.key e.value ++ behind e.key xs)
     ∙ (λ i. or_value (under i) (value_append k (entries_at e.key e.value) (behind e.key xs) i))
-    ∙ (λ i. or_value (if is_lt (ordering_reverse (key_cmp e.key k)) then value_at k xs else None) (or_value (edited_value k e.key e.value i) (behind_value e.key k xs i)))
+    ∙ (λ i. or_value (if is_lt (ordering_reverse (key_cmp e.key k)) then value_at k xs else None)
+    (or_value (edited_value k e.key e.value i) (behind_value e.key k xs i)))
     ∙ picked (key_cmp e.key k) e.value (value_at k xs)
 
 -- what stands at a key after edits where this stood before
@@ -142,7 +146,8 @@ all_under : (key : List ℕ) (xs : List Entry) → Each (λ y. IsUnder y key) (e
 all_under key [] = tt
 all_under key (x ∷ xs) = by (is_lt (key_cmp x.key key)) refl (all_under key xs)
   where
-    by : (b : Bool) → is_lt (key_cmp x.key key) ≡ b → Each (λ y. IsUnder y key) (entry_keys (before key xs)) → Each (λ y. IsUnder y key) (entry_keys (keep_if b x (before key xs)))
+    by : (b : Bool) → is_lt (key_cmp x.key key) ≡ b → Each (λ y. IsUnder y key) (entry_keys (before key xs))
+        → Each (λ y. IsUnder y key) (entry_keys (keep_if b x (before key xs)))
     by true e rest = (less (key_cmp x.key key) e, rest)
     by false e rest = rest
 
@@ -150,7 +155,8 @@ all_over : (key : List ℕ) (xs : List Entry) → Each (λ y. IsUnder key y) (en
 all_over key [] = tt
 all_over key (x ∷ xs) = by (is_lt (key_cmp key x.key)) refl (all_over key xs)
   where
-    by : (b : Bool) → is_lt (key_cmp key x.key) ≡ b → Each (λ y. IsUnder key y) (entry_keys (behind key xs)) → Each (λ y. IsUnder key y) (entry_keys (keep_if b x (behind key xs)))
+    by : (b : Bool) → is_lt (key_cmp key x.key) ≡ b → Each (λ y. IsUnder key y) (entry_keys (behind key xs))
+        → Each (λ y. IsUnder key y) (entry_keys (keep_if b x (behind key xs)))
     by true e rest = (less (key_cmp key x.key) e, rest)
     by false e rest = rest
 
@@ -170,15 +176,18 @@ rises_behind key (x ∷ xs) h = by (is_lt (key_cmp key x.key)) (rises_behind key
     by true rest = (each_behind (λ y. IsUnder x.key y) key xs h.0, rest)
     by false rest = rest
 
-rises_append : (xs ys : List Entry) → Rises (entry_keys xs) → Rises (entry_keys ys) → Each (λ x. Each (λ y. IsUnder x y) (entry_keys ys)) (entry_keys xs) → Rises (entry_keys (xs ++ ys))
+rises_append : (xs ys : List Entry) → Rises (entry_keys xs) → Rises (entry_keys ys) → Each (λ x. Each (λ y. IsUnder x y) (entry_keys ys)) (entry_keys xs)
+    → Rises (entry_keys (xs ++ ys))
 rises_append [] ys h g across = g
 rises_append (x ∷ xs) ys h g across = (each_append (λ y. IsUnder x.key y) xs ys h.0 across.0, rises_append xs ys h.1 g across.1)
 
-rises_at : (key : List ℕ) (v : Option (List ℕ)) (ys : List Entry) → Each (λ y. IsUnder key y) (entry_keys ys) → Rises (entry_keys ys) → Rises (entry_keys (entries_at key v ++ ys))
+rises_at : (key : List ℕ) (v : Option (List ℕ)) (ys : List Entry) → Each (λ y. IsUnder key y) (entry_keys ys) → Rises (entry_keys ys)
+    → Rises (entry_keys (entries_at key v ++ ys))
 rises_at key None ys over h = h
 rises_at key (Some v) ys over h = (over, h)
 
-over_at : (low key : List ℕ) (v : Option (List ℕ)) (ys : List Entry) → IsUnder low key → Each (λ y. IsUnder key y) (entry_keys ys) → Each (λ y. IsUnder low y) (entry_keys (entries_at key v ++ ys))
+over_at : (low key : List ℕ) (v : Option (List ℕ)) (ys : List Entry) → IsUnder low key → Each (λ y. IsUnder key y) (entry_keys ys)
+    → Each (λ y. IsUnder low y) (entry_keys (entries_at key v ++ ys))
 over_at low key None ys under over = each_map (λ y. IsUnder key y) (λ y. IsUnder low y) (λ y h. nat_list_cmp_total.trans low key y under h) ys over
 over_at low key (Some v) ys under over = (under, each_map (λ y. IsUnder key y) (λ y. IsUnder low y) (λ y h. nat_list_cmp_total.trans low key y under h) ys over)
 
@@ -210,7 +219,8 @@ some_none v o e f = let g : Some v ≡ None = sym e ∙ f in cc
 below_rest : (k l : List ℕ) (xs : List Entry) → IsUnder k l → Each (λ y. IsUnder l y) (entry_keys xs) → Each (λ y. IsUnder k y) (entry_keys xs)
 below_rest k l xs e h = each_map (λ y. IsUnder l y) (λ y. IsUnder k y) (λ y g. nat_list_cmp_total.trans k l y e g) xs h
 
-first_same : (x y : Entry) (xs ys : List Entry) → Rises (entry_keys (x ∷ xs)) → Rises (entry_keys (y ∷ ys)) → ((k : List ℕ) → value_at k (x ∷ xs) ≡ value_at k (y ∷ ys)) → x.key ≡ y.key
+first_same : (x y : Entry) (xs ys : List Entry) → Rises (entry_keys (x ∷ xs)) → Rises (entry_keys (y ∷ ys))
+    → ((k : List ℕ) → value_at k (x ∷ xs) ≡ value_at k (y ∷ ys)) → x.key ≡ y.key
 first_same x y xs ys hx hy same = by (key_cmp x.key y.key) refl
   where
     by : (o : Ordering) → key_cmp x.key y.key ≡ o → x.key ≡ y.key
@@ -218,7 +228,8 @@ first_same x y xs ys hx hy same = by (key_cmp x.key y.key) refl
     by Equal e = exact_bytes x.key y.key e
     by Greater e =
         let under : IsUnder y.key x.key = turned y.key x.key ∙ ap ordering_reverse e in
-        absurd (some_none y.value (value_at y.key (y ∷ ys)) (at_first y ys) (sym (same y.key) ∙ none_at y.key (x ∷ xs) (under, below_rest y.key x.key xs under hx.0)))
+        absurd (some_none y.value (value_at y.key (y ∷ ys)) (at_first y ys)
+        (sym (same y.key) ∙ none_at y.key (x ∷ xs) (under, below_rest y.key x.key xs under hx.0)))
 
 same_some : {v w : List ℕ} → Some v ≡ Some w → v ≡ w
 same_some e = cc
@@ -226,7 +237,8 @@ same_some e = cc
 pub entry_is : (x y : Entry) → x.key ≡ y.key → x.value ≡ y.value → x ≡ y
 entry_is x y k v = λ i. record { key = k i; value = v i }
 
-rest_same : (x y : Entry) (xs ys : List Entry) → Each (λ z. IsUnder x.key z) (entry_keys xs) → Each (λ z. IsUnder y.key z) (entry_keys ys) → x.key ≡ y.key → ((k : List ℕ) → value_at k (x ∷ xs) ≡ value_at k (y ∷ ys))
+rest_same : (x y : Entry) (xs ys : List Entry) → Each (λ z. IsUnder x.key z) (entry_keys xs) → Each (λ z. IsUnder y.key z) (entry_keys ys) → x.key ≡ y.key
+    → ((k : List ℕ) → value_at k (x ∷ xs) ≡ value_at k (y ∷ ys))
     → (k : List ℕ) → value_at k xs ≡ value_at k ys
 rest_same x y xs ys hx hy first same k = by (is_eq (key_cmp x.key k)) refl (is_eq (key_cmp y.key k)) refl (same k)
   where

@@ -19,11 +19,13 @@ below_all : (j k : List ℕ) (fs : List Edit) → IsUnder j k → Each (λ l. Is
 below_all j k [] e h = tt
 below_all j k (f ∷ fs) e h = (nat_list_cmp_total.trans j k f.key e h.0, below_all j k fs e h.1)
 
-with_below : (j : List ℕ) (e : Edit) (fs : List Edit) → IsUnder j e.key → Each (λ l. IsUnder j l) (edit_keys fs) → Each (λ l. IsUnder j l) (edit_keys (with_edit e fs))
+with_below : (j : List ℕ) (e : Edit) (fs : List Edit) → IsUnder j e.key → Each (λ l. IsUnder j l) (edit_keys fs)
+    → Each (λ l. IsUnder j l) (edit_keys (with_edit e fs))
 with_below j e [] under h = (under, tt)
 with_below j e (f ∷ fs) under h = by (key_cmp e.key f.key) (with_below j e fs under h.1)
   where
-    by : (o : Ordering) → Each (λ l. IsUnder j l) (edit_keys (with_edit e fs)) → Each (λ l. IsUnder j l) (edit_keys (by_order o (e ∷ f ∷ fs) (e ∷ fs) (f ∷ with_edit e fs)))
+    by : (o : Ordering) → Each (λ l. IsUnder j l) (edit_keys (with_edit e fs))
+        → Each (λ l. IsUnder j l) (edit_keys (by_order o (e ∷ f ∷ fs) (e ∷ fs) (f ∷ with_edit e fs)))
     by Less later = (under, h)
     by Equal later = (under, h.1)
     by Greater later = (h.0, later)
@@ -32,7 +34,8 @@ pub with_rises : (e : Edit) (fs : List Edit) → Rises (edit_keys fs) → Rises 
 with_rises e [] h = (tt, tt)
 with_rises e (f ∷ fs) h = by (key_cmp e.key f.key) refl (with_rises e fs h.1)
   where
-    by : (o : Ordering) → key_cmp e.key f.key ≡ o → Rises (edit_keys (with_edit e fs)) → Rises (edit_keys (by_order o (e ∷ f ∷ fs) (e ∷ fs) (f ∷ with_edit e fs)))
+    by : (o : Ordering) → key_cmp e.key f.key ≡ o → Rises (edit_keys (with_edit e fs))
+        → Rises (edit_keys (by_order o (e ∷ f ∷ fs) (e ∷ fs) (f ∷ with_edit e fs)))
     by Less under later = ((under, below_all e.key f.key fs under h.0), h)
     by Equal same later = (subst (λ (k : List ℕ). Each (λ l. IsUnder k l) (edit_keys fs)) (sym (exact_bytes e.key f.key same)) h.0, h.1)
     by Greater over later = (with_below f.key e fs (turned f.key e.key ∙ ap ordering_reverse over) h.0, later)
@@ -57,7 +60,8 @@ untouched k [] v h = refl
 untouched k (f ∷ fs) v h =
     ap (λ (o : Ordering). value_after k fs (if is_eq o then f.value else v)) (turned f.key k ∙ ap ordering_reverse h.0) ∙ untouched k fs v h.1
 
-with_value : (k : List ℕ) (e : Edit) (fs : List Edit) (v : Option (List ℕ)) → Rises (edit_keys fs) → value_after k (with_edit e fs) v ≡ (if is_eq (key_cmp e.key k) then e.value else value_after k fs v)
+with_value : (k : List ℕ) (e : Edit) (fs : List Edit) (v : Option (List ℕ)) → Rises (edit_keys fs)
+    → value_after k (with_edit e fs) v ≡ (if is_eq (key_cmp e.key k) then e.value else value_after k fs v)
 with_value k e [] v h = refl
 with_value k e (f ∷ fs) v h = by (key_cmp e.key f.key) refl (with_value k e fs (if is_eq (key_cmp f.key k) then f.value else v) h.1)
   where
@@ -88,9 +92,11 @@ with_value k e (f ∷ fs) v h = by (key_cmp e.key f.key) refl (with_value k e fs
     by Greater is later = later
 
 -- the edit more is made of the map that the others make
-pub with_change : (e : Edit) (fs : List Edit) (xs : List Entry) → Rises (edit_keys fs) → Rises (entry_keys xs) → change (with_edit e fs) xs ≡ edit_map e (change fs xs)
+pub with_change : (e : Edit) (fs : List Edit) (xs : List Entry) → Rises (edit_keys fs) → Rises (entry_keys xs)
+    → change (with_edit e fs) xs ≡ edit_map e (change fs xs)
 with_change e fs xs up h =
-    one_map (change (with_edit e fs) xs) (change (e ∷ []) (change fs xs)) (rises_change (with_edit e fs) xs h) (rises_change (e ∷ []) (change fs xs) (rises_change fs xs h))
+    one_map (change (with_edit e fs) xs) (change (e ∷ []) (change fs xs)) (rises_change (with_edit e fs) xs h)
+    (rises_change (e ∷ []) (change fs xs) (rises_change fs xs h))
     (λ k. change_value k (with_edit e fs) xs ∙ with_value k e fs (value_at k xs) up
     ∙ ap (λ (w : Option (List ℕ)). if is_eq (key_cmp e.key k) then e.value else w) (sym (change_value k fs xs)) ∙ sym (edit_value k e (change fs xs)))
 
@@ -100,11 +106,14 @@ leads_with e fs up a b c first second xs h =
 
 -- ---- noted, or left where memory ran out
 
-pub noted_lawful : {A E : Type 0} (r : Result A E) (e : Edit) (xs ys : List Noted) → IsShortEdit e → IsEditList (edits_in xs) → OnOk r (edits_in ys ≡ with_edit e (edits_in xs)) → OnErr r (ys ≡ xs) → IsEditList (edits_in ys)
+pub noted_lawful : {A E : Type 0} (r : Result A E) (e : Edit) (xs ys : List Noted) → IsShortEdit e → IsEditList (edits_in xs)
+    → OnOk r (edits_in ys ≡ with_edit e (edits_in xs)) → OnErr r (ys ≡ xs) → IsEditList (edits_in ys)
 noted_lawful (Ok a) e xs ys short h ok err = subst IsEditList (sym ok) (with_lawful e (edits_in xs) short h)
 noted_lawful (Err f) e xs ys short h ok err = subst IsEditList (sym (ap (λ (zs : List Noted). edits_in zs) err)) h
 
-pub noted_leads : {A E : Type 0} (r : Result A E) (e : Edit) (xs ys : List Noted) (old : List Edit) → IsEditList (edits_in xs) → edits_in xs ≡ old → OnOk r (edits_in ys ≡ with_edit e (edits_in xs)) → OnOk r (LeadsWith old e (edits_in ys))
+pub noted_leads : {A E : Type 0} (r : Result A E) (e : Edit) (xs ys : List Noted) (old : List Edit) → IsEditList (edits_in xs) → edits_in xs ≡ old
+    → OnOk r (edits_in ys ≡ with_edit e (edits_in xs)) → OnOk r (LeadsWith old e (edits_in ys))
 noted_leads (Ok a) e xs ys old h view ok =
-    subst (λ (es : List Edit). LeadsWith es e (edits_in ys)) view (subst (λ (es : List Edit). LeadsWith (edits_in xs) e es) (sym ok) (leads_with e (edits_in xs) h.rises))
+    subst (λ (es : List Edit). LeadsWith es e (edits_in ys)) view
+    (subst (λ (es : List Edit). LeadsWith (edits_in xs) e es) (sym ok) (leads_with e (edits_in xs) h.rises))
 noted_leads (Err f) e xs ys old h view ok = ok

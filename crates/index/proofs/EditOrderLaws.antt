@@ -27,11 +27,13 @@ below_all : (j k : List ℕ) (fs : List Edit) → IsUnder j k → Each (λ l. Is
 below_all j k [] e h = tt
 below_all j k (f ∷ fs) e h = (nat_list_cmp_total.trans j k f.key e h.0, below_all j k fs e h.1)
 
-earlier_below : (j : List ℕ) (e : Edit) (fs : List Edit) → IsUnder j e.key → Each (λ l. IsUnder j l) (edit_keys fs) → Each (λ l. IsUnder j l) (edit_keys (with_earlier e fs))
+earlier_below : (j : List ℕ) (e : Edit) (fs : List Edit) → IsUnder j e.key → Each (λ l. IsUnder j l) (edit_keys fs)
+    → Each (λ l. IsUnder j l) (edit_keys (with_earlier e fs))
 earlier_below j e [] under h = (under, tt)
 earlier_below j e (f ∷ fs) under h = by (key_cmp e.key f.key) (earlier_below j e fs under h.1)
   where
-    by : (o : Ordering) → Each (λ l. IsUnder j l) (edit_keys (with_earlier e fs)) → Each (λ l. IsUnder j l) (edit_keys (earlier_at o e f fs (with_earlier e fs)))
+    by : (o : Ordering) → Each (λ l. IsUnder j l) (edit_keys (with_earlier e fs))
+        → Each (λ l. IsUnder j l) (edit_keys (earlier_at o e f fs (with_earlier e fs)))
     by Less later = (under, h)
     by Equal later = h
     by Greater later = (h.0, later)
@@ -87,7 +89,8 @@ earlier_value k e [] v = refl
 earlier_value k e (f ∷ fs) v = by (key_cmp e.key f.key) refl (earlier_value k e fs (if is_eq (key_cmp f.key k) then f.value else v))
   where
     by : (o : Ordering) → key_cmp e.key f.key ≡ o
-        → value_after k (with_earlier e fs) (if is_eq (key_cmp f.key k) then f.value else v) ≡ value_after k (e ∷ fs) (if is_eq (key_cmp f.key k) then f.value else v)
+        → value_after k (with_earlier e fs) (if is_eq (key_cmp f.key k) then f.value else v)
+        ≡ value_after k (e ∷ fs) (if is_eq (key_cmp f.key k) then f.value else v)
         → value_after k (earlier_at o e f fs (with_earlier e fs)) v ≡ value_after k (e ∷ f ∷ fs) v
     by Less is later = refl
     by Equal is later = ap (value_after k fs) (hidden k e f (exact_bytes e.key f.key is) v)
@@ -115,9 +118,11 @@ pub after_append : (k : List ℕ) (es fs : List Edit) (v : Option (List ℕ)) �
 after_append k [] fs v = refl
 after_append k (e ∷ es) fs v = after_append k es fs (if is_eq (key_cmp e.key k) then e.value else v)
 
-swap_value : (k : List ℕ) (es fs : List Edit) (e f : Edit) → e.key ≢ f.key → (v : Option (List ℕ)) → value_after k (es ++ e ∷ f ∷ fs) v ≡ value_after k (es ++ f ∷ e ∷ fs) v
+swap_value : (k : List ℕ) (es fs : List Edit) (e f : Edit) → e.key ≢ f.key → (v : Option (List ℕ))
+    → value_after k (es ++ e ∷ f ∷ fs) v ≡ value_after k (es ++ f ∷ e ∷ fs) v
 swap_value k es fs e f differ v =
-    after_append k es (e ∷ f ∷ fs) v ∙ ap (value_after k fs) (sym (swapped k e f (key_cmp e.key f.key) refl (untied (is_eq (key_cmp e.key f.key)) refl) (value_after k es v)))
+    after_append k es (e ∷ f ∷ fs) v
+    ∙ ap (value_after k fs) (sym (swapped k e f (key_cmp e.key f.key) refl (untied (is_eq (key_cmp e.key f.key)) refl) (value_after k es v)))
     ∙ sym (after_append k es (f ∷ e ∷ fs) v)
   where
     untied : (b : Bool) → is_eq (key_cmp e.key f.key) ≡ b → is_eq (key_cmp e.key f.key) ≡ false

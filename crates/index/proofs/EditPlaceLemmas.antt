@@ -42,19 +42,23 @@ has_told key (e ∷ es) = by (is_eq (key_cmp key e.0.items)) (has_told key es)
     by false later = later
 
 -- what the edit of a key puts
-pub look_told : (key : List ℕ) (es : List Noted) → option_map (option_map (λ (x : Vec ℕ). x.items)) (lookup (λ (k : Vec ℕ). is_eq (key_cmp key k.items)) es) ≡ edit_at key (edits_in es)
+pub look_told : (key : List ℕ) (es : List Noted)
+    → option_map (option_map (λ (x : Vec ℕ). x.items)) (lookup (λ (k : Vec ℕ). is_eq (key_cmp key k.items)) es) ≡ edit_at key (edits_in es)
 look_told key [] = refl
 look_told key (e ∷ es) = by (key_cmp key e.0.items) (key_cmp e.0.items key) (turned e.0.items key) (look_told key es)
   where
-    by : (o p : Ordering) → p ≡ ordering_reverse o → option_map (option_map (λ (x : Vec ℕ). x.items)) (lookup (λ (k : Vec ℕ). is_eq (key_cmp key k.items)) es) ≡ edit_at key (edits_in es)
+    by : (o p : Ordering) → p ≡ ordering_reverse o
+        → option_map (option_map (λ (x : Vec ℕ). x.items)) (lookup (λ (k : Vec ℕ). is_eq (key_cmp key k.items)) es) ≡ edit_at key (edits_in es)
         → option_map (option_map (λ (x : Vec ℕ). x.items)) (cond (is_eq o) (Some e.1) (lookup (λ (k : Vec ℕ). is_eq (key_cmp key k.items)) es))
         ≡ (if is_eq p then Some (option_map (λ x. x.items) e.1) else edit_at key (edits_in es))
     by Less p is later = later ∙ sym (ap (λ (o : Ordering). if is_eq o then Some (option_map (λ x. x.items) e.1) else edit_at key (edits_in es)) is)
     by Equal p is later = sym (ap (λ (o : Ordering). if is_eq o then Some (option_map (λ x. x.items) e.1) else edit_at key (edits_in es)) is)
     by Greater p is later = later ∙ sym (ap (λ (o : Ordering). if is_eq o then Some (option_map (λ x. x.items) e.1) else edit_at key (edits_in es)) is)
 
-pub puts_told : (key : List ℕ) (es : List Noted) (o : Option (Option (Vec ℕ))) → o ≡ lookup (λ (k : Vec ℕ). is_eq (key_cmp key k.items)) es → option_map is_some o ≡ option_map is_some (edit_at key (edits_in es))
-puts_told key es o is = sym (value_same o) ∙ ap (λ (x : Option (Option (Vec ℕ))). option_map is_some (option_map (option_map (λ (y : Vec ℕ). y.items)) x)) is ∙ ap (option_map is_some) (look_told key es)
+pub puts_told : (key : List ℕ) (es : List Noted) (o : Option (Option (Vec ℕ))) → o ≡ lookup (λ (k : Vec ℕ). is_eq (key_cmp key k.items)) es
+    → option_map is_some o ≡ option_map is_some (edit_at key (edits_in es))
+puts_told key es o is = sym (value_same o) ∙ ap (λ (x : Option (Option (Vec ℕ))). option_map is_some (option_map (option_map (λ (y : Vec ℕ). y.items)) x)) is
+    ∙ ap (option_map is_some) (look_told key es)
   where
     value_same : (x : Option (Option (Vec ℕ))) → option_map is_some (option_map (option_map (λ (y : Vec ℕ). y.items)) x) ≡ option_map is_some x
     value_same None = refl

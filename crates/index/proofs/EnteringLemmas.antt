@@ -51,7 +51,8 @@ module _ (is : List Definition) (d : Pairs) (all : List (List (List ℕ))) (keye
   short_and_apart : (list_any (λ i. is_too_long i.fields d) is ≡ false) × (list_any (λ i. has_parallel_arrays i.fields d) is ≡ false)
   short_and_apart = by (list_any (λ i. is_too_long i.fields d) is) (list_any (λ i. has_parallel_arrays i.fields d) is) keyed
     where
-      by : (a b : Bool) → unless a refusals.KeyTooLong (unless b refusals.CannotIndexParallelArrays (Ok (map (λ i. encoded_keys i.fields d) is))) ≡ Ok all → (a ≡ false) × (b ≡ false)
+      by : (a b : Bool) → unless a refusals.KeyTooLong (unless b refusals.CannotIndexParallelArrays (Ok (map (λ i. encoded_keys i.fields d) is))) ≡ Ok all
+          → (a ≡ false) × (b ≡ false)
       by true b e = absurd cc
       by false true e = absurd cc
       by false false e = (refl, refl)
@@ -79,15 +80,18 @@ stands_among (k ∷ ks) key e = by (eq_by_cmp bytes_cmp key k) refl e (stands_am
     by false is f rest = inr (rest f)
 
 share_none : (fields : List Field) (d e : Pairs) → share_key fields d e ≡ false → ShareNoKey fields d e
-share_none fields d e none key there = not_any (is_among (encoded_keys fields e)) (encoded_keys fields d) key none (stands_among (encoded_keys fields d) key there)
+share_none fields d e none key there =
+    not_any (is_among (encoded_keys fields e)) (encoded_keys fields d) key none (stands_among (encoded_keys fields d) key there)
 
 -- a document that clashes with none of these shares no key with those of another `_id`
-apart_from : (ds others : List Pairs) (d : Pairs) (i : Definition) → clashes ds d i ≡ false → i.is_unique ≡ true → ((e : Pairs) → Among e others → Among e ds × (is_other d e ≡ true))
+apart_from : (ds others : List Pairs) (d : Pairs) (i : Definition) → clashes ds d i ≡ false → i.is_unique ≡ true
+    → ((e : Pairs) → Among e others → Among e ds × (is_other d e ≡ true))
     → All (ShareNoKey i.fields d) others
 apart_from ds others d i clear unique within =
     all_of (ShareNoKey i.fields d) others (λ e there.
     let w = within e there in
-    let none : list_any (λ x. is_other d x && share_key i.fields d x) ds ≡ false = sym (ap (λ (b : Bool). b && list_any (λ x. is_other d x && share_key i.fields d x) ds) unique) ∙ clear in
+    let none : list_any (λ x. is_other d x && share_key i.fields d x) ds ≡ false =
+    sym (ap (λ (b : Bool). b && list_any (λ x. is_other d x && share_key i.fields d x) ds) unique) ∙ clear in
     let both : (is_other d e && share_key i.fields d e) ≡ false = not_any (λ x. is_other d x && share_key i.fields d x) ds e none w.0 in
     share_none i.fields d e (sym (ap (λ (b : Bool). b && share_key i.fields d e) w.1) ∙ both))
 
@@ -101,9 +105,11 @@ other_above d e less = ap (λ (o : Ordering). not (is_eq o)) (turned (key_of e) 
 -- ---- one index
 
 noted_unique : (d : Pairs) (i : Definition) → (noted d i).is_unique ≡ i.is_unique
-noted_unique d i = elim (is_multikey i.fields d) as (λ (b : Bool). (if b then record i { is_multi = true } else i).is_unique ≡ i.is_unique) [ true ↦ refl | false ↦ refl ]
+noted_unique d i =
+    elim (is_multikey i.fields d) as (λ (b : Bool). (if b then record i { is_multi = true } else i).is_unique ≡ i.is_unique) [ true ↦ refl | false ↦ refl ]
 
-may_enter : (is : List Definition) (ds others : List Pairs) (d : Pairs) (all : List (List (List ℕ))) → keys_in_all is d ≡ Ok all → list_any (clashes ds d) is ≡ false
+may_enter : (is : List Definition) (ds others : List Pairs) (d : Pairs) (all : List (List (List ℕ))) → keys_in_all is d ≡ Ok all
+    → list_any (clashes ds d) is ≡ false
     → ((e : Pairs) → Among e others → Among e ds × (is_other d e ≡ true)) → (i : Definition) → Among i is → MayEnter others d (noted d i)
 may_enter is ds others d all keyed clear within i there = record {
   keys = subst (λ (fs : List Field). keys_in fs d ≡ Ok (encoded_keys fs d)) (sym (noted_fields d i)) (keyed_in is d all keyed i there);
@@ -113,7 +119,8 @@ may_enter is ds others d all keyed clear within i there = record {
 }
 
 -- indexes of some documents are those of these with one more, where it may enter each of them
-enters_all : (is : List Definition) (front back : List Pairs) (d : Pairs) → All (IsIndexOf (front ++ back)) is → ((i : Definition) → Among i is → MayEnter (front ++ back) d (noted d i))
+enters_all : (is : List Definition) (front back : List Pairs) (d : Pairs) → All (IsIndexOf (front ++ back)) is
+    → ((i : Definition) → Among i is → MayEnter (front ++ back) d (noted d i))
     → All (IsIndexOf (front ++ d ∷ back)) (map (noted d) is)
 enters_all is front back d h may =
     all_of (IsIndexOf (front ++ d ∷ back)) (map (noted d) is) (λ j there.
@@ -123,7 +130,8 @@ enters_all is front back d h may =
 
 -- ---- all of it
 
-module _ (is : List Definition) (ds : List Pairs) (d : Pairs) (all : List (List (List ℕ))) (keyed : keys_in_all is d ≡ Ok all) (clear : list_any (clashes ds d) is ≡ false) (h : AreIndexed ds is) where
+module _ (is : List Definition) (ds : List Pairs) (d : Pairs) (all : List (List (List ℕ))) (keyed : keys_in_all is d ≡ Ok all)
+    (clear : list_any (clashes ds d) is ≡ false) (h : AreIndexed ds is) where
   abbrev Below : Pairs → Pairs → Type 0
   Below e f = compare (key_of e) (key_of f) ≡ orders.Less
 
@@ -146,7 +154,9 @@ module _ (is : List Definition) (ds : List Pairs) (d : Pairs) (all : List (List 
     | inl b ↦ around b.front b.back (subst IsRising b.split h.rising) (subst (λ (es : List Pairs). All (IsIndexOf es) is) b.split h.indexes) b.put
         (λ e there. subst (λ (es : List Pairs). Among e es) (sym b.split) there) b.behind b.before
     | inr b ↦ around b.front b.back (pairs_around Below b.front b.back b.old (subst IsRising b.split h.rising))
-        (all_of (IsIndexOf (b.front ++ b.back)) is (λ i there. index_without i b.front b.back b.old (subst (λ (es : List Pairs). IsIndexOf es i) b.split (of_all (IsIndexOf ds) is i h.indexes there)))) b.put
+        (all_of (IsIndexOf (b.front ++ b.back)) is
+        (λ i there. index_without i b.front b.back b.old (subst (λ (es : List Pairs). IsIndexOf es i) b.split (of_all (IsIndexOf ds) is i h.indexes there))))
+        b.put
         (λ e there. subst (λ (es : List Pairs). Among e es) (sym b.split) (among_around e b.old b.front b.back there)) b.behind b.before
   ]
 

@@ -43,7 +43,8 @@ written_back n out xs ys is long = is ∙ ap (λ (m : ℕ). take m (xs ++ ys)) l
 -- ---- what is found
 
 -- those in front have another `_id`
-found_behind : (d : Pairs) (front rest : List Pairs) → ((e : Pairs) → Among e front → Below e d) → find_document (front ++ rest) (key_of d) ≡ find_document rest (key_of d)
+found_behind : (d : Pairs) (front rest : List Pairs) → ((e : Pairs) → Among e front → Below e d)
+    → find_document (front ++ rest) (key_of d) ≡ find_document rest (key_of d)
 found_behind d [] rest h = refl
 found_behind d (x ∷ front) rest h =
     let above : compare (key_of d) (key_of x) ≡ orders.Greater = turned (key_of x) (key_of d) orders.Less (h x (inl refl)) in
@@ -52,7 +53,8 @@ found_behind d (x ∷ front) rest h =
 -- and those behind
 found_none : (d : Pairs) (back : List Pairs) → ((e : Pairs) → Among e back → Below d e) → find_document back (key_of d) ≡ None
 found_none d [] h = refl
-found_none d (x ∷ back) h = ap (λ (o : Ordering). if is_eq o then Some x else find_document back (key_of d)) (h x (inl refl)) ∙ found_none d back (λ e there. h e (inr there))
+found_none d (x ∷ back) h =
+    ap (λ (o : Ordering). if is_eq o then Some x else find_document back (key_of d)) (h x (inl refl)) ∙ found_none d back (λ e there. h e (inr there))
 
 -- none is found of a document that goes between others
 pub none_between : (d : Pairs) (ds : List Pairs) → IsBetween d ds → find_document ds (key_of d) ≡ None
@@ -75,7 +77,8 @@ all_put P d ds (inr b) h here = subst (All P) (sym b.put) (all_middle P b.front 
 pub kept_entered : (c next : Collection) (w : DocumentWrite) → IsKept c → IsStorable w.document → entered c w ≡ Ok next → IsKept next
 kept_entered c next w h good e =
     let x = has_entered c next w e in
-    let stay = stay_with c.indexes c.documents w.document x.keys x.keyed x.clear (record { rising = h.rising; indexes = h.indexes; distinct = h.distinct; few = h.few }) in
+    let stay = stay_with c.indexes c.documents w.document x.keys x.keyed x.clear
+    (record { rising = h.rising; indexes = h.indexes; distinct = h.distinct; few = h.few }) in
     subst IsKept (sym x.is) (record {
       name = h.name;
       short = h.short;
@@ -112,19 +115,22 @@ pub noted_so : (d : Pairs) (is : List Definition) → list_any (becomes_multikey
 noted_so d [] none = refl
 noted_so d (i ∷ is) none = by (is_multikey i.fields d) (i.is_multi) refl (noted_so d is) none
   where
-    by : (many was : Bool) → i.is_multi ≡ was → (list_any (becomes_multikey d) is ≡ false → map (noted d) is ≡ is) → ((not was && many) || list_any (becomes_multikey d) is) ≡ false
+    by : (many was : Bool) → i.is_multi ≡ was → (list_any (becomes_multikey d) is ≡ false → map (noted d) is ≡ is)
+        → ((not was && many) || list_any (becomes_multikey d) is) ≡ false
         → (if many then record i { is_multi = true } else i) ∷ map (noted d) is ≡ i ∷ is
     by true true e rest none = (λ k. record i { is_multi = sym e k } ∷ rest none k)
     by true false e rest none = absurd cc
     by false true e rest none = ap (λ js. i ∷ js) (rest none)
     by false false e rest none = ap (λ js. i ∷ js) (rest none)
 
-pub notes_none : (old : List Edit) (name : List ℕ) (number : ℕ) (is : List Definition) (d : Pairs) → map (noted d) is ≡ is → NotesArrays old old name number is d
+pub notes_none : (old : List Edit) (name : List ℕ) (number : ℕ) (is : List Definition) (d : Pairs) → map (noted d) is ≡ is
+    → NotesArrays old old name number is d
 notes_none old name number is d none a b c lead lawful found num same =
     let as_it_was : record c { indexes = map (noted d) c.indexes } ≡ c = λ i. record c { indexes = (ap (map (noted d)) same ∙ none ∙ sym same) i } in
     subst (Leads old a) (sym (ap (λ (x : Collection). put_collection x b) as_it_was ∙ put_same c b lawful.apart (found_by_name b name c lawful found d))) lead
 
-pub notes_some : (old mid : List Edit) (name : List ℕ) (number : ℕ) (is js : List Definition) (d : Pairs) → js ≡ map (noted d) is → NotesIndexesOf old mid name number js → NotesArrays old mid name number is d
+pub notes_some : (old mid : List Edit) (name : List ℕ) (number : ℕ) (is js : List Definition) (d : Pairs) → js ≡ map (noted d) is
+    → NotesIndexesOf old mid name number js → NotesArrays old mid name number is d
 notes_some old mid name number is js d told notes a b c lead lawful found num same =
     let is_noted : js ≡ map (noted d) c.indexes = told ∙ ap (map (noted d)) (sym same) in
     subst (λ (ks : List Definition). Leads mid a (put_collection (record c { indexes = ks }) b)) is_noted
@@ -132,9 +138,11 @@ notes_some old mid name number is js d told notes a b c lead lawful found num sa
     (subst (AreAlike c.indexes) (sym is_noted) (kept_noted c d (kept b name c lawful found d)).1)
     (subst (λ (ks : List Definition). MayBecome c (record c { indexes = ks }) b) (sym is_noted) (may_be_noted b name c lawful found d)))
 
-module _ (old mid new : List Edit) (name : List ℕ) (number : ℕ) (is js : List Definition) (d : Pairs) (good : IsStorable d) (told : js ≡ map (noted d) is) (notes : NotesArrays old mid name number is d) where
+module _ (old mid new : List Edit) (name : List ℕ) (number : ℕ) (is js : List Definition) (d : Pairs) (good : IsStorable d) (told : js ≡ map (noted d) is)
+    (notes : NotesArrays old mid name number is d) where
   -- the state in which the indexes are noted, and what becomes of its collection
-  module _ (a b : List Collection) (c next : Collection) (w : DocumentWrite) (lead : Leads old a b) (lawful : IsLawfulState b) (found : find_collection b name ≡ Some c) (num : c.number ≡ number) (same : c.indexes ≡ is)
+  module _ (a b : List Collection) (c next : Collection) (w : DocumentWrite) (lead : Leads old a b) (lawful : IsLawfulState b)
+      (found : find_collection b name ≡ Some c) (num : c.number ≡ number) (same : c.indexes ≡ is)
       (is_this : w.document ≡ d) (e : entered c w ≡ Ok next) where
     abbrev c_noted : Collection
     c_noted = record c { indexes = map (noted d) c.indexes }
@@ -160,10 +168,12 @@ module _ (old mid new : List Edit) (name : List ℕ) (number : ℕ) (is js : Lis
       kept = subst IsKept (next_is ∙ ap made put) kept_next;
     }
 
-    arrives : (ds : List Pairs) → put_document d c.documents ≡ ds → Leads new a (put_collection (made ds) b_noted) → Leads new a (put_collection next b) × IsLawfulState (put_collection next b)
+    arrives : (ds : List Pairs) → put_document d c.documents ≡ ds → Leads new a (put_collection (made ds) b_noted)
+        → Leads new a (put_collection next b) × IsLawfulState (put_collection next b)
     arrives ds put leads =
         let is_next : made ds ≡ next = sym (next_is ∙ ap made put) in
-        let there : put_collection (made ds) b_noted ≡ put_collection next b = put_twice (made ds) c_noted b refl ∙ ap (λ (x : Collection). put_collection x b) is_next in
+        let there : put_collection (made ds) b_noted ≡ put_collection next b =
+        put_twice (made ds) c_noted b refl ∙ ap (λ (x : Collection). put_collection x b) is_next in
         (subst (Leads new a) there leads, subst IsLawfulState there (stays_lawful b_noted c_noted (made ds) (may_become ds put)))
 
     mid_leads : Leads mid a b_noted
@@ -173,9 +183,12 @@ module _ (old mid new : List Edit) (name : List ℕ) (number : ℕ) (is js : Lis
     indexes_are = ap (map (noted d)) same ∙ sym told
 
     by_insert : InsertsInto mid new number js d → IsBetween d c.documents → Leads new a (put_collection next b) × IsLawfulState (put_collection next b)
-    by_insert inserts p = arrives (p.front ++ d ∷ p.back) p.put (inserts a b_noted c_noted p.front p.back mid_leads num indexes_are p.split (may_become (p.front ++ d ∷ p.back) p.put))
+    by_insert inserts p =
+        arrives (p.front ++ d ∷ p.back) p.put
+        (inserts a b_noted c_noted p.front p.back mid_leads num indexes_are p.split (may_become (p.front ++ d ∷ p.back) p.put))
 
-    by_replacing : (was : Pairs) → ReplacesIn mid new number js was d → (p : IsInstead d c.documents) → p.old ≡ was → Leads new a (put_collection next b) × IsLawfulState (put_collection next b)
+    by_replacing : (was : Pairs) → ReplacesIn mid new number js was d → (p : IsInstead d c.documents) → p.old ≡ was
+        → Leads new a (put_collection next b) × IsLawfulState (put_collection next b)
     by_replacing was replaces p is_old =
         arrives (p.front ++ d ∷ p.back) p.put
         (replaces a b_noted c_noted p.front p.back mid_leads num indexes_are (p.split ∙ ap (λ (x : Pairs). p.front ++ x ∷ p.back) is_old)

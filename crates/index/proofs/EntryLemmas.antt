@@ -41,7 +41,8 @@ abbrev pub IsOneOf : Collection → Entry → Type 0
 IsOneOf c x = (x ≡ catalogue_entry c) ⊎ (IsDocumentOf c x ⊎ IsKeyOf c x)
 
 -- those of a document in an index
-pub key_among : (n : ℕ) (i : Definition) (d : Pairs) (key : List ℕ) → Among key (encoded_keys i.fields d) → Among (index_entry n i.number (key_of d) key) (index_entries n d i)
+pub key_among : (n : ℕ) (i : Definition) (d : Pairs) (key : List ℕ) → Among key (encoded_keys i.fields d)
+    → Among (index_entry n i.number (key_of d) key) (index_entries n d i)
 key_among n i d key h = among_image (index_entry n i.number (key_of d)) key (encoded_keys i.fields d) h
 
 pub one_of : (c : Collection) (x : Entry) → Among x (collection_entries c) → IsOneOf c x
@@ -63,7 +64,8 @@ pub keyed_among : (c : Collection) (d : Pairs) (i : Definition) (key : List ℕ)
     → Among (index_entry c.number i.number (key_of d) key) (collection_entries c)
 keyed_among c d i key there listed keyed =
     let x = index_entry c.number i.number (key_of d) key in
-    inr (among_each (document_entries c.number c.indexes) x d c.documents there (inr (among_each (index_entries c.number d) x i c.indexes listed (key_among c.number i d key keyed))))
+    inr (among_each (document_entries c.number c.indexes) x d c.documents there
+    (inr (among_each (index_entries c.number d) x i c.indexes listed (key_among c.number i d key keyed))))
 
 -- ---- numbers
 
@@ -119,7 +121,8 @@ same_words a b e = same_escaped a b (ap rest_of e)
 -- the `_id` of a document that may be stored is one that BSON can spell
 pub id_is_key : (d : Pairs) → IsStorable d → IsKey (value (key_of d))
 id_is_key d h =
-    let found : IfFound 1048576 (lookup d (codes "_id")) = field_fits 1048576 d (codes "_id") h.lawful.lawful (omega (arith, h.size, frame_of-length (pairs_bytes d))) in
+    let found : IfFound 1048576 (lookup d (codes "_id")) =
+    field_fits 1048576 d (codes "_id") h.lawful.lawful (omega (arith, h.size, frame_of-length (pairs_bytes d))) in
     let fits : Fits 1048576 (key_of d) = subst (IfFound 1048576) h.key found in
     (fits.lawful, fits.size)
 

@@ -38,7 +38,8 @@ each_among P (y ∷ ys) x h (inr g) = each_among P ys x h.1 g
 pub entry_value : (x : Entry) (xs : List Entry) → Rises (entry_keys xs) → Among x xs → value_at x.key xs ≡ Some x.value
 entry_value x [] h g = absurd g
 entry_value x (y ∷ ys) h (inl e) =
-    ap (λ (b : Bool). if b then Some y.value else value_at x.key ys) (ap (λ (z : Entry). is_eq (key_cmp z.key x.key)) (sym e) ∙ key_itself x.key) ∙ ap (λ (z : Entry). Some z.value) (sym e)
+    ap (λ (b : Bool). if b then Some y.value else value_at x.key ys) (ap (λ (z : Entry). is_eq (key_cmp z.key x.key)) (sym e) ∙ key_itself x.key)
+    ∙ ap (λ (z : Entry). Some z.value) (sym e)
 entry_value x (y ∷ ys) h (inr g) = by (is_eq (key_cmp y.key x.key)) refl (entry_value x ys h.1 g)
   where
     by : (b : Bool) → is_eq (key_cmp y.key x.key) ≡ b → value_at x.key ys ≡ Some x.value → (if b then Some y.value else value_at x.key ys) ≡ Some x.value
@@ -105,7 +106,8 @@ same_some e = cc
 key_of_itself : (x : Entry) (xs : List Entry) → Among x xs → HasKey x.key xs
 key_of_itself x xs h = (x, h, refl)
 
-module _ (gone new old now xs : List Entry) (rises : Rises (entry_keys xs)) (to : (x : Entry) → Among x xs → Among x old) (back : (x : Entry) → Among x old → Among x xs) (h : Exchanges gone new old now) where
+module _ (gone new old now xs : List Entry) (rises : Rises (entry_keys xs)) (to : (x : Entry) → Among x xs → Among x old) (back : (x : Entry) → Among x old
+    → Among x xs) (h : Exchanges gone new old now) where
   kept_one : (x : Entry) → (HasKey x.key new → ⊥) → (HasKey x.key gone → ⊥) → value_at x.key xs ≡ Some x.value → Among x now
   kept_one x not_new not_gone is = by (h.left x (to x (value_entry x.key x.value xs is)))
     where
@@ -125,25 +127,30 @@ module _ (gone new old now xs : List Entry) (rises : Rises (entry_keys xs)) (to 
       by (inr none) (inr stays) = kept_one x none.0 stays.0 (sym (none.1 ∙ stays.1) ∙ is)
 
   stays_one : (x : Entry) → Among x now → value_after x.key (puts new) (value_after x.key (removals gone) (value_at x.key xs)) ≡ Some x.value
-  stays_one x there = by (after_puts x.key new (value_after x.key (removals gone) (value_at x.key xs))) (after_removals x.key gone (value_at x.key xs)) (h.from x there)
+  stays_one x there =
+      by (after_puts x.key new (value_after x.key (removals gone) (value_at x.key xs))) (after_removals x.key gone (value_at x.key xs)) (h.from x there)
     where
-      by : AfterPuts x.key new (value_after x.key (removals gone) (value_at x.key xs)) → AfterRemovals x.key gone (value_at x.key xs) → Among x new ⊎ Among x old
+      by : AfterPuts x.key new (value_after x.key (removals gone) (value_at x.key xs)) → AfterRemovals x.key gone (value_at x.key xs)
+          → Among x new ⊎ Among x old
           → value_after x.key (puts new) (value_after x.key (removals gone) (value_at x.key xs)) ≡ Some x.value
       by (inl put) r f = put.3 ∙ ap (λ (y : Entry). Some y.value) (h.is_map put.0 x (h.put put.0 put.1) there put.2)
       by (inr none) (inl removed) f = absurd (none.0 (key_of_itself x new (h.away x there removed.0)))
       by (inr none) (inr stays) (inl put) = absurd (none.0 (key_of_itself x new put))
       by (inr none) (inr stays) (inr was) = none.1 ∙ stays.1 ∙ entry_value x xs rises (back x was)
 
-  both_steps : (x : Entry) → value_at x.key (change (removals gone ++ puts new) xs) ≡ value_after x.key (puts new) (value_after x.key (removals gone) (value_at x.key xs))
+  both_steps : (x : Entry)
+      → value_at x.key (change (removals gone ++ puts new) xs) ≡ value_after x.key (puts new) (value_after x.key (removals gone) (value_at x.key xs))
   both_steps x = change_value x.key (removals gone ++ puts new) xs ∙ after_append x.key (removals gone) (puts new) (value_at x.key xs)
 
   exchanged_to : (x : Entry) → Among x (change (removals gone ++ puts new) xs) → Among x now
-  exchanged_to x g = made_one x (sym (both_steps x) ∙ entry_value x (change (removals gone ++ puts new) xs) (rises_change (removals gone ++ puts new) xs rises) g)
+  exchanged_to x g =
+      made_one x (sym (both_steps x) ∙ entry_value x (change (removals gone ++ puts new) xs) (rises_change (removals gone ++ puts new) xs rises) g)
 
   exchanged_from : (x : Entry) → Among x now → Among x (change (removals gone ++ puts new) xs)
   exchanged_from x g = value_entry x.key x.value (change (removals gone ++ puts new) xs) (both_steps x ∙ stays_one x g)
 
-pub exchange_leads : (gone new : List Entry) (a b : List Collection) → Exchanges gone new (state_entries a) (state_entries b) → Leads (removals gone ++ puts new) a b
+pub exchange_leads : (gone new : List Entry) (a b : List Collection) → Exchanges gone new (state_entries a) (state_entries b)
+    → Leads (removals gone ++ puts new) a b
 exchange_leads gone new a b h xs s =
     let to : (x : Entry) → Among x xs → Among x (state_entries a) = λ x g. among_of (state_entries a) x ((s.same x).0 (contains_of xs x g)) in
     let back : (x : Entry) → Among x (state_entries a) → Among x xs = λ x g. among_of xs x ((s.same x).1 (contains_of (state_entries a) x g)) in

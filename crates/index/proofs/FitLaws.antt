@@ -1,5 +1,6 @@
 -- Keys and values are short enough for the tree.
-use Rattle.std.proofs.Common.{◌≡◌, ℕ, zero, suc, ◌+◌, ◌*◌, ◌≤◌, Bool, true, false, ◌||◌, nat_lt, List, [], ◌∷◌, ◌++◌, length, map, Result, Ok, inl, inr, refl, sym, ap, ◌∙◌, arith, length-append}
+use Rattle.std.proofs.Common.{◌≡◌, ℕ, zero, suc, ◌+◌, ◌*◌, ◌≤◌, Bool, true, false, ◌||◌, nat_lt, List, [], ◌∷◌, ◌++◌, length, map, Result, Ok, inl, inr, refl}
+use Rattle.std.proofs.Common.{sym, ap, ◌∙◌, arith, length-append}
 use Rattle.std.specs.Int.{w32, to_be_bytes}
 use Rattle.std.specs.List.{list_any}
 use Rattle.std.proofs.lemmas.Bool.Decides.{nat_tests}
@@ -62,31 +63,40 @@ pub short_within : (fs : List Field) (d : Pairs) (key : List ℕ) → is_too_lon
 short_within fs d key within there =
     let bytes = map (key_bytes fs) (index_keys fs d) in
     let one = among_map (key_bytes fs) key (index_keys fs d) (test_among bytes key (sym (set_among bytes key) ∙ among_test (encoded_keys fs d) key there)) in
-    let short : nat_lt 500 (length (key_bytes fs one.0)) ≡ false = none_any (λ (ks : List Key). nat_lt 500 (length (key_bytes fs ks))) (index_keys fs d) one.0 within one.1 in
+    let short : nat_lt 500 (length (key_bytes fs one.0)) ≡ false =
+    none_any (λ (ks : List Key). nat_lt 500 (length (key_bytes fs ks))) (index_keys fs d) one.0 within one.1 in
     let long : length key ≡ length (key_bytes fs one.0) = ap length one.2 in
     let at_most : length (key_bytes fs one.0) ≤ 500 = grind (arith, nat_tests, short) in
     omega (arith, long, at_most)
 
 encoded_short : (fs : List Field) (d : Pairs) (key : List ℕ) → keys_in fs d ≡ Ok (encoded_keys fs d) → Among key (encoded_keys fs d) → length key ≤ 500
 encoded_short fs d key e there =
-    short_within fs d key (let_through (is_too_long fs d) refusals.KeyTooLong (unless (has_parallel_arrays fs d) refusals.CannotIndexParallelArrays (Ok (encoded_keys fs d))) (encoded_keys fs d) e) there
+    short_within fs d key
+    (let_through (is_too_long fs d) refusals.KeyTooLong (unless (has_parallel_arrays fs d) refusals.CannotIndexParallelArrays (Ok (encoded_keys fs d)))
+    (encoded_keys fs d) e) there
 
 -- ---- entries
 
 entry_fits : (c : Collection) (x : Entry) → IsKept c → IsOneOf c x → (length x.key ≤ 1024) × (length x.value ≤ 65535)
 entry_fits c x kept (inl e) =
     let key : length x.key ≡ 8 + length (tree_text (words c.name)) = ap (λ (y : Entry). length y.key) e ∙ key_size 0 0 (tree_text (words c.name)) in
-    let value : length x.value ≡ length (catalogue_entry c).value = ap (λ (y : Entry). length y.value) e in
-    (omega (arith, key, escaped_size c.name, kept.short), omega (arith, value, value_size c.number c.indexes kept.few (lawful_indexes c.indexes c.documents kept.indexes)))
+    let value : length x.value ≡ length (catalogue_entry c).value = ap (λ (y : Entry). length y.value) e in (
+      omega (arith, key, escaped_size c.name, kept.short),
+      omega (arith, value, value_size c.number c.indexes kept.few (lawful_indexes c.indexes c.documents kept.indexes)),
+    )
 entry_fits c x kept (inr (inl d)) =
     let stored = storable_of c d.document kept d.there in
-    let key : length x.key ≡ 8 + length (tree_text (key_of d.document)) = ap (λ (y : Entry). length y.key) d.is ∙ key_size c.number 0 (tree_text (key_of d.document)) in
+    let key : length x.key ≡ 8 + length (tree_text (key_of d.document)) =
+    ap (λ (y : Entry). length y.key) d.is ∙ key_size c.number 0 (tree_text (key_of d.document)) in
     let value : length x.value ≡ length (frame_of (pairs_bytes d.document)) = ap (λ (y : Entry). length y.value) d.is in
     (omega (arith, key, stored.short), omega (arith, value, stored.size))
 entry_fits c x kept (inr (inr k)) =
     let stored = storable_of c k.document kept k.there in
     let text = tree_text (key_of k.document) in
-    let encoded = encoded_short k.index.fields k.document k.key (of_all (λ d. keys_in k.index.fields d ≡ Ok (encoded_keys k.index.fields d)) c.documents k.document (listed_of c k.index kept k.listed).keys k.there) k.keyed in
+    let encoded =
+    encoded_short k.index.fields k.document k.key
+    (of_all (λ d. keys_in k.index.fields d ≡ Ok (encoded_keys k.index.fields d)) c.documents k.document (listed_of c k.index kept k.listed).keys k.there)
+    k.keyed in
     let key : length x.key ≡ 8 + length (k.key ++ text) = ap (λ (y : Entry). length y.key) k.is ∙ key_size c.number k.index.number (k.key ++ text) in
     let value : length x.value ≡ 0 = ap (λ (y : Entry). length y.value) k.is in
     (omega (arith, key, length-append k.key text, encoded, stored.short), omega (arith, value))

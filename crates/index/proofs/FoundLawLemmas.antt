@@ -39,7 +39,8 @@ finds_put c (d ∷ cs) = by (slice_cmp nat_cmp c.name d.name) refl (finds_put c 
 
     other : slice_cmp nat_cmp c.name d.name ≡ orders.Greater → (b : Bool) → bytes_eq c.name d.name ≡ b → bytes_eq c.name d.name ≡ false
     other more true same =
-        let tied : slice_cmp nat_cmp c.name d.name ≡ orders.Greater → ⊥ = λ m. not_itself d.name (subst (λ (n : List ℕ). slice_cmp nat_cmp n d.name ≡ orders.Greater) ((bytes_eq-Decides c.name d.name).0 same) m) in
+        let tied : slice_cmp nat_cmp c.name d.name ≡ orders.Greater
+        → ⊥ = λ m. not_itself d.name (subst (λ (n : List ℕ). slice_cmp nat_cmp n d.name ≡ orders.Greater) ((bytes_eq-Decides c.name d.name).0 same) m) in
         absurd (tied more)
       where
         not_itself : (n : List ℕ) → slice_cmp nat_cmp n n ≡ orders.Greater → ⊥
@@ -52,7 +53,8 @@ finds_put c (d ∷ cs) = by (slice_cmp nat_cmp c.name d.name) refl (finds_put c 
         → find_collection (by_order o (c ∷ d ∷ cs) (c ∷ cs) (d ∷ put_collection c cs)) c.name ≡ Some c
     by orders.Less is later = here (d ∷ cs)
     by orders.Equal is later = here cs
-    by orders.Greater is later = ap (λ (b : Bool). if b then Some d else find_collection (put_collection c cs) c.name) (other is (bytes_eq c.name d.name) refl) ∙ later
+    by orders.Greater is later =
+        ap (λ (b : Bool). if b then Some d else find_collection (put_collection c cs) c.name) (other is (bytes_eq c.name d.name) refl) ∙ later
 
 pub put_twice : PutTwice
 put_twice c d [] same = ap (λ (o : Ordering). by_order o (c ∷ d ∷ []) (c ∷ []) (d ∷ c ∷ [])) (tied (sym same))
@@ -65,7 +67,8 @@ put_twice c d (x ∷ cs) same = by (slice_cmp nat_cmp d.name x.name) refl (put_t
     tied = ap (λ (n : List ℕ). slice_cmp nat_cmp n d.name) (sym same) ∙ tied_itself nat_list_cmp_total d.name
 
     put_at : (o : Ordering) → slice_cmp nat_cmp d.name x.name ≡ o → put_collection c (x ∷ cs) ≡ by_order o (c ∷ x ∷ cs) (c ∷ cs) (x ∷ put_collection c cs)
-    put_at o is = ap (λ (p : Ordering). by_order p (c ∷ x ∷ cs) (c ∷ cs) (x ∷ put_collection c cs)) (ap (λ (n : List ℕ). slice_cmp nat_cmp n x.name) (sym same) ∙ is)
+    put_at o is =
+        ap (λ (p : Ordering). by_order p (c ∷ x ∷ cs) (c ∷ cs) (x ∷ put_collection c cs)) (ap (λ (n : List ℕ). slice_cmp nat_cmp n x.name) (sym same) ∙ is)
 
     first : (rest : List Collection) → put_collection c (d ∷ rest) ≡ c ∷ rest
     first rest = ap (λ (p : Ordering). by_order p (c ∷ d ∷ rest) (c ∷ rest) (d ∷ put_collection c rest)) tied
@@ -75,7 +78,8 @@ put_twice c d (x ∷ cs) same = by (slice_cmp nat_cmp d.name x.name) refl (put_t
     by orders.Less is later = first (x ∷ cs) ∙ sym (put_at orders.Less is)
     by orders.Equal is later = first cs ∙ sym (put_at orders.Equal is)
     by orders.Greater is later =
-        ap (λ (p : Ordering). by_order p (c ∷ x ∷ put_collection d cs) (c ∷ put_collection d cs) (x ∷ put_collection c (put_collection d cs))) (ap (λ (n : List ℕ). slice_cmp nat_cmp n x.name) (sym same) ∙ is)
+        ap (λ (p : Ordering). by_order p (c ∷ x ∷ put_collection d cs) (c ∷ put_collection d cs) (x ∷ put_collection c (put_collection d cs)))
+        (ap (λ (n : List ℕ). slice_cmp nat_cmp n x.name) (sym same) ∙ is)
         ∙ ap (λ (rest : List Collection). x ∷ rest) later ∙ sym (put_at orders.Greater is)
 
 without_put_apart : (c : Collection) (cs : List Collection) → AreNamedApart cs → without_collection c.name (put_collection c cs) ≡ without_collection c.name cs
@@ -93,7 +97,8 @@ without_put_apart c (x ∷ cs) apart = by (slice_cmp nat_cmp c.name x.name) refl
         above y (inl e) = ap (λ (z : Collection). slice_cmp nat_cmp c.name z.name) e ∙ less
         above y (inr g) = nat_list_cmp_total.trans c.name x.name y.name less (first_of (λ p q. slice_cmp nat_cmp p.name q.name ≡ orders.Less) x cs y apart g)
     by orders.Equal tied later =
-        first cs ∙ sym (ap (λ (b : Bool). if b then cs else x ∷ without_collection c.name cs) ((bytes_eq-Decides c.name x.name).1 (exact_bytes c.name x.name tied)))
+        first cs ∙ sym
+        (ap (λ (b : Bool). if b then cs else x ∷ without_collection c.name cs) ((bytes_eq-Decides c.name x.name).1 (exact_bytes c.name x.name tied)))
     by orders.Greater more later =
         let other : bytes_eq c.name x.name ≡ false = differs_above (bytes_eq c.name x.name) refl in
         ap (λ (b : Bool). if b then put_collection c cs else x ∷ without_collection c.name (put_collection c cs)) other
@@ -101,7 +106,8 @@ without_put_apart c (x ∷ cs) apart = by (slice_cmp nat_cmp c.name x.name) refl
       where
         differs_above : (b : Bool) → bytes_eq c.name x.name ≡ b → bytes_eq c.name x.name ≡ false
         differs_above true e =
-            let tied : slice_cmp nat_cmp x.name x.name ≡ orders.Greater = ap (λ (n : List ℕ). slice_cmp nat_cmp n x.name) (sym ((bytes_eq-Decides c.name x.name).0 e)) ∙ more in
+            let tied : slice_cmp nat_cmp x.name x.name ≡ orders.Greater =
+            ap (λ (n : List ℕ). slice_cmp nat_cmp n x.name) (sym ((bytes_eq-Decides c.name x.name).0 e)) ∙ more in
             absurd (let f : orders.Equal ≡ orders.Greater = sym (tied_itself nat_list_cmp_total x.name) ∙ tied in cc)
         differs_above false e = e
 

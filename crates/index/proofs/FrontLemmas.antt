@@ -1,5 +1,6 @@
 -- Keys that go on from a front, and the range that holds them.
-use Rattle.std.proofs.Common.{◌≡◌, ℕ, zero, suc, ◌+◌, ◌<◌, ◌≤◌, Bool, true, false, not, ◌&&◌, List, [], ◌∷◌, ◌++◌, length, take, drop, get_or, ◌⊎◌, inl, inr, refl, sym, ap, subst, ◌∙◌, arith}
+use Rattle.std.proofs.Common.{◌≡◌, ℕ, zero, suc, ◌+◌, ◌<◌, ◌≤◌, Bool, true, false, not, ◌&&◌, List, [], ◌∷◌, ◌++◌, length, take, drop, get_or, ◌⊎◌, inl, inr}
+use Rattle.std.proofs.Common.{refl, sym, ap, subst, ◌∙◌, arith}
 use Rattle.std.specs.Prelude.{nat_eq}
 use Rattle.std.specs.List.{starts_with}
 use Rattle.std.specs.Ordering.{ordering_then, is_lt}
@@ -69,7 +70,8 @@ not_under_front [] (c ∷ rest) = refl
 not_under_front (b ∷ front) rest = ap is_lt (head_same b (front ++ rest) front) ∙ not_under_front front rest
 
 -- what is above the byte at a place is above all that goes on from the front
-pub under_end : (front : List ℕ) (at d : ℕ) (rest : List ℕ) → at < length front → is_lt (key_cmp (front ++ rest) (take at front ++ (get_or front at d + 1) ∷ [])) ≡ true
+pub under_end : (front : List ℕ) (at d : ℕ) (rest : List ℕ) → at < length front
+    → is_lt (key_cmp (front ++ rest) (take at front ++ (get_or front at d + 1) ∷ [])) ≡ true
 under_end [] at d rest lt = absurd (omega (arith, lt))
 under_end (b ∷ front) zero d rest lt =
     let next : b < b + 1 = omega arith in
@@ -83,7 +85,8 @@ goes_on_between [] key rest above below = record { rest = key; is = refl }
 goes_on_between (b ∷ front) [] rest above below = absurd (let e : true ≡ false = above in cc)
 goes_on_between (b ∷ front) (c ∷ key) rest above below = by (cases_lt c b) (cases_lt b c) (goes_on_between front key rest)
   where
-    by : (c < b) ⊎ (b ≤ c) → (b < c) ⊎ (c ≤ b) → (is_lt (key_cmp key front) ≡ false → key_cmp key (front ++ rest) ≡ Less → GoesOn front key) → GoesOn (b ∷ front) (c ∷ key)
+    by : (c < b) ⊎ (b ≤ c) → (b < c) ⊎ (c ≤ b) → (is_lt (key_cmp key front) ≡ false → key_cmp key (front ++ rest) ≡ Less → GoesOn front key)
+        → GoesOn (b ∷ front) (c ∷ key)
     by (inl less) q on =
         absurd (let e : true ≡ false = ap (λ (o : Ordering). is_lt (ordering_then o (key_cmp key front))) (nat_cmp_is c b Less less) ∙ above in cc)
     by (inr p) (inl more) on =

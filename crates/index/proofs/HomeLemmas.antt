@@ -84,16 +84,20 @@ not_inside c d x y kept e f same =
     same_first 0 d.number 0 f.0 (tree_text (words c.name)) f.1 (omega arith) (number_fits d kept) (sym (ap (λ (z : Entry). z.key) e) ∙ same ∙ f.2) in
     omega (arith, zero, kept.least)
 
-pub one_home : (cs : List Collection) (c d : Collection) (x y : Entry) → IsLawfulState cs → Among c cs → Among d cs → IsOneOf c x → IsOneOf d y → x.key ≡ y.key → c ≡ d
+pub one_home : (cs : List Collection) (c d : Collection) (x y : Entry) → IsLawfulState cs → Among c cs → Among d cs → IsOneOf c x → IsOneOf d y → x.key ≡ y.key
+    → c ≡ d
 one_home cs c d x y h there here p q same = by p q
   where
     both : IsInside c x → IsInside d y → c ≡ d
     both f g =
-        one_number cs c d h.numbers there here (same_first c.number d.number f.0 g.0 f.1 g.1 (number_fits c (kept_of cs c h there)) (number_fits d (kept_of cs d h here)) (sym f.2 ∙ same ∙ g.2))
+        one_number cs c d h.numbers there here
+        (same_first c.number d.number f.0 g.0 f.1 g.1 (number_fits c (kept_of cs c h there)) (number_fits d (kept_of cs d h here)) (sym f.2 ∙ same ∙ g.2))
 
     by : IsOneOf c x → IsOneOf d y → c ≡ d
     by (inl e) (inl f) =
-        one_name cs c d h there here (same_words c.name d.name (same_rest 0 0 0 0 (tree_text (words c.name)) (tree_text (words d.name)) (sym (ap (λ (z : Entry). z.key) e) ∙ same ∙ ap (λ (z : Entry). z.key) f)))
+        one_name cs c d h there here
+        (same_words c.name d.name
+        (same_rest 0 0 0 0 (tree_text (words c.name)) (tree_text (words d.name)) (sym (ap (λ (z : Entry). z.key) e) ∙ same ∙ ap (λ (z : Entry). z.key) f)))
     by (inl e) (inr g) = absurd (not_inside c d x y (kept_of cs d h here) e (inside_of d y g) same)
     by (inr g) (inl f) = absurd (not_inside d c y x (kept_of cs c h there) f (inside_of c x g) (sym same))
     by (inr f) (inr g) = both (inside_of c x f) (inside_of d y g)
@@ -133,7 +137,8 @@ one_index c i j kept there here same = by (of_pairs (λ x y. x.number ≢ y.numb
 pub document_or_key : (c e : Collection) (x y : Entry) → IsKept c → IsKept e → IsDocumentOf c x → IsKeyOf e y → x.key ≡ y.key → ⊥
 document_or_key c e x y kept other d k same =
     let zero : 0 ≡ k.index.number =
-    same_second c.number e.number 0 k.index.number (tree_text (key_of d.document)) (k.key ++ tree_text (key_of k.document)) (omega arith) (index_fits e k.index other k.listed)
+    same_second c.number e.number 0 k.index.number (tree_text (key_of d.document)) (k.key ++ tree_text (key_of k.document)) (omega arith)
+    (index_fits e k.index other k.listed)
     (sym (ap (λ (z : Entry). z.key) d.is) ∙ same ∙ ap (λ (z : Entry). z.key) k.is) in
     omega (arith, zero, index_from_one e k.index other k.listed)
 
@@ -143,7 +148,8 @@ same_index c d x y kept other h g same =
     same_second c.number d.number h.index.number g.index.number (h.key ++ tree_text (key_of h.document)) (g.key ++ tree_text (key_of g.document))
     (index_fits c h.index kept h.listed) (index_fits d g.index other g.listed) (sym (ap (λ (z : Entry). z.key) h.is) ∙ same ∙ ap (λ (z : Entry). z.key) g.is)
 
-pub same_ends : (c d : Collection) (x y : Entry) → (h : IsKeyOf c x) (g : IsKeyOf d y) → x.key ≡ y.key → h.key ++ tree_text (key_of h.document) ≡ g.key ++ tree_text (key_of g.document)
+pub same_ends : (c d : Collection) (x y : Entry) → (h : IsKeyOf c x) (g : IsKeyOf d y) → x.key ≡ y.key
+    → h.key ++ tree_text (key_of h.document) ≡ g.key ++ tree_text (key_of g.document)
 same_ends c d x y h g same =
     same_rest c.number d.number h.index.number g.index.number (h.key ++ tree_text (key_of h.document)) (g.key ++ tree_text (key_of g.document))
     (sym (ap (λ (z : Entry). z.key) h.is) ∙ same ∙ ap (λ (z : Entry). z.key) g.is)
@@ -153,7 +159,8 @@ one_inside c x y kept (inl e) (inl f) same = e ∙ sym f
 one_inside c x y kept (inl e) (inr g) same = absurd (not_inside c c x y kept e (inside_of c y g) same)
 one_inside c x y kept (inr g) (inl f) same = absurd (not_inside c c y x kept f (inside_of c x g) (sym same))
 one_inside c x y kept (inr (inl d)) (inr (inl e)) same =
-    let text = same_rest c.number c.number 0 0 (tree_text (key_of d.document)) (tree_text (key_of e.document)) (sym (ap (λ (z : Entry). z.key) d.is) ∙ same ∙ ap (λ (z : Entry). z.key) e.is) in
+    let text = same_rest c.number c.number 0 0 (tree_text (key_of d.document)) (tree_text (key_of e.document))
+    (sym (ap (λ (z : Entry). z.key) d.is) ∙ same ∙ ap (λ (z : Entry). z.key) e.is) in
     d.is ∙ ap (document_entry c.number) (one_document c d.document e.document kept d.there e.there text) ∙ sym e.is
 one_inside c x y kept (inr (inl d)) (inr (inr k)) same = absurd (document_or_key c c x y kept kept d k same)
 one_inside c x y kept (inr (inr k)) (inr (inl d)) same = absurd (document_or_key c c y x kept kept d k (sym same))

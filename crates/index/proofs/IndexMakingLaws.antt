@@ -1,5 +1,6 @@
 -- An index is made of a collection's documents, one after the other, and one is dropped.
-use Rattle.std.proofs.Common.{◌≡◌, ◌≢◌, inl, inr, ◌+◌, ◌<◌, ◌≤◌, ℕ, suc, Bool, true, false, ◌&&◌, ◌||◌, List, [], ◌∷◌, ◌++◌, length, get_or, take, drop, map, Option, Some, None, Result, Ok, Err, refl, sym, ap, subst, ◌∙◌, arith, append_assoc}
+use Rattle.std.proofs.Common.{◌≡◌, ◌≢◌, inl, inr, ◌+◌, ◌<◌, ◌≤◌, ℕ, suc, Bool, true, false, ◌&&◌, ◌||◌, List, [], ◌∷◌, ◌++◌, length, get_or, take, drop, map}
+use Rattle.std.proofs.Common.{Option, Some, None, Result, Ok, Err, refl, sym, ap, subst, ◌∙◌, arith, append_assoc}
 use Rattle.std.specs.Prelude.{All, if◌then◌else◌, is_some}
 use Rattle.std.specs.List.{AllPairs, list_any, remove}
 use Rattle.std.specs.Ordering.{is_eq}
@@ -58,8 +59,10 @@ Below e d = compare (key_of e) (key_of d) ≡ orders.Less
 
 before_last : (d : Pairs) (ds : List Pairs) → IsRising (ds ++ d ∷ []) → (e : Pairs) → Among e ds → Below e d
 before_last d [] rising e there = absurd there
-before_last d (x ∷ ds) rising e (inl is) = subst (λ (f : Pairs). Below f d) (sym is) (first_of Below x (ds ++ d ∷ []) d rising (among_back d ds (d ∷ []) (inl refl)))
-before_last d (x ∷ ds) rising e (inr there) = before_last d ds (λ i j f less below. rising (suc i) (suc j) f (omega (arith, less)) (omega (arith, below))) e there
+before_last d (x ∷ ds) rising e (inl is) =
+    subst (λ (f : Pairs). Below f d) (sym is) (first_of Below x (ds ++ d ∷ []) d rising (among_back d ds (d ∷ []) (inl refl)))
+before_last d (x ∷ ds) rising e (inr there) =
+    before_last d ds (λ i j f less below. rising (suc i) (suc j) f (omega (arith, less)) (omega (arith, below))) e there
 
 put_last : (d : Pairs) (ds : List Pairs) → ((e : Pairs) → Among e ds → Below e d) → put_document d ds ≡ ds ++ d ∷ []
 put_last d [] behind = refl
@@ -109,7 +112,8 @@ keys_alone i d = by (is_too_long i.fields d) (has_parallel_arrays i.fields d)
     by false true = refl
     by false false = refl
 
-entries_noted : (old new : List Edit) (m : ℕ) (d : Pairs) (i : Definition) (ds : List Pairs) → HasPutEntries old new m i ds → HasPutEntries old new m (noted d i) ds
+entries_noted : (old new : List Edit) (m : ℕ) (d : Pairs) (i : Definition) (ds : List Pairs) → HasPutEntries old new m i ds
+    → HasPutEntries old new m (noted d i) ds
 entries_noted old new m d i ds h =
     elim (is_multikey i.fields d) as (λ (b : Bool). HasPutEntries old new m (if b then record i { is_multi = true } else i) ds) [ true ↦ h | false ↦ h ]
 
@@ -175,13 +179,16 @@ module _ (c : Collection) (i : Definition) (done : List Pairs) (n : NewEntries) 
       ap (λ (o : Option Pairs). is_some o || (clashes done d n.index || false)) (not_found d done behind) ∙ or_false (clashes done d n.index)
 
   entered_by : (r : Result (List (List ℕ)) Refusal) → keys_in n.index.fields d ≡ r
-      → entered so_far (as_new d) ≡ ((r >>= (λ keys. Ok (keys ∷ []))) >>= (λ keys. unless (clashes done d n.index) refusals.DuplicateKey (Ok (with_document d so_far))))
+      → entered so_far (as_new d)
+      ≡ ((r >>= (λ keys. Ok (keys ∷ []))) >>= (λ keys. unless (clashes done d n.index) refusals.DuplicateKey (Ok (with_document d so_far))))
   entered_by r is =
-      ap (λ q. q >>= (λ keys. unless (is_duplicate so_far (as_new d)) refusals.DuplicateKey (Ok (with_document d so_far)))) (keys_alone n.index d ∙ ap (λ q. q >>= (λ keys. Ok (keys ∷ []))) is)
+      ap (λ q. q >>= (λ keys. unless (is_duplicate so_far (as_new d)) refusals.DuplicateKey (Ok (with_document d so_far))))
+      (keys_alone n.index d ∙ ap (λ q. q >>= (λ keys. Ok (keys ∷ []))) is)
       ∙ ap (λ (b : Bool). (r >>= (λ keys. Ok (keys ∷ []))) >>= (λ keys. unless b refusals.DuplicateKey (Ok (with_document d so_far)))) duplicate_is
 
   -- the whole is what comes of the next one
-  whole_is : (rest : List Pairs) → c.documents ≡ done ++ d ∷ rest → enter_each (alone c i) (map as_new c.documents) ≡ (entered so_far (as_new d) >>= (λ m. enter_each m (map as_new rest)))
+  whole_is : (rest : List Pairs) → c.documents ≡ done ++ d ∷ rest
+      → enter_each (alone c i) (map as_new c.documents) ≡ (entered so_far (as_new d) >>= (λ m. enter_each m (map as_new rest)))
   whole_is rest all =
       ap (λ (ds : List Pairs). enter_each (alone c i) (map as_new ds)) all
       ∙ ap (enter_each (alone c i)) (map-append as_new done (d ∷ rest))
@@ -241,7 +248,8 @@ module _ (c : Collection) (i : Definition) (done : List Pairs) (n : NewEntries) 
         ∙ ap (λ (b : Bool). unless b refusals.DuplicateKey (Ok (with_document d so_far))) clear
         ∙ ap (λ (ds : List Pairs). is_ok (record c { documents = ds; indexes = noted d n.index ∷ [] })) (put_last d done behind)
 
-    pub has_next : (new : NewEntries) → new.number ≡ n.number → new.index ≡ noted d n.index → GoesOnBy n.entries (puts (index_entries n.number d n.index)) new.entries → HasEntries c i (done ++ d ∷ []) new
+    pub has_next : (new : NewEntries) → new.number ≡ n.number → new.index ≡ noted d n.index
+        → GoesOnBy n.entries (puts (index_entries n.number d n.index)) new.entries → HasEntries c i (done ++ d ∷ []) new
     has_next new number_is index_is goes = record {
       number = number_is ∙ has.number;
       index = ap (λ (j : Definition). j.number) index_is ∙ noted_number d n.index ∙ has.index;
@@ -261,7 +269,8 @@ module _ (c : Collection) (i : Definition) (done : List Pairs) (n : NewEntries) 
 
 -- ---- what taking one comes to
 
-pub takes_next : (old new : NewEntries) (d : Pairs) (id : List ℕ) (keys : List (List ℕ)) → Rises (edit_keys old.entries) → id ≡ tree_text (key_of d) → keys_in old.index.fields d ≡ Ok keys
+pub takes_next : (old new : NewEntries) (d : Pairs) (id : List ℕ) (keys : List (List ℕ)) → Rises (edit_keys old.entries) → id ≡ tree_text (key_of d)
+    → keys_in old.index.fields d ≡ Ok keys
     → (old.index.is_unique && puts_any old.number old.index.number id keys old.entries) ≡ false → new.number ≡ old.number → new.index ≡ noted d old.index
     → GoesOnBy old.entries (puts (index_entries old.number d old.index)) new.entries → TakesNext old new d
 takes_next old new d id keys rises text keyed clear number_is index_is goes c i done rest kept all has =
@@ -273,22 +282,26 @@ refuses_keys old d e refused c i done rest kept all has =
     let next = next_of c done rest d kept all in
     refused_next c i done old d next has rest e all (entered_by c i done old d next has (Err e) refused)
 
-pub refuses_taken : (old : NewEntries) (d : Pairs) (id : List ℕ) (keys : List (List ℕ)) → Rises (edit_keys old.entries) → id ≡ tree_text (key_of d) → keys_in old.index.fields d ≡ Ok keys
+pub refuses_taken : (old : NewEntries) (d : Pairs) (id : List ℕ) (keys : List (List ℕ)) → Rises (edit_keys old.entries) → id ≡ tree_text (key_of d)
+    → keys_in old.index.fields d ≡ Ok keys
     → (old.index.is_unique && puts_any old.number old.index.number id keys old.entries) ≡ true → RefusesNext old d refusals.DuplicateKey
 refuses_taken old d id keys rises text keyed taken c i done rest kept all has =
     let next = next_of c done rest d kept all in
     refused_next c i done old d next has rest refusals.DuplicateKey all (
     entered_by c i done old d next has (Ok keys) keyed
-    ∙ ap (λ (b : Bool). unless b refusals.DuplicateKey (Ok (with_document d (so_far c i done old d next has)))) (sym (taken_is c i done old d next has rises id keys text keyed) ∙ taken)
+    ∙ ap (λ (b : Bool). unless b refusals.DuplicateKey (Ok (with_document d (so_far c i done old d next has))))
+    (sym (taken_is c i done old d next has rises id keys text keyed) ∙ taken)
     )
 
 -- ---- the collection with it
 
 -- edits noted behind others that make the entries of nothing else make them behind these
-behind_these : (old mid own : List Edit) (m : ℕ) (i : Definition) (ds : List Pairs) → HasPutEntries [] own m i ds → GoesOnBy old own mid → HasPutEntries old mid m i ds
+behind_these : (old mid own : List Edit) (m : ℕ) (i : Definition) (ds : List Pairs) → HasPutEntries [] own m i ds → GoesOnBy old own mid
+    → HasPutEntries old mid m i ds
 behind_these old mid own m i ds entries goes xs h = goes xs h ∙ entries (change old xs) (rises_change old xs h)
 
-pub makes_index_of : (old mid new : List Edit) (name : List ℕ) (number : ℕ) (indexes : List Definition) (n : NewEntries) → length indexes < 16 → GoesOnBy old n.entries mid
+pub makes_index_of : (old mid new : List Edit) (name : List ℕ) (number : ℕ) (indexes : List Definition) (n : NewEntries) → length indexes < 16
+    → GoesOnBy old n.entries mid
     → GoesOnBy mid (catalogue_put name number (indexes ++ n.index ∷ []) ∷ []) new → MakesIndexOf old new name number indexes n
 makes_index_of old mid new name number indexes n few goes catalogue a b c i lead lawful found numbered indexed fresh has = (
   ap (λ (r : Result Collection Refusal). r >>= (λ made. Ok (record c { indexes = c.indexes ++ made.indexes }))) has.entered,
@@ -303,7 +316,8 @@ makes_index_of old mid new name number indexes n few goes catalogue a b c i lead
     next = record c { indexes = c.indexes ++ n.index ∷ [] }
 
     entries : HasPutEntries old mid c.number n.index c.documents
-    entries = subst (λ (m : ℕ). HasPutEntries old mid m n.index c.documents) has.number (behind_these old mid n.entries n.number n.index c.documents has.entries goes)
+    entries = subst (λ (m : ℕ). HasPutEntries old mid m n.index c.documents) has.number
+        (behind_these old mid n.entries n.number n.index c.documents has.entries goes)
 
     put : GoesOnBy mid (catalogue_put c.name c.number (c.indexes ++ n.index ∷ []) ∷ []) new
     put xs h = catalogue xs h ∙ (λ t. change (catalogue_put (named t) (sym numbered t) (sym indexed t ++ n.index ∷ []) ∷ []) (change mid xs))
@@ -313,7 +327,8 @@ makes_index_of old mid new name number indexes n few goes catalogue a b c i lead
 
     kept : IsKept next
     kept = kept_with_index c n.index (kept_of b c lawful (found_in b name c found)) is_index
-        (subst (λ (m : ℕ). All (λ j. j.number ≢ m) c.indexes) (sym has.index) (subst (λ (js : List Definition). All (λ j. j.number ≢ i.number) js) (sym indexed) fresh))
+        (subst (λ (m : ℕ). All (λ j. j.number ≢ m) c.indexes) (sym has.index)
+        (subst (λ (js : List Definition). All (λ j. j.number ≢ i.number) js) (sym indexed) fresh))
         (omega (arith, few, ap length indexed))
 
     may : MayBecome c next b

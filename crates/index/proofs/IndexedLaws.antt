@@ -35,9 +35,11 @@ let_through false false r s x y e = (refl, cc)
 abbrev pub key_lists : List (Vec (Vec ℕ)) → List (List (List ℕ))
 key_lists all = map (λ ks. texts_of ks.items) all
 
-pub known : (is : List Definition) (d : Pairs) (all : List (List (List ℕ))) → keys_in_all is d ≡ Ok all → (list_any (λ i. is_too_long i.fields d) is ≡ false) × (map (λ i. encoded_keys i.fields d) is ≡ all)
+pub known : (is : List Definition) (d : Pairs) (all : List (List (List ℕ))) → keys_in_all is d ≡ Ok all
+    → (list_any (λ i. is_too_long i.fields d) is ≡ false) × (map (λ i. encoded_keys i.fields d) is ≡ all)
 known is d all e =
-    let_through (list_any (λ i. is_too_long i.fields d) is) (list_any (λ i. has_parallel_arrays i.fields d) is) refusals.KeyTooLong refusals.CannotIndexParallelArrays (map (λ i. encoded_keys i.fields d) is) all e
+    let_through (list_any (λ i. is_too_long i.fields d) is)
+    (list_any (λ i. has_parallel_arrays i.fields d) is) refusals.KeyTooLong refusals.CannotIndexParallelArrays (map (λ i. encoded_keys i.fields d) is) all e
 
 pub known_one : (fs : List Field) (d : Pairs) (keys : List (List ℕ)) → keys_in fs d ≡ Ok keys → (is_too_long fs d ≡ false) × (encoded_keys fs d ≡ keys)
 known_one fs d keys e =
@@ -53,15 +55,18 @@ one_each is d all e =
     let many : length encoded ≡ length is = length-map is (λ (i : Definition). encoded_keys i.fields d) in
     sym few ∙ sym same ∙ many
 
-texts_short : (fs : List Field) (d : Pairs) (keys : List (Vec ℕ)) → is_too_long fs d ≡ false → texts_of keys ≡ encoded_keys fs d → All (λ key. length key.items ≤ 500) keys
+texts_short : (fs : List Field) (d : Pairs) (keys : List (Vec ℕ)) → is_too_long fs d ≡ false → texts_of keys ≡ encoded_keys fs d
+    → All (λ key. length key.items ≤ 500) keys
 texts_short fs d keys within same =
     all_of (λ (key : Vec ℕ). length key.items ≤ 500) keys
-    (λ key there. short_within fs d key.items within (subst (λ (ts : List (List ℕ)). Among key.items ts) same (among_image (λ (v : Vec ℕ). v.items) key keys there)))
+    (λ key there. short_within fs d key.items within
+    (subst (λ (ts : List (List ℕ)). Among key.items ts) same (among_image (λ (v : Vec ℕ). v.items) key keys there)))
 
 pub short_keys : (fs : List Field) (d : Pairs) (keys : List (Vec ℕ)) → keys_in fs d ≡ Ok (texts_of keys) → All (λ key. length key.items ≤ 500) keys
 short_keys fs d keys e = let k = known_one fs d (texts_of keys) e in texts_short fs d keys k.0 (sym k.1)
 
-pub all_short : (is : List Definition) (d : Pairs) (all : List (Vec (Vec ℕ))) → keys_in_all is d ≡ Ok (key_lists all) → All (λ ks. All (λ key. length key.items ≤ 500) ks.items) all
+pub all_short : (is : List Definition) (d : Pairs) (all : List (Vec (Vec ℕ))) → keys_in_all is d ≡ Ok (key_lists all)
+    → All (λ ks. All (λ key. length key.items ≤ 500) ks.items) all
 all_short is d all e =
     let k = known is d (key_lists all) e in
     all_of (λ (ks : Vec (Vec ℕ)). All (λ key. length key.items ≤ 500) ks.items) all (λ ks there.
@@ -71,16 +76,19 @@ all_short is d all e =
 
 -- ---- entries
 
-in_all : (n : ℕ) (is : List Definition) (d : Pairs) → entries_in_all n (tree_text (key_of d)) is (map (λ i. encoded_keys i.fields d) is) ≡ flat_map (index_entries n d) is
+in_all : (n : ℕ) (is : List Definition) (d : Pairs)
+    → entries_in_all n (tree_text (key_of d)) is (map (λ i. encoded_keys i.fields d) is) ≡ flat_map (index_entries n d) is
 in_all n [] d = refl
 in_all n (i ∷ is) d = ap (λ (xs : List Entry). index_entries n d i ++ xs) (in_all n is d)
 
-pub entries_are : (n : ℕ) (id : List ℕ) (is : List Definition) (d : Pairs) (all : List (Vec (Vec ℕ))) → keys_in_all is d ≡ Ok (key_lists all) → id ≡ tree_text (key_of d)
+pub entries_are : (n : ℕ) (id : List ℕ) (is : List Definition) (d : Pairs) (all : List (Vec (Vec ℕ))) → keys_in_all is d ≡ Ok (key_lists all)
+    → id ≡ tree_text (key_of d)
     → entries_in_all n id is (key_lists all) ≡ flat_map (index_entries n d) is
 entries_are n id is d all e text =
     let k = known is d (key_lists all) e in (λ t. entries_in_all n (text t) is (sym k.1 t)) ∙ in_all n is d
 
-pub entries_of_one : (n : ℕ) (id : List ℕ) (i : Definition) (number : ℕ) (d : Pairs) (keys : List (List ℕ)) → number ≡ i.number → keys_in i.fields d ≡ Ok keys → id ≡ tree_text (key_of d)
+pub entries_of_one : (n : ℕ) (id : List ℕ) (i : Definition) (number : ℕ) (d : Pairs) (keys : List (List ℕ)) → number ≡ i.number → keys_in i.fields d ≡ Ok keys
+    → id ≡ tree_text (key_of d)
     → entries_at n number id keys ≡ index_entries n d i
 entries_of_one n id i number d keys same e text =
     let k = known_one i.fields d keys e in λ t. entries_at n (same t) (text t) (sym k.1 t)
@@ -100,17 +108,22 @@ behind_first e old es mid new first some = (
   },
 )
 
-pub inserts_into : (old new : List Edit) (number : ℕ) (is : List Definition) (d : Pairs) → Rises (edit_keys old) → new ≡ with_edits (puts (document_entries number is d)) old → InsertsInto old new number is d
+pub inserts_into : (old new : List Edit) (number : ℕ) (is : List Definition) (d : Pairs) → Rises (edit_keys old)
+    → new ≡ with_edits (puts (document_entries number is d)) old → InsertsInto old new number is d
 inserts_into old new number is d up made a b c front back lead num inds docs may =
     let now : Collection = record c { documents = front ++ d ∷ back } in
     noted_leads (puts (document_entries number is d)) old new a b (put_collection now b) up made lead
-    (subst (λ (es : List Edit). Leads es b (put_collection now b)) (λ t. puts (document_entries (num t) (inds t) d)) (inserts_document c front back d docs b may))
+    (subst (λ (es : List Edit). Leads es b (put_collection now b)) (λ t. puts (document_entries (num t) (inds t) d))
+    (inserts_document c front back d docs b may))
 
-pub deletes_from : (old new : List Edit) (number : ℕ) (is : List Definition) (d : Pairs) → Rises (edit_keys old) → new ≡ with_edits (removals (document_entries number is d)) old → DeletesFrom old new number is d
+pub deletes_from : (old new : List Edit) (number : ℕ) (is : List Definition) (d : Pairs) → Rises (edit_keys old)
+    → new ≡ with_edits (removals (document_entries number is d)) old → DeletesFrom old new number is d
 deletes_from old new number is d up made a b c front back lead num inds docs may =
     let now : Collection = record c { documents = front ++ back } in
     noted_leads (removals (document_entries number is d)) old new a b (put_collection now b) up made lead
-    (subst (λ (es : List Edit). Leads es b (put_collection now b)) (λ t. removals (document_entries (num t) (inds t) d)) (deletes_document c front back d docs b may))
+    (subst (λ (es : List Edit). Leads es b (put_collection now b)) (λ t. removals (document_entries (num t) (inds t) d))
+    (deletes_document c front back d docs b may))
 
-pub first_removed : (n : ℕ) (id : List ℕ) (d : Pairs) (old mid : List Edit) → id ≡ tree_text (key_of d) → mid ≡ with_edit (removal (key_under n 0 id)) old → mid ≡ with_edit (removal_of (document_entry n d)) old
+pub first_removed : (n : ℕ) (id : List ℕ) (d : Pairs) (old mid : List Edit) → id ≡ tree_text (key_of d) → mid ≡ with_edit (removal (key_under n 0 id)) old
+    → mid ≡ with_edit (removal_of (document_entry n d)) old
 first_removed n id d old mid text is = is ∙ ap (λ (xs : List ℕ). with_edit (removal (key_under n 0 xs)) old) text

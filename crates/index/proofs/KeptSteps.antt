@@ -29,7 +29,8 @@ all_around P front back y h = all_of P (front ++ back) (λ x g. of_all P (front 
 rest_pairs : {X : Type 0} (R : X → X → Type 0) (x : X) (xs : List X) → AllPairs R (x ∷ xs) → AllPairs R xs
 rest_pairs R x xs h = λ i j d lt below. h (suc i) (suc j) d (omega (arith, lt)) (omega (arith, below))
 
-pub pairs_middle : {X : Type 0} (R : X → X → Type 0) (front back : List X) (y : X) → AllPairs R (front ++ back) → ((x : X) → Among x front → R x y) → ((x : X) → Among x back → R y x) → AllPairs R (front ++ y ∷ back)
+pub pairs_middle : {X : Type 0} (R : X → X → Type 0) (front back : List X) (y : X) → AllPairs R (front ++ back) → ((x : X) → Among x front → R x y)
+    → ((x : X) → Among x back → R y x) → AllPairs R (front ++ y ∷ back)
 pairs_middle R [] back y h before behind = pairs_of R y back behind h
 pairs_middle R (z ∷ front) back y h before behind =
     pairs_of R z (front ++ y ∷ back) (λ x g. elim (among_middle x y front back g) [
@@ -40,7 +41,8 @@ pairs_middle R (z ∷ front) back y h before behind =
 pub pairs_around : {X : Type 0} (R : X → X → Type 0) (front back : List X) (y : X) → AllPairs R (front ++ y ∷ back) → AllPairs R (front ++ back)
 pairs_around R [] back y h = rest_pairs R y back h
 pairs_around R (z ∷ front) back y h =
-    pairs_of R z (front ++ back) (λ x g. first_of R z (front ++ y ∷ back) x h (among_around x y front back g)) (pairs_around R front back y (rest_pairs R z (front ++ y ∷ back) h))
+    pairs_of R z (front ++ back) (λ x g. first_of R z (front ++ y ∷ back) x h (among_around x y front back g))
+    (pairs_around R front back y (rest_pairs R z (front ++ y ∷ back) h))
 
 -- ---- documents
 
@@ -51,7 +53,8 @@ share_back fs d e h key there = by (is_among (encoded_keys fs d) key) refl
     by true both = absurd (let f : true ≡ false = sym there ∙ h key both in cc)
     by false none = none
 
-pub index_with : (i : Definition) (front back : List Pairs) (d : Pairs) → IsIndexOf (front ++ back) i → MayEnter (front ++ back) d i → IsIndexOf (front ++ d ∷ back) i
+pub index_with : (i : Definition) (front back : List Pairs) (d : Pairs) → IsIndexOf (front ++ back) i → MayEnter (front ++ back) d i
+    → IsIndexOf (front ++ d ∷ back) i
 index_with i front back d h m = record {
   lawful = h.lawful;
   keys = all_middle (λ e. keys_in i.fields e ≡ Ok (encoded_keys i.fields e)) front back d h.keys m.keys;
@@ -80,10 +83,12 @@ kept_with_document c front back d h split m =
       least = h.least;
       most = h.most;
       rising = pairs_middle (λ e f. compare (key_of e) (key_of f) ≡ Less) front back d rising
-          (λ e g. of_all (λ f. compare (key_of f) (key_of d) ≡ Less) front e m.behind g) (λ e g. of_all (λ f. compare (key_of d) (key_of f) ≡ Less) back e m.before g);
+          (λ e g. of_all (λ f. compare (key_of f) (key_of d) ≡ Less) front e m.behind g)
+          (λ e g. of_all (λ f. compare (key_of d) (key_of f) ≡ Less) back e m.before g);
       storable = all_middle IsStorable front back d storable m.storable;
       indexes = all_of (IsIndexOf (front ++ d ∷ back)) c.indexes
-          (λ i g. index_with i front back d (of_all (IsIndexOf (front ++ back)) c.indexes i indexes g) (of_all (MayEnter (front ++ back) d) c.indexes i m.enters g));
+          (λ i g. index_with i front back d (of_all (IsIndexOf (front ++ back)) c.indexes i indexes g)
+          (of_all (MayEnter (front ++ back) d) c.indexes i m.enters g));
       distinct = h.distinct;
       few = h.few;
     }
@@ -100,7 +105,8 @@ kept_without_document c front back d h split =
       most = h.most;
       rising = pairs_around (λ e f. compare (key_of e) (key_of f) ≡ Less) front back d rising;
       storable = all_around IsStorable front back d storable;
-      indexes = all_of (IsIndexOf (front ++ back)) c.indexes (λ i g. index_without i front back d (of_all (IsIndexOf (front ++ d ∷ back)) c.indexes i indexes g));
+      indexes = all_of (IsIndexOf (front ++ back)) c.indexes
+          (λ i g. index_without i front back d (of_all (IsIndexOf (front ++ d ∷ back)) c.indexes i indexes g));
       distinct = h.distinct;
       few = h.few;
     }
@@ -114,7 +120,8 @@ nil_back (x ∷ xs) = ap (λ ys. x ∷ ys) (nil_back xs)
 pub kept_with_index : KeptWithIndex
 kept_with_index c i h index apart room =
     let all : All (IsIndexOf c.documents) (c.indexes ++ []) = subst (All (IsIndexOf c.documents)) (sym (nil_back c.indexes)) h.indexes in
-    let distinct : AllPairs (λ j k. j.number ≢ k.number) (c.indexes ++ []) = subst (AllPairs (λ j k. j.number ≢ k.number)) (sym (nil_back c.indexes)) h.distinct in
+    let distinct : AllPairs (λ j k. j.number ≢ k.number) (c.indexes ++ []) =
+    subst (AllPairs (λ j k. j.number ≢ k.number)) (sym (nil_back c.indexes)) h.distinct in
     record {
       name = h.name;
       short = h.short;
@@ -123,7 +130,8 @@ kept_with_index c i h index apart room =
       rising = h.rising;
       storable = h.storable;
       indexes = all_middle (IsIndexOf c.documents) c.indexes [] i all index;
-      distinct = pairs_middle (λ j k. j.number ≢ k.number) c.indexes [] i distinct (λ j g. of_all (λ k. k.number ≢ i.number) c.indexes j apart g) (λ j g. absurd g);
+      distinct = pairs_middle (λ j k. j.number ≢ k.number) c.indexes [] i distinct (λ j g. of_all (λ k. k.number ≢ i.number) c.indexes j apart g)
+          (λ j g. absurd g);
       few = omega (arith, length-append c.indexes (i ∷ []), room);
     }
 
@@ -146,10 +154,12 @@ kept_without_index c front back i h split =
 -- ---- noted
 
 pub noted_number : (d : Pairs) (i : Definition) → (noted d i).number ≡ i.number
-noted_number d i = elim (is_multikey i.fields d) as (λ (b : Bool). (if b then record i { is_multi = true } else i).number ≡ i.number) [ true ↦ refl | false ↦ refl ]
+noted_number d i =
+    elim (is_multikey i.fields d) as (λ (b : Bool). (if b then record i { is_multi = true } else i).number ≡ i.number) [ true ↦ refl | false ↦ refl ]
 
 pub noted_fields : (d : Pairs) (i : Definition) → (noted d i).fields ≡ i.fields
-noted_fields d i = elim (is_multikey i.fields d) as (λ (b : Bool). (if b then record i { is_multi = true } else i).fields ≡ i.fields) [ true ↦ refl | false ↦ refl ]
+noted_fields d i =
+    elim (is_multikey i.fields d) as (λ (b : Bool). (if b then record i { is_multi = true } else i).fields ≡ i.fields) [ true ↦ refl | false ↦ refl ]
 
 pub noted_alike : (d : Pairs) (is : List Definition) → AreAlike is (map (noted d) is)
 noted_alike d [] = tt
@@ -160,7 +170,8 @@ noted_index d ds i h = by (is_multikey i.fields d)
   where
     by : (b : Bool) → IsIndexOf ds (if b then record i { is_multi = true } else i)
     by true = record {
-      lawful = record { numbered = h.lawful.numbered; most = h.lawful.most; is_text = h.lawful.is_text; named = h.lawful.named; short = h.lawful.short; fields = h.lawful.fields };
+      lawful = record
+          { numbered = h.lawful.numbered; most = h.lawful.most; is_text = h.lawful.is_text; named = h.lawful.named; short = h.lawful.short; fields = h.lawful.fields };
       keys = h.keys;
       unique = h.unique;
       multi = all_of (λ e. is_multikey i.fields e ≡ true → true ≡ true) ds (λ e g f. refl);
@@ -174,7 +185,8 @@ noted_for d i = by (is_multikey i.fields d) refl
     by true e f = refl
     by false e f = absurd (let g : false ≡ true = sym e ∙ f in cc)
 
-pub all_noted : (P Q : Definition → Type 0) (d : Pairs) → ((i : Definition) → P i → Q (noted d i)) → (is : List Definition) → All P is → All Q (map (noted d) is)
+pub all_noted : (P Q : Definition → Type 0) (d : Pairs) → ((i : Definition) → P i → Q (noted d i)) → (is : List Definition) → All P is
+    → All Q (map (noted d) is)
 all_noted P Q d f is h =
     all_of Q (map (noted d) is) (λ j g. let i = among_map (noted d) j is g in subst Q (sym i.2) (f i.0 (of_all P is i.0 h i.1)))
 

@@ -96,7 +96,8 @@ same_back (b ∷ k) x y e = same_back k x y (tail e)
     tail f = cc
 
 -- where two encoded keys with the texts of `_id`s behind them are equal, so are the keys, and the texts
-pub same_keys : (fs : List Field) (d e : Pairs) (key other : List ℕ) → IsStorable d → IsStorable e → Among key (encoded_keys fs d) → Among other (encoded_keys fs e)
+pub same_keys : (fs : List Field) (d e : Pairs) (key other : List ℕ) → IsStorable d → IsStorable e → Among key (encoded_keys fs d)
+    → Among other (encoded_keys fs e)
     → key ++ tree_text (key_of d) ≡ other ++ tree_text (key_of e) → (key ≡ other) × (tree_text (key_of d) ≡ tree_text (key_of e))
 same_keys fs d e key other hd he p q same =
     let a = encoded_of fs d key hd p in

@@ -1,5 +1,6 @@
 -- A lawful state stays lawful with a collection more, with one replaced and without one.
-use Rattle.std.proofs.Common.{◌≡◌, ℕ, zero, suc, ◌<◌, ◌≤◌, Bool, true, false, ◌||◌, List, [], ◌∷◌, length, map, get_or, Option, Some, None, ◌⊎◌, inl, inr, refl, sym, ap, subst, ◌∙◌, arith, eq-eqb, eqb-true}
+use Rattle.std.proofs.Common.{◌≡◌, ℕ, zero, suc, ◌<◌, ◌≤◌, Bool, true, false, ◌||◌, List, [], ◌∷◌, length, map, get_or, Option, Some, None, ◌⊎◌, inl, inr, refl}
+use Rattle.std.proofs.Common.{sym, ap, subst, ◌∙◌, arith, eq-eqb, eqb-true}
 use Rattle.std.specs.Prelude.{All, ◌==◌, if◌then◌else◌}
 use Rattle.std.specs.Str.{bytes_eq}
 use Rattle.std.specs.List.{AllPairs}
@@ -46,14 +47,16 @@ put_apart new (c ∷ cs) h = by (slice_cmp nat_cmp new.name c.name) refl (put_ap
     rest : AreNamedApart cs
     rest = apart_rest c cs h
 
-    by : (o : Ordering) → slice_cmp nat_cmp new.name c.name ≡ o → AreNamedApart (put_collection new cs) → AreNamedApart (by_order o (new ∷ c ∷ cs) (new ∷ cs) (c ∷ put_collection new cs))
+    by : (o : Ordering) → slice_cmp nat_cmp new.name c.name ≡ o → AreNamedApart (put_collection new cs)
+        → AreNamedApart (by_order o (new ∷ c ∷ cs) (new ∷ cs) (c ∷ put_collection new cs))
     by orders.Less less later = pairs_of IsBelow new (c ∷ cs) below h
       where
         below : (y : Collection) → Among y (c ∷ cs) → IsBelow new y
         below y (inl e) = ap (λ (d : Collection). slice_cmp nat_cmp new.name d.name) e ∙ less
         below y (inr g) = nat_list_cmp_total.trans new.name c.name y.name less (first_of IsBelow c cs y h g)
     by orders.Equal same later =
-        pairs_of IsBelow new cs (λ y g. subst (λ (m : List ℕ). slice_cmp nat_cmp m y.name ≡ orders.Less) (sym (exact_bytes new.name c.name same)) (first_of IsBelow c cs y h g)) rest
+        pairs_of IsBelow new cs
+        (λ y g. subst (λ (m : List ℕ). slice_cmp nat_cmp m y.name ≡ orders.Less) (sym (exact_bytes new.name c.name same)) (first_of IsBelow c cs y h g)) rest
     by orders.Greater more later = pairs_of IsBelow c (put_collection new cs) over later
       where
         over : (y : Collection) → Among y (put_collection new cs) → IsBelow c y
@@ -73,9 +76,11 @@ without_apart name (c ∷ cs) h = by (bytes_eq name c.name) (without_apart name 
 -- ---- numbers
 
 -- a collection in its place has its number
-put_numbers : (now c : Collection) (cs : List Collection) → AreNamedApart cs → find_collection cs now.name ≡ Some c → now.number ≡ c.number → map (λ x. x.number) (put_collection now cs) ≡ map (λ x. x.number) cs
+put_numbers : (now c : Collection) (cs : List Collection) → AreNamedApart cs → find_collection cs now.name ≡ Some c → now.number ≡ c.number
+    → map (λ x. x.number) (put_collection now cs) ≡ map (λ x. x.number) cs
 put_numbers now c [] h e n = absurd cc
-put_numbers now c (d ∷ cs) h e n = by (slice_cmp nat_cmp now.name d.name) refl (bytes_eq now.name d.name) refl e (λ f. put_numbers now c cs (apart_rest d cs h) f n)
+put_numbers now c (d ∷ cs) h e n =
+    by (slice_cmp nat_cmp now.name d.name) refl (bytes_eq now.name d.name) refl e (λ f. put_numbers now c cs (apart_rest d cs h) f n)
   where
     some_number : Some d ≡ Some c → d.number ≡ c.number
     some_number f = let g : Some d.number ≡ Some c.number = ap (λ (o : Option Collection). number_of o) f in same_number g
@@ -87,7 +92,8 @@ put_numbers now c (d ∷ cs) h e n = by (slice_cmp nat_cmp now.name d.name) refl
         same_number : {a b : ℕ} → Some a ≡ Some b → a ≡ b
         same_number p = cc
 
-    by : (o : Ordering) → slice_cmp nat_cmp now.name d.name ≡ o → (b : Bool) → bytes_eq now.name d.name ≡ b → (if b then Some d else find_collection cs now.name) ≡ Some c
+    by : (o : Ordering) → slice_cmp nat_cmp now.name d.name ≡ o → (b : Bool) → bytes_eq now.name d.name ≡ b
+        → (if b then Some d else find_collection cs now.name) ≡ Some c
         → (find_collection cs now.name ≡ Some c → map (λ x. x.number) (put_collection now cs) ≡ map (λ x. x.number) cs)
         → map (λ x. x.number) (by_order o (now ∷ d ∷ cs) (now ∷ cs) (d ∷ put_collection now cs)) ≡ d.number ∷ map (λ x. x.number) cs
     by orders.Less less true same f later =
@@ -139,7 +145,8 @@ uses_none (c ∷ cs) n h = by (c.number == n) refl (uses_none cs n (λ x g. h x 
 
 uses_no : (cs : List Collection) (n : ℕ) (x : Collection) → uses cs n ≡ false → Among x cs → x.number ≡ n → ⊥
 uses_no [] n x h g e = g
-uses_no (c ∷ cs) n x h (inl f) e = let same : (c.number == n) ≡ true = eq-eqb c.number n (sym (ap (λ (y : Collection). y.number) f) ∙ e) in let g : true ≡ false = sym (ap (λ (b : Bool). b || uses cs n) same) ∙ h in cc
+uses_no (c ∷ cs) n x h (inl f) e = let same : (c.number == n) ≡ true = eq-eqb c.number n (sym (ap (λ (y : Collection). y.number) f) ∙ e) in
+    let g : true ≡ false = sym (ap (λ (b : Bool). b || uses cs n) same) ∙ h in cc
 uses_no (c ∷ cs) n x h (inr g) e = uses_no cs n x ((or_none (c.number == n) (uses cs n) h).1) g e
   where
     or_none : (a b : Bool) → (a || b) ≡ false → (a ≡ false) × (b ≡ false)
@@ -155,12 +162,14 @@ without_numbers name (c ∷ cs) h = by (bytes_eq name c.name) (without_numbers n
     by false later = (uses_none (without_collection name cs) c.number (λ x g e. uses_no cs c.number x h.0 (without_in cs name x g) e), later)
 
 -- a new number among them
-put_new_numbers : (new : Collection) (cs : List Collection) → AreNamedApart cs → find_collection cs new.name ≡ None → uses cs new.number ≡ false → AreNumberedApart cs → AreNumberedApart (put_collection new cs)
+put_new_numbers : (new : Collection) (cs : List Collection) → AreNamedApart cs → find_collection cs new.name ≡ None → uses cs new.number ≡ false
+    → AreNumberedApart cs → AreNumberedApart (put_collection new cs)
 put_new_numbers new [] h missing unused apart = (refl, tt)
 put_new_numbers new (c ∷ cs) h missing unused apart =
     by (slice_cmp nat_cmp new.name c.name) refl (bytes_eq new.name c.name) refl missing (λ f g. put_new_numbers new cs (apart_rest c cs h) f g apart.1)
   where
-    by : (o : Ordering) → slice_cmp nat_cmp new.name c.name ≡ o → (b : Bool) → bytes_eq new.name c.name ≡ b → (if b then Some c else find_collection cs new.name) ≡ None
+    by : (o : Ordering) → slice_cmp nat_cmp new.name c.name ≡ o → (b : Bool) → bytes_eq new.name c.name ≡ b
+        → (if b then Some c else find_collection cs new.name) ≡ None
         → (find_collection cs new.name ≡ None → uses cs new.number ≡ false → AreNumberedApart (put_collection new cs))
         → AreNumberedApart (by_order o (new ∷ c ∷ cs) (new ∷ cs) (c ∷ put_collection new cs))
     by o is true same f later = absurd cc
@@ -183,7 +192,8 @@ put_long : (new : Collection) (cs : List Collection) → length (put_collection 
 put_long new [] = omega arith
 put_long new (c ∷ cs) = by (slice_cmp nat_cmp new.name c.name) (put_long new cs)
   where
-    by : (o : Ordering) → length (put_collection new cs) ≤ suc (length cs) → length (by_order o (new ∷ c ∷ cs) (new ∷ cs) (c ∷ put_collection new cs)) ≤ suc (suc (length cs))
+    by : (o : Ordering) → length (put_collection new cs) ≤ suc (length cs)
+        → length (by_order o (new ∷ c ∷ cs) (new ∷ cs) (c ∷ put_collection new cs)) ≤ suc (suc (length cs))
     by orders.Less later = omega arith
     by orders.Equal later = omega arith
     by orders.Greater later = omega (arith, later)

@@ -1,5 +1,6 @@
 -- That one of a document's keys is too long is told by the longest text of each field.
-use Rattle.std.proofs.Common.{◌≡◌, ℕ, ◌+◌, ◌-◌, ◌≤◌, Bool, true, false, nat_lt, ◌||◌, max, List, [], ◌∷◌, ◌++◌, length, map, Some, None, Result, Ok, refl, sym, ap, ◌∙◌, arith, append_assoc, append-nil, length-append}
+use Rattle.std.proofs.Common.{◌≡◌, ℕ, ◌+◌, ◌-◌, ◌≤◌, Bool, true, false, nat_lt, ◌||◌, max, List, [], ◌∷◌, ◌++◌, length, map, Some, None, Result, Ok, refl, sym}
+use Rattle.std.proofs.Common.{ap, ◌∙◌, arith, append_assoc, append-nil, length-append}
 use Rattle.std.specs.List.{flat_map, list_any}
 use Rattle.std.proofs.lemmas.List.Folds.{list_any-append}
 use Rattle.std.proofs.lemmas.Bool.Decides.{nat_tests}
@@ -39,12 +40,18 @@ some_long n [] = grind (arith, nat_tests)
 some_long n (t ∷ ts) = lt_max n (length t) (longest ts) ∙ ap (λ (b : Bool). nat_lt n (length t) || b) (some_long n ts)
 
 with_texts_is : (way : Direction) (ts : List (List ℕ)) (ks : List Key)
-    → with_texts way ts ks ≡ unless (list_any (λ t. nat_lt 500 (length t)) (map (directed_text way) ks)) refusals.KeyTooLong (Ok (ts ++ map (directed_text way) ks))
+    → with_texts way ts ks
+    ≡ unless (list_any (λ t. nat_lt 500 (length t)) (map (directed_text way) ks)) refusals.KeyTooLong (Ok (ts ++ map (directed_text way) ks))
 with_texts_is way ts [] = ap Ok (sym (append-nil ts))
 with_texts_is way ts (k ∷ ks) =
-    by (nat_lt 500 (length (directed_text way k))) (with_texts_is way (ts ++ directed_text way k ∷ []) ks ∙ ap (λ (all : List (List ℕ)). unless (list_any (λ t. nat_lt 500 (length t)) (map (directed_text way) ks)) refusals.KeyTooLong (Ok all)) (append_assoc ts (directed_text way k ∷ []) (map (directed_text way) ks)))
+    by (nat_lt 500 (length (directed_text way k)))
+    (with_texts_is way (ts ++ directed_text way k ∷ []) ks
+    ∙ ap (λ (all : List (List ℕ)). unless (list_any (λ t. nat_lt 500 (length t)) (map (directed_text way) ks)) refusals.KeyTooLong (Ok all))
+    (append_assoc ts (directed_text way k ∷ []) (map (directed_text way) ks)))
   where
-    by : (long : Bool) → with_texts way (ts ++ directed_text way k ∷ []) ks ≡ unless (list_any (λ t. nat_lt 500 (length t)) (map (directed_text way) ks)) refusals.KeyTooLong (Ok (ts ++ map (directed_text way) (k ∷ ks)))
+    by : (long : Bool)
+        → with_texts way (ts ++ directed_text way k ∷ []) ks
+        ≡ unless (list_any (λ t. nat_lt 500 (length t)) (map (directed_text way) ks)) refusals.KeyTooLong (Ok (ts ++ map (directed_text way) (k ∷ ks)))
         → unless long refusals.KeyTooLong (with_texts way (ts ++ directed_text way k ∷ []) ks)
         ≡ unless (long || list_any (λ t. nat_lt 500 (length t)) (map (directed_text way) ks)) refusals.KeyTooLong (Ok (ts ++ map (directed_text way) (k ∷ ks)))
     by true later = refl
@@ -64,10 +71,14 @@ abbrev widths : List Field → Pairs → ℕ
 widths [] ps = 0
 widths (f ∷ fs) ps = longest (field_texts f ps) + widths fs ps
 
-one_refused : {X : Type 0} (room wide more : ℕ) (x : X) → room ≤ 500 → unless (nat_lt room wide) refusals.KeyTooLong (unless (nat_lt (room - wide) more) refusals.KeyTooLong (Ok x)) ≡ unless (nat_lt room (wide + more)) refusals.KeyTooLong (Ok x)
+one_refused : {X : Type 0} (room wide more : ℕ) (x : X) → room ≤ 500
+    → unless (nat_lt room wide) refusals.KeyTooLong (unless (nat_lt (room - wide) more) refusals.KeyTooLong (Ok x))
+    ≡ unless (nat_lt room (wide + more)) refusals.KeyTooLong (Ok x)
 one_refused room wide more x small = by (nat_lt room wide) refl
   where
-    by : (b : Bool) → nat_lt room wide ≡ b → unless b refusals.KeyTooLong (unless (nat_lt (room - wide) more) refusals.KeyTooLong (Ok x)) ≡ unless (nat_lt room (wide + more)) refusals.KeyTooLong (Ok x)
+    by : (b : Bool) → nat_lt room wide ≡ b
+        → unless b refusals.KeyTooLong (unless (nat_lt (room - wide) more) refusals.KeyTooLong (Ok x))
+        ≡ unless (nat_lt room (wide + more)) refusals.KeyTooLong (Ok x)
     by true e =
         let over : nat_lt room (wide + more) ≡ true = grind (arith, nat_tests) in
         sym (ap (λ (b : Bool). unless b refusals.KeyTooLong (Ok x)) over)
@@ -77,10 +88,13 @@ one_refused room wide more x small = by (nat_lt room wide) refl
 
 -- a text that is too long by itself has no room either
 no_room : {X : Type 0} (room : ℕ) (texts : List (List ℕ)) (go : List (List ℕ) → Result X Refusal) → room ≤ 500
-    → ((unless (nat_lt 500 (longest texts)) refusals.KeyTooLong (Ok texts)) >>= λ ts. unless (nat_lt room (longest ts)) refusals.KeyTooLong (go ts)) ≡ unless (nat_lt room (longest texts)) refusals.KeyTooLong (go texts)
+    → ((unless (nat_lt 500 (longest texts)) refusals.KeyTooLong (Ok texts)) >>= λ ts. unless (nat_lt room (longest ts)) refusals.KeyTooLong (go ts))
+    ≡ unless (nat_lt room (longest texts)) refusals.KeyTooLong (go texts)
 no_room room texts go small = by (nat_lt 500 (longest texts)) refl
   where
-    by : (b : Bool) → nat_lt 500 (longest texts) ≡ b → ((unless b refusals.KeyTooLong (Ok texts)) >>= λ ts. unless (nat_lt room (longest ts)) refusals.KeyTooLong (go ts)) ≡ unless (nat_lt room (longest texts)) refusals.KeyTooLong (go texts)
+    by : (b : Bool) → nat_lt 500 (longest texts) ≡ b
+        → ((unless b refusals.KeyTooLong (Ok texts)) >>= λ ts. unless (nat_lt room (longest ts)) refusals.KeyTooLong (go ts))
+        ≡ unless (nat_lt room (longest texts)) refusals.KeyTooLong (go texts)
     by true e =
         let over : nat_lt room (longest texts) ≡ true = grind (arith, nat_tests) in
         sym (ap (λ (b : Bool). unless b refusals.KeyTooLong (go texts)) over)
@@ -98,7 +112,10 @@ within_is room done (f ∷ fs) ps small =
     let go : List (List ℕ) → Result (List (List (List ℕ))) Refusal = λ ts. texts_within (room - longest ts) (done ++ ts ∷ []) fs ps in
     ap (λ (p : Result (List (List ℕ)) Refusal). p >>= λ ts. unless (nat_lt room (longest ts)) refusals.KeyTooLong (go ts)) (texts_at_is f ps)
     ∙ no_room room texts go small
-    ∙ ap (unless (nat_lt room wide) refusals.KeyTooLong) (within_is (room - wide) (done ++ texts ∷ []) fs ps left ∙ ap (λ (all : List (List (List ℕ))). unless (nat_lt (room - wide) (widths fs ps)) refusals.KeyTooLong (Ok all)) (append_assoc done (texts ∷ []) (all_texts fs ps)))
+    ∙ ap (unless (nat_lt room wide) refusals.KeyTooLong)
+    (within_is (room - wide) (done ++ texts ∷ []) fs ps left
+    ∙ ap (λ (all : List (List (List ℕ))). unless (nat_lt (room - wide) (widths fs ps)) refusals.KeyTooLong (Ok all))
+    (append_assoc done (texts ∷ []) (all_texts fs ps)))
     ∙ one_refused room wide (widths fs ps) (done ++ all_texts (f ∷ fs) ps) small
 
 -- ---- the keys
@@ -144,13 +161,15 @@ some_most : (way : Direction) (m w : ℕ) (ks : List Key) → HasOne ks
 some_most way m w [] (k, rest, e) = absurd cc
 some_most way m w (k ∷ ks) one = most_of way m w k ks
 
-longer : (m : ℕ) (f : Field) (fs : List Field) (k : Key) (ks : List Key) → m + length (key_bytes (f ∷ fs) (k ∷ ks)) ≡ (m + length (directed_text f.direction k)) + length (key_bytes fs ks)
+longer : (m : ℕ) (f : Field) (fs : List Field) (k : Key) (ks : List Key)
+    → m + length (key_bytes (f ∷ fs) (k ∷ ks)) ≡ (m + length (directed_text f.direction k)) + length (key_bytes fs ks)
 longer m f fs k ks = omega (arith, length-append (directed_text f.direction k) (key_bytes fs ks))
 
 -- the keys that begin with one value
 long_behind : (m : ℕ) (f : Field) (fs : List Field) (ps : Pairs) (k : Key)
     → ((n : ℕ) → list_any (λ ks. nat_lt 500 (n + length (key_bytes fs ks))) (index_keys fs ps) ≡ nat_lt 500 (n + widths fs ps))
-    → list_any (λ ks. nat_lt 500 (m + length (key_bytes (f ∷ fs) ks))) (map (λ ks. k ∷ ks) (index_keys fs ps)) ≡ nat_lt 500 ((m + length (directed_text f.direction k)) + widths fs ps)
+    → list_any (λ ks. nat_lt 500 (m + length (key_bytes (f ∷ fs) ks))) (map (λ ks. k ∷ ks) (index_keys fs ps))
+    ≡ nat_lt 500 ((m + length (directed_text f.direction k)) + widths fs ps)
 long_behind m f fs ps k more =
     any_map (λ ks. nat_lt 500 (m + length (key_bytes (f ∷ fs) ks))) (λ ks. k ∷ ks) (index_keys fs ps)
     ∙ any_same _ _ (index_keys fs ps) (λ ks. ap (nat_lt 500) (longer m f fs k ks))
@@ -165,7 +184,8 @@ long_from m (f ∷ fs) ps =
     ∙ some_most f.direction m (widths fs ps) (field_keys f.path ps) (field_some (reach (parts_of f.path) (document ps)))
 
 pub too_long_is : (fs : List Field) (ps : Pairs) → is_too_long fs ps ≡ nat_lt 500 (widths fs ps)
-too_long_is fs ps = any_same _ _ (index_keys fs ps) (λ ks. ap (nat_lt 500) (zero_front (length (key_bytes fs ks)))) ∙ long_from 0 fs ps ∙ ap (nat_lt 500) (sym (zero_front (widths fs ps)))
+too_long_is fs ps = any_same _ _ (index_keys fs ps) (λ ks. ap (nat_lt 500) (zero_front (length (key_bytes fs ks)))) ∙ long_from 0 fs ps
+    ∙ ap (nat_lt 500) (sym (zero_front (widths fs ps)))
   where
     zero_front : (n : ℕ) → n ≡ 0 + n
     zero_front n = omega arith

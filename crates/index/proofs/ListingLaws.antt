@@ -34,7 +34,8 @@ each_image : {X : Type 0} (P : List ℕ → Type 0) (f : X → Entry) (xs : List
 each_image P f [] h = tt
 each_image P f (x ∷ xs) h = (h x (inl refl), each_image P f xs (λ y g. h y (inr g)))
 
-rises_image : {X : Type 0} (R : X → X → Type 0) (f : X → Entry) (xs : List X) → AllPairs R xs → ((x y : X) → Among x xs → Among y xs → R x y → IsUnder (f x).key (f y).key) → Rises (entry_keys (map f xs))
+rises_image : {X : Type 0} (R : X → X → Type 0) (f : X → Entry) (xs : List X) → AllPairs R xs
+    → ((x y : X) → Among x xs → Among y xs → R x y → IsUnder (f x).key (f y).key) → Rises (entry_keys (map f xs))
 rises_image R f [] apart h = tt
 rises_image R f (x ∷ xs) apart h = (
   each_image (IsUnder (f x).key) f xs (λ y g. h x y (inl refl) (inr g) (first_of R x xs y apart g)),
@@ -53,10 +54,12 @@ names_rise c d kc kd less =
     under_one 0 0 (tree_text (words c.name)) (tree_text (words d.name)) (omega arith) (omega arith)
     (texts_order directions.Ascending (value (words c.name)) (value (words d.name)) (name_key c kc) (name_key d kd) ∙ less)
 
-documents_rise : (c : Collection) (d e : Pairs) → IsKept c → Among d c.documents → Among e c.documents → compare (key_of d) (key_of e) ≡ Less → IsUnder (document_entry c.number d).key (document_entry c.number e).key
+documents_rise : (c : Collection) (d e : Pairs) → IsKept c → Among d c.documents → Among e c.documents → compare (key_of d) (key_of e) ≡ Less
+    → IsUnder (document_entry c.number d).key (document_entry c.number e).key
 documents_rise c d e kept p q less =
     under_one c.number 0 (tree_text (key_of d)) (tree_text (key_of e)) (number_fits c kept) (omega arith)
-    (texts_order directions.Ascending (value (key_of d)) (value (key_of e)) (id_is_key d (storable_of c d kept p)) (id_is_key e (storable_of c e kept q)) ∙ less)
+    (texts_order directions.Ascending (value (key_of d)) (value (key_of e)) (id_is_key d (storable_of c d kept p)) (id_is_key e (storable_of c e kept q))
+    ∙ less)
 
 -- ---- the entries under two numbers
 
@@ -72,7 +75,8 @@ put_under xs n i x there u few =
 pub lists_collections : ListsCollections
 lists_collections xs cs h =
     same_map (entries_under 0 0 xs) (map catalogue_entry cs) (under_rises xs cs h 0 0)
-    (rises_image (λ c d. slice_cmp nat_cmp c.name d.name ≡ Less) catalogue_entry cs h.lawful.apart (λ c d p q less. names_rise c d (kept_of cs c h.lawful p) (kept_of cs d h.lawful q) less))
+    (rises_image (λ c d. slice_cmp nat_cmp c.name d.name ≡ Less) catalogue_entry cs h.lawful.apart
+    (λ c d p q less. names_rise c d (kept_of cs c h.lawful p) (kept_of cs d h.lawful q) less))
     to from
   where
     of_home : (x : Entry) → is_inside (key_under 0 0 []) (Some (key_under 0 (0 + 1) [])) x.key ≡ true → Home cs x → Among x (map catalogue_entry cs)
@@ -100,7 +104,8 @@ lists_collections xs cs h =
 pub lists_documents : ListsDocuments
 lists_documents xs cs c h found =
     same_map (entries_under c.number 0 xs) (map (document_entry c.number) c.documents) (under_rises xs cs h c.number 0)
-    (rises_image (λ d e. compare (key_of d) (key_of e) ≡ Less) (document_entry c.number) c.documents kept.rising (λ d e p q less. documents_rise c d e kept p q less))
+    (rises_image (λ d e. compare (key_of d) (key_of e) ≡ Less) (document_entry c.number) c.documents kept.rising
+    (λ d e p q less. documents_rise c d e kept p q less))
     to from
   where
     there : Among c cs
@@ -109,7 +114,8 @@ lists_documents xs cs c h found =
     kept : IsKept c
     kept = kept_of cs c h.lawful there
 
-    of_home : (x : Entry) → is_inside (key_under c.number 0 []) (Some (key_under c.number (0 + 1) [])) x.key ≡ true → Home cs x → Among x (map (document_entry c.number) c.documents)
+    of_home : (x : Entry) → is_inside (key_under c.number 0 []) (Some (key_under c.number (0 + 1) [])) x.key ≡ true → Home cs x
+        → Among x (map (document_entry c.number) c.documents)
     of_home x e home = at home.one
       where
         home_kept : IsKept home.collection
@@ -121,11 +127,15 @@ lists_documents xs cs c h found =
         at : IsOneOf home.collection x → Among x (map (document_entry c.number) c.documents)
         at (inl f) = absurd (let zero = (these 0 0 (catalogue_under home.collection x f)).0 in omega (arith, zero, kept.least))
         at (inr (inl d)) =
-            let one : home.collection ≡ c = one_number cs home.collection c h.lawful.numbers home.there there (these home.collection.number 0 (document_under home.collection x home_kept d)).0 in
+            let one : home.collection ≡ c =
+            one_number cs home.collection c h.lawful.numbers home.there there
+            (these home.collection.number 0 (document_under home.collection x home_kept d)).0 in
             subst (λ (y : Entry). Among y (map (document_entry c.number) c.documents)) (sym d.is)
             (subst (λ (f : Collection). Among (document_entry f.number d.document) (map (document_entry c.number) c.documents)) (sym one)
             (among_image (document_entry c.number) d.document c.documents (subst (λ (f : Collection). Among d.document f.documents) one d.there)))
-        at (inr (inr k)) = absurd (let zero = (these home.collection.number k.index.number (key_under_of home.collection x home_kept k)).1 in omega (arith, zero, (listed_of home.collection k.index home_kept k.listed).lawful.numbered))
+        at (inr (inr k)) =
+            absurd (let zero = (these home.collection.number k.index.number (key_under_of home.collection x home_kept k)).1 in
+            omega (arith, zero, (listed_of home.collection k.index home_kept k.listed).lawful.numbered))
 
     to : (x : Entry) → Among x (entries_under c.number 0 xs) → Among x (map (document_entry c.number) c.documents)
     to x g = let w = among_window (key_under c.number 0 []) (Some (key_under c.number (0 + 1) [])) xs x g in of_home x w.1 (there_of xs cs h x w.0)
@@ -134,7 +144,8 @@ lists_documents xs cs c h found =
     from x g =
         let d = among_map (document_entry c.number) x c.documents g in
         let of : IsDocumentOf c x = record { document = d.0; there = d.1; is = d.2 } in
-        put_under xs c.number 0 x (in_map xs cs h c x there (subst (λ (y : Entry). Among y (collection_entries c)) (sym d.2) (document_among c d.0 d.1))) (document_under c x kept of) (omega arith)
+        put_under xs c.number 0 x (in_map xs cs h c x there (subst (λ (y : Entry). Among y (collection_entries c)) (sym d.2) (document_among c d.0 d.1)))
+        (document_under c x kept of) (omega arith)
 
 pub lists_index : ListsIndex
 lists_index xs cs c i h found listed x = (
@@ -166,11 +177,14 @@ lists_index xs cs c i h found listed x = (
             let index : here.index ≡ i = one_index c here.index i kept here.listed in_c (these c.number here.index.number (key_under_of c x kept here)).1 in
             among_each (λ d. index_entries c.number d i) x here.document c.documents here.there
             (subst (λ (j : Definition). Among x (index_entries c.number here.document j)) index
-            (subst (λ (y : Entry). Among y (index_entries c.number here.document here.index)) (sym here.is) (key_among c.number here.index here.document here.key here.keyed)))
+            (subst (λ (y : Entry). Among y (index_entries c.number here.document here.index)) (sym here.is)
+            (key_among c.number here.index here.document here.key here.keyed)))
 
         at : IsOneOf home.collection x → Among x (entries_in c i)
         at (inl f) = absurd (let zero = (these 0 0 (catalogue_under home.collection x f)).0 in omega (arith, zero, kept.least))
-        at (inr (inl d)) = absurd (let zero = (these home.collection.number 0 (document_under home.collection x home_kept d)).1 in omega (arith, zero, (listed_of c i kept in_c).lawful.numbered))
+        at (inr (inl d)) =
+            absurd (let zero = (these home.collection.number 0 (document_under home.collection x home_kept d)).1 in
+            omega (arith, zero, (listed_of c i kept in_c).lawful.numbered))
         at (inr (inr k)) =
             let u = these home.collection.number k.index.number (key_under_of home.collection x home_kept k) in
             in_entries home.collection (one_number cs home.collection c h.lawful.numbers home.there there u.0) k
@@ -183,5 +197,6 @@ lists_index xs cs c i h found listed x = (
         let d = among_flat (λ d. index_entries c.number d i) x c.documents g in
         let k = among_map (index_entry c.number i.number (key_of d.0)) x (encoded_keys i.fields d.0) d.2 in
         let of : IsKeyOf c x = record { document = d.0; there = d.1; index = i; listed = in_c; key = k.0; keyed = k.1; is = k.2 } in
-        put_under xs c.number i.number x (in_map xs cs h c x there (subst (λ (y : Entry). Among y (collection_entries c)) (sym k.2) (keyed_among c d.0 i k.0 d.1 in_c k.1)))
+        put_under xs c.number i.number x
+        (in_map xs cs h c x there (subst (λ (y : Entry). Among y (collection_entries c)) (sym k.2) (keyed_among c d.0 i k.0 d.1 in_c k.1)))
         (key_under_of c x kept of) (listed_of c i kept in_c).lawful.most

@@ -11,7 +11,8 @@ pub record Adds {X : Type 0} (all : List X → List Edit) (one : X → List Edit
   pub first : (x : X) (xs : List X) → all (x ∷ xs) ≡ one x ++ all xs
   pub none : all [] ≡ []
 
-cut : {X : Type 0} (F : List X → List Edit) (g : X → List Edit) (h : Adds F g) (xs : List X) (k : ℕ) (x : X) → k < length xs → x ≡ get_or xs k x → F (drop k xs) ≡ g x ++ F (drop (k + 1) xs)
+cut : {X : Type 0} (F : List X → List Edit) (g : X → List Edit) (h : Adds F g) (xs : List X) (k : ℕ) (x : X) → k < length xs → x ≡ get_or xs k x
+    → F (drop k xs) ≡ g x ++ F (drop (k + 1) xs)
 cut F g h xs k x below is =
     at_drop_more F xs k x below ∙ h.first (get_or xs k x) (drop (k + 1) xs) ∙ ap (λ y. g y ++ F (drop (k + 1) xs)) (sym is)
 

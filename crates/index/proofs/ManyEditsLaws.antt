@@ -18,7 +18,8 @@ with_edits-append (e ∷ es) fs old = with_edits-append es fs (with_edit e old)
 pub begins : (old all : List Edit) → NotesUpTo old all all old
 begins old all = record { noted = []; split = refl; same = refl }
 
-pub goes_further : (old all left es later mid new : List Edit) → NotesUpTo old all left mid → left ≡ es ++ later → new ≡ with_edits es mid → NotesUpTo old all later new
+pub goes_further : (old all left es later mid new : List Edit) → NotesUpTo old all left mid → left ≡ es ++ later → new ≡ with_edits es mid
+    → NotesUpTo old all later new
 goes_further old all left es later mid new h cut is = record {
   noted = h.noted ++ es;
   split = h.split ∙ ap (λ (xs : List Edit). h.noted ++ xs) cut ∙ sym (append_assoc h.noted es later);
@@ -61,5 +62,6 @@ goes_there old es new a b c goes first second xs h =
 pub noted_goes : (es old new : List Edit) → Rises (edit_keys old) → new ≡ with_edits es old → GoesOnBy old es new
 noted_goes es old new up is = subst (GoesOnBy old es) (sym is) (with_edits_change es old up)
 
-pub noted_leads : (es old new : List Edit) (a b c : List Collection) → Rises (edit_keys old) → new ≡ with_edits es old → Leads old a b → Leads es b c → Leads new a c
+pub noted_leads : (es old new : List Edit) (a b c : List Collection) → Rises (edit_keys old) → new ≡ with_edits es old → Leads old a b → Leads es b c
+    → Leads new a c
 noted_leads es old new a b c up is = goes_there old es new a b c (noted_goes es old new up is)

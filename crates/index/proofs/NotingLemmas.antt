@@ -1,5 +1,6 @@
 -- An edit that was noted, in the words of an entry.
-use Rattle.std.proofs.Common.{◌≡◌, ℕ, ◌+◌, ◌≤◌, List, [], ◌∷◌, ◌++◌, map, Option, Some, None, option_map, Bor, Result, Ok, Err, length, refl, sym, ap, subst, ◌∙◌, arith}
+use Rattle.std.proofs.Common.{◌≡◌, ℕ, ◌+◌, ◌≤◌, List, [], ◌∷◌, ◌++◌, map, Option, Some, None, option_map, Bor, Result, Ok, Err, length, refl, sym, ap, subst}
+use Rattle.std.proofs.Common.{◌∙◌, arith}
 use Rattle.std.specs.Prelude.{OnOk, IfOk}
 use Rattle.std.specs.Global.{Vec}
 use Rattle.std.proofs.lemmas.List.{append-nil}
@@ -58,7 +59,8 @@ have_room : (es : List TreeEdit) → Each IsShortEdit (map edit_in es) → Each 
 have_room [] h = tt
 have_room (e ∷ es) h = (has_room e h.0, have_room es h.1)
 
-pub room_of : {E : Type 0} (r : Result (Vec TreeEdit) E) (es : List Edit) → Each IsShortEdit es → IfOk r (λ v. map edit_in v.items ≡ es) → IfOk r (λ v. Each HasRoom v.items)
+pub room_of : {E : Type 0} (r : Result (Vec TreeEdit) E) (es : List Edit) → Each IsShortEdit es → IfOk r (λ v. map edit_in v.items ≡ es)
+    → IfOk r (λ v. Each HasRoom v.items)
 room_of (Ok v) es h is = have_room v.items (subst (Each IsShortEdit) (sym is) h)
 room_of (Err e) es h is = is
 
@@ -68,10 +70,12 @@ shifted : (done : List TreeEdit) (e : TreeEdit) (rest : List Edit) → map edit_
 shifted [] e rest = refl
 shifted (d ∷ done) e rest = ap (λ (es : List Edit). edit_in d ∷ es) (shifted done e rest)
 
-pub one_more : (done next : List TreeEdit) (e : TreeEdit) (n : Noted) (left rest : List Noted) (all : List Edit) → next ≡ done ++ e ∷ [] → edit_in e ≡ edit_of n.0 n.1 → left ≡ n ∷ rest
+pub one_more : (done next : List TreeEdit) (e : TreeEdit) (n : Noted) (left rest : List Noted) (all : List Edit) → next ≡ done ++ e ∷ []
+    → edit_in e ≡ edit_of n.0 n.1 → left ≡ n ∷ rest
     → map edit_in done ++ edits_in left ≡ all → map edit_in next ++ edits_in rest ≡ all
 one_more done next e n left rest all grown is steps so =
-    ap (λ (es : List TreeEdit). map edit_in es ++ edits_in rest) grown ∙ shifted done e (edits_in rest) ∙ ap (λ (x : Edit). map edit_in done ++ x ∷ edits_in rest) is
+    ap (λ (es : List TreeEdit). map edit_in es ++ edits_in rest) grown ∙ shifted done e (edits_in rest)
+    ∙ ap (λ (x : Edit). map edit_in done ++ x ∷ edits_in rest) is
     ∙ sym (ap (λ (ns : List Noted). map edit_in done ++ edits_in ns) steps) ∙ so
 
 pub all_there : (done : List TreeEdit) (left : List Noted) (all : List Edit) → left ≡ [] → map edit_in done ++ edits_in left ≡ all → map edit_in done ≡ all

@@ -25,7 +25,8 @@ reached_one [] (document ps) e = (_, _, refl, refl)
 reached_one (name ∷ rest) (scalar s) e = (_, _, refl, refl)
 reached_one (name ∷ rest) (document ps) e = by (λ t. reached_one rest t) (lookup ps name) e
   where
-    by : ((t : Tree) → meets_array rest t ≡ false → IsOne (reach rest t)) → (found : Option Tree) → some_passes (meets_array rest) found ≡ false → IsOne (onwards (reach rest) found (None ∷ []))
+    by : ((t : Tree) → meets_array rest t ≡ false → IsOne (reach rest t)) → (found : Option Tree) → some_passes (meets_array rest) found ≡ false
+        → IsOne (onwards (reach rest) found (None ∷ []))
     by more None e = (_, _, refl, refl)
     by more (Some t) e = more t e
 

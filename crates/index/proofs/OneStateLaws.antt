@@ -57,12 +57,14 @@ document_spells : (d : Pairs) → IsStorable d → SpellsDocument (frame_of (pai
 document_spells d h = record { lawful = h.lawful; spelled = refl; size = omega (arith, h.size) }
 
 -- a document's entry in the one is that of the document in the other
-same_document : (c e : Collection) (d : Pairs) → IsKept c → IsKept e → Among d c.documents → c.number ≡ e.number → (x : Entry) → x ≡ document_entry c.number d → IsOneOf e x → Among d e.documents
+same_document : (c e : Collection) (d : Pairs) → IsKept c → IsKept e → Among d c.documents → c.number ≡ e.number → (x : Entry) → x ≡ document_entry c.number d
+    → IsOneOf e x → Among d e.documents
 same_document c e d kept other there numbered x is (inl f) =
     absurd (not_inside e c x x kept f (inside_of c x (inl (record { document = d; there = there; is = is }))) refl)
 same_document c e d kept other there numbered x is (inr (inl g)) =
     let same : d ≡ g.document =
-    (one_spelling (frame_of (pairs_bytes d)) (frame_of (pairs_bytes g.document)) [] [] d g.document (document_spells d (storable_of c d kept there)) (document_spells g.document (storable_of e g.document other g.there))
+    (one_spelling (frame_of (pairs_bytes d)) (frame_of (pairs_bytes g.document)) [] [] d g.document (document_spells d (storable_of c d kept there))
+    (document_spells g.document (storable_of e g.document other g.there))
     (ap (λ (y : Entry). y.value ++ []) (sym is ∙ g.is))).0 in
     subst (λ (f : Pairs). Among f e.documents) (sym same) g.there
 same_document c e d kept other there numbered x is (inr (inr k)) =
@@ -81,7 +83,8 @@ pub record IsLike (c e : Collection) : Type 0 where
 same_catalogue : (c e : Collection) → IsKept c → IsKept e → (x : Entry) → x ≡ catalogue_entry c → IsOneOf e x → IsLike c e
 same_catalogue c e kept other x is (inl f) =
     let same : catalogue_entry c ≡ catalogue_entry e = sym is ∙ f in
-    let parts = same_value c.number e.number c.indexes e.indexes kept.most other.most kept.few other.few (lawful_indexes c.indexes c.documents kept.indexes) (lawful_indexes e.indexes e.documents other.indexes)
+    let parts = same_value c.number e.number c.indexes e.indexes kept.most other.most kept.few other.few (lawful_indexes c.indexes c.documents kept.indexes)
+    (lawful_indexes e.indexes e.documents other.indexes)
     (ap (λ (y : Entry). y.value) same) in
     record {
       name = same_words c.name e.name (same_rest 0 0 0 0 (tree_text (words c.name)) (tree_text (words e.name)) (ap (λ (y : Entry). y.key) same));
@@ -104,17 +107,21 @@ abbrev HasAll : List Collection → List Collection → Type 0
 HasAll a b = (x : Entry) → Among x (state_entries a) → Among x (state_entries b)
 
 -- the documents of two collections of one number
-documents_there : (a b : List Collection) (c e : Collection) → IsLawfulState a → IsLawfulState b → HasAll a b → Among c a → Among e b → c.number ≡ e.number → (d : Pairs) → Among d c.documents → Among d e.documents
+documents_there : (a b : List Collection) (c e : Collection) → IsLawfulState a → IsLawfulState b → HasAll a b → Among c a → Among e b → c.number ≡ e.number
+    → (d : Pairs) → Among d c.documents → Among d e.documents
 documents_there a b c e ha hb to there here numbered d in_c =
     let x = document_entry c.number d in
     let home = home_of b x (to x (among_each collection_entries x c a there (document_among c d in_c))) in
     let kept = kept_of a c ha there in
     let at = number_of home.collection home.one (kept_of b home.collection hb home.there) kept in
     let same : home.collection ≡ e = one_number b home.collection e hb.numbers home.there here (sym at ∙ numbered) in
-    subst (λ (f : Collection). Among d f.documents) same (same_document c home.collection d kept (kept_of b home.collection hb home.there) in_c at x refl home.one)
+    subst (λ (f : Collection). Among d f.documents) same
+    (same_document c home.collection d kept (kept_of b home.collection hb home.there) in_c at x refl home.one)
   where
     number_of : (f : Collection) → IsOneOf f (document_entry c.number d) → IsKept f → IsKept c → c.number ≡ f.number
-    number_of f (inl g) other kept = absurd (not_inside f c (document_entry c.number d) (document_entry c.number d) kept g (inside_of c (document_entry c.number d) (inl (record { document = d; there = in_c; is = refl }))) refl)
+    number_of f (inl g) other kept =
+        absurd (not_inside f c (document_entry c.number d) (document_entry c.number d) kept g
+        (inside_of c (document_entry c.number d) (inl (record { document = d; there = in_c; is = refl }))) refl)
     number_of f (inr g) other kept =
         let inside = inside_of f (document_entry c.number d) g in
         same_first c.number f.number 0 inside.0 (tree_text (key_of d)) inside.1 (number_fits c kept) (number_fits f other) inside.2
@@ -139,4 +146,5 @@ pub spells_one : SpellsOne
 spells_one xs a b ha hb h g =
     let to = spelled_all xs a b h g in
     let from = spelled_all xs b a g h in
-    one_list (λ c d. slice_cmp nat_cmp c.name d.name ≡ Less) names_once a b ha.apart hb.apart (collection_there a b ha hb to from) (collection_there b a hb ha from to)
+    one_list (λ c d. slice_cmp nat_cmp c.name d.name ≡ Less) names_once a b ha.apart hb.apart (collection_there a b ha hb to from)
+    (collection_there b a hb ha from to)

@@ -34,7 +34,8 @@ text_sorts : (way : Direction) (a b : Key) → IsKey a → IsKey b → SortsAs n
 text_sorts way a b g h =
     SortsAs-is nat_cmp _ _ _ _ (texts_order way a b g h) (apart_sort (directed_text way a) (directed_text way b) (λ x y e. (none_begins way a b x y g h e).0))
 
-keys_sort : (fs : List Field) (ks ls : List Key) → IsIndexKey fs ks → IsIndexKey fs ls → SortsAs nat_cmp (key_bytes fs ks) (key_bytes fs ls) (index_key_cmp fs ks ls)
+keys_sort : (fs : List Field) (ks ls : List Key) → IsIndexKey fs ks → IsIndexKey fs ls
+    → SortsAs nat_cmp (key_bytes fs ks) (key_bytes fs ls) (index_key_cmp fs ks ls)
 keys_sort [] [] [] g h = SortsAs-none nat_cmp
 keys_sort [] [] (b ∷ ls) g h = absurd h
 keys_sort [] (a ∷ ks) ls g h = absurd g
@@ -76,5 +77,6 @@ keys_agree fs ks ls x y g h =
     let a = key_bytes fs ks in
     let b = key_bytes fs ls in (
       (λ e. sym (keys_order fs ks ls g h) ∙ same_cmp a b e, λ e. exact_bytes a b (keys_order fs ks ls g h ∙ e)),
-      λ e. exact_bytes a b (keys_order fs ks ls g h ∙ first_equal (index_key_cmp fs ks ls) (bytes_cmp x y) (sym ((keys_sort fs ks ls g h).decides x y) ∙ same_cmp (a ++ x) (b ++ y) e)),
+      λ e. exact_bytes a b (keys_order fs ks ls g h
+          ∙ first_equal (index_key_cmp fs ks ls) (bytes_cmp x y) (sym ((keys_sort fs ks ls g h).decides x y) ∙ same_cmp (a ++ x) (b ++ y) e)),
     )

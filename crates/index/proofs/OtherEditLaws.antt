@@ -89,7 +89,8 @@ at_key k (e ∷ es) v h = by (is_eq (key_cmp e.key k)) refl (λ w. at_key k es w
 
 named_among : (e : Edit) (es : List Edit) → Among e es → is_among (edit_keys es) e.key ≡ true
 named_among e [] h = absurd h
-named_among e (f ∷ fs) (inl same) = ap (λ (b : Bool). b || is_among (edit_keys fs) e.key) (ap (λ (g : Edit). is_eq (key_cmp e.key g.key)) (sym same) ∙ key_itself e.key)
+named_among e (f ∷ fs) (inl same) =
+    ap (λ (b : Bool). b || is_among (edit_keys fs) e.key) (ap (λ (g : Edit). is_eq (key_cmp e.key g.key)) (sym same) ∙ key_itself e.key)
 named_among e (f ∷ fs) (inr h) = ap (λ (b : Bool). is_eq (key_cmp e.key f.key) || b) (named_among e fs h) ∙ or_true (is_eq (key_cmp e.key f.key))
 
 -- two edits of one key in a list whose keys rise are one
@@ -97,9 +98,11 @@ one_edit : (e f : Edit) (es : List Edit) → Rises (edit_keys es) → Among e es
 one_edit e f [] h p q same = absurd p
 one_edit e f (g ∷ gs) h (inl p) (inl q) same = p ∙ sym q
 one_edit e f (g ∷ gs) h (inl p) (inr q) same =
-    absurd (let t : true ≡ false = sym (named_among f gs q) ∙ later_none f.key gs (subst (λ (k : List ℕ). Each (λ l. IsUnder k l) (edit_keys gs)) (ap (λ (x : Edit). x.key) (sym p) ∙ same) h.0) in cc)
+    absurd (let t : true ≡ false = sym (named_among f gs q)
+    ∙ later_none f.key gs (subst (λ (k : List ℕ). Each (λ l. IsUnder k l) (edit_keys gs)) (ap (λ (x : Edit). x.key) (sym p) ∙ same) h.0) in cc)
 one_edit e f (g ∷ gs) h (inr p) (inl q) same =
-    absurd (let t : true ≡ false = sym (named_among e gs p) ∙ later_none e.key gs (subst (λ (k : List ℕ). Each (λ l. IsUnder k l) (edit_keys gs)) (ap (λ (x : Edit). x.key) (sym q) ∙ sym same) h.0) in cc)
+    absurd (let t : true ≡ false = sym (named_among e gs p)
+    ∙ later_none e.key gs (subst (λ (k : List ℕ). Each (λ l. IsUnder k l) (edit_keys gs)) (ap (λ (x : Edit). x.key) (sym q) ∙ sym same) h.0) in cc)
 one_edit e f (g ∷ gs) h (inr p) (inr q) same = one_edit e f gs h.1 p q same
 
 some_of : (o : Option (List ℕ)) → is_some o ≡ true → (v : List ℕ) × (o ≡ Some v)
@@ -184,9 +187,11 @@ in_range front id end q (x ∷ xs) ends = by (not (is_lt (key_cmp x.key front)) 
 
     by : (b : Bool) → (not (is_lt (key_cmp x.key front)) && is_within end x.key) ≡ b
         → list_any (λ x. is_another front id x.key && q x.key) (window front end xs) ≡ list_any (λ x. is_another front id x.key && q x.key) xs
-        → list_any (λ x. is_another front id x.key && q x.key) (keep_if b x (window front end xs)) ≡ ((is_another front id x.key && q x.key) || list_any (λ x. is_another front id x.key && q x.key) xs)
+        → list_any (λ x. is_another front id x.key && q x.key) (keep_if b x (window front end xs))
+        ≡ ((is_another front id x.key && q x.key) || list_any (λ x. is_another front id x.key && q x.key) xs)
     by true is later = ap (λ (b : Bool). (is_another front id x.key && q x.key) || b) later
-    by false is later = later ∙ sym (ap (λ (b : Bool). b || list_any (λ x. is_another front id x.key && q x.key) xs) (outside (is_another front id x.key) refl is))
+    by false is later =
+        later ∙ sym (ap (λ (b : Bool). b || list_any (λ x. is_another front id x.key && q x.key) xs) (outside (is_another front id x.key) refl is))
 
 -- ---- edits behind a front
 
@@ -208,7 +213,8 @@ below_front front id e below =
     let f : true ≡ false = sym below ∙ ap (λ (k : List ℕ). is_lt (key_cmp k front)) is ∙ not_under_front front rest in cc))
 
 -- behind a key that isn't below the front and doesn't go on from it no key goes on from it
-pub none_behind : (front id key : List ℕ) (es : List Edit) → Each (λ l. IsUnder key l) (edit_keys es) → is_lt (key_cmp key front) ≡ false → starts_with nat_eq key front ≡ false
+pub none_behind : (front id key : List ℕ) (es : List Edit) → Each (λ l. IsUnder key l) (edit_keys es) → is_lt (key_cmp key front) ≡ false
+    → starts_with nat_eq key front ≡ false
     → puts_another front id es ≡ false
 none_behind front id key [] h above other = refl
 none_behind front id key (e ∷ es) h above other =

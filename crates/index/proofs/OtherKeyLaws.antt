@@ -1,5 +1,6 @@
 -- An entry of another `_id` stands for a key in an index where a document of another `_id` has the key.
-use Rattle.std.proofs.Common.{◌≡◌, ℕ, ◌<◌, ◌^◌, ◌≢◌, Bool, true, false, not, ◌&&◌, List, [], ◌∷◌, ◌++◌, Option, Some, None, ◌⊎◌, inl, inr, refl, sym, ap, subst, ◌∙◌, arith, append_assoc}
+use Rattle.std.proofs.Common.{◌≡◌, ℕ, ◌<◌, ◌^◌, ◌≢◌, Bool, true, false, not, ◌&&◌, List, [], ◌∷◌, ◌++◌, Option, Some, None, ◌⊎◌, inl, inr, refl, sym, ap, subst}
+use Rattle.std.proofs.Common.{◌∙◌, arith, append_assoc}
 use Rattle.std.specs.Prelude.{All, is_some, if◌then◌else◌}
 use Rattle.std.specs.Int.{w32, to_be_bytes}
 use Rattle.std.specs.List.{flat_map}
@@ -62,19 +63,22 @@ module _ (n : ℕ) (i : Definition) (d : Pairs) (key : List ℕ) (stored : IsSto
   has_it e = is_among (encoded_keys i.fields e) key && not (is_eq (compare (key_of d) (key_of e)))
 
   -- a document that has the key, by what its entry's key goes on with
-  has_told : (e : Pairs) (rest : List ℕ) → IsStorable e → Among key (encoded_keys i.fields e) → rest ≡ tree_text (key_of e) → (rest ≡ tree_text (key_of d) → ⊥) → has_it e ≡ true
+  has_told : (e : Pairs) (rest : List ℕ) → IsStorable e → Among key (encoded_keys i.fields e) → rest ≡ tree_text (key_of e) → (rest ≡ tree_text (key_of d) → ⊥)
+      → has_it e ≡ true
   has_told e rest he there is other =
       λ t. among_test (encoded_keys i.fields e) key there t && other_id d e stored he (λ same. other (is ∙ same)) t
 
   -- the key of its entry
-  entry_told : (e : Pairs) → IsStorable e → has_it e ≡ true → is_another (key_under n i.number key) (tree_text (key_of d)) (key_under n i.number (key ++ tree_text (key_of e))) ≡ true
+  entry_told : (e : Pairs) → IsStorable e → has_it e ≡ true
+      → is_another (key_under n i.number key) (tree_text (key_of d)) (key_under n i.number (key ++ tree_text (key_of e))) ≡ true
   entry_told e he has =
       let told = both_true (is_among (encoded_keys i.fields e) key) (not (is_eq (compare (key_of d) (key_of e)))) has in
       ap (λ (k : List ℕ). is_another (key_under n i.number key) (tree_text (key_of d)) k) (sym (front_rest n i.number key (tree_text (key_of e))))
       ∙ another_there (key_under n i.number key) (tree_text (key_of d)) (tree_text (key_of e)) (other_text d e stored he told.1)
 
   -- an entry of a document whose key goes on from the front is of this key
-  keyed_told : (e : Pairs) (x : Entry) (rest : List ℕ) → IsStorable e → Among x (index_entries n e i) → x.key ≡ key_under n i.number key ++ rest → Among key (encoded_keys i.fields e) × (rest ≡ tree_text (key_of e))
+  keyed_told : (e : Pairs) (x : Entry) (rest : List ℕ) → IsStorable e → Among x (index_entries n e i) → x.key ≡ key_under n i.number key ++ rest
+      → Among key (encoded_keys i.fields e) × (rest ≡ tree_text (key_of e))
   keyed_told e x rest he there is =
       let k = among_map (index_entry n i.number (key_of e)) x (encoded_keys i.fields e) there in
       let other : IsEncoded i.fields k.0 = encoded_of i.fields e k.0 he k.1 in
@@ -82,7 +86,8 @@ module _ (n : ℕ) (i : Definition) (d : Pairs) (key : List ℕ) (stored : IsSto
       let ends : k.0 ++ text ≡ key ++ rest =
       same_rest n n i.number i.number (k.0 ++ text) (key ++ rest) (sym (ap (λ (y : Entry). y.key) k.2) ∙ is ∙ front_rest n i.number key rest) in
       let same : k.0 ≡ key =
-      other.is ∙ (keys_agree i.fields other.keys own.keys text rest other.spellable own.spellable).1 ((λ t. sym other.is t ++ text) ∙ ends ∙ (λ t. own.is t ++ rest)) ∙ sym own.is in
+      other.is ∙ (keys_agree i.fields other.keys own.keys text rest other.spellable own.spellable).1
+      ((λ t. sym other.is t ++ text) ∙ ends ∙ (λ t. own.is t ++ rest)) ∙ sym own.is in
       (subst (λ (l : List ℕ). Among l (encoded_keys i.fields e)) same k.1, sym (same_back key text rest ((λ t. sym same t ++ text) ∙ ends)))
 
 pub tells_other_key : TellsOtherKey
@@ -107,8 +112,11 @@ tells_other_key xs cs c i d key h found listed stored keyed =
         let told = tells_document xs cs c i own_key.keys a.rest h found listed own_key.spellable o.one (contains_of xs o.one o.there) is in
         let e = told.0 in
         let here : Among e c.documents = among_of c.documents e told.1 in
-        let has : Among key (encoded_keys i.fields e) = subst (λ (k : List ℕ). Among k (encoded_keys i.fields e)) (sym own_key.is) (among_of (encoded_keys i.fields e) (key_bytes i.fields own_key.keys) told.2) in
-        any_there (has_it c.number i d key stored keyed) c.documents e here (has_told c.number i d key stored keyed e a.rest (storable_of c e kept here) has told.3 a.other)
+        let has : Among key (encoded_keys i.fields e) =
+        subst (λ (k : List ℕ). Among k (encoded_keys i.fields e)) (sym own_key.is)
+        (among_of (encoded_keys i.fields e) (key_bytes i.fields own_key.keys) told.2) in
+        any_there (has_it c.number i d key stored keyed) c.documents e here
+        (has_told c.number i d key stored keyed e a.rest (storable_of c e kept here) has told.3 a.other)
 
     back : another_has i key (key_of d) c.documents ≡ true → has_other_key c.number i.number key (tree_text (key_of d)) xs ≡ true
     back t =
@@ -116,8 +124,10 @@ tells_other_key xs cs c i d key h found listed stored keyed =
         let e = o.one in
         let has = both_true (is_among (encoded_keys i.fields e) key) (not (is_eq (compare (key_of d) (key_of e)))) o.so in
         let x : Entry = index_entry c.number i.number (key_of e) key in
-        let here : Among x xs = in_map xs cs h c x there (keyed_among c e i key o.there (among_of c.indexes i listed) (test_among (encoded_keys i.fields e) key has.0)) in
-        any_there (λ (y : Entry). is_another (key_under c.number i.number key) (tree_text (key_of d)) y.key) xs x here (entry_told c.number i d key stored keyed e (storable_of c e kept o.there) o.so)
+        let here : Among x xs =
+        in_map xs cs h c x there (keyed_among c e i key o.there (among_of c.indexes i listed) (test_among (encoded_keys i.fields e) key has.0)) in
+        any_there (λ (y : Entry). is_another (key_under c.number i.number key) (tree_text (key_of d)) y.key) xs x here
+        (entry_told c.number i d key stored keyed e (storable_of c e kept o.there) o.so)
 
 -- ---- puts behind a map
 
@@ -155,7 +165,8 @@ stays_some k (e ∷ es) v =
 put_some : (x : Entry) (es : List Entry) (v : Option (List ℕ)) → Among x es → is_some (value_after x.key (puts es) v) ≡ true
 put_some x [] v h = absurd h
 put_some x (e ∷ es) v (inl same) =
-    ap (λ (b : Bool). is_some (value_after x.key (puts es) (if b then Some e.value else v))) (ap (λ (y : Entry). is_eq (key_cmp y.key x.key)) (sym same) ∙ key_itself x.key) ∙ stays_some x.key es e.value
+    ap (λ (b : Bool). is_some (value_after x.key (puts es) (if b then Some e.value else v)))
+    (ap (λ (y : Entry). is_eq (key_cmp y.key x.key)) (sym same) ∙ key_itself x.key) ∙ stays_some x.key es e.value
 put_some x (e ∷ es) v (inr h) = put_some x es (if is_eq (key_cmp e.key x.key) then Some e.value else v) h
 
 -- at the key of an entry that is put stands one
@@ -167,7 +178,8 @@ put_there es xs x h = by (value_at x.key (change (puts es) xs)) refl
     by (Some v) e = (v, value_entry x.key v (change (puts es) xs) e)
 
 -- Behind a map without an entry of the index, such an entry is one of a document whose entries were put.
-module _ (n : ℕ) (i : Definition) (ds : List Pairs) (d : Pairs) (key : List ℕ) (xs : List Entry) (none : (x : Entry) (rest : List ℕ) → Among x xs → x.key ≡ key_under n i.number rest → ⊥)
+module _ (n : ℕ) (i : Definition) (ds : List Pairs) (d : Pairs) (key : List ℕ) (xs : List Entry) (none : (x : Entry) (rest : List ℕ) → Among x xs
+    → x.key ≡ key_under n i.number rest → ⊥)
     (all : All IsStorable ds) (stored : IsStorable d) (keyed : is_among (encoded_keys i.fields d) key ≡ true) where
   abbrev put_entries : List Entry
   put_entries = flat_map (λ e. index_entries n e i) ds
@@ -191,13 +203,17 @@ module _ (n : ℕ) (i : Definition) (ds : List Pairs) (d : Pairs) (key : List �
       let e = o.one in
       let has = both_true (is_among (encoded_keys i.fields e) key) (not (is_eq (compare (key_of d) (key_of e)))) o.so in
       let x : Entry = index_entry n i.number (key_of e) key in
-      let put : Among x put_entries = among_each (λ (f : Pairs). index_entries n f i) x e ds o.there (key_among n i e key (test_among (encoded_keys i.fields e) key has.0)) in
+      let put : Among x put_entries =
+      among_each (λ (f : Pairs). index_entries n f i) x e ds o.there (key_among n i e key (test_among (encoded_keys i.fields e) key has.0)) in
       let here = put_there put_entries xs x put in
-      any_there (λ (y : Entry). is_another (key_under n i.number key) (tree_text (key_of d)) y.key) (change (puts put_entries) xs) (record { key = x.key; value = here.0 }) here.1
+      any_there (λ (y : Entry). is_another (key_under n i.number key) (tree_text (key_of d)) y.key) (change (puts put_entries) xs)
+      (record { key = x.key; value = here.0 }) here.1
       (entry_told n i d key stored keyed e (of_all IsStorable ds e all o.there) o.so)
 
-  pub tells_put : has_other_key n i.number key (tree_text (key_of d)) (change (puts (flat_map (λ e. index_entries n e i) ds)) xs) ≡ another_has i key (key_of d) ds
-  tells_put = one_truth (has_other_key n i.number key (tree_text (key_of d)) (change (puts put_entries) xs)) (another_has i key (key_of d) ds) put_forth put_back
+  pub tells_put : has_other_key n i.number key (tree_text (key_of d)) (change (puts (flat_map (λ e. index_entries n e i) ds)) xs)
+      ≡ another_has i key (key_of d) ds
+  tells_put = one_truth (has_other_key n i.number key (tree_text (key_of d)) (change (puts put_entries) xs))
+      (another_has i key (key_of d) ds) put_forth put_back
 
 pub tells_other_put : TellsOtherPut
 tells_other_put xs cs c i ds d key h found defined new all stored keyed = tells_put c.number i ds d key xs none_old all stored keyed

@@ -47,7 +47,8 @@ pub found_name : (cs : List Collection) (name : List ℕ) (old : Collection) →
 found_name [] name old e = absurd cc
 found_name (c ∷ cs) name old e = by (bytes_eq name c.name) refl e (found_name cs name old)
   where
-    by : (b : Bool) → bytes_eq name c.name ≡ b → (if b then Some c else find_collection cs name) ≡ Some old → (find_collection cs name ≡ Some old → name ≡ old.name) → name ≡ old.name
+    by : (b : Bool) → bytes_eq name c.name ≡ b → (if b then Some c else find_collection cs name) ≡ Some old
+        → (find_collection cs name ≡ Some old → name ≡ old.name) → name ≡ old.name
     by true same is later = same_name name c.name same ∙ ap (λ (d : Collection). d.name) (some_is is)
     by false other is later = later is
 
@@ -70,12 +71,14 @@ without_in (c ∷ cs) name x h = by (bytes_eq name c.name) h (without_in cs name
     by false (inl e) later = inl e
     by false (inr g) later = inr (later g)
 
-pub found_split : (cs : List Collection) (name : List ℕ) (old x : Collection) → find_collection cs name ≡ Some old → Among x cs → (x ≡ old) ⊎ Among x (without_collection name cs)
+pub found_split : (cs : List Collection) (name : List ℕ) (old x : Collection) → find_collection cs name ≡ Some old → Among x cs
+    → (x ≡ old) ⊎ Among x (without_collection name cs)
 found_split [] name old x e h = absurd h
 found_split (c ∷ cs) name old x e h = by (bytes_eq name c.name) e h (found_split cs name old x)
   where
     by : (b : Bool) → (if b then Some c else find_collection cs name) ≡ Some old → Among x (c ∷ cs)
-        → (find_collection cs name ≡ Some old → Among x cs → (x ≡ old) ⊎ Among x (without_collection name cs)) → (x ≡ old) ⊎ Among x (if b then cs else c ∷ without_collection name cs)
+        → (find_collection cs name ≡ Some old → Among x cs → (x ≡ old) ⊎ Among x (without_collection name cs))
+        → (x ≡ old) ⊎ Among x (if b then cs else c ∷ without_collection name cs)
     by true is (inl f) later = inl (f ∙ some_is is)
     by true is (inr g) later = inr g
     by false is (inl f) later = inr (inl f)
@@ -85,12 +88,14 @@ pub none_without : (cs : List Collection) (name : List ℕ) → find_collection 
 none_without [] name e = refl
 none_without (c ∷ cs) name e = by (bytes_eq name c.name) e (none_without cs name)
   where
-    by : (b : Bool) → (if b then Some c else find_collection cs name) ≡ None → (find_collection cs name ≡ None → without_collection name cs ≡ cs) → (if b then cs else c ∷ without_collection name cs) ≡ c ∷ cs
+    by : (b : Bool) → (if b then Some c else find_collection cs name) ≡ None → (find_collection cs name ≡ None → without_collection name cs ≡ cs)
+        → (if b then cs else c ∷ without_collection name cs) ≡ c ∷ cs
     by true is later = absurd cc
     by false is later = ap (λ (ds : List Collection). c ∷ ds) (later is)
 
 -- the others have other names
-pub below_without : (cs : List Collection) (name : List ℕ) → ((x : Collection) → Among x cs → slice_cmp nat_cmp name x.name ≡ orders.Less) → without_collection name cs ≡ cs
+pub below_without : (cs : List Collection) (name : List ℕ) → ((x : Collection) → Among x cs → slice_cmp nat_cmp name x.name ≡ orders.Less)
+    → without_collection name cs ≡ cs
 below_without [] name h = refl
 below_without (c ∷ cs) name h =
     ap (λ (b : Bool). if b then cs else c ∷ without_collection name cs) (differs name c.name (h c (inl refl)))
@@ -110,13 +115,15 @@ without_other (c ∷ cs) name x apart h e = by (bytes_eq name c.name) refl h (λ
 -- ---- one put among them
 
 -- a collection that is put stands there with those of other names
-put_is : (new : Collection) (cs : List Collection) → AreNamedApart cs → (x : Collection) → (Among x (put_collection new cs) → (x ≡ new) ⊎ Among x (without_collection new.name cs))
+put_is : (new : Collection) (cs : List Collection) → AreNamedApart cs → (x : Collection)
+    → (Among x (put_collection new cs) → (x ≡ new) ⊎ Among x (without_collection new.name cs))
     × ((x ≡ new) ⊎ Among x (without_collection new.name cs) → Among x (put_collection new cs))
 put_is new [] apart x = (λ h. h, λ h. h)
 put_is new (c ∷ cs) apart x = by (slice_cmp nat_cmp new.name c.name) refl (put_is new cs (apart_rest c cs apart) x)
   where
     by : (o : Ordering) → slice_cmp nat_cmp new.name c.name ≡ o
-        → ((Among x (put_collection new cs) → (x ≡ new) ⊎ Among x (without_collection new.name cs)) × ((x ≡ new) ⊎ Among x (without_collection new.name cs) → Among x (put_collection new cs)))
+        → ((Among x (put_collection new cs) → (x ≡ new) ⊎ Among x (without_collection new.name cs))
+        × ((x ≡ new) ⊎ Among x (without_collection new.name cs) → Among x (put_collection new cs)))
         → (Among x (by_order o (new ∷ c ∷ cs) (new ∷ cs) (c ∷ put_collection new cs)) → (x ≡ new) ⊎ Among x (without_collection new.name (c ∷ cs)))
         × ((x ≡ new) ⊎ Among x (without_collection new.name (c ∷ cs)) → Among x (by_order o (new ∷ c ∷ cs) (new ∷ cs) (c ∷ put_collection new cs)))
     by orders.Less less later =
@@ -155,8 +162,10 @@ put_is new (c ∷ cs) apart x = by (slice_cmp nat_cmp new.name c.name) refl (put
         from (inr (inl f)) = inl f
         from (inr (inr g)) = inr (later.1 (inr g))
 
-pub put_among : (new : Collection) (cs : List Collection) (x : Collection) → AreNamedApart cs → Among x (put_collection new cs) → (x ≡ new) ⊎ Among x (without_collection new.name cs)
+pub put_among : (new : Collection) (cs : List Collection) (x : Collection) → AreNamedApart cs → Among x (put_collection new cs)
+    → (x ≡ new) ⊎ Among x (without_collection new.name cs)
 put_among new cs x apart = (put_is new cs apart x).0
 
-pub among_put : (new : Collection) (cs : List Collection) (x : Collection) → AreNamedApart cs → (x ≡ new) ⊎ Among x (without_collection new.name cs) → Among x (put_collection new cs)
+pub among_put : (new : Collection) (cs : List Collection) (x : Collection) → AreNamedApart cs → (x ≡ new) ⊎ Among x (without_collection new.name cs)
+    → Among x (put_collection new cs)
 among_put new cs x apart = (put_is new cs apart x).1

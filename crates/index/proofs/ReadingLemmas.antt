@@ -1,5 +1,6 @@
 -- What is read of an entry's key and value.
-use Rattle.std.proofs.Common.{◌≡◌, ℕ, zero, suc, List, [], ◌∷◌, drop, length, Option, Some, Result, Ok, Err, Bool, true, false, not, refl, ap, sym, subst, ◌∙◌, arith}
+use Rattle.std.proofs.Common.{◌≡◌, ℕ, zero, suc, List, [], ◌∷◌, drop, length, Option, Some, Result, Ok, Err, Bool, true, false, not, refl, ap, sym, subst, ◌∙◌}
+use Rattle.std.proofs.Common.{arith}
 use Rattle.std.specs.Prelude.{◌==◌, unwrap_or}
 use Rattle.std.specs.Str.{bytes_eq}
 use Rattle.std.proofs.lemmas.Bool.Decides.{nat_tests}
@@ -36,9 +37,11 @@ storable_spells d bytes h e =
     let long : length bytes ≡ length (frame_of (pairs_bytes d)) = ap length e in
     record { lawful = h.lawful; spelled = e; size = omega (arith, h.size, long) }
 
-pub catalogue_spells : (c : Collection) (bytes : List ℕ) → IsKept c → c.indexes ≡ [] → bytes ≡ catalogue_bytes c → SpellsDocument bytes (catalogue_value c.number [])
+pub catalogue_spells : (c : Collection) (bytes : List ℕ) → IsKept c → c.indexes ≡ [] → bytes ≡ catalogue_bytes c
+    → SpellsDocument bytes (catalogue_value c.number [])
 catalogue_spells c bytes h none e =
-    subst (λ (bs : List ℕ). SpellsDocument bs (catalogue_value c.number [])) (sym (e ∙ ap (λ (is : List Definition). frame_of (pairs_bytes (catalogue_value c.number is))) none))
+    subst (λ (bs : List ℕ). SpellsDocument bs (catalogue_value c.number []))
+    (sym (e ∙ ap (λ (is : List Definition). frame_of (pairs_bytes (catalogue_value c.number is))) none))
     (value_spells c.number [] h.most (omega arith) tt)
 
 pub same_document : {ps qs : Pairs} {m n : ℕ} → (let r : Result (Pairs × ℕ) BsonFault = Ok (ps, m) in r) ≡ Ok (qs, n) → qs ≡ ps

@@ -33,7 +33,8 @@ use Rattle.index.proofs.StepLemmas.{old_kept}
 abbrev pub keys_of : Pairs → Definition → List (List ℕ)
 keys_of d i = encoded_keys i.fields d
 
-pub keys_ascend : (is : List Definition) (d : Pairs) (all : List (Vec (Vec ℕ))) → keys_in_all is d ≡ Ok (key_lists all) → All (λ ks. IsAscending (texts_of ks.items)) all
+pub keys_ascend : (is : List Definition) (d : Pairs) (all : List (Vec (Vec ℕ))) → keys_in_all is d ≡ Ok (key_lists all)
+    → All (λ ks. IsAscending (texts_of ks.items)) all
 keys_ascend is d all e =
     let k = known is d (key_lists all) e in
     all_of (λ (ks : Vec (Vec ℕ)). IsAscending (texts_of ks.items)) all (λ ks there.
@@ -57,24 +58,28 @@ among_filter p k (x ∷ xs) h = by (p x) (among_filter p k xs) h
     by true later (inr g) = inr (later g)
     by false later g = inr (later g)
 
-within_all : (a b : List (List (List ℕ))) (x : List (List ℕ)) → Among x (without_all a b) → (y : List (List ℕ)) × Among y a × ((k : List ℕ) → Among k x → Among k y)
+within_all : (a b : List (List (List ℕ))) (x : List (List ℕ)) → Among x (without_all a b)
+    → (y : List (List ℕ)) × Among y a × ((k : List ℕ) → Among k x → Among k y)
 within_all [] b x h = absurd h
 within_all (y ∷ a) [] x h = absurd h
 within_all (y ∷ a) (z ∷ b) x (inl e) =
     (y, inl refl, λ k g. among_filter (λ key. not (is_among z key)) k y (subst (λ (w : List (List ℕ)). Among k w) e g))
 within_all (y ∷ a) (z ∷ b) x (inr h) = let later = within_all a b x h in (later.0, inr later.1, later.2)
 
-pub changes_short : {X : Type 0} (V : X → List (Bor (List ℕ))) (is : List Definition) (d : Pairs) (keys : List (Vec (Vec ℕ))) (others : List (List (List ℕ))) (changes : List X) → keys_in_all is d ≡ Ok (key_lists keys)
+pub changes_short : {X : Type 0} (V : X → List (Bor (List ℕ))) (is : List Definition) (d : Pairs) (keys : List (Vec (Vec ℕ))) (others : List (List (List ℕ)))
+    (changes : List X) → keys_in_all is d ≡ Ok (key_lists keys)
     → map (λ c. map (λ key. key.now) (V c)) changes ≡ without_all (key_lists keys) others → All (λ c. All (λ key. length key.now ≤ 500) (V c)) changes
 changes_short {X} V is d keys others changes e told =
     let k = known is d (key_lists keys) e in
     all_of (λ (c : X). All (λ key. length key.now ≤ 500) (V c)) changes (λ c there. all_of (λ (key : Bor (List ℕ)). length key.now ≤ 500) (V c) (λ key here.
-    let one = within_all (key_lists keys) others (map (λ key. key.now) (V c)) (subst (λ (ts : List (List (List ℕ))). Among (map (λ key. key.now) (V c)) ts) told (among_image (λ (z : X). map (λ key. key.now) (V z)) c changes there)) in
+    let one = within_all (key_lists keys) others (map (λ key. key.now) (V c))
+    (subst (λ (ts : List (List (List ℕ))). Among (map (λ key. key.now) (V c)) ts) told (among_image (λ (z : X). map (λ key. key.now) (V z)) c changes there)) in
     let i = among_map (keys_of d) one.0 is (subst (λ (ts : List (List (List ℕ))). Among one.0 ts) (sym k.1) one.1) in
     short_within i.0.fields d key.now (none_any (λ (j : Definition). is_too_long j.fields d) is i.0 k.0 i.1)
     (subst (λ (ts : List (List ℕ)). Among key.now ts) i.2 (one.2 key.now (among_image (λ (z : Bor (List ℕ)). z.now) key (V c) here)))))
 
-pub changes_each : {X : Type 0} (L : X → List (List ℕ)) (is : List Definition) (d o : Pairs) (keys others : List (Vec (Vec ℕ))) (changes : List X) → keys_in_all is d ≡ Ok (key_lists keys) → keys_in_all is o ≡ Ok (key_lists others)
+pub changes_each : {X : Type 0} (L : X → List (List ℕ)) (is : List Definition) (d o : Pairs) (keys others : List (Vec (Vec ℕ))) (changes : List X)
+    → keys_in_all is d ≡ Ok (key_lists keys) → keys_in_all is o ≡ Ok (key_lists others)
     → map L changes ≡ without_all (key_lists keys) (key_lists others) → length changes ≡ length is
 changes_each {X} L is d o keys others changes e f told =
     let many : length (map (keys_of d) is) ≡ length (key_lists keys) = ap length (known is d (key_lists keys) e).1 in
@@ -83,11 +88,13 @@ changes_each {X} L is d o keys others changes e f told =
     let other : length (map (keys_of o) is) ≡ length is = length-map is (keys_of o) in
     sym (length-map changes L) ∙ ap length told ∙ as_many (key_lists keys) (key_lists others) (sym many ∙ one ∙ sym other ∙ many_others) ∙ sym many ∙ one
 
-own_all : (n : ℕ) (is : List Definition) (d o : Pairs) → entries_in_all n (tree_text (key_of d)) is (without_all (map (keys_of d) is) (map (keys_of o) is)) ≡ flat_map (own_entries n d o) is
+own_all : (n : ℕ) (is : List Definition) (d o : Pairs)
+    → entries_in_all n (tree_text (key_of d)) is (without_all (map (keys_of d) is) (map (keys_of o) is)) ≡ flat_map (own_entries n d o) is
 own_all n [] d o = refl
 own_all n (i ∷ is) d o = ap (λ (xs : List Entry). own_entries n d o i ++ xs) (own_all n is d o)
 
-pub own_are : (n : ℕ) (id : List ℕ) (is : List Definition) (d o : Pairs) (keys others : List (Vec (Vec ℕ))) (all : List (List (List ℕ))) → keys_in_all is d ≡ Ok (key_lists keys) → keys_in_all is o ≡ Ok (key_lists others)
+pub own_are : (n : ℕ) (id : List ℕ) (is : List Definition) (d o : Pairs) (keys others : List (Vec (Vec ℕ))) (all : List (List (List ℕ)))
+    → keys_in_all is d ≡ Ok (key_lists keys) → keys_in_all is o ≡ Ok (key_lists others)
     → id ≡ tree_text (key_of d) → all ≡ without_all (key_lists keys) (key_lists others) → entries_in_all n id is all ≡ flat_map (own_entries n d o) is
 own_are n id is d o keys others all e f text told =
     let k = known is d (key_lists keys) e in
@@ -130,4 +137,5 @@ replaces_in old new number is was d up made a b c front back lead num inds docs 
     let there = subst (λ (ds : List Pairs). Among was ds) (sym docs) (among_there was front back) in
     let same = same_text was d (storable_of c was (old_kept b c now may) there) (storable_of now d may.kept (among_there d front back)) equal in
     noted_leads (replacing_in number is was d) old new a b (put_collection now b) up (made same) lead
-    (subst (λ (es : List Edit). Leads es b (put_collection now b)) (λ t. replacing_in (num t) (inds t) was d) (replaces_document c front back was d docs equal b may))
+    (subst (λ (es : List Edit). Leads es b (put_collection now b)) (λ t. replacing_in (num t) (inds t) was d)
+    (replaces_document c front back was d docs equal b may))

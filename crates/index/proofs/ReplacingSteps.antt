@@ -36,19 +36,23 @@ own_of n is d other x h =
     let told = without_among (encoded_keys i.0.fields d) (encoded_keys i.0.fields other) k.0 k.1 in
     record { index = i.0; listed = i.1; key = k.0; keyed = told.0; apart = told.1; is = k.2 }
 
-own_among : (n : ℕ) (is : List Definition) (d other : Pairs) (i : Definition) (key : List ℕ) → Among i is → Among key (encoded_keys i.fields d) → is_among (encoded_keys i.fields other) key ≡ false
+own_among : (n : ℕ) (is : List Definition) (d other : Pairs) (i : Definition) (key : List ℕ) → Among i is → Among key (encoded_keys i.fields d)
+    → is_among (encoded_keys i.fields other) key ≡ false
     → Among (index_entry n i.number (key_of d) key) (flat_map (own_entries n d other) is)
 own_among n is d other i key listed keyed apart =
     let x = index_entry n i.number (key_of d) key in
     among_each (own_entries n d other) x i is listed
-    (among_image (index_entry n i.number (key_of d)) key (without (encoded_keys i.fields d) (encoded_keys i.fields other)) (among_without (encoded_keys i.fields d) (encoded_keys i.fields other) key keyed apart))
+    (among_image (index_entry n i.number (key_of d)) key (without (encoded_keys i.fields d) (encoded_keys i.fields other))
+    (among_without (encoded_keys i.fields d) (encoded_keys i.fields other) key keyed apart))
 
 -- entries for one key of two documents with one text
-one_entry : (n i : ℕ) (d e : Pairs) (key : List ℕ) → tree_text (key_of d) ≡ tree_text (key_of e) → index_entry n i (key_of d) key ≡ index_entry n i (key_of e) key
+one_entry : (n i : ℕ) (d e : Pairs) (key : List ℕ) → tree_text (key_of d) ≡ tree_text (key_of e)
+    → index_entry n i (key_of d) key ≡ index_entry n i (key_of e) key
 one_entry n i d e key same = λ t. record { key = entry_key n i key (same t); value = [] }
 
 -- what stands with a document in place of another, but for its own entries
-with_other : (c now : Collection) (front back : List Pairs) (old new : Pairs) → c.number ≡ now.number → c.indexes ≡ now.indexes → c.documents ≡ front ++ old ∷ back → now.documents ≡ front ++ new ∷ back
+with_other : (c now : Collection) (front back : List Pairs) (old new : Pairs) → c.number ≡ now.number → c.indexes ≡ now.indexes
+    → c.documents ≡ front ++ old ∷ back → now.documents ≡ front ++ new ∷ back
     → tree_text (key_of old) ≡ tree_text (key_of new) → (x : Entry) → Among x (flat_map (document_entries c.number c.indexes) c.documents)
     → (x ≡ document_entry c.number old) ⊎ (Among x (flat_map (own_entries c.number old new) c.indexes) ⊎ Among x (collection_entries now))
 with_other c now front back old new numbered listed split then same x h = by e.0 e.1 e.2
@@ -58,34 +62,41 @@ with_other c now front back old new numbered listed split then same x h = by e.0
 
     of_now : (d : Pairs) → Among d now.documents → Among x (document_entries c.number c.indexes d) → Among x (collection_entries now)
     of_now d there g =
-        inr (among_each (document_entries now.number now.indexes) x d now.documents there (subst (λ (n : ℕ). Among x (document_entries n now.indexes d)) numbered (subst (λ (is : List Definition). Among x (document_entries c.number is d)) listed g)))
+        inr (among_each (document_entries now.number now.indexes) x d now.documents there
+        (subst (λ (n : ℕ). Among x (document_entries n now.indexes d)) numbered
+        (subst (λ (is : List Definition). Among x (document_entries c.number is d)) listed g)))
 
     new_there : Among new now.documents
     new_there = subst (λ (ds : List Pairs). Among new ds) (sym then) (among_there new front back)
 
-    keyed : (i : Definition) → Among i c.indexes → (key : List ℕ) → Among key (encoded_keys i.fields old) → x ≡ index_entry c.number i.number (key_of old) key → (b : Bool) → is_among (encoded_keys i.fields new) key ≡ b
+    keyed : (i : Definition) → Among i c.indexes → (key : List ℕ) → Among key (encoded_keys i.fields old) → x ≡ index_entry c.number i.number (key_of old) key
+        → (b : Bool) → is_among (encoded_keys i.fields new) key ≡ b
         → (x ≡ document_entry c.number old) ⊎ (Among x (flat_map (own_entries c.number old new) c.indexes) ⊎ Among x (collection_entries now))
     keyed i there key found is true both =
         inr (inr (of_now new new_there (inr (among_each (index_entries c.number new) x i c.indexes there
         (subst (λ (y : Entry). Among y (index_entries c.number new i)) (sym (is ∙ one_entry c.number i.number old new key same))
         (among_image (index_entry c.number i.number (key_of new)) key (encoded_keys i.fields new) (test_among (encoded_keys i.fields new) key both)))))))
     keyed i there key found is false alone =
-        inr (inl (subst (λ (y : Entry). Among y (flat_map (own_entries c.number old new) c.indexes)) (sym is) (own_among c.number c.indexes old new i key there found alone)))
+        inr (inl (subst (λ (y : Entry). Among y (flat_map (own_entries c.number old new) c.indexes)) (sym is)
+        (own_among c.number c.indexes old new i key there found alone)))
 
-    of_old : Among x (document_entries c.number c.indexes old) → (x ≡ document_entry c.number old) ⊎ (Among x (flat_map (own_entries c.number old new) c.indexes) ⊎ Among x (collection_entries now))
+    of_old : Among x (document_entries c.number c.indexes old)
+        → (x ≡ document_entry c.number old) ⊎ (Among x (flat_map (own_entries c.number old new) c.indexes) ⊎ Among x (collection_entries now))
     of_old (inl f) = inl f
     of_old (inr g) =
         let i = among_flat (index_entries c.number old) x c.indexes g in
         let k = among_map (index_entry c.number i.0.number (key_of old)) x (encoded_keys i.0.fields old) i.2 in
         keyed i.0 i.1 k.0 k.1 k.2 (is_among (encoded_keys i.0.fields new) k.0) refl
 
-    by : (d : Pairs) → Among d c.documents → Among x (document_entries c.number c.indexes d) → (x ≡ document_entry c.number old) ⊎ (Among x (flat_map (own_entries c.number old new) c.indexes) ⊎ Among x (collection_entries now))
+    by : (d : Pairs) → Among d c.documents → Among x (document_entries c.number c.indexes d)
+        → (x ≡ document_entry c.number old) ⊎ (Among x (flat_map (own_entries c.number old new) c.indexes) ⊎ Among x (collection_entries now))
     by d there g = elim (among_middle d old front back (subst (λ (ds : List Pairs). Among d ds) split there)) [
       | inl is_old ↦ of_old (subst (λ (f : Pairs). Among x (document_entries c.number c.indexes f)) is_old g)
       | inr other ↦ inr (inr (of_now d (subst (λ (ds : List Pairs). Among d ds) (sym then) (among_around d new front back other)) g))
     ]
 
-module _ (c : Collection) (front back : List Pairs) (old new : Pairs) (split : c.documents ≡ front ++ old ∷ back) (kept : IsKept c) (still : IsKept (record c { documents = front ++ new ∷ back })) (equal : compare (key_of old) (key_of new) ≡ Equal) where
+module _ (c : Collection) (front back : List Pairs) (old new : Pairs) (split : c.documents ≡ front ++ old ∷ back) (kept : IsKept c)
+    (still : IsKept (record c { documents = front ++ new ∷ back })) (equal : compare (key_of old) (key_of new) ≡ Equal) where
   abbrev now : Collection
   now = record c { documents = front ++ new ∷ back }
 
@@ -133,7 +144,8 @@ module _ (c : Collection) (front back : List Pairs) (old new : Pairs) (split : c
           let document : k.document ≡ new = one_document now k.document new still k.there new_there (sym ends.1 ∙ same) in
           let there : Among own.key (encoded_keys own.index.fields new) =
           subst (λ (i : Definition). Among own.key (encoded_keys i.fields new)) (sym one)
-          (subst (λ (key : List ℕ). Among key (encoded_keys k.index.fields new)) (sym ends.0) (subst (λ (d : Pairs). Among k.key (encoded_keys k.index.fields d)) document k.keyed)) in
+          (subst (λ (key : List ℕ). Among key (encoded_keys k.index.fields new)) (sym ends.0)
+          (subst (λ (d : Pairs). Among k.key (encoded_keys k.index.fields d)) document k.keyed)) in
           let f : true ≡ false = sym (among_test (encoded_keys own.index.fields new) own.key there) ∙ own.apart in cc
 
       by : IsOneOf now x → ⊥
@@ -164,5 +176,6 @@ module _ (c : Collection) (front back : List Pairs) (old new : Pairs) (split : c
 pub replaces_document : ReplacesDocument
 replaces_document c front back old new split equal cs h =
     let now : Collection = record c { documents = front ++ new ∷ back } in
-    exchanged_leads (flat_map (own_entries c.number old new) c.indexes) (document_entry c.number new ∷ flat_map (own_entries c.number new old) c.indexes) cs c now h
+    exchanged_leads (flat_map (own_entries c.number old new) c.indexes)
+    (document_entry c.number new ∷ flat_map (own_entries c.number new old) c.indexes) cs c now h
     (replaced c front back old new split (old_kept cs c now h) h.kept equal)

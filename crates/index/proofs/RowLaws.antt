@@ -34,7 +34,12 @@ no_pair R x = λ i j d lt below. absurd (omega (arith, lt, below))
 
 seven_lawful : IsDocument seven
 seven_lawful = record {
-  lawful = (plain_name (codes "_id") refl, omega (arith, ints), (differ (codes "_id") (codes "a") refl, tt), (plain_name (codes "a") refl, omega (arith, ints), tt, tt));
+  lawful = (
+    plain_name (codes "_id") refl,
+    omega (arith, ints),
+    (differ (codes "_id") (codes "a") refl, tt),
+    (plain_name (codes "a") refl, omega (arith, ints), tt, tt),
+  );
   depth = omega arith;
 }
 

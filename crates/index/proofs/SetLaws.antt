@@ -37,7 +37,8 @@ pub not_among : (keys others : List (List ℕ)) (key : List ℕ) → is_among (w
 not_among [] others key = refl
 not_among (k ∷ ks) others key = by (is_among others k) refl (eq_by_cmp bytes_cmp key k) refl (not_among ks others key)
   where
-    by : (b : Bool) → is_among others k ≡ b → (tie : Bool) → eq_by_cmp bytes_cmp key k ≡ tie → is_among (without ks others) key ≡ (is_among ks key && not (is_among others key))
+    by : (b : Bool) → is_among others k ≡ b → (tie : Bool) → eq_by_cmp bytes_cmp key k ≡ tie
+        → is_among (without ks others) key ≡ (is_among ks key && not (is_among others key))
         → is_among (cond (not b) (k ∷ without ks others) (without ks others)) key ≡ ((tie || is_among ks key) && not (is_among others key))
     by true there true e later =
         let told : is_among others key ≡ true = sym (same_member others key k e) ∙ there in

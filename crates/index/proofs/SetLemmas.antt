@@ -92,7 +92,8 @@ put_among k (l ∷ ls) q = by (bytes_cmp k l) refl (put_among k ls q)
         → is_among (put_at o k l ls (put_key k ls)) q ≡ (is_eq (bytes_cmp q k) || is_among (l ∷ ls) q)
     by Less e later = refl
     by Equal e later =
-        or_twice (is_eq (bytes_cmp q l)) (is_among ls q) ∙ ap (λ (m : List ℕ). is_eq (bytes_cmp q m) || (is_eq (bytes_cmp q l) || is_among ls q)) (sym (exact_bytes k l e))
+        or_twice (is_eq (bytes_cmp q l)) (is_among ls q)
+        ∙ ap (λ (m : List ℕ). is_eq (bytes_cmp q m) || (is_eq (bytes_cmp q l) || is_among ls q)) (sym (exact_bytes k l e))
     by Greater e later =
         ap (λ (b : Bool). is_eq (bytes_cmp q l) || b) later ∙ or_swap (is_eq (bytes_cmp q l)) (is_eq (bytes_cmp q k)) (is_among ls q)
 
@@ -187,10 +188,12 @@ same_bytes : (q : List ℕ) (v w : Vec ℕ) → pointwise nat_eq v.items w.items
 same_bytes q v w e = ap (λ (k : List ℕ). is_eq (bytes_cmp q k)) (same_text v.items w.items (sym e))
 
 -- what a sort and the removal of repeated ones leave is the set
-pub sorted_set : (olds moved : List (Vec ℕ)) → IsPermutation olds moved → IsSorted order_of moved → texts_of (dedup (λ v w. pointwise nat_eq v.items w.items) moved) ≡ ascending_set (texts_of olds)
+pub sorted_set : (olds moved : List (Vec ℕ)) → IsPermutation olds moved → IsSorted order_of moved
+    → texts_of (dedup (λ v w. pointwise nat_eq v.items w.items) moved) ≡ ascending_set (texts_of olds)
 sorted_set olds moved permuted in_order =
     let E : Vec ℕ → Vec ℕ → Bool = λ v w. pointwise nat_eq v.items w.items in
-    let strictly : IsStrictlySortedBy order_of (dedup E moved) = IsStrictlySortedBy-dedup (on_texts (λ v. v.items)) (λ v w. texts_ties v.items w.items) moved in_order in
+    let strictly : IsStrictlySortedBy order_of (dedup E moved) =
+    IsStrictlySortedBy-dedup (on_texts (λ v. v.items)) (λ v w. texts_ties v.items w.items) moved in_order in
     one_rising (texts_of (dedup E moved)) (ascending_set (texts_of olds)) (texts_rise (dedup E moved) strictly) (set_rises (texts_of olds)) (λ q.
     among_texts (dedup E moved) q ∙ any_dedup (λ v. is_eq (bytes_cmp q v.items)) E (same_bytes q) moved
     ∙ sym (list_any-IsPermutation (λ v. is_eq (bytes_cmp q v.items)) olds moved permuted) ∙ sym (among_texts olds q) ∙ sym (set_among (texts_of olds) q))

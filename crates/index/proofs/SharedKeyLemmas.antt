@@ -25,7 +25,8 @@ module _ {E K : Type 0} (f : E → K → Bool) (g : E → Bool) where
   none_left [] = refl
   none_left (e ∷ es) = elim (g e) as (λ (b : Bool). ((b && false) || list_any (λ x. g x && false) es) ≡ false) [ true ↦ none_left es | false ↦ none_left es ]
 
-  one_more : (k : K) (ks : List K) (es : List E) → (list_any (λ e. f e k && g e) es || list_any (λ e. g e && list_any (f e) ks) es) ≡ list_any (λ e. g e && (f e k || list_any (f e) ks)) es
+  one_more : (k : K) (ks : List K) (es : List E)
+      → (list_any (λ e. f e k && g e) es || list_any (λ e. g e && list_any (f e) ks) es) ≡ list_any (λ e. g e && (f e k || list_any (f e) ks)) es
   one_more k ks [] = refl
   one_more k ks (e ∷ es) =
       bools (f e k) (g e) (list_any (f e) ks) (list_any (λ x. f x k && g x) es) (list_any (λ x. g x && list_any (f x) ks) es)

@@ -75,24 +75,28 @@ item_fits most (item t ts) (suc i) h = item_fits most ts i h.1
 abbrev Goes : ℕ → (Tree → List Reached) → Type 0
 Goes most go = (t : Tree) → Fits most t → AllByRecursion (IfFound most) (go t)
 
-on_fits : (most : ℕ) (go : Tree → List Reached) (found : Option Tree) (none : List Reached) → Goes most go → IfFound most found → AllByRecursion (IfFound most) none → AllByRecursion (IfFound most) (onwards go found none)
+on_fits : (most : ℕ) (go : Tree → List Reached) (found : Option Tree) (none : List Reached) → Goes most go → IfFound most found
+    → AllByRecursion (IfFound most) none → AllByRecursion (IfFound most) (onwards go found none)
 on_fits most go None none goes h n = n
 on_fits most go (Some t) none goes h n = goes t h
 
-elements_fit : (most : ℕ) (go : Tree → List Reached) (name : List ℕ) (ts : Items) → Goes most go → AllFit most ts → AllByRecursion (IfFound most) (in_elements go name ts)
+elements_fit : (most : ℕ) (go : Tree → List Reached) (name : List ℕ) (ts : Items) → Goes most go → AllFit most ts
+    → AllByRecursion (IfFound most) (in_elements go name ts)
 elements_fit most go name no_items goes h = tt
 elements_fit most go name (item (scalar s) ts) goes h = elements_fit most go name ts goes h.1
 elements_fit most go name (item (array us) ts) goes h = elements_fit most go name ts goes h.1
 elements_fit most go name (item (document ps) ts) goes h =
     append_all (IfFound most) (onwards go (lookup ps name) (if is_digits name then [] else None ∷ [])) (in_elements go name ts)
-    (on_fits most go (lookup ps name) (if is_digits name then [] else None ∷ []) goes (field_fits most ps name h.0.lawful (pairs_inside most ps h.0)) (either (is_digits name)))
+    (on_fits most go (lookup ps name) (if is_digits name then [] else None ∷ []) goes (field_fits most ps name h.0.lawful (pairs_inside most ps h.0))
+    (either (is_digits name)))
     (elements_fit most go name ts goes h.1)
   where
     either : (b : Bool) → AllByRecursion (IfFound most) (if b then [] else None ∷ [])
     either true = tt
     either false = (tt, tt)
 
-place_fits : (most : ℕ) (go : Tree → List Reached) (name : List ℕ) (ts : Items) → Goes most go → AllFit most ts → AllByRecursion (IfFound most) (in_place go name ts)
+place_fits : (most : ℕ) (go : Tree → List Reached) (name : List ℕ) (ts : Items) → Goes most go → AllFit most ts
+    → AllByRecursion (IfFound most) (in_place go name ts)
 place_fits most go name ts goes h = by (index_of name)
   where
     by : (at : Option ℕ) → AllByRecursion (IfFound most) (onwards go (option_and_then (item_at ts) at) [])
@@ -143,7 +147,8 @@ or_missing_small : (rs : List Reached) → AllByRecursion Small rs → AllByRecu
 or_missing_small [] h = (tt, tt)
 or_missing_small (r ∷ rs) h = h
 
-with_key : (f : Field) (fs : List Field) (k : Key) (is : List (List Key)) → IsKey k → AllByRecursion (IsIndexKey fs) is → AllByRecursion (IsIndexKey (f ∷ fs)) (map (λ ks. k ∷ ks) is)
+with_key : (f : Field) (fs : List Field) (k : Key) (is : List (List Key)) → IsKey k → AllByRecursion (IsIndexKey fs) is
+    → AllByRecursion (IsIndexKey (f ∷ fs)) (map (λ ks. k ∷ ks) is)
 with_key f fs k [] g h = tt
 with_key f fs k (ks ∷ is) g h = ((g, h.0), with_key f fs k is g h.1)
 
@@ -151,11 +156,13 @@ with_keys : (f : Field) (fs : List Field) (ks : List Key) (is : List (List Key))
     → AllByRecursion (IsIndexKey (f ∷ fs)) (flat_map (λ k. map (λ rest. k ∷ rest) is) ks)
 with_keys f fs [] is g h = tt
 with_keys f fs (k ∷ ks) is g h =
-    append_all (IsIndexKey (f ∷ fs)) (map (λ rest. k ∷ rest) is) (flat_map (λ l. map (λ rest. l ∷ rest) is) ks) (with_key f fs k is g.0 h) (with_keys f fs ks is g.1 h)
+    append_all (IsIndexKey (f ∷ fs)) (map (λ rest. k ∷ rest) is) (flat_map (λ l. map (λ rest. l ∷ rest) is) ks) (with_key f fs k is g.0 h)
+    (with_keys f fs ks is g.1 h)
 
 pub keys_spellable : KeysSpellable
 keys_spellable [] ps h = (tt, tt)
 keys_spellable (f ∷ fs) ps h =
     let reached = reach_fits 1048576 (parts_of f.path) (document ps) (record { lawful = h.0; size = h.1 }) in
-    with_keys f fs (field_keys f.path ps) (index_keys fs ps) (all_are_keys (or_missing (reach (parts_of f.path) (document ps))) (or_missing_small (reach (parts_of f.path) (document ps)) reached))
+    with_keys f fs (field_keys f.path ps) (index_keys fs ps)
+    (all_are_keys (or_missing (reach (parts_of f.path) (document ps))) (or_missing_small (reach (parts_of f.path) (document ps)) reached))
     (keys_spellable fs ps h)

@@ -25,7 +25,8 @@ is_spelled cs h =
 
 -- ---- one list
 
-same_values : (xs ys : List Entry) → Rises (entry_keys xs) → Rises (entry_keys ys) → ((x : Entry) → Among x xs → Among x ys) → ((x : Entry) → Among x ys → Among x xs) → (k : List ℕ) → value_at k xs ≡ value_at k ys
+same_values : (xs ys : List Entry) → Rises (entry_keys xs) → Rises (entry_keys ys) → ((x : Entry) → Among x xs → Among x ys)
+    → ((x : Entry) → Among x ys → Among x xs) → (k : List ℕ) → value_at k xs ≡ value_at k ys
 same_values xs ys hx hy to from k = by (value_at k xs) refl (value_at k ys) refl
   where
     by : (v : Option (List ℕ)) → value_at k xs ≡ v → (w : Option (List ℕ)) → value_at k ys ≡ w → value_at k xs ≡ value_at k ys
@@ -34,7 +35,8 @@ same_values xs ys hx hy to from k = by (value_at k xs) refl (value_at k ys) refl
     by None e None f = e ∙ sym f
 
 -- two maps with the same entries are one list
-pub same_map : (xs ys : List Entry) → Rises (entry_keys xs) → Rises (entry_keys ys) → ((x : Entry) → Among x xs → Among x ys) → ((x : Entry) → Among x ys → Among x xs) → xs ≡ ys
+pub same_map : (xs ys : List Entry) → Rises (entry_keys xs) → Rises (entry_keys ys) → ((x : Entry) → Among x xs → Among x ys)
+    → ((x : Entry) → Among x ys → Among x xs) → xs ≡ ys
 same_map xs ys hx hy to from = one_map xs ys hx hy (same_values xs ys hx hy to from)
 
 -- the one has each entry of the other

@@ -20,7 +20,8 @@ pub record Exchanged (gone new old now : List Entry) : Type 0 where
   pub away : (x : Entry) → Among x now → HasKey x.key gone → Among x new
   pub own : (x : Entry) → Among x gone → Among x old
 
-module _ (gone new : List Entry) (cs : List Collection) (c now : Collection) (h : MayBecome c now cs) (t : Exchanged gone new (collection_entries c) (collection_entries now)) where
+module _ (gone new : List Entry) (cs : List Collection) (c now : Collection) (h : MayBecome c now cs)
+    (t : Exchanged gone new (collection_entries c) (collection_entries now)) where
   others : (d : Collection) → Among d (without_collection c.name cs) → Among d (put_collection now cs)
   others d g = among_put now cs d h.lawful.apart (inr (subst (λ (m : List ℕ). Among d (without_collection m cs)) (sym h.named) g))
 
@@ -33,12 +34,14 @@ module _ (gone new : List Entry) (cs : List Collection) (c now : Collection) (h 
   left_all : (x : Entry) → Among x (state_entries cs) → HasKey x.key gone ⊎ (HasKey x.key new ⊎ Among x (state_entries (put_collection now cs)))
   left_all x p = let d = among_flat collection_entries x cs p in by d.0 d.2 (found_split cs c.name c d.0 h.found d.1)
     where
-      inside : HasKey x.key gone ⊎ (HasKey x.key new ⊎ Among x (collection_entries now)) → HasKey x.key gone ⊎ (HasKey x.key new ⊎ Among x (state_entries (put_collection now cs)))
+      inside : HasKey x.key gone ⊎ (HasKey x.key new ⊎ Among x (collection_entries now))
+          → HasKey x.key gone ⊎ (HasKey x.key new ⊎ Among x (state_entries (put_collection now cs)))
       inside (inl k) = inl k
       inside (inr (inl k)) = inr (inl k)
       inside (inr (inr g)) = inr (inr (in_now x g))
 
-      by : (d : Collection) → Among x (collection_entries d) → (d ≡ c) ⊎ Among d (without_collection c.name cs) → HasKey x.key gone ⊎ (HasKey x.key new ⊎ Among x (state_entries (put_collection now cs)))
+      by : (d : Collection) → Among x (collection_entries d) → (d ≡ c) ⊎ Among d (without_collection c.name cs)
+          → HasKey x.key gone ⊎ (HasKey x.key new ⊎ Among x (state_entries (put_collection now cs)))
       by d here (inl e) = inside (t.left x (subst (λ (y : Collection). Among x (collection_entries y)) e here))
       by d here (inr g) = inr (inr (among_each collection_entries x d (put_collection now cs) (others d g) here))
 
@@ -58,7 +61,8 @@ module _ (gone new : List Entry) (cs : List Collection) (c now : Collection) (h 
       by : (d : Collection) → Among x (collection_entries d) → (d ≡ now) ⊎ Among d (without_collection c.name cs) → Among x new
       by d here (inl e) = t.away x (subst (λ (y : Collection). Among x (collection_entries y)) e here) k
       by d here (inr g) =
-          let same : d ≡ c = one_home cs d c x k.0 h.lawful (without_in cs c.name d g) (found_in cs c.name c h.found) (one_of d x here) (one_of c k.0 (t.own k.0 k.1)) (sym k.2) in
+          let same : d ≡ c =
+          one_home cs d c x k.0 h.lawful (without_in cs c.name d g) (found_in cs c.name c h.found) (one_of d x here) (one_of c k.0 (t.own k.0 k.1)) (sym k.2) in
           absurd (without_other cs c.name d h.lawful.apart g (sym (ap (λ (y : Collection). y.name) same)))
 
   pub exchanged_leads : Leads (removals gone ++ puts new) cs (put_collection now cs)

@@ -25,7 +25,8 @@ abbrev Told : Collection → Definition → List ℕ → List ℕ → Type 0
 Told c i key rest = (d : Pairs) × Contains c.documents d × Contains (encoded_keys i.fields d) key × (rest ≡ tree_text (key_of d))
 
 -- the entry is of this index of this collection
-told_here : (c : Collection) (i : Definition) (ks : List Key) (rest : List ℕ) (x : Entry) → IsKept c → Among i c.indexes → IsIndexKey i.fields ks → x.key ≡ key_under c.number i.number (key_bytes i.fields ks ++ rest)
+told_here : (c : Collection) (i : Definition) (ks : List Key) (rest : List ℕ) (x : Entry) → IsKept c → Among i c.indexes → IsIndexKey i.fields ks
+    → x.key ≡ key_under c.number i.number (key_bytes i.fields ks ++ rest)
     → (k : IsKeyOf c x) → k.index ≡ i → Told c i (key_bytes i.fields ks) rest
 told_here c i ks rest x kept listed spellable e k one =
     let key = key_bytes i.fields ks in
@@ -33,7 +34,9 @@ told_here c i ks rest x kept listed spellable e k one =
     let own = encoded_of i.fields k.document k.key (storable_of c k.document kept k.there) keyed in
     let ends : k.key ++ tree_text (key_of k.document) ≡ key ++ rest =
     same_rest c.number c.number k.index.number i.number (k.key ++ tree_text (key_of k.document)) (key ++ rest) (sym (ap (λ (y : Entry). y.key) k.is) ∙ e) in
-    let same : k.key ≡ key = own.is ∙ (keys_agree i.fields own.keys ks (tree_text (key_of k.document)) rest own.spellable spellable).1 ((λ t. sym own.is t ++ tree_text (key_of k.document)) ∙ ends) in (
+    let same : k.key ≡ key =
+    own.is ∙ (keys_agree i.fields own.keys ks (tree_text (key_of k.document)) rest own.spellable spellable).1
+    ((λ t. sym own.is t ++ tree_text (key_of k.document)) ∙ ends) in (
       k.document,
       contains_of c.documents k.document k.there,
       contains_of (encoded_keys i.fields k.document) key (subst (λ (l : List ℕ). Among l (encoded_keys i.fields k.document)) same keyed),
@@ -69,11 +72,15 @@ tells_document xs cs c i ks rest h found listed spellable x in_xs e = of_home (t
 
         in_c_too : IsKeyOf c x → Told c i (key_bytes i.fields ks) rest
         in_c_too k =
-            told_here c i ks rest x kept in_c spellable e k (one_index c k.index i kept k.listed in_c (these c.number k.index.number (key_under_of c x kept k)).1)
+            told_here c i ks rest x kept in_c spellable e k
+            (one_index c k.index i kept k.listed in_c (these c.number k.index.number (key_under_of c x kept k)).1)
 
         at : IsOneOf home.collection x → Told c i (key_bytes i.fields ks) rest
         at (inl f) = absurd (let zero = (these 0 0 (catalogue_under home.collection x f)).0 in omega (arith, zero, kept.least))
-        at (inr (inl d)) = absurd (let zero = (these home.collection.number 0 (document_under home.collection x home_kept d)).1 in omega (arith, zero, (listed_of c i kept in_c).lawful.numbered))
+        at (inr (inl d)) =
+            absurd (let zero = (these home.collection.number 0 (document_under home.collection x home_kept d)).1 in
+            omega (arith, zero, (listed_of c i kept in_c).lawful.numbered))
         at (inr (inr k)) =
-            let one = one_number cs home.collection c h.lawful.numbers home.there there (these home.collection.number k.index.number (key_under_of home.collection x home_kept k)).0 in
+            let one = one_number cs home.collection c h.lawful.numbers home.there there
+            (these home.collection.number k.index.number (key_under_of home.collection x home_kept k)).0 in
             in_c_too (subst (λ (f : Collection). IsKeyOf f x) one k)

@@ -1,5 +1,6 @@
 -- Texts of keys, one behind the other.
-use Rattle.std.proofs.Common.{◌≡◌, ℕ, suc, ◌+◌, ◌<◌, Bool, true, false, nat_lt, List, [], ◌∷◌, ◌++◌, length, map, drop, get_or, Result, Ok, Err, refl, sym, ap, ◌∙◌, arith}
+use Rattle.std.proofs.Common.{◌≡◌, ℕ, suc, ◌+◌, ◌<◌, Bool, true, false, nat_lt, List, [], ◌∷◌, ◌++◌, length, map, drop, get_or, Result, Ok, Err, refl, sym, ap}
+use Rattle.std.proofs.Common.{◌∙◌, arith}
 use Rattle.std.specs.Prelude.{◌≢◌, ◌==◌}
 use Rattle.std.proofs.Math.Seq.{drop-cons}
 use Rattle.std.specs.List.{flat_map}
@@ -32,14 +33,17 @@ with_texts-append way texts [] ls = refl
 with_texts-append way texts (k ∷ ks) ls =
     by (nat_lt 500 (length (directed_text way k))) (with_texts-append way (texts ++ directed_text way k ∷ []) ks ls)
   where
-    by : (long : Bool) → with_texts way (texts ++ directed_text way k ∷ []) (ks ++ ls) ≡ (with_texts way (texts ++ directed_text way k ∷ []) ks >>= λ more. with_texts way more ls)
+    by : (long : Bool)
+        → with_texts way (texts ++ directed_text way k ∷ []) (ks ++ ls)
+        ≡ (with_texts way (texts ++ directed_text way k ∷ []) ks >>= λ more. with_texts way more ls)
         → unless long refusals.KeyTooLong (with_texts way (texts ++ directed_text way k ∷ []) (ks ++ ls))
         ≡ (unless long refusals.KeyTooLong (with_texts way (texts ++ directed_text way k ∷ []) ks) >>= λ more. with_texts way more ls)
     by true later = refl
     by false later = later
 
 -- what one more reached value gives, which its keys decide
-module _ (way : Direction) (rs : List Held) (i : ℕ) (r : Held) (texts : List (List ℕ)) (whole : Result (List (List ℕ)) Refusal) (lt : i < length rs) (is : r ≡ get_or rs i r)
+module _ (way : Direction) (rs : List Held) (i : ℕ) (r : Held) (texts : List (List ℕ)) (whole : Result (List (List ℕ)) Refusal) (lt : i < length rs)
+    (is : r ≡ get_or rs i r)
     (so_far : with_texts way texts (flat_map keys_of (map reached (drop i rs))) ≡ whole) where
   rest : List Key
   rest = flat_map keys_of (map reached (drop (i + 1) rs))
@@ -54,7 +58,8 @@ module _ (way : Direction) (rs : List Held) (i : ℕ) (r : Held) (texts : List (
   pub reached_refused : (e : Refusal) → with_texts way texts (keys_of (reached r)) ≡ Err e → whole ≡ Err e
   reached_refused e gave = sym taken ∙ ap (λ (p : Result (List (List ℕ)) Refusal). p >>= λ more. with_texts way more rest) gave
 
-  pub reached_more : (next : List (List ℕ)) → with_texts way texts (keys_of (reached r)) ≡ Ok next → with_texts way next (flat_map keys_of (map reached (drop (i + 1) rs))) ≡ whole
+  pub reached_more : (next : List (List ℕ)) → with_texts way texts (keys_of (reached r)) ≡ Ok next
+      → with_texts way next (flat_map keys_of (map reached (drop (i + 1) rs))) ≡ whole
   unfolding rest
   reached_more next gave = sym (ap (λ (p : Result (List (List ℕ)) Refusal). p >>= λ more. with_texts way more rest) gave) ∙ taken
 

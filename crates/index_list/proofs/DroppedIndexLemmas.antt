@@ -1,5 +1,6 @@
 -- Which indexes are dropped, and what that makes of a collection.
-use Rattle.std.proofs.Common.{◌≡◌, ◌+◌, ◌<◌, ◌≤◌, ℕ, zero, suc, Bool, true, false, cond, List, [], ◌∷◌, ◌++◌, length, get_or, take, drop, Some, None, Result, Ok, refl, sym, ap, subst, ◌∙◌, arith}
+use Rattle.std.proofs.Common.{◌≡◌, ◌+◌, ◌<◌, ◌≤◌, ℕ, zero, suc, Bool, true, false, cond, List, [], ◌∷◌, ◌++◌, length, get_or, take, drop, Some, None, Result}
+use Rattle.std.proofs.Common.{Ok, refl, sym, ap, subst, ◌∙◌, arith}
 use Rattle.std.specs.Prelude.{nat_lt, not}
 use Rattle.std.specs.List.{filter, position, position_or_len, remove}
 use Rattle.std.proofs.lemmas.Bool.Decides.{nat_tests}
@@ -40,13 +41,15 @@ module _ {X : Type 0} (p : X → Bool) where
   nothing_passes xs is = fails_all xs (past_all xs is)
 
   -- what passes is filtered out, whether it stands there or not
-  pub left_without : (xs : List X) (i : ℕ) (x : X) → i < length xs → x ≡ get_or xs i x → p x ≡ true → filter (λ y. not (p y)) (remove xs i) ≡ filter (λ y. not (p y)) xs
+  pub left_without : (xs : List X) (i : ℕ) (x : X) → i < length xs → x ≡ get_or xs i x → p x ≡ true
+      → filter (λ y. not (p y)) (remove xs i) ≡ filter (λ y. not (p y)) xs
   left_without xs i x within here passes =
       let q : X → Bool = λ y. not (p y) in
       let front = take i xs in
       let back = drop (suc i) xs in
       let gone : filter q (x ∷ back) ≡ filter q back = ap (λ (b : Bool). cond (not b) (x ∷ filter q back) (filter q back)) passes in
-      filter-append q front back ∙ ap (λ (ys : List X). filter q front ++ ys) (sym gone) ∙ sym (filter-append q front (x ∷ back)) ∙ ap (filter q) (sym (cut_at xs i x within here))
+      filter-append q front back ∙ ap (λ (ys : List X). filter q front ++ ys) (sym gone) ∙ sym (filter-append q front (x ∷ back))
+      ∙ ap (filter q) (sym (cut_at xs i x within here))
 
 element_at : {X : Type 0} (xs : List X) (i : ℕ) → i < length xs → (x : X) × (x ≡ get_or xs i x)
 element_at [] i below = absurd (omega (arith, below))
@@ -78,7 +81,8 @@ module _ (away : DroppedIndexes) (is : List Definition) where
     pub fewer_remain : length (remaining away is) < length is
     fewer_remain =
         let stays : length (remaining away (remove is at)) ≤ length (remove is at) =
-        subst (λ (n : ℕ). n ≤ length (remove is at)) (sym (length-filter (λ k. not (goes k)) (remove is at))) (count_by-le-length (λ k. not (goes k)) (remove is at)) in
+        subst (λ (n : ℕ). n ≤ length (remove is at)) (sym (length-filter (λ k. not (goes k)) (remove is at)))
+        (count_by-le-length (λ k. not (goes k)) (remove is at)) in
         omega (arith, stays, ap length remain_without, length-remove is at within_them)
 
 -- ---- refusals
@@ -89,12 +93,17 @@ none_remain (i ∷ is) = none_remain is
 
 pub left_all : (away : DroppedIndexes) (is : List Definition) → away ≡ all → left_by away is ≡ Ok (remaining away is)
 left_all away is every =
-    subst (λ (d : DroppedIndexes). left_by d is ≡ Ok (remaining d is)) (sym every) (ap (λ (js : List Definition). let r : Result (List Definition) Refusal = Ok js in r) (sym (none_remain is)))
+    subst (λ (d : DroppedIndexes). left_by d is ≡ Ok (remaining d is)) (sym every)
+    (ap (λ (js : List Definition). let r : Result (List Definition) Refusal = Ok js in r) (sym (none_remain is)))
 
 -- ---- a collection of the name
 
-pub dropped_there : (cs : List Collection) (name : List ℕ) (away : DroppedIndexes) (c : Collection) → find_collection cs name ≡ Some c → (r : Result (List Definition) Refusal) → left_by away c.indexes ≡ r
-    → index_dropped cs name away ≡ ((r >>= (λ left. let x : Result Collection Refusal = Ok (record c { indexes = left }) in x)) >>= (λ next. let x : Result (List Collection) Refusal = Ok (put_collection next cs) in x))
+pub dropped_there : (cs : List Collection) (name : List ℕ) (away : DroppedIndexes) (c : Collection) → find_collection cs name ≡ Some c
+    → (r : Result (List Definition) Refusal) → left_by away c.indexes ≡ r
+    → index_dropped cs name away
+    ≡ ((r >>= (λ left. let x : Result Collection Refusal = Ok (record c { indexes = left }) in x)) >>=
+    (λ next. let x : Result (List Collection) Refusal = Ok (put_collection next cs) in x))
 dropped_there cs name away c found r is =
     ap (dropped_in away cs) found
-    ∙ ap (λ (q : Result (List Definition) Refusal). (q >>= (λ left. let x : Result Collection Refusal = Ok (record c { indexes = left }) in x)) >>= (λ next. let x : Result (List Collection) Refusal = Ok (put_collection next cs) in x)) is
+    ∙ ap (λ (q : Result (List Definition) Refusal). (q >>= (λ left. let x : Result Collection Refusal = Ok (record c { indexes = left }) in x)) >>=
+    (λ next. let x : Result (List Collection) Refusal = Ok (put_collection next cs) in x)) is

@@ -1,5 +1,6 @@
 -- Which indexes are to be made, and what they make of a collection.
-use Rattle.std.proofs.Common.{◌≡◌, ◌≢◌, ◌⊎◌, inl, inr, ◌+◌, ◌<◌, ◌≤◌, ℕ, suc, Bool, true, false, ◌&&◌, ◌||◌, List, [], ◌∷◌, ◌++◌, length, length-append, get_or, drop, map, Result, Ok, Err, refl, sym, ap, subst, ◌∙◌, arith}
+use Rattle.std.proofs.Common.{◌≡◌, ◌≢◌, ◌⊎◌, inl, inr, ◌+◌, ◌<◌, ◌≤◌, ℕ, suc, Bool, true, false, ◌&&◌, ◌||◌, List, [], ◌∷◌, ◌++◌, length, length-append, get_or}
+use Rattle.std.proofs.Common.{drop, map, Result, Ok, Err, refl, sym, ap, subst, ◌∙◌, arith}
 use Rattle.std.specs.Prelude.{◌==◌, nat_le, if◌then◌else◌, All}
 use Rattle.std.specs.List.{AllByRecursion, list_any}
 use Rattle.std.proofs.lemmas.List.Elements.{All-head, All-tail}
@@ -19,7 +20,8 @@ use Rattle.index.proofs.EnteringLemmas.{has_entered}
 use Rattle.index.proofs.KeptSteps.{long_map}
 use Rattle.index.proofs.LawfulLaws.{all_of}
 use Rattle.index.proofs.MemberLemmas.{Among}
-use Rattle.database_model.specs.CreateIndexes.{are_same_fields, is_in_conflict, is_same_field, is_there, numbered, unused_index, with_new_index, with_new_indexes}
+use Rattle.database_model.specs.CreateIndexes.{are_same_fields, is_in_conflict, is_same_field, is_there, numbered, unused_index, with_new_index}
+use Rattle.database_model.specs.CreateIndexes.{with_new_indexes}
 use Rattle.database_model.specs.Lawful.{AreShortIndexes, IsShortIndex}
 use Rattle.statements.proofs.Numbers.{unused_unused}
 use Rattle.statements.proofs.ShortIndexes.{noted_short}
@@ -62,7 +64,8 @@ has_number_is (i ∷ is) n = ap (λ (b : Bool). (i.number == n) || b) (has_numbe
 pub fresh_number : (is : List Definition) → All (λ j. j.number ≢ unused_index is) is
 fresh_number is = all_of (λ j. j.number ≢ unused_index is) is (λ j there same. by is j there same (unused_unused (map (λ i. empty_collection [] i.number) is)))
   where
-    by : (js : List Definition) (j : Definition) → Among j js → j.number ≡ unused_index is → uses (map (λ i. empty_collection [] i.number) js) (unused_index is) ≡ false → ⊥
+    by : (js : List Definition) (j : Definition) → Among j js → j.number ≡ unused_index is
+        → uses (map (λ i. empty_collection [] i.number) js) (unused_index is) ≡ false → ⊥
     by [] j there same free = there
     by (k ∷ js) j (inl this) same free =
         let is_it : (k.number == unused_index is) ≡ true = grind (arith, nat_tests, ap (λ (x : Definition). x.number) this, same) in
@@ -70,7 +73,8 @@ fresh_number is = all_of (λ j. j.number ≢ unused_index is) is (λ j there sam
         cc
     by (k ∷ js) j (inr later) same free = by js j later same (rest (k.number == unused_index is) free)
       where
-        rest : (b : Bool) → (b || uses (map (λ i. empty_collection [] i.number) js) (unused_index is)) ≡ false → uses (map (λ i. empty_collection [] i.number) js) (unused_index is) ≡ false
+        rest : (b : Bool) → (b || uses (map (λ i. empty_collection [] i.number) js) (unused_index is)) ≡ false
+            → uses (map (λ i. empty_collection [] i.number) js) (unused_index is) ≡ false
         rest true e = absurd cc
         rest false e = e
 
@@ -78,7 +82,8 @@ fresh_number is = all_of (λ j. j.number ≢ unused_index is) is (λ j there sam
 
 module _ (c : Collection) (n : NewIndex) where
   abbrev after_conflict : Bool → Result Collection Refusal
-  after_conflict b = unless b refusals.IndexOptionsConflict (unless (nat_le 16 (length c.indexes)) refusals.TooMany (with_index c (defined (unused_index c.indexes) n)))
+  after_conflict b =
+      unless b refusals.IndexOptionsConflict (unless (nat_le 16 (length c.indexes)) refusals.TooMany (with_index c (defined (unused_index c.indexes) n)))
 
   pub planned_there : is_there c.indexes n ≡ true → with_new_index c n ≡ Ok c
   planned_there there = ap (λ (b : Bool). if b then Ok c else after_conflict (is_in_conflict c.indexes n)) there
@@ -122,7 +127,8 @@ with_index_more c next i e =
     let s = step_of (enter_each (alone c i) (map as_new c.documents)) (λ made. Ok (record c { indexes = c.indexes ++ made.indexes })) next e in
     let long = each_long (map as_new c.documents) (alone c i) s.0 s.1 in
     let same : record c { indexes = c.indexes ++ s.0.indexes } ≡ next = cc in
-    subst (IsWithMore c) same (record { named = refl; numbered = refl; documents = refl; longer = inr (omega (arith, long, length-append c.indexes s.0.indexes)) })
+    subst (IsWithMore c) same
+    (record { named = refl; numbered = refl; documents = refl; longer = inr (omega (arith, long, length-append c.indexes s.0.indexes)) })
 
 pub with_new_index_more : (c next : Collection) (n : NewIndex) → with_new_index c n ≡ Ok next → IsWithMore c next
 with_new_index_more c next n e = by (is_there c.indexes n) (is_in_conflict c.indexes n) (nat_le 16 (length c.indexes)) e
@@ -130,7 +136,9 @@ with_new_index_more c next n e = by (is_there c.indexes n) (is_in_conflict c.ind
     new : Definition
     new = defined (unused_index c.indexes) n
 
-    by : (there conflict full : Bool) → (if there then Ok c else unless conflict refusals.IndexOptionsConflict (unless full refusals.TooMany (with_index c new))) ≡ Ok next → IsWithMore c next
+    by : (there conflict full : Bool)
+        → (if there then Ok c else unless conflict refusals.IndexOptionsConflict (unless full refusals.TooMany (with_index c new))) ≡ Ok next
+        → IsWithMore c next
     by true conflict full f = let same : c ≡ next = cc in subst (IsWithMore c) same (with_more_itself c)
     by false true full f = absurd cc
     by false false true f = absurd cc
@@ -162,13 +170,15 @@ each_noted : (ws : List DocumentWrite) (c next : Collection) → enter_each c ws
 each_noted [] c next e h = let same : c ≡ next = cc in subst (λ (n : Collection). AreShortIndexes n.indexes) same h
 each_noted (w ∷ ws) c next e h =
     let s = step_of (entered c w) (λ mid. enter_each mid ws) next e in
-    each_noted ws s.0 next s.2 (subst AreShortIndexes (sym (ap (λ (n : Collection). n.indexes) (has_entered c s.0 w s.1).is)) (noted_short w.document c.indexes h))
+    each_noted ws s.0 next s.2
+    (subst AreShortIndexes (sym (ap (λ (n : Collection). n.indexes) (has_entered c s.0 w s.1).is)) (noted_short w.document c.indexes h))
 
 both_short : (is js : List Definition) → AllByRecursion IsShortIndex is → AllByRecursion IsShortIndex js → AllByRecursion IsShortIndex (is ++ js)
 both_short [] js h k = k
 both_short (i ∷ is) js h k = (h.0, both_short is js h.1 k)
 
-with_index_short : (c next : Collection) (i : Definition) → IsShortIndex i → AreShortIndexes c.indexes → length c.indexes < 16 → with_index c i ≡ Ok next → AreShortIndexes next.indexes
+with_index_short : (c next : Collection) (i : Definition) → IsShortIndex i → AreShortIndexes c.indexes → length c.indexes < 16 → with_index c i ≡ Ok next
+    → AreShortIndexes next.indexes
 with_index_short c next i short h few e =
     let s = step_of (enter_each (alone c i) (map as_new c.documents)) (λ made. Ok (record c { indexes = c.indexes ++ made.indexes })) next e in
     let long = each_long (map as_new c.documents) (alone c i) s.0 s.1 in
@@ -177,14 +187,17 @@ with_index_short c next i short h few e =
     subst (λ (n : Collection). AreShortIndexes n.indexes) same
     (record { each = both_short c.indexes s.0.indexes h.each made.each; few = omega (arith, long, few, length-append c.indexes s.0.indexes) })
 
-with_new_index_short : (c next : Collection) (n : NewIndex) → IsShortNewIndex n → AreShortIndexes c.indexes → with_new_index c n ≡ Ok next → AreShortIndexes next.indexes
+with_new_index_short : (c next : Collection) (n : NewIndex) → IsShortNewIndex n → AreShortIndexes c.indexes → with_new_index c n ≡ Ok next
+    → AreShortIndexes next.indexes
 with_new_index_short c next n short h e = by (is_there c.indexes n) (is_in_conflict c.indexes n) (nat_le 16 (length c.indexes)) refl e
   where
     new_short : IsShortIndex (defined (unused_index c.indexes) n)
     new_short = record { short = short.short; few = short.few; paths = short.paths }
 
     by : (there conflict full : Bool) → nat_le 16 (length c.indexes) ≡ full
-        → (if there then Ok c else unless conflict refusals.IndexOptionsConflict (unless full refusals.TooMany (with_index c (defined (unused_index c.indexes) n)))) ≡ Ok next → AreShortIndexes next.indexes
+        → (if there then Ok c
+        else unless conflict refusals.IndexOptionsConflict (unless full refusals.TooMany (with_index c (defined (unused_index c.indexes) n)))) ≡ Ok next
+        → AreShortIndexes next.indexes
     by true conflict full is f = let same : c ≡ next = cc in subst (λ (m : Collection). AreShortIndexes m.indexes) same h
     by false true full is f = absurd cc
     by false false true is f = absurd cc
@@ -192,7 +205,8 @@ with_new_index_short c next n short h e = by (is_there c.indexes n) (is_in_confl
         let few : length c.indexes < 16 = grind (arith, nat_tests, is) in
         with_index_short c next (defined (unused_index c.indexes) n) new_short h few f
 
-pub with_new_indexes_short : (c next : Collection) (ns : List NewIndex) → All IsShortNewIndex ns → AreShortIndexes c.indexes → with_new_indexes c ns ≡ Ok next → AreShortIndexes next.indexes
+pub with_new_indexes_short : (c next : Collection) (ns : List NewIndex) → All IsShortNewIndex ns → AreShortIndexes c.indexes → with_new_indexes c ns ≡ Ok next
+    → AreShortIndexes next.indexes
 with_new_indexes_short c next [] short h e = let same : c ≡ next = cc in subst (λ (m : Collection). AreShortIndexes m.indexes) same h
 with_new_indexes_short c next (n ∷ ns) short h e =
     let s = step_of (with_new_index c n) (λ mid. with_new_indexes mid ns) next e in

@@ -35,23 +35,30 @@ array_first documents = by (array_of documents)
 pub array_last : (ts : Items) → array_after ts [] ≡ Ok ts
 array_last ts = ap (λ (us : Items). Ok us) (append_items-none ts)
 
-pub array_next : (ts : Items) (bytes : List ℕ) (documents : List (List ℕ)) → array_after ts (bytes ∷ documents) ≡ (with_document ts bytes >>= λ us. array_after us documents)
+pub array_next : (ts : Items) (bytes : List ℕ) (documents : List (List ℕ))
+    → array_after ts (bytes ∷ documents) ≡ (with_document ts bytes >>= λ us. array_after us documents)
 array_next ts bytes documents = by (value_at 98 kinds.Document bytes)
   where
-    behind : (t : Tree) (r : Result Items BsonFault) → ((r >>= λ us. Ok (item t us)) >>= λ us. Ok (append_items ts us)) ≡ (r >>= λ us. Ok (append_items (append_items ts (item t no_items)) us))
+    behind : (t : Tree) (r : Result Items BsonFault)
+        → ((r >>= λ us. Ok (item t us)) >>= λ us. Ok (append_items ts us)) ≡ (r >>= λ us. Ok (append_items (append_items ts (item t no_items)) us))
     behind t (Ok us) = ap (λ (vs : Items). Ok vs) (sym (append_items-one ts t us))
     behind t (Err e) = refl
 
-    by : (r : Read Tree) → ((r >>= λ first. array_of documents >>= λ others. Ok (item first.0 others)) >>= λ us. Ok (append_items ts us)) ≡ ((r >>= λ t. Ok (append_items ts (item t.0 no_items))) >>= λ us. array_after us documents)
+    by : (r : Read Tree)
+        → ((r >>= λ first. array_of documents >>= λ others. Ok (item first.0 others)) >>= λ us. Ok (append_items ts us))
+        ≡ ((r >>= λ t. Ok (append_items ts (item t.0 no_items))) >>= λ us. array_after us documents)
     by (Ok t) = behind t.0 (array_of documents)
     by (Err e) = refl
 
 -- a section more
-pub sections_next : (ps : Pairs) (section : Section) (sections : List Section) → with_sequences ps (sequences_of (section ∷ sections)) ≡ (with_sequences ps (sequences_of (section ∷ [])) >>= λ qs. with_sequences qs (sequences_of sections))
+pub sections_next : (ps : Pairs) (section : Section) (sections : List Section)
+    → with_sequences ps (sequences_of (section ∷ sections))
+    ≡ (with_sequences ps (sequences_of (section ∷ [])) >>= λ qs. with_sequences qs (sequences_of sections))
 sections_next ps (body bytes) sections = refl
 sections_next ps (sequence found) sections = by (with_sequence ps found)
   where
-    by : (r : Result Pairs BsonFault) → (r >>= λ qs. with_sequences qs (sequences_of sections)) ≡ ((r >>= λ qs. with_sequences qs []) >>= λ qs. with_sequences qs (sequences_of sections))
+    by : (r : Result Pairs BsonFault)
+        → (r >>= λ qs. with_sequences qs (sequences_of sections)) ≡ ((r >>= λ qs. with_sequences qs []) >>= λ qs. with_sequences qs (sequences_of sections))
     by (Ok qs) = refl
     by (Err e) = refl
 
@@ -59,17 +66,20 @@ pub not_there : (ps : Pairs) (name : List ℕ) → is_some (lookup ps name) ≡ 
 not_there no_pairs name e = tt
 not_there (pair other t ps) name e = by (bytes_eq name other) refl e (not_there ps name)
   where
-    by : (b : Bool) → bytes_eq name other ≡ b → is_some (if b then Some t else lookup ps name) ≡ false → (is_some (lookup ps name) ≡ false → Lacks ps name) → (name ≢ other) × Lacks ps name
+    by : (b : Bool) → bytes_eq name other ≡ b → is_some (if b then Some t else lookup ps name) ≡ false → (is_some (lookup ps name) ≡ false → Lacks ps name)
+        → (name ≢ other) × Lacks ps name
     by true is e ih = absurd cc
     by false is e ih = (ne-bytes_eq name other is, ih e)
 
-pub found_none : {X Y : Type 0} (view : X → Y) (found : Option X) (there : Option Y) → option_map view found ≡ there → is_some found ≡ false → is_some there ≡ false
+pub found_none : {X Y : Type 0} (view : X → Y) (found : Option X) (there : Option Y) → option_map view found ≡ there → is_some found ≡ false
+    → is_some there ≡ false
 found_none view None there e none = ap is_some (sym e)
 found_none view (Some x) there e none = absurd cc
 
 -- ---- what stands at the front, as the loops take it
 
-module _ (ts : Items) (rest : List ℕ) (x : List ℕ × List ℕ) (total : Result Items BsonFault) (so_far : array_after ts (each_in part_at rest).0 ≡ total) (e : part_at rest ≡ Ok x) where
+module _ (ts : Items) (rest : List ℕ) (x : List ℕ × List ℕ) (total : Result Items BsonFault) (so_far : array_after ts (each_in part_at rest).0 ≡ total)
+    (e : part_at rest ≡ Ok x) where
   document_here : total ≡ (with_document ts x.0 >>= λ us. array_after us (each_in part_at x.1).0)
   document_here =
       sym so_far ∙ ap (λ (o : List (List ℕ) × List ℕ). array_after ts o.0) (one_more part_at part_shrinks rest x e) ∙ array_next ts x.0 (each_in part_at x.1).0
@@ -80,16 +90,20 @@ module _ (ts : Items) (rest : List ℕ) (x : List ℕ × List ℕ) (total : Resu
   pub document_fails : (fault : BsonFault) → Fails bson_faults.Memory fault (with_document ts x.0) → Fails bson_faults.Memory fault total
   document_fails fault f not_memory = document_here ∙ ap (λ (r : Result Items BsonFault). r >>= λ vs. array_after vs (each_in part_at x.1).0) (f not_memory)
 
-pub documents_over : (ts : Items) (rest : List ℕ) (total : Result Items BsonFault) (fault : FrameFault) → array_after ts (each_in part_at rest).0 ≡ total → part_at rest ≡ Err fault → total ≡ Ok ts
-documents_over ts rest total fault so_far e = sym so_far ∙ ap (λ (o : List (List ℕ) × List ℕ). array_after ts o.0) (no_more part_at rest fault e) ∙ array_last ts
+pub documents_over : (ts : Items) (rest : List ℕ) (total : Result Items BsonFault) (fault : FrameFault) → array_after ts (each_in part_at rest).0 ≡ total
+    → part_at rest ≡ Err fault → total ≡ Ok ts
+documents_over ts rest total fault so_far e =
+    sym so_far ∙ ap (λ (o : List (List ℕ) × List ℕ). array_after ts o.0) (no_more part_at rest fault e) ∙ array_last ts
 
 abbrev joined_with : Pairs → List ℕ → Result Pairs BsonFault
 joined_with ps rest = with_sequences ps (sequences_of (sections_in rest).0)
 
-module _ (ps : Pairs) (rest : List ℕ) (x : Section × List ℕ) (total : Result Pairs BsonFault) (so_far : joined_with ps rest ≡ total) (e : section_at rest ≡ Ok x) where
+module _ (ps : Pairs) (rest : List ℕ) (x : Section × List ℕ) (total : Result Pairs BsonFault) (so_far : joined_with ps rest ≡ total)
+    (e : section_at rest ≡ Ok x) where
   section_here : total ≡ (with_sequences ps (sequences_of (x.0 ∷ [])) >>= λ qs. joined_with qs x.1)
   section_here =
-      sym so_far ∙ ap (λ (o : List Section × List ℕ). with_sequences ps (sequences_of o.0)) (one_more section_at section_shrinks rest x e) ∙ sections_next ps x.0 (sections_in x.1).0
+      sym so_far ∙ ap (λ (o : List Section × List ℕ). with_sequences ps (sequences_of o.0)) (one_more section_at section_shrinks rest x e)
+      ∙ sections_next ps x.0 (sections_in x.1).0
 
   pub section_more : (qs : Pairs) → with_sequences ps (sequences_of (x.0 ∷ [])) ≡ Ok qs → joined_with qs x.1 ≡ total
   section_more qs is = sym (section_here ∙ ap (λ (r : Result Pairs BsonFault). r >>= λ us. joined_with us x.1) is)
@@ -97,8 +111,10 @@ module _ (ps : Pairs) (rest : List ℕ) (x : Section × List ℕ) (total : Resul
   pub section_fails : (fault : BsonFault) → Fails bson_faults.Memory fault (with_sequences ps (sequences_of (x.0 ∷ []))) → Fails bson_faults.Memory fault total
   section_fails fault f not_memory = section_here ∙ ap (λ (r : Result Pairs BsonFault). r >>= λ us. joined_with us x.1) (f not_memory)
 
-pub sections_over : (ps : Pairs) (rest : List ℕ) (total : Result Pairs BsonFault) (fault : FrameFault) → joined_with ps rest ≡ total → section_at rest ≡ Err fault → total ≡ Ok ps
-sections_over ps rest total fault so_far e = sym so_far ∙ ap (λ (o : List Section × List ℕ). with_sequences ps (sequences_of o.0)) (no_more section_at rest fault e)
+pub sections_over : (ps : Pairs) (rest : List ℕ) (total : Result Pairs BsonFault) (fault : FrameFault) → joined_with ps rest ≡ total
+    → section_at rest ≡ Err fault → total ≡ Ok ps
+sections_over ps rest total fault so_far e =
+    sym so_far ∙ ap (λ (o : List Section × List ℕ). with_sequences ps (sequences_of o.0)) (no_more section_at rest fault e)
 
 -- ---- fields that sections added
 
@@ -126,25 +142,32 @@ or_across false false c = refl
 
 pub lookup_named : (ps : List Pair) (name : List ℕ) → stands_in (names_of ps) name ≡ is_some (lookup (pairs_of ps) name)
 lookup_named [] name = refl
-lookup_named (p ∷ ps) name = ap (λ (b : Bool). bytes_eq name p.name || b) (lookup_named ps name) ∙ sym (if_some (bytes_eq name p.name) (tree p.value) (lookup (pairs_of ps) name))
+lookup_named (p ∷ ps) name =
+    ap (λ (b : Bool). bytes_eq name p.name || b) (lookup_named ps name) ∙ sym (if_some (bytes_eq name p.name) (tree p.value) (lookup (pairs_of ps) name))
 
-lookup_more : (ps : Pairs) (name other : List ℕ) (t : Tree) → is_some (lookup (append ps (pair name t no_pairs)) other) ≡ (bytes_eq other name || is_some (lookup ps other))
+lookup_more : (ps : Pairs) (name other : List ℕ) (t : Tree)
+    → is_some (lookup (append ps (pair name t no_pairs)) other) ≡ (bytes_eq other name || is_some (lookup ps other))
 lookup_more no_pairs name other t = if_some (bytes_eq other name) t None
 lookup_more (pair first u ps) name other t =
-    if_some (bytes_eq other first) u (lookup (append ps (pair name t no_pairs)) other) ∙ ap (λ (b : Bool). bytes_eq other first || b) (lookup_more ps name other t)
-    ∙ or_across (bytes_eq other first) (bytes_eq other name) (is_some (lookup ps other)) ∙ ap (λ (b : Bool). bytes_eq other name || b) (sym (if_some (bytes_eq other first) u (lookup ps other)))
+    if_some (bytes_eq other first) u (lookup (append ps (pair name t no_pairs)) other)
+    ∙ ap (λ (b : Bool). bytes_eq other first || b) (lookup_more ps name other t)
+    ∙ or_across (bytes_eq other first) (bytes_eq other name) (is_some (lookup ps other))
+    ∙ ap (λ (b : Bool). bytes_eq other name || b) (sym (if_some (bytes_eq other first) u (lookup ps other)))
 
 -- nothing was added yet
-pub joining_start : (fields : List Pair) (names : List (List ℕ)) (added : List Pair) → IsDocument (pairs_of fields) → ((other : List ℕ) → stands_in names other ≡ stands_in (names_of fields) other) → added ≡ [] → IsJoining (pairs_of fields) names added
+pub joining_start : (fields : List Pair) (names : List (List ℕ)) (added : List Pair) → IsDocument (pairs_of fields)
+    → ((other : List ℕ) → stands_in names other ≡ stands_in (names_of fields) other) → added ≡ [] → IsJoining (pairs_of fields) names added
 joining_start fields names added lawful same is =
     let none : joined (pairs_of fields) added ≡ pairs_of fields = ap (joined (pairs_of fields)) is ∙ append-none (pairs_of fields) in
     record { lawful = subst IsDocument (sym none) lawful; named = λ name. same name ∙ lookup_named fields name ∙ ap (λ (ps : Pairs). is_some (lookup ps name)) (sym none) }
 
 -- a name that is new, or is not
-module _ (ps : Pairs) (names : List (List ℕ)) (added : List Pair) (found : Sequence) (fresh : Bool) (joining : IsJoining ps names added) (is : fresh ≡ not (stands_in names found.name)) where
+module _ (ps : Pairs) (names : List (List ℕ)) (added : List Pair) (found : Sequence) (fresh : Bool) (joining : IsJoining ps names added)
+    (is : fresh ≡ not (stands_in names found.name)) where
   pub name_repeated : fresh ≡ false → with_sequence (joined ps added) found ≡ Err bson_faults.Repeated
   name_repeated old =
-      ap (λ (b : Bool). unless b bson_faults.Repeated (array_of found.documents >>= λ ts. Ok (append (joined ps added) (pair found.name (array ts) no_pairs)))) (sym (joining.named found.name) ∙ turned (stands_in names found.name) (sym is ∙ old))
+      ap (λ (b : Bool). unless b bson_faults.Repeated (array_of found.documents >>= λ ts. Ok (append (joined ps added) (pair found.name (array ts) no_pairs))))
+      (sym (joining.named found.name) ∙ turned (stands_in names found.name) (sym is ∙ old))
     where
       turned : (b : Bool) → not b ≡ false → b ≡ true
       turned true e = refl
@@ -157,13 +180,19 @@ module _ (ps : Pairs) (names : List (List ℕ)) (added : List Pair) (found : Seq
       turned true e = absurd cc
       turned false e = refl
 
-  pub name_new : fresh ≡ true → with_sequence (joined ps added) found ≡ (array_of found.documents >>= λ ts. Ok (append (joined ps added) (pair found.name (array ts) no_pairs)))
-  name_new new = ap (λ (b : Bool). unless b bson_faults.Repeated (array_of found.documents >>= λ ts. Ok (append (joined ps added) (pair found.name (array ts) no_pairs)))) (absent new)
+  pub name_new : fresh ≡ true
+      → with_sequence (joined ps added) found ≡ (array_of found.documents >>= λ ts. Ok (append (joined ps added) (pair found.name (array ts) no_pairs)))
+  name_new new =
+      ap (λ (b : Bool). unless b bson_faults.Repeated (array_of found.documents >>= λ ts. Ok (append (joined ps added) (pair found.name (array ts) no_pairs))))
+      (absent new)
 
-  pub array_fails : fresh ≡ true → (fault : BsonFault) → Fails bson_faults.Memory fault (array_of found.documents) → Fails bson_faults.Memory fault (with_sequence (joined ps added) found)
-  array_fails new fault f not_memory = name_new new ∙ ap (λ (r : Result Items BsonFault). r >>= λ ts. Ok (append (joined ps added) (pair found.name (array ts) no_pairs))) (f not_memory)
+  pub array_fails : fresh ≡ true → (fault : BsonFault) → Fails bson_faults.Memory fault (array_of found.documents)
+      → Fails bson_faults.Memory fault (with_sequence (joined ps added) found)
+  array_fails new fault f not_memory =
+      name_new new ∙ ap (λ (r : Result Items BsonFault). r >>= λ ts. Ok (append (joined ps added) (pair found.name (array ts) no_pairs))) (f not_memory)
 
-  pub array_joined : fresh ≡ true → (ts : Items) (p : Pair) → array_of found.documents ≡ Ok ts → p.name ≡ found.name → tree p.value ≡ array ts → with_sequence (joined ps added) found ≡ Ok (joined ps (added ++ p ∷ []))
+  pub array_joined : fresh ≡ true → (ts : Items) (p : Pair) → array_of found.documents ≡ Ok ts → p.name ≡ found.name → tree p.value ≡ array ts
+      → with_sequence (joined ps added) found ≡ Ok (joined ps (added ++ p ∷ []))
   array_joined new ts p e named valued =
       name_new new ∙ ap (λ (r : Result Items BsonFault). r >>= λ us. Ok (append (joined ps added) (pair found.name (array us) no_pairs))) e
       ∙ (λ i. Ok (append (joined ps added) (pair (sym named i) (sym valued i) no_pairs))) ∙ ap (λ (qs : Pairs). Ok qs) (sym (joined_more ps added p))
@@ -178,7 +207,8 @@ module _ (ps : Pairs) (names : List (List ℕ)) (added : List Pair) (found : Seq
       record {
         lawful = subst IsDocument (sym more) (IsDocument-append (joined ps added) p.name (tree p.value) joining.lawful lawful_name lawful_tree deep lacks);
         named = λ other.
-            inserted other ∙ (λ i. bytes_eq other (sym named i) || joining.named other i) ∙ sym (lookup_more (joined ps added) p.name other (tree p.value)) ∙ ap (λ (qs : Pairs). is_some (lookup qs other)) (sym more);
+            inserted other ∙ (λ i. bytes_eq other (sym named i) || joining.named other i) ∙ sym (lookup_more (joined ps added) p.name other (tree p.value))
+            ∙ ap (λ (qs : Pairs). is_some (lookup qs other)) (sym more);
       }
 
 -- what finds no name

@@ -1,5 +1,6 @@
 -- Names that stand twice.
-use Rattle.std.proofs.Common.{◌≡◌, ◌⊎◌, ℕ, zero, suc, ◌+◌, ◌<◌, ◌≤◌, Bool, true, false, ◌||◌, List, [], ◌∷◌, ◌++◌, length, take, drop, refl, sym, ap, ◌∙◌, arith, inl, inr}
+use Rattle.std.proofs.Common.{◌≡◌, ◌⊎◌, ℕ, zero, suc, ◌+◌, ◌<◌, ◌≤◌, Bool, true, false, ◌||◌, List, [], ◌∷◌, ◌++◌, length, take, drop, refl, sym, ap, ◌∙◌}
+use Rattle.std.proofs.Common.{arith, inl, inr}
 use Rattle.std.specs.Str.{bytes_eq}
 use Rattle.std.proofs.lemmas.Bool.{cases_lt}
 use Rattle.std.proofs.lemmas.List.{take-append-drop, length-append, length-take}
@@ -22,7 +23,8 @@ neither false b e = (refl, e)
 
 -- ---- none stands twice
 
-none_later : (x : Name) (xs : List Name) → ((earlier : List Name) (name : Name) (later : List Name) → xs ≡ earlier ++ name ∷ later → bytes_eq x name ≡ false) → stands_in xs x ≡ false
+none_later : (x : Name) (xs : List Name) → ((earlier : List Name) (name : Name) (later : List Name) → xs ≡ earlier ++ name ∷ later → bytes_eq x name ≡ false)
+    → stands_in xs x ≡ false
 none_later x [] h = refl
 none_later x (y ∷ ys) h = rw (h [] y ys refl, none_later x ys (λ earlier name later e. h (y ∷ earlier) name later (ap (λ (ns : List Name). y ∷ ns) e))) refl
 
@@ -30,8 +32,10 @@ pub none_twice : (names : List Name) (n : ℕ) → AreNew n names → length nam
 none_twice [] n h le = refl
 none_twice (x ∷ xs) n h le = rw (none_later x xs first, none_twice xs (length xs) others (omega arith)) refl
   where
-    new : (earlier : List Name) (name : Name) (later : List Name) → xs ≡ earlier ++ name ∷ later → length earlier < length xs → (bytes_eq name x ≡ false) × (stands_in earlier name ≡ false)
-    new earlier name later e lt = neither (bytes_eq name x) (stands_in earlier name) (h (x ∷ earlier) name later (ap (λ (ns : List Name). x ∷ ns) e) (omega (arith, lt, le)))
+    new : (earlier : List Name) (name : Name) (later : List Name) → xs ≡ earlier ++ name ∷ later → length earlier < length xs
+        → (bytes_eq name x ≡ false) × (stands_in earlier name ≡ false)
+    new earlier name later e lt =
+        neither (bytes_eq name x) (stands_in earlier name) (h (x ∷ earlier) name later (ap (λ (ns : List Name). x ∷ ns) e) (omega (arith, lt, le)))
 
     within : (earlier : List Name) (name : Name) (later : List Name) → xs ≡ earlier ++ name ∷ later → length earlier < length xs
     within earlier name later e = omega (arith, ap length e, length-append earlier (name ∷ later))
@@ -50,7 +54,8 @@ few_names (x ∷ y ∷ names) lt = absurd (omega arith)
 
 -- ---- one name more
 
-pub one_new : (names rest : List Name) (n : ℕ) (next : Name) → AreNew n names → drop n names ≡ next ∷ rest → stands_in (take n names) next ≡ false → AreNew (n + 1) names
+pub one_new : (names rest : List Name) (n : ℕ) (next : Name) → AreNew n names → drop n names ≡ next ∷ rest → stands_in (take n names) next ≡ false
+    → AreNew (n + 1) names
 one_new names rest n next h found fresh earlier name later e lt = by (cases_lt (length earlier) n)
   where
     by : (length earlier < n) ⊎ (n ≤ length earlier) → stands_in earlier name ≡ false
@@ -61,8 +66,10 @@ one_new names rest n next h found fresh earlier name later e lt = by (cases_lt (
         (λ i. stands_in (sym front i) (one i)) ∙ fresh
 
 -- a name that is new by its place
-pub new_at : (names rest : List Name) (distinct n : ℕ) (next : Name) → AreNew distinct names → drop n names ≡ next ∷ rest → n < distinct → stands_in (take n names) next ≡ false
-new_at names rest distinct n next h found lt = h (take n names) next rest (sym (take-append-drop n names) ∙ ap (λ (ns : List Name). take n names ++ ns) found) (omega (arith, lt, length-take n names))
+pub new_at : (names rest : List Name) (distinct n : ℕ) (next : Name) → AreNew distinct names → drop n names ≡ next ∷ rest → n < distinct
+    → stands_in (take n names) next ≡ false
+new_at names rest distinct n next h found lt =
+    h (take n names) next rest (sym (take-append-drop n names) ∙ ap (λ (ns : List Name). take n names ++ ns) found) (omega (arith, lt, length-take n names))
 
 -- ---- one stands twice
 
@@ -83,7 +90,8 @@ there [] rest (suc n) next x found e = absurd cc
 there (y ∷ ys) rest zero next x found e = same_true x y next (stands_in ys x) (cons_is y next ys rest found) e
 there (y ∷ ys) rest (suc n) next x found e = either_true (bytes_eq x y) (stands_in ys x) (there ys rest n next x found e)
 
-here_or_later : (x next : Name) (xs ys : List Name) → (bytes_eq next x ≡ true → stands_in xs x ≡ true) → (stands_in ys next ≡ true → has_twice xs ≡ true) → (bytes_eq next x || stands_in ys next) ≡ true → (stands_in xs x || has_twice xs) ≡ true
+here_or_later : (x next : Name) (xs ys : List Name) → (bytes_eq next x ≡ true → stands_in xs x ≡ true) → (stands_in ys next ≡ true → has_twice xs ≡ true)
+    → (bytes_eq next x || stands_in ys next) ≡ true → (stands_in xs x || has_twice xs) ≡ true
 here_or_later x next xs ys here later = by (bytes_eq next x) here
   where
     by : (b : Bool) → (b ≡ true → stands_in xs x ≡ true) → (b || stands_in ys next) ≡ true → (stands_in xs x || has_twice xs) ≡ true
@@ -94,4 +102,5 @@ pub some_twice : (names rest : List Name) (n : ℕ) (next : Name) → drop n nam
 some_twice [] rest zero next found e = absurd cc
 some_twice [] rest (suc n) next found e = absurd cc
 some_twice (x ∷ xs) rest zero next found e = absurd cc
-some_twice (x ∷ xs) rest (suc n) next found e = here_or_later x next xs (take n xs) (λ f. there xs rest n next x found f) (λ f. some_twice xs rest n next found f) e
+some_twice (x ∷ xs) rest (suc n) next found e =
+    here_or_later x next xs (take n xs) (λ f. there xs rest n next x found f) (λ f. some_twice xs rest n next found f) e

@@ -22,7 +22,8 @@ between xs m within =
     ap (λ (n : ℕ). take 17 (drop 4 (take n xs))) split ∙ ap (take 17) (drop-take 4 (17 + m) xs ∙ take-add 17 m (drop 4 xs))
     ∙ take-append-le 17 (take 17 (drop 4 xs)) (take m (drop 17 (drop 4 xs))) (omega (arith, some)) ∙ take_all 17 (take 17 (drop 4 xs)) (omega (arith, some))
 
-pub respelled_front : (frame body new rest : List ℕ) (n : ℕ) → length body + 21 ≤ length frame → n ≡ length body + 21 → length new ≡ n → new ≡ respelled (take n frame) body
+pub respelled_front : (frame body new rest : List ℕ) (n : ℕ) → length body + 21 ≤ length frame → n ≡ length body + 21 → length new ≡ n
+    → new ≡ respelled (take n frame) body
     → take n (new ++ rest) ≡ respelled frame body
 respelled_front frame body new rest n within is same e =
     let more : n ≡ 21 + length body = omega arith in

@@ -1,5 +1,6 @@
 -- Reading one section or document after the other, as loops do.
-use Rattle.std.proofs.Common.{◌≡◌, ℕ, zero, suc, ◌≤◌, ◌<◌, ◌+◌, ◌==◌, ◌-◌, take, drop, List, [], ◌∷◌, length, refl, sym, ◌∙◌, ap, subst, arith, length-drop, length-take}
+use Rattle.std.proofs.Common.{◌≡◌, ℕ, zero, suc, ◌≤◌, ◌<◌, ◌+◌, ◌==◌, ◌-◌, take, drop, List, [], ◌∷◌, length, refl, sym, ◌∙◌, ap, subst, arith, length-drop}
+use Rattle.std.proofs.Common.{length-take}
 use Rattle.std.specs.Prelude.{Bool, true, false, not, ◌||◌, nat_lt, nat_le, if◌then◌else◌, Result, Ok, Err, Some, None}
 use Rattle.std.specs.Str.{is_utf8}
 use Rattle.std.proofs.lemmas.List.Sums.{fails_before_first}
@@ -9,7 +10,8 @@ use Rattle.bson.specs.Reading.{zero_at, stands_in}
 use Rattle.bson.specs.Reading as names
 use Rattle.bson.specs.declared.fault.BsonFault.{BsonFault}
 use Rattle.outcome.specs.Outcome.{◌>>=◌, unless}
-use Rattle.op_msg.specs.Frame.{Part, Sequence, Section, body, sequence, number_at, part_at, or_section, name_at, each_from, each_by, each_in, is_more, sequence_in, body_at, sequence_at, section_at, sections_in, bodies_of, names_of, has_twice, only_of, body_of_all}
+use Rattle.op_msg.specs.Frame.{Part, Sequence, Section, body, sequence, number_at, part_at, or_section, name_at, each_from, each_by, each_in, is_more}
+use Rattle.op_msg.specs.Frame.{sequence_in, body_at, sequence_at, section_at, sections_in, bodies_of, names_of, has_twice, only_of, body_of_all}
 use Rattle.op_msg.specs.View.{only_from, HasName}
 use Rattle.op_msg.specs.declared.fault.FrameFault.{FrameFault}
 use Rattle.op_msg.specs.declared.fault.FrameFault.TheVariants as faults
@@ -52,7 +54,8 @@ module _ {X : Type 0} (read : List ℕ → Part X) (shrinks : (bytes : List ℕ)
   enough (suc m) zero bytes a b = none_left (suc m) bytes b
   enough (suc m) (suc n) bytes a b = by (enough m n) (read bytes) refl
     where
-      by : ((left : List ℕ) → length left ≤ m → length left ≤ n → each_by read m left ≡ each_by read n left) → (r : Part X) → read bytes ≡ r → each_from (each_by read m) bytes r ≡ each_from (each_by read n) bytes r
+      by : ((left : List ℕ) → length left ≤ m → length left ≤ n → each_by read m left ≡ each_by read n left) → (r : Part X) → read bytes ≡ r
+          → each_from (each_by read m) bytes r ≡ each_from (each_by read n) bytes r
       by ih (Ok x) e =
           let less = shrinks bytes x e in
           ap (λ (o : List X × List ℕ). (x.0 ∷ o.0, o.1)) (ih x.1 (omega (arith, less)) (omega (arith, less)))
@@ -80,7 +83,8 @@ no_more read bytes fault e = by (length bytes)
 
 -- ---- loops that go on while one stands at the front
 
-pub all_left : {X : Type 0} (read : List ℕ → Part X) (bytes rest : List ℕ) (fault : FrameFault) → (each_in read rest).1 ≡ (each_in read bytes).1 → read rest ≡ Err fault → (each_in read bytes).1 ≡ rest
+pub all_left : {X : Type 0} (read : List ℕ → Part X) (bytes rest : List ℕ) (fault : FrameFault) → (each_in read rest).1 ≡ (each_in read bytes).1
+    → read rest ≡ Err fault → (each_in read bytes).1 ≡ rest
 all_left read bytes rest fault same e = sym same ∙ ap (λ (o : List _ × List ℕ). o.1) (no_more read rest fault e)
 
 -- ---- documents and sections are shorter than what they stand in
@@ -126,7 +130,8 @@ body_shrinks bytes x e =
     omega (arith, part_shrinks bytes a.0 a.1, ap length is)
 
 -- what a section of kind 1 was read from
-sequence_from : (bytes : List ℕ) (x : Section × List ℕ) → sequence_at bytes ≡ Ok x → (part : List ℕ × List ℕ) × (found : Sequence) × (part_at bytes ≡ Ok part) × (sequence_in (drop 4 part.0) ≡ Ok found) × (x ≡ (sequence found, part.1))
+sequence_from : (bytes : List ℕ) (x : Section × List ℕ) → sequence_at bytes ≡ Ok x
+    → (part : List ℕ × List ℕ) × (found : Sequence) × (part_at bytes ≡ Ok part) × (sequence_in (drop 4 part.0) ≡ Ok found) × (x ≡ (sequence found, part.1))
 sequence_from bytes x e =
     let a = bind_ok (part_at bytes) (λ part. sequence_in (drop 4 part.0) >>= λ found. made (sequence found) part.1) x e in
     let b = bind_ok (sequence_in (drop 4 a.0.0)) (λ found. made (sequence found) a.0.1) x a.2 in
@@ -141,7 +146,8 @@ pub section_shrinks : (bytes : List ℕ) (x : Section × List ℕ) → section_a
 unfolding section_at
 section_shrinks [] x e = absurd cc
 section_shrinks (kind ∷ bytes) x e =
-    either (λ y. length y.1 < length (kind ∷ bytes)) (kind == 0) (kind == 1) bytes x (λ f. omega (arith, body_shrinks bytes x f)) (λ f. omega (arith, sequence_shrinks bytes x f)) e
+    either (λ y. length y.1 < length (kind ∷ bytes)) (kind == 0) (kind == 1) bytes x (λ f. omega (arith, body_shrinks bytes x f))
+    (λ f. omega (arith, sequence_shrinks bytes x f)) e
 
 -- ---- names have no zero
 
@@ -151,11 +157,13 @@ name_is bytes x e =
     let z = zero_at bytes in
     let a = unless_ok (nat_le (length bytes) z) _ _ x (section_ok (names.name_at bytes) x e) in
     let b = unless_ok (not (is_utf8 (take z bytes))) _ _ x a.1 in
-    subst (λ (y : List ℕ × List ℕ). NoZero y.0) (ok_is (take z bytes, drop (z + 1) bytes) x b.1) (NoZero-take z bytes (λ k below. fails_before_first (λ b. b == 0) bytes k 0 below))
+    subst (λ (y : List ℕ × List ℕ). NoZero y.0) (ok_is (take z bytes, drop (z + 1) bytes) x b.1)
+    (NoZero-take z bytes (λ k below. fails_before_first (λ b. b == 0) bytes k 0 below))
 
 sequence_named : (bytes : List ℕ) (found : Sequence) → sequence_in bytes ≡ Ok found → NoZero found.name
 sequence_named bytes found e =
-    let a = bind_ok (name_at bytes) (λ name. unless (is_more (each_in part_at name.1).1) faults.Section (Ok (record { name = name.0; documents = (each_in part_at name.1).0 }))) found e in
+    let a = bind_ok (name_at bytes)
+    (λ name. unless (is_more (each_in part_at name.1).1) faults.Section (Ok (record { name = name.0; documents = (each_in part_at name.1).0 }))) found e in
     let b = unless_ok (is_more (each_in part_at a.0.1).1) faults.Section _ found a.2 in
     subst (λ (s : Sequence). NoZero s.name) (ok_is _ found b.1) (name_is bytes a.0 a.1)
 
@@ -186,7 +194,8 @@ only_first (bytes ∷ other ∷ others) = several bytes others
 pub names_here : (rest : List ℕ) (x : Section × List ℕ) → section_at rest ≡ Ok x → names_of (sections_in rest).0 ≡ names_of (x.0 ∷ (sections_in x.1).0)
 names_here rest x e = ap (λ (o : List Section × List ℕ). names_of o.0) (one_more section_at section_shrinks rest x e)
 
-pub names_counted : (section : Section) (sections : List Section) → length (names_of (section ∷ sections)) ≡ length (names_of (section ∷ [])) + length (names_of sections)
+pub names_counted : (section : Section) (sections : List Section)
+    → length (names_of (section ∷ sections)) ≡ length (names_of (section ∷ [])) + length (names_of sections)
 names_counted (body bytes) sections = omega arith
 names_counted (sequence found) sections = omega arith
 
@@ -200,12 +209,15 @@ no_names rest fault e = ap (λ (o : List Section × List ℕ). names_of o.0) (no
 -- ---- the body of all sections
 
 -- bytes are left that are no section
-pub wrong_end : (all : List Section × List ℕ) (left : List ℕ) (empty : Bool) → all.1 ≡ left → empty ≡ (length left == 0) → empty ≡ false → body_of_all all ≡ Err faults.Section
+pub wrong_end : (all : List Section × List ℕ) (left : List ℕ) (empty : Bool) → all.1 ≡ left → empty ≡ (length left == 0) → empty ≡ false
+    → body_of_all all ≡ Err faults.Section
 wrong_end all left empty is found wrong =
-    ap (λ (b : Bool). unless (not b || has_twice (names_of all.0)) faults.Section (only_of (bodies_of all.0))) (ap (λ (bytes : List ℕ). length bytes == 0) is ∙ sym found ∙ wrong)
+    ap (λ (b : Bool). unless (not b || has_twice (names_of all.0)) faults.Section (only_of (bodies_of all.0)))
+    (ap (λ (bytes : List ℕ). length bytes == 0) is ∙ sym found ∙ wrong)
 
 -- nothing is left, and no name stands twice
-pub right_sections : (all : List Section × List ℕ) (left : List ℕ) (empty twice : Bool) → all.1 ≡ left → empty ≡ (length left == 0) → empty ≡ true → twice ≡ has_twice (names_of all.0) → twice ≡ false → only_of (bodies_of all.0) ≡ body_of_all all
+pub right_sections : (all : List Section × List ℕ) (left : List ℕ) (empty twice : Bool) → all.1 ≡ left → empty ≡ (length left == 0) → empty ≡ true
+    → twice ≡ has_twice (names_of all.0) → twice ≡ false → only_of (bodies_of all.0) ≡ body_of_all all
 right_sections all left empty twice is found right named differ =
     sym (λ i. unless (not (end i) || none i) faults.Section (only_of (bodies_of all.0)))
   where

@@ -58,8 +58,10 @@ there bytes more is =
     let n = number_at 0 bytes in
     let all = length-append bytes more in
     let same = λ (e : nat_lt (length bytes) 4 ≡ false). same_number bytes more (not_below (length bytes) 4 e) in
-    there_by more (nat_lt (length bytes) 4) (is_no_length n) (nat_lt (length bytes) n) (nat_lt (length (bytes ++ more)) 4) (is_no_length (number_at 0 (bytes ++ more))) (nat_lt (length (bytes ++ more)) (number_at 0 (bytes ++ more)))
-    (frame_of (take n bytes)) (frame_of (take (number_at 0 (bytes ++ more)) (bytes ++ more))) (drop n bytes) (drop (number_at 0 (bytes ++ more)) (bytes ++ more)) is
+    there_by more (nat_lt (length bytes) 4) (is_no_length n) (nat_lt (length bytes) n) (nat_lt (length (bytes ++ more)) 4)
+    (is_no_length (number_at 0 (bytes ++ more))) (nat_lt (length (bytes ++ more)) (number_at 0 (bytes ++ more)))
+    (frame_of (take n bytes)) (frame_of (take (number_at 0 (bytes ++ more)) (bytes ++ more))) (drop n bytes)
+    (drop (number_at 0 (bytes ++ more)) (bytes ++ more)) is
     (λ e. still_not_below (length (bytes ++ more)) 4 (omega (arith, not_below (length bytes) 4 e, all)))
     (λ e. ap is_no_length (same e))
     (λ e p.
@@ -69,7 +71,8 @@ there bytes more is =
       ap (λ (m : ℕ). drop m (bytes ++ more)) (same e) ∙ drop-append-le n bytes more long,
     ))
 
-pub stays : (bytes more : List ℕ) → ((frame : Frame) (rest : List ℕ) → front bytes ≡ Ok (Some (frame, rest)) → front (bytes ++ more) ≡ Ok (Some (frame, rest ++ more)))
+pub stays : (bytes more : List ℕ)
+    → ((frame : Frame) (rest : List ℕ) → front bytes ≡ Ok (Some (frame, rest)) → front (bytes ++ more) ≡ Ok (Some (frame, rest ++ more)))
     × ((fault : FrameFault) → front bytes ≡ Err fault → front (bytes ++ more) ≡ Err fault)
 stays bytes more = (
   λ frame rest e. there bytes more (subst IsThere (sym e) tt) ∙ ap (λ (f : Front). with_more f more) e,
@@ -94,7 +97,8 @@ one_found f g r s e =
     let p : both f r ≡ both g s = cc in
     (ap (λ (x : Frame × List ℕ). x.0) p, ap (λ (x : Frame × List ℕ). x.1) p)
 
-pub one_reading : (bytes : List ℕ) (frames others : List Frame) (fault other : Option FrameFault) (rest left : List ℕ) → Splits bytes frames fault rest → Splits bytes others other left → (frames ≡ others) × (fault ≡ other) × (rest ≡ left)
+pub one_reading : (bytes : List ℕ) (frames others : List Frame) (fault other : Option FrameFault) (rest left : List ℕ) → Splits bytes frames fault rest
+    → Splits bytes others other left → (frames ≡ others) × (fault ≡ other) × (rest ≡ left)
 one_reading bytes [] [] fault other rest left s t =
     (refl, one_ending fault other (sym s.ends ∙ ap front (s.begins ∙ sym t.begins) ∙ t.ends), s.begins ∙ sym t.begins)
 one_reading bytes [] (g ∷ gs) fault other rest left s t = absurd (not_found g t.begins.0 fault (sym s.ends ∙ ap front s.begins ∙ t.begins.1))
@@ -105,9 +109,11 @@ one_reading bytes (f ∷ fs) (g ∷ gs) fault other rest left s t =
     (record { begins = subst (λ (xs : List ℕ). Begins xs gs left) (sym same.1) t.begins.2; ends = t.ends }) in
     ((λ i. same.0 i ∷ later.0 i), later.1, later.2)
 
-begins_on : (a b : List ℕ) (frames later : List Frame) (rest left : List ℕ) → Begins a frames rest → Begins (rest ++ b) later left → Begins (a ++ b) (frames ++ later) left
+begins_on : (a b : List ℕ) (frames later : List Frame) (rest left : List ℕ) → Begins a frames rest → Begins (rest ++ b) later left
+    → Begins (a ++ b) (frames ++ later) left
 begins_on a b [] later rest left h k = subst (λ (xs : List ℕ). Begins (xs ++ b) later left) h k
 begins_on a b (f ∷ fs) later rest left h k = (h.0 ++ b, (stays a b).0 f h.0 h.1, begins_on h.0 b fs later rest left h.2 k)
 
-pub cut_anywhere : (a b : List ℕ) (frames later : List Frame) (fault : Option FrameFault) (rest left : List ℕ) → Begins a frames rest → Splits (rest ++ b) later fault left → Splits (a ++ b) (frames ++ later) fault left
+pub cut_anywhere : (a b : List ℕ) (frames later : List Frame) (fault : Option FrameFault) (rest left : List ℕ) → Begins a frames rest
+    → Splits (rest ++ b) later fault left → Splits (a ++ b) (frames ++ later) fault left
 cut_anywhere a b frames later fault rest left h s = record { begins = begins_on a b frames later rest left h s.begins; ends = s.ends }

@@ -1,5 +1,6 @@
 -- What some first entries of a file stand for: each is one of the collections so far, and those that indexes owe are counted.
-use Rattle.std.proofs.Common.{◌≡◌, ◌⊎◌, ℕ, zero, suc, get_or, set, ◌+◌, ◌<◌, ◌≤◌, ◌^◌, Bool, true, false, not, List, [], ◌∷◌, ◌++◌, length, inl, inr, refl, sym, ap, subst, ◌∙◌, arith, append-nil, length-append}
+use Rattle.std.proofs.Common.{◌≡◌, ◌⊎◌, ℕ, zero, suc, get_or, set, ◌+◌, ◌<◌, ◌≤◌, ◌^◌, Bool, true, false, not, List, [], ◌∷◌, ◌++◌, length, inl, inr, refl, sym}
+use Rattle.std.proofs.Common.{ap, subst, ◌∙◌, arith, append-nil, length-append}
 use Rattle.std.specs.Prelude.{◌==◌}
 use Rattle.std.proofs.lemmas.Bool.Decides.{nat_tests}
 use Rattle.std.proofs.lemmas.Nat.{from_be_bytes-to_be_bytes_4}
@@ -45,7 +46,8 @@ document_none c x d = under_none x c.number (tree_text (key_of d.document)) (ap 
 
 pub key_some : (c : Collection) (x : Entry) → IsIndexKept c → IsKeyOf c x → is_of_index x ≡ true
 key_some c x kept k =
-    under_index x c.number k.index.number (k.key ++ tree_text (key_of k.document)) (ap (λ (y : Entry). y.key) k.is) (index_from_one c k.index kept k.listed) (index_fits c k.index kept k.listed)
+    under_index x c.number k.index.number (k.key ++ tree_text (key_of k.document)) (ap (λ (y : Entry). y.key) k.is) (index_from_one c k.index kept k.listed)
+    (index_fits c k.index kept k.listed)
 
 pub not_both : {A : Type 0} (b : Bool) → b ≡ true → b ≡ false → A
 not_both b is isnt = absurd (let never : true ≡ false = sym is ∙ isnt in cc)
@@ -57,7 +59,8 @@ count_append [] ys = omega arith
 count_append (x ∷ xs) ys = omega (arith, count_append xs ys)
 
 -- where one of them is put in another's place
-pub count_set : (cs : List Collection) (at : ℕ) (new d : Collection) → at < length cs → total_documents (set cs at new) + length (get_or cs at d).documents ≡ total_documents cs + length new.documents
+pub count_set : (cs : List Collection) (at : ℕ) (new d : Collection) → at < length cs
+    → total_documents (set cs at new) + length (get_or cs at d).documents ≡ total_documents cs + length new.documents
 count_set [] at new d within = absurd (omega (arith, within))
 count_set (c ∷ cs) zero new d within = omega arith
 count_set (c ∷ cs) (suc at) new d within = omega (arith, count_set cs at new d (omega (arith, within)))
@@ -112,7 +115,8 @@ pub one_of_one : {X : Type 0} (x y : X) → Among x (y ∷ []) → x ≡ y
 one_of_one x y (inl e) = e
 one_of_one x y (inr h) = absurd h
 
-seen_as : (done : List Entry) (pair : Entry) (b : Bool) → is_of_index pair ≡ b → only is_of_index (done ++ pair ∷ []) ≡ only is_of_index done ++ keep_if b pair []
+seen_as : (done : List Entry) (pair : Entry) (b : Bool) → is_of_index pair ≡ b
+    → only is_of_index (done ++ pair ∷ []) ≡ only is_of_index done ++ keep_if b pair []
 seen_as done pair b is = only_append is_of_index done (pair ∷ []) ∙ ap (λ (c : Bool). only is_of_index done ++ keep_if c pair []) is
 
 pub seen_same : (done : List Entry) (pair : Entry) → is_of_index pair ≡ false → length (only is_of_index (done ++ pair ∷ [])) ≡ length (only is_of_index done)
@@ -151,7 +155,8 @@ module _ (all done : List Entry) (pair : Entry) (p : Progress) (s : Stands all d
     seen = seen_more done pair t.is ∙ ap (λ (n : ℕ). n + 1) s.seen;
   })
 
-  module _ (n : Collection) (pair_is : pair ≡ catalogue_entry n) (bare_n : n.documents ≡ []) (now : List Collection) (loaded : AreLoaded now) (last : now ≡ p.now ++ n ∷ []) where
+  module _ (n : Collection) (pair_is : pair ≡ catalogue_entry n) (bare_n : n.documents ≡ []) (now : List Collection) (loaded : AreLoaded now)
+      (last : now ≡ p.now ++ n ∷ []) where
     older : (c : Collection) → Among c p.now → Among c now
     older c there = subst (Among c) (sym last) (among_front c p.now (n ∷ []) there)
 

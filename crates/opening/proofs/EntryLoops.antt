@@ -13,10 +13,12 @@ module _ (all : List Entry) (entries : List OwnEntry) (i : ℕ) (x : OwnEntry) (
   entry_step : map entry_in (drop i entries) ≡ entry_in x ∷ map entry_in (drop (i + 1) entries)
   entry_step = ap (map entry_in) (drop_step entries i x within is)
 
-  pub takes_next : (p next last : Progress) → Takes all p (entry_in x) next → TakesAll all next (map entry_in (drop (i + 1) entries)) last → TakesAll all p (map entry_in (drop i entries)) last
+  pub takes_next : (p next last : Progress) → Takes all p (entry_in x) next → TakesAll all next (map entry_in (drop (i + 1) entries)) last
+      → TakesAll all p (map entry_in (drop i entries)) last
   takes_next p next last takes later = subst (λ (es : List Entry). TakesAll all p es last) (sym entry_step) (next, takes, later)
 
-  pub refuses_next : (p next : Progress) → Takes all p (entry_in x) next → RefusesOne all next (map entry_in (drop (i + 1) entries)) → RefusesOne all p (map entry_in (drop i entries))
+  pub refuses_next : (p next : Progress) → Takes all p (entry_in x) next → RefusesOne all next (map entry_in (drop (i + 1) entries))
+      → RefusesOne all p (map entry_in (drop i entries))
   refuses_next p next takes later = subst (RefusesOne all p) (sym entry_step) (inr (next, takes, later))
 
   pub refuses_here : (p : Progress) → Refuses all p (entry_in x) → RefusesOne all p (map entry_in (drop i entries))

@@ -77,18 +77,23 @@ why_of fault (inr (is, why)) other = why
 
 module _ {D X : Type 0} (history : D → History) (IsRight : List Entry → X → Type 0) (Why : List Entry → Type 0) where
   fault_there : (old new : State D) (fault : OpenFault) (all : List Entry) → IsFaultOf fault (Why all) → HasFault history (Why all) old new fault
-  fault_there old new fault all is = record { device = λ device. absurd (not_device fault is device); damaged = λ no_device no_memory. why_of fault is no_memory }
+  fault_there old new fault all is = record
+      { device = λ device. absurd (not_device fault is device); damaged = λ no_device no_memory. why_of fault is no_memory }
 
   -- ---- an answer, and a fault
 
-  pub judged_so : (old new : State D) (x : X) → IsRead history old new → (KeepsWord (disk_history history new) → (all : List Entry) → HasEntries history old all → IsRight all x) → Judges history IsRight Why (Ok x) old new
+  pub judged_so : (old new : State D) (x : X) → IsRead history old new
+      → (KeepsWord (disk_history history new) → (all : List Entry) → HasEntries history old all → IsRight all x) → Judges history IsRight Why (Ok x) old new
   judged_so old new x read right = record { read = read; kinds = tt; answers = right }
 
   -- a fault that no look at the tree is needed for
-  pub judged_fault : (old new : State D) (fault : OpenFault) → IsRead history old new → ((all : List Entry) → IsFaultOf fault (Why all)) → Judges history IsRight Why (Err fault) old new
+  pub judged_fault : (old new : State D) (fault : OpenFault) → IsRead history old new → ((all : List Entry) → IsFaultOf fault (Why all))
+      → Judges history IsRight Why (Err fault) old new
   judged_fault old new fault read is = record { read = read; kinds = of_fault fault (is []); answers = λ k all has. fault_there old new fault all (is all) }
 
-  pub judged_damaged : (old new : State D) → IsRead history old new → (KeepsWord (disk_history history new) → (all : List Entry) → HasEntries history old all → Why all) → Judges history IsRight Why (Err faults.Damaged) old new
+  pub judged_damaged : (old new : State D) → IsRead history old new
+      → (KeepsWord (disk_history history new) → (all : List Entry) → HasEntries history old all → Why all)
+      → Judges history IsRight Why (Err faults.Damaged) old new
   judged_damaged old new read why = record {
     read = read;
     kinds = ((λ other. cc), (λ other. cc));
@@ -99,7 +104,8 @@ module _ {D X : Type 0} (history : D → History) (IsRight : List Entry → X �
   judged_memory old new read = judged_fault old new faults.Memory read (λ all. inl refl)
 
   -- the tree could not be read
-  pub judged_unread : {Y : Type 0} (P : List Entry → Y → Type 0) (old new : State D) (refusal : Refusal) (fault : OpenFault) → ReadsTree history P (Err refusal) old new → (fault ≡ faults.Device → refusal ≡ refusals.StorageFailed)
+  pub judged_unread : {Y : Type 0} (P : List Entry → Y → Type 0) (old new : State D) (refusal : Refusal) (fault : OpenFault)
+      → ReadsTree history P (Err refusal) old new → (fault ≡ faults.Device → refusal ≡ refusals.StorageFailed)
       → (fault ≡ faults.Device) ⊎ (fault ≡ faults.Memory) → Judges history IsRight Why (Err fault) old new
   judged_unread P old new refusal fault reads device kinds = record {
     read = as_read history P (Err refusal) old new reads;
@@ -125,7 +131,8 @@ module _ {D X : Type 0} (history : D → History) (IsRight : List Entry → X �
 
 -- ---- behind what was judged before
 
-module _ {D X Y : Type 0} (history : D → History) (F : List Entry → Type 0) (P : List Entry → X → Type 0) (V : List Entry → Type 0) (Q : List Entry → Y → Type 0) (W : List Entry → Type 0) (old mid new : State D)
+module _ {D X Y : Type 0} (history : D → History) (F : List Entry → Type 0) (P : List Entry → X → Type 0) (V : List Entry → Type 0) (Q : List Entry → Y
+    → Type 0) (W : List Entry → Type 0) (old mid new : State D)
     (read : IsRead history old mid) (known : KeepsWord (disk_history history mid) → (all : List Entry) → HasEntries history old all → F all) where
   pub judged_then : (x : X) (y : Y) → Judges history P V (Ok x) mid new → ((all : List Entry) → F all → P all x → Q all y) → Judges history Q W (Ok y) old new
   judged_then x y later on = record {
@@ -135,7 +142,8 @@ module _ {D X Y : Type 0} (history : D → History) (F : List Entry → Type 0) 
         let k_mid = word_before history mid new later.read k in on all (known k_mid all has) (later.answers k all (read.stays k_mid all has));
   }
 
-  pub judged_failed : (fault : OpenFault) → Judges history P V (Err fault) mid new → ((all : List Entry) → F all → V all → W all) → Judges history Q W (Err fault) old new
+  pub judged_failed : (fault : OpenFault) → Judges history P V (Err fault) mid new → ((all : List Entry) → F all → V all → W all)
+      → Judges history Q W (Err fault) old new
   judged_failed fault later on = record {
     read = read_on history old mid new read later.read;
     kinds = later.kinds;
@@ -149,7 +157,8 @@ module _ {D X Y : Type 0} (history : D → History) (F : List Entry → Type 0) 
   }
 
 -- an answer of one judgement as that of another
-module _ {D X Y : Type 0} (history : D → History) (P : List Entry → X → Type 0) (V : List Entry → Type 0) (Q : List Entry → Y → Type 0) (W : List Entry → Type 0) (old new : State D) where
+module _ {D X Y : Type 0} (history : D → History) (P : List Entry → X → Type 0) (V : List Entry → Type 0) (Q : List Entry → Y → Type 0) (W : List Entry
+    → Type 0) (old new : State D) where
   pub judged_as : (x : X) (y : Y) → Judges history P V (Ok x) old new → ((all : List Entry) → P all x → Q all y) → Judges history Q W (Ok y) old new
   judged_as x y h on = record { read = h.read; kinds = tt; answers = λ k all has. on all (h.answers k all has) }
 
@@ -162,7 +171,8 @@ module _ {D X Y : Type 0} (history : D → History) (P : List Entry → X → Ty
 
 -- ---- one batch
 
-module _ {D : Type 0} (history : D → History) (from : List ℕ) (limit : ℕ) (p last : Progress) (old mid new : State D) (batch : Batch) (reads : ReadsTree history (AreNextEntries from limit) (Ok batch) old mid) where
+module _ {D : Type 0} (history : D → History) (from : List ℕ) (limit : ℕ) (p last : Progress) (old mid new : State D) (batch : Batch)
+    (reads : ReadsTree history (AreNextEntries from limit) (Ok batch) old mid) where
   abbrev pairs : List Entry
   pairs = map entry_in batch.entries.items
 
@@ -174,18 +184,25 @@ module _ {D : Type 0} (history : D → History) (from : List ℕ) (limit : ℕ) 
 
   pub batch_taken : Judges history Takes_these Refuses_one (Ok tt) mid new → LoadsBatch history from (Ok batch.next) p last old new
   batch_taken h =
-      judged_then history (λ all. AreNextEntries from limit all batch) Takes_these Refuses_one (HasTaken from p last) (λ all. RefusesOne all p (entries_from (Some from) all)) old mid new
-      (as_read history (AreNextEntries from limit) (Ok batch) old mid reads) reads.answers tt batch.next h (λ all next takes. record { pairs = pairs; is = next.is; takes = takes })
+      judged_then history (λ all. AreNextEntries from limit all batch) Takes_these Refuses_one (HasTaken from p last)
+      (λ all. RefusesOne all p (entries_from (Some from) all)) old mid new
+      (as_read history (AreNextEntries from limit) (Ok batch) old mid reads) reads.answers tt batch.next h
+      (λ all next takes. record { pairs = pairs; is = next.is; takes = takes })
 
   pub batch_refused : (fault : OpenFault) → Judges history Takes_these Refuses_one (Err fault) mid new → LoadsBatch history from (Err fault) p last old new
   batch_refused fault h =
-      judged_failed history (λ all. AreNextEntries from limit all batch) Takes_these Refuses_one (HasTaken from p last) (λ all. RefusesOne all p (entries_from (Some from) all)) old mid new
-      (as_read history (AreNextEntries from limit) (Ok batch) old mid reads) reads.answers fault h (λ all next refuses. subst (RefusesOne all p) (sym next.is) (refuses_more all p pairs _ refuses))
+      judged_failed history (λ all. AreNextEntries from limit all batch) Takes_these Refuses_one (HasTaken from p last)
+      (λ all. RefusesOne all p (entries_from (Some from) all)) old mid new
+      (as_read history (AreNextEntries from limit) (Ok batch) old mid reads) reads.answers fault h
+      (λ all next refuses. subst (RefusesOne all p) (sym next.is) (refuses_more all p pairs _ refuses))
 
-pub unread_batch : {D : Type 0} (history : D → History) (from : List ℕ) (limit : ℕ) (p last : Progress) (old new : State D) (refusal : Refusal) (fault : OpenFault) → ReadsTree history (AreNextEntries from limit) (Err refusal) old new
-    → (fault ≡ faults.Device → refusal ≡ refusals.StorageFailed) → (fault ≡ faults.Device) ⊎ (fault ≡ faults.Memory) → LoadsBatch history from (Err fault) p last old new
+pub unread_batch : {D : Type 0} (history : D → History) (from : List ℕ) (limit : ℕ) (p last : Progress) (old new : State D) (refusal : Refusal)
+    (fault : OpenFault) → ReadsTree history (AreNextEntries from limit) (Err refusal) old new
+    → (fault ≡ faults.Device → refusal ≡ refusals.StorageFailed) → (fault ≡ faults.Device) ⊎ (fault ≡ faults.Memory)
+    → LoadsBatch history from (Err fault) p last old new
 unread_batch history from limit p last old new refusal fault reads device kinds =
-    judged_unread history (HasTaken from p last) (λ all. RefusesOne all p (entries_from (Some from) all)) (AreNextEntries from limit) old new refusal fault reads device kinds
+    judged_unread history (HasTaken from p last) (λ all. RefusesOne all p (entries_from (Some from) all))
+    (AreNextEntries from limit) old new refusal fault reads device kinds
 
 -- ---- all of them
 
@@ -217,7 +234,8 @@ module _ {D : Type 0} (history : D → History) (from : List ℕ) (p : Progress)
   abbrev Refuses_later : List Entry → Type 0
   Refuses_later all = RefusesOne all p (entries_from (Some from) all)
 
-  more_done : (last : Progress) (next : Option (Vec ℕ)) (rest all : List Entry) → So_far all → (t : HasTaken from p last all next) → entries_from (Some from) all ≡ t.pairs ++ rest → IsSoFar rest last all
+  more_done : (last : Progress) (next : Option (Vec ℕ)) (rest all : List Entry) → So_far all → (t : HasTaken from p last all next)
+      → entries_from (Some from) all ≡ t.pairs ++ rest → IsSoFar rest last all
   more_done last next rest all so t is = record {
     done = so.done ++ t.pairs;
     split = so.split ∙ ap (λ (es : List Entry). so.done ++ es) is ∙ sym (append_assoc so.done t.pairs rest);
@@ -235,19 +253,25 @@ module _ {D : Type 0} (history : D → History) (from : List ℕ) (p : Progress)
 
   pub loads_end : (last : Progress) → LoadsBatch history from (Ok None) p last mid new → LoadsEntries history (Ok tt) last old new
   loads_end last batch =
-      judged_then history So_far (HasTaken from p last) Refuses_later (λ all u. TakesAll all nothing_read all last) (λ all. RefusesOne all nothing_read all) old mid new up.read up.so_far None tt batch
+      judged_then history So_far (HasTaken from p last) Refuses_later (λ all u. TakesAll all nothing_read all last)
+      (λ all. RefusesOne all nothing_read all) old mid new up.read up.so_far None tt batch
       (λ all so t.
       let whole = more_done last None [] all so t t.is in
       subst (λ (es : List Entry). TakesAll all nothing_read es last) (sym (whole.split ∙ append-nil whole.done)) whole.takes)
 
-  pub loads_failed : (fault : OpenFault) (last other : Progress) → LoadsBatch history from (Err fault) p last mid new → LoadsEntries history (Err fault) other old new
+  pub loads_failed : (fault : OpenFault) (last other : Progress) → LoadsBatch history from (Err fault) p last mid new
+      → LoadsEntries history (Err fault) other old new
   loads_failed fault last other batch =
-      judged_failed history So_far (HasTaken from p last) Refuses_later (λ all u. TakesAll all nothing_read all other) (λ all. RefusesOne all nothing_read all) old mid new up.read up.so_far fault batch
-      (λ all so refuses. subst (RefusesOne all nothing_read) (sym so.split) (refuses_on all nothing_read p so.done (entries_from (Some from) all) so.takes refuses))
+      judged_failed history So_far (HasTaken from p last) Refuses_later (λ all u. TakesAll all nothing_read all other)
+      (λ all. RefusesOne all nothing_read all) old mid new up.read up.so_far fault batch
+      (λ all so refuses. subst (RefusesOne all nothing_read) (sym so.split)
+      (refuses_on all nothing_read p so.done (entries_from (Some from) all) so.takes refuses))
 
 -- so many batches that memory couldn't count them
-pub loads_forever : {D : Type 0} (history : D → History) (from : List ℕ) (p last : Progress) (old new : State D) → LoadsUpTo history from p old new → LoadsEntries history (Err faults.Memory) last old new
-loads_forever history from p last old new up = judged_memory history (λ all u. TakesAll all nothing_read all last) (λ all. RefusesOne all nothing_read all) old new up.read
+pub loads_forever : {D : Type 0} (history : D → History) (from : List ℕ) (p last : Progress) (old new : State D) → LoadsUpTo history from p old new
+    → LoadsEntries history (Err faults.Memory) last old new
+loads_forever history from p last old new up =
+    judged_memory history (λ all u. TakesAll all nothing_read all last) (λ all. RefusesOne all nothing_read all) old new up.read
 
 -- ---- the whole file
 
@@ -264,14 +288,16 @@ module _ {D : Type 0} (history : D → History) (l : Loading) (last : List Colle
   abbrev Makes_whole : List Entry → Loading → Type 0
   Makes_whole all made = Makes all (progress_of made last)
 
-  pub file_even : LoadsEntries history (Ok tt) end old new → IsLoadingAs (map named_as l.names.items) last → l.keys ≡ l.seen → LoadsFile history (Ok l) last old new
+  pub file_even : LoadsEntries history (Ok tt) end old new → IsLoadingAs (map named_as l.names.items) last → l.keys ≡ l.seen
+      → LoadsFile history (Ok l) last old new
   file_even h loaded even = record {
     loaded = loaded;
     judges = judged_as history Takes_whole Refuses_whole Makes_whole MakesNone old new tt l h (λ all takes. record { takes = takes; even = even });
   }
 
   pub file_uneven : LoadsEntries history (Ok tt) end old new → l.keys ≢ l.seen → LoadsFile history (Err faults.Damaged) last old new
-  file_uneven h differ = record { loaded = tt; judges = judged_damaged history Makes_whole MakesNone old new h.read (λ k all has. inr (end, h.answers k all has, differ)) }
+  file_uneven h differ = record
+      { loaded = tt; judges = judged_damaged history Makes_whole MakesNone old new h.read (λ k all has. inr (end, h.answers k all has, differ)) }
 
   pub file_failed : (fault : OpenFault) → LoadsEntries history (Err fault) end old new → LoadsFile history (Err fault) last old new
   file_failed fault h = record {

@@ -1,5 +1,6 @@
 -- The entries of a file that are all taken spell what they make.
-use Rattle.std.proofs.Common.{◌≡◌, ◌⊎◌, ℕ, ◌+◌, ◌≤◌, Bool, true, false, List, [], ◌∷◌, ◌++◌, length, Some, inl, inr, refl, sym, ap, subst, ◌∙◌, arith, append-nil, append_assoc}
+use Rattle.std.proofs.Common.{◌≡◌, ◌⊎◌, ℕ, ◌+◌, ◌≤◌, Bool, true, false, List, [], ◌∷◌, ◌++◌, length, Some, inl, inr, refl, sym, ap, subst, ◌∙◌, arith}
+use Rattle.std.proofs.Common.{append-nil, append_assoc}
 use Rattle.btree.specs.Keys.{Each, Entry, IsUnder, Rises}
 use Rattle.index.specs.Documents.{put_document, with_documents}
 use Rattle.index.specs.State.{Collection}
@@ -8,7 +9,8 @@ use Rattle.index.proofs.EntryLemmas.{IsDocumentOf, IsOneOf, document_among, keye
 use Rattle.index.proofs.HomeLemmas.{home_of, kept_of}
 use Rattle.index.proofs.MemberLemmas.{Among, among_each, among_of, contains_of}
 use Rattle.opening.specs.Totals.{total_documents}
-use Rattle.opening.specs.Judging.{AreLoaded, HasItsKeys, IsStoredAt, Makes, Progress, Takes, TakesAll, bare, is_of_index, key_count, keys_among, nothing_read, numbered, with_document_at}
+use Rattle.opening.specs.Judging.{AreLoaded, HasItsKeys, IsStoredAt, Makes, Progress, Takes, TakesAll, bare, is_of_index, key_count, keys_among, nothing_read}
+use Rattle.opening.specs.Judging.{numbered, with_document_at}
 use Rattle.opening.proofs.OnceLists.{all_within, only, only_there}
 use Rattle.opening.proofs.TakingLemmas.{found_at}
 use Rattle.opening.proofs.EntriesSoFar.{IsKeyed, IsPlain, Stands, key_some, key_step, name_step, nothing_stands}
@@ -25,7 +27,8 @@ each_before pair (y ∷ xs) ys rises x (inl e) = subst (λ (z : Entry). IsUnder 
     first (z ∷ zs) h = first zs h.1
 each_before pair (y ∷ xs) ys rises x (inr there) = each_before pair xs ys rises.1 x there
 
-pub one_step : (all done rest : List Entry) (pair : Entry) (p next : Progress) → Rises (entry_keys (done ++ pair ∷ rest)) → Stands all done p → Takes all p pair next → Stands all (done ++ pair ∷ []) next
+pub one_step : (all done rest : List Entry) (pair : Entry) (p next : Progress) → Rises (entry_keys (done ++ pair ∷ rest)) → Stands all done p
+    → Takes all p pair next → Stands all (done ++ pair ∷ []) next
 one_step all done rest pair p next rises s (inl t) = name_step all done pair p s next t
 one_step all done rest pair p next rises s (inr (inr t)) = key_step all done pair p s next t
 one_step all done rest pair p next rises s (inr (inl t)) =
@@ -38,16 +41,21 @@ one_step all done rest pair p next rises s (inr (inl t)) =
     let made = document_step all done pair p s c t.document at.there found is keyed under in
     let now_same : with_document_at t.collection.number t.document p.now ≡ with_documents c (put_document t.document c.documents) p.now =
     ap (λ (n : ℕ). with_document_at n t.document p.now) (sym at.same) ∙ now_is all done pair p s c t.document at.there found is keyed under in
-    let next_same : record { now = with_documents c (put_document t.document c.documents) p.now; documents = p.documents + 1; keys = p.keys + key_count (keys_among c.indexes t.document); seen = p.seen } ≡ next =
-    sym (t.next_is ∙ (λ i. record { now = now_same i; documents = p.documents + 1; keys = p.keys + key_count (keys_among (sym at.told i).indexes t.document); seen = p.seen })) in
+    let next_same :
+    record { now = with_documents c (put_document t.document c.documents) p.now; documents = p.documents + 1; keys = p.keys + key_count (keys_among c.indexes t.document); seen = p.seen } ≡ next =
+    sym (t.next_is
+    ∙ (λ i. record
+    { now = now_same i; documents = p.documents + 1; keys = p.keys + key_count (keys_among (sym at.told i).indexes t.document); seen = p.seen })) in
     subst (Stands all (done ++ pair ∷ [])) next_same made
 
-pub steps_on : (all done pairs : List Entry) (p last : Progress) → Rises (entry_keys (done ++ pairs)) → Stands all done p → TakesAll all p pairs last → Stands all (done ++ pairs) last
+pub steps_on : (all done pairs : List Entry) (p last : Progress) → Rises (entry_keys (done ++ pairs)) → Stands all done p → TakesAll all p pairs last
+    → Stands all (done ++ pairs) last
 steps_on all done [] p last rises s is = subst (λ (es : List Entry). Stands all es last) (sym (append-nil done)) (subst (Stands all done) is s)
 steps_on all done (pair ∷ pairs) p last rises s (next, takes, later) =
     let split : (done ++ pair ∷ []) ++ pairs ≡ done ++ pair ∷ pairs = append_assoc done (pair ∷ []) pairs in
     subst (λ (es : List Entry). Stands all es last) split
-    (steps_on all (done ++ pair ∷ []) pairs next last (subst (λ (es : List Entry). Rises (entry_keys es)) (sym split) rises) (one_step all done pairs pair p next rises s takes) later)
+    (steps_on all (done ++ pair ∷ []) pairs next last (subst (λ (es : List Entry). Rises (entry_keys es)) (sym split) rises)
+    (one_step all done pairs pair p next rises s takes) later)
 
 -- ---- all of them
 
@@ -92,7 +100,10 @@ module _ (all : List Entry) (end : Progress) (s : Stands all all end) where
   pub stands_spell : Rises (entry_keys all) → end.keys ≡ end.seen → Spells all end.now
   stands_spell rises even = record {
     rises = rises;
-    same = λ x. ((λ h. contains_of (state_entries end.now) x (forth even x (among_of all x h))), (λ h. contains_of all x (back x (among_of (state_entries end.now) x h))));
+    same = λ x. (
+      (λ h. contains_of (state_entries end.now) x (forth even x (among_of all x h))),
+      (λ h. contains_of all x (back x (among_of (state_entries end.now) x h))),
+    );
   }
 
 pub all_stand : (all : List Entry) (end : Progress) → Rises (entry_keys all) → TakesAll all nothing_read all end → Stands all all end

@@ -1,5 +1,6 @@
 -- What is judged of one entry of a file.
-use Rattle.std.proofs.Common.{◌≡◌, ◌≢◌, ℕ, suc, ◌≤◌, Bool, true, false, not, ◌&&◌, List, [], ◌∷◌, ◌++◌, length, Ok, Err, inl, inr, refl, sym, ap, subst, ◌∙◌, arith, eqb-true, eq-eqb}
+use Rattle.std.proofs.Common.{◌≡◌, ◌≢◌, ℕ, suc, ◌≤◌, Bool, true, false, not, ◌&&◌, List, [], ◌∷◌, ◌++◌, length, Ok, Err, inl, inr, refl, sym, ap, subst, ◌∙◌}
+use Rattle.std.proofs.Common.{arith, eqb-true, eq-eqb}
 use Rattle.std.specs.Prelude.{IsUtf8, ◌==◌}
 use Rattle.std.specs.List.{AllByRecursion, AllPairs, list_any}
 use Rattle.bson.specs.Spelling.{frame_of, pairs_bytes}
@@ -30,7 +31,9 @@ pub apart_told : (is : List Definition) → are_apart is ≡ true → HaveNumber
 apart_told [] h = λ i j d lt below. absurd (omega (arith, below))
 apart_told (i ∷ is) h =
     let parts = both_true (not (has_number i.number is)) (are_apart is) h in
-    pairs_of (λ a b. a.number ≢ b.number) i is (λ j there same. never (has_number i.number is) parts.0 (any_there (λ k. k.number == i.number) is j there (eq-eqb j.number i.number (sym same)))) (apart_told is parts.1)
+    pairs_of (λ a b. a.number ≢ b.number) i is
+    (λ j there same. never (has_number i.number is) parts.0 (any_there (λ k. k.number == i.number) is j there (eq-eqb j.number i.number (sym same))))
+    (apart_told is parts.1)
   where
     never : (b : Bool) → not b ≡ true → b ≡ true → ⊥
     never true f g = cc
@@ -57,7 +60,8 @@ all_rec P [] x h there = absurd there
 all_rec P (y ∷ ys) x h (inl e) = subst P (sym e) h.0
 all_rec P (y ∷ ys) x h (inr there) = all_rec P ys x h.1 there
 
-pub bare_lawful : (name : List ℕ) (number : ℕ) (is : List Definition) → IsUtf8 name → length name ≤ 255 → 1 ≤ number → number ≤ 1000 → length is ≤ 16 → AllByRecursion IsDefinition is → are_apart is ≡ true
+pub bare_lawful : (name : List ℕ) (number : ℕ) (is : List Definition) → IsUtf8 name → length name ≤ 255 → 1 ≤ number → number ≤ 1000 → length is ≤ 16
+    → AllByRecursion IsDefinition is → are_apart is ≡ true
     → IsIndexKept (record { name = name; number = number; documents = []; indexes = is })
 bare_lawful name number is text short least most few lawful apart = record {
   name = text;
@@ -81,7 +85,8 @@ bare_lawful name number is text short least most few lawful apart = record {
 -- an entry is that of one document
 pub one_document_of : (n : ℕ) (d e : Pairs) → IsStorable d → IsStorable e → document_entry n d ≡ document_entry n e → d ≡ e
 one_document_of n d e hd he same =
-    (one_spelling (frame_of (pairs_bytes d)) (frame_of (pairs_bytes e)) [] [] d e (document_spells d hd) (document_spells e he) (ap (λ (y : Entry). y.value ++ []) same)).0
+    (one_spelling (frame_of (pairs_bytes d)) (frame_of (pairs_bytes e)) [] [] d e (document_spells d hd) (document_spells e he)
+    (ap (λ (y : Entry). y.value ++ []) same)).0
 
 pub same_stored : (c : Collection) (pair : Entry) (d e : Pairs) → IsDocumentAt c.number pair d → IsStoredAt c pair e → e ≡ d
 same_stored c pair d e here there =
@@ -94,7 +99,8 @@ pub document_of : (c : Collection) (pair : Entry) (d : Pairs) → IsStoredAt c p
 document_of c pair d is = record { pair_is = is.pair_is; stored = is.stored; readable = is.readable }
 
 -- the keys in each index, where none refuses the document
-pub keyed_so : (is : List Definition) (d : Pairs) (all : List (List (List ℕ))) → keys_in_all is d ≡ Ok all → list_any (becomes_multikey d) is ≡ false → IsIndexable is d × (all ≡ keys_among is d)
+pub keyed_so : (is : List Definition) (d : Pairs) (all : List (List (List ℕ))) → keys_in_all is d ≡ Ok all → list_any (becomes_multikey d) is ≡ false
+    → IsIndexable is d × (all ≡ keys_among is d)
 keyed_so is d all e noted =
     let same = (known is d all e).1 in (record { keys = e ∙ ap (λ (ks : List (List (List ℕ))). Ok ks) (sym same); noted = noted }, sym same)
 

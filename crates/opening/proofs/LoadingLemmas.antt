@@ -1,5 +1,6 @@
 -- How one entry after the other is taken, and what its judgement comes to.
-use Rattle.std.proofs.Common.{◌≡◌, ◌⊎◌, ℕ, ◌+◌, ◌<◌, ◌≤◌, true, false, List, [], ◌∷◌, length, map, drop, get_or, Ok, Err, Some, inl, inr, refl, sym, ap, subst, ◌∙◌, arith, eqb-true}
+use Rattle.std.proofs.Common.{◌≡◌, ◌⊎◌, ℕ, ◌+◌, ◌<◌, ◌≤◌, true, false, List, [], ◌∷◌, length, map, drop, get_or, Ok, Err, Some, inl, inr, refl, sym, ap, subst}
+use Rattle.std.proofs.Common.{◌∙◌, arith, eqb-true}
 use Rattle.std.specs.Prelude.{IfErr, OnOk, Result, Bool, ◌==◌, ◌^◌, not, if◌then◌else◌}
 use Rattle.page.specs.History.{History, KeepsWord}
 use Rattle.bson.specs.Tree.{Pairs}
@@ -22,9 +23,11 @@ use Rattle.collections.specs.State.{State}
 use Rattle.collections.specs.View.{disk_history}
 use Rattle.database_model.specs.Documents.{key_of}
 use Rattle.opening.specs.FileOpening.{IsRead, Judges}
-use Rattle.opening.specs.Judging.{HasItsKeys, IsDocumentAt, IsFaultOf, IsIndexable, IsLoadingAs, IsName, IsStoredAt, Progress, Refuses, RefusesOne, Takes, TakesAll, TakesDocument, TakesName, index_in, is_of_index, key_count, keys_among, listed_of, numbered, with_document_at}
+use Rattle.opening.specs.Judging.{HasItsKeys, IsDocumentAt, IsFaultOf, IsIndexable, IsLoadingAs, IsName, IsStoredAt, Progress, Refuses, RefusesOne, Takes}
+use Rattle.opening.specs.Judging.{TakesAll, TakesDocument, TakesName, index_in, is_of_index, key_count, keys_among, listed_of, numbered, with_document_at}
 use Rattle.opening.proofs.EntryLoops.{fault_of, refuses_here, refuses_next, takes_end, takes_next}
-use Rattle.opening.proofs.FileBatches.{as_read, failed_as, judged_as, judged_damaged, judged_failed, judged_fault, judged_memory, judged_so, judged_unread, read_none, read_on, word_before}
+use Rattle.opening.proofs.FileBatches.{as_read, failed_as, judged_as, judged_damaged, judged_failed, judged_fault, judged_memory, judged_so, judged_unread}
+use Rattle.opening.proofs.FileBatches.{read_none, read_on, word_before}
 use Rattle.opening.proofs.JudgingLemmas.{document_of, same_stored}
 use Rattle.opening.proofs.TakingLemmas.{document_loaded, found_at}
 
@@ -39,8 +42,10 @@ abbrev pub IsNone : Collection → Entry → List Entry → Type 0
 IsNone c pair all = (d : Pairs) → IsStoredAt c pair d → HasItsKeys all c d → ⊥
 
 -- what was asked, by what it was asked of
-pub reads_same : {D : Type 0} (history : D → History) (n : ℕ) (id text : List ℕ) (is js : List Definition) (kss lss : List (List (List ℕ))) (r : Result Bool Refusal) (old new : State D) → id ≡ text → is ≡ js → kss ≡ lss
-    → ReadsTree history (λ entries found. found ≡ lacks_any n id is kss entries) r old new → ReadsTree history (λ entries found. found ≡ lacks_any n text js lss entries) r old new
+pub reads_same : {D : Type 0} (history : D → History) (n : ℕ) (id text : List ℕ) (is js : List Definition) (kss lss : List (List (List ℕ)))
+    (r : Result Bool Refusal) (old new : State D) → id ≡ text → is ≡ js → kss ≡ lss
+    → ReadsTree history (λ entries found. found ≡ lacks_any n id is kss entries) r old new
+    → ReadsTree history (λ entries found. found ≡ lacks_any n text js lss entries) r old new
 reads_same history n id text is js kss lss r old new texts indexes keys reads =
     subst (λ (ts : List (List (List ℕ))). ReadsTree history (λ entries found. found ≡ lacks_any n text js ts entries) r old new) keys
     (subst (λ (ks : List Definition). ReadsTree history (λ entries found. found ≡ lacks_any n text ks kss entries) r old new) indexes
@@ -48,8 +53,11 @@ reads_same history n id text is js kss lss r old new texts indexes keys reads =
 
 module _ {D : Type 0} (history : D → History) (c : Collection) (pair : Entry) (count : ℕ) (old new : State D) where
   -- the value spells no document that may be stored
-  pub document_fault : (fault : OpenFault) → IsFaultOf fault ((d : Pairs) → IsDocumentAt c.number pair d → ⊥) → Judges history (IsJudged c count) (IsNone c pair) (Err fault) old old
-  document_fault fault h = judged_fault history (IsJudged c count) (IsNone c pair) old old fault (read_none history old) (λ all. fault_of fault (λ none d is keyed. none d (document_of c pair d is)) h)
+  pub document_fault : (fault : OpenFault) → IsFaultOf fault ((d : Pairs) → IsDocumentAt c.number pair d → ⊥)
+      → Judges history (IsJudged c count) (IsNone c pair) (Err fault) old old
+  document_fault fault h =
+      judged_fault history (IsJudged c count) (IsNone c pair) old old fault (read_none history old)
+      (λ all. fault_of fault (λ none d is keyed. none d (document_of c pair d is)) h)
 
   module _ (d : Pairs) (at : IsDocumentAt c.number pair d) where
     -- an index refuses it
@@ -73,7 +81,8 @@ module _ {D : Type 0} (history : D → History) (c : Collection) (pair : Entry) 
           let never : true ≡ false = told true all (reads.answers k all has) ∙ here in
           absurd cc)
 
-      pub keys_there : ReadsTree history Lacks (Ok false) old new → (n : ℕ) → n ≡ count + key_count kss → Judges history (IsJudged c count) (IsNone c pair) (Ok (d, n)) old new
+      pub keys_there : ReadsTree history Lacks (Ok false) old new → (n : ℕ) → n ≡ count + key_count kss
+          → Judges history (IsJudged c count) (IsNone c pair) (Ok (d, n)) old new
       keys_there reads n is =
           judged_so history (IsJudged c count) (IsNone c pair) old new (d, n) (as_read history Lacks (Ok false) old new reads)
           (λ k all has. (sym (told false all (reads.answers k all has)), is ∙ ap (λ (ks : List (List (List ℕ))). count + key_count ks) keys))
@@ -81,7 +90,8 @@ module _ {D : Type 0} (history : D → History) (c : Collection) (pair : Entry) 
       pub keys_uncounted : ReadsTree history Lacks (Ok false) old new → Judges history (IsJudged c count) (IsNone c pair) (Err faults.Memory) old new
       keys_uncounted reads = judged_memory history (IsJudged c count) (IsNone c pair) old new (as_read history Lacks (Ok false) old new reads)
 
-      pub keys_unread : (refusal : Refusal) (fault : OpenFault) → ReadsTree history Lacks (Err refusal) old new → (fault ≡ faults.Device → refusal ≡ refusals.StorageFailed) → (fault ≡ faults.Device) ⊎ (fault ≡ faults.Memory)
+      pub keys_unread : (refusal : Refusal) (fault : OpenFault) → ReadsTree history Lacks (Err refusal) old new
+          → (fault ≡ faults.Device → refusal ≡ refusals.StorageFailed) → (fault ≡ faults.Device) ⊎ (fault ≡ faults.Memory)
           → Judges history (IsJudged c count) (IsNone c pair) (Err fault) old new
       keys_unread refusal fault reads device kinds = judged_unread history (IsJudged c count) (IsNone c pair) Lacks old new refusal fault reads device kinds
 
@@ -98,7 +108,8 @@ number_of n (x ∷ cs) c told = by (x.number == n) refl told (number_of n cs c)
     by true same e later = sym (ap (λ (y : Collection). y.number) (some_same e)) ∙ eqb-true x.number n same
     by false other e later = later e
 
-module _ (names now : List Collection) (number : ℕ) (c : Collection) (pair : Entry) (loading : IsLoadingAs names now) (told : numbered number names ≡ Some c) where
+module _ (names now : List Collection) (number : ℕ) (c : Collection) (pair : Entry) (loading : IsLoadingAs names now)
+    (told : numbered number names ≡ Some c) where
   same_number : c.number ≡ number
   same_number = number_of number names c told
 
@@ -111,7 +122,8 @@ module _ (names now : List Collection) (number : ℕ) (c : Collection) (pair : E
       (document_loaded names now pair c d loading (ap (λ (n : ℕ). numbered n names) same_number ∙ told) is)
 
   pub document_takes : (all : List Entry) (d : Pairs) (documents count n seen : ℕ) → IsStoredAt c pair d → IsJudged c count all (d, n)
-      → TakesDocument all (record { now = now; documents = documents; keys = count; seen = seen }) pair (record { now = with_document_at number d now; documents = documents + 1; keys = n; seen = seen })
+      → TakesDocument all (record { now = now; documents = documents; keys = count; seen = seen }) pair
+      (record { now = with_document_at number d now; documents = documents + 1; keys = n; seen = seen })
   document_takes all d documents count n seen is judged = record {
     collection = c;
     document = d;
@@ -121,7 +133,8 @@ module _ (names now : List Collection) (number : ℕ) (c : Collection) (pair : E
     next_is = λ k. record { now = with_document_at (sym same_number k) d now; documents = documents + 1; keys = judged.1 k; seen = seen };
   }
 
-  pub document_refuses : (all : List Entry) → IsNone c pair all → (e : Collection) (d : Pairs) → e.number ≡ number → numbered number (listed_of now) ≡ Some e → IsStoredAt e pair d → HasItsKeys all e d → ⊥
+  pub document_refuses : (all : List Entry) → IsNone c pair all → (e : Collection) (d : Pairs) → e.number ≡ number → numbered number (listed_of now) ≡ Some e
+      → IsStoredAt e pair d → HasItsKeys all e d → ⊥
   document_refuses all none e d same there is keyed =
       let one : e ≡ c = some_same (sym there ∙ ap (numbered number) (sym loading.named) ∙ told) in
       none d (subst (λ (x : Collection). IsStoredAt x pair d) one is) (subst (λ (x : Collection). HasItsKeys all x d) one keyed)
@@ -134,16 +147,27 @@ module _ (names now : List Collection) (number : ℕ) (c : Collection) (pair : E
   Refuses_all all = (e : Collection) (d : Pairs) → e.number ≡ number → numbered number (listed_of now) ≡ Some e → IsStoredAt e pair d → HasItsKeys all e d → ⊥
 
   module _ {D : Type 0} (history : D → History) (documents count seen : ℕ) (old new : State D) where
-    pub document_taken : (d : Pairs) (n : ℕ) (after : List Collection) → after ≡ with_document_at number d now → IsStoredAt c pair d → Judges history (IsJudged c count) (IsNone c pair) (Ok (d, n)) old new
-        → Judges history (λ all (u : Unit {0}). TakesDocument all (record { now = now; documents = documents; keys = count; seen = seen }) pair (record { now = after; documents = documents + 1; keys = n; seen = seen })) Refuses_all (Ok tt) old new
+    pub document_taken : (d : Pairs) (n : ℕ) (after : List Collection) → after ≡ with_document_at number d now → IsStoredAt c pair d
+        → Judges history (IsJudged c count) (IsNone c pair) (Ok (d, n)) old new
+        → Judges history
+        (λ all (u : Unit {0}). TakesDocument all (record { now = now; documents = documents; keys = count; seen = seen }) pair
+        (record { now = after; documents = documents + 1; keys = n; seen = seen })) Refuses_all (Ok tt) old new
     document_taken d n after made is judged =
-        judged_as history (IsJudged c count) (IsNone c pair) (λ all (u : Unit {0}). TakesDocument all (record { now = now; documents = documents; keys = count; seen = seen }) pair (record { now = after; documents = documents + 1; keys = n; seen = seen })) Refuses_all old new (d, n) tt judged
-        (λ all j. subst (λ (later : List Collection). TakesDocument all (record { now = now; documents = documents; keys = count; seen = seen }) pair (record { now = later; documents = documents + 1; keys = n; seen = seen })) (sym made) (document_takes all d documents count n seen is j))
+        judged_as history (IsJudged c count) (IsNone c pair)
+        (λ all (u : Unit {0}). TakesDocument all (record { now = now; documents = documents; keys = count; seen = seen }) pair
+        (record { now = after; documents = documents + 1; keys = n; seen = seen })) Refuses_all old new (d, n) tt judged
+        (λ all j. subst
+        (λ (later : List Collection). TakesDocument all (record { now = now; documents = documents; keys = count; seen = seen }) pair
+        (record { now = later; documents = documents + 1; keys = n; seen = seen })) (sym made) (document_takes all d documents count n seen is j))
 
     pub document_failed : (fault : OpenFault) (next : Progress) → Judges history (IsJudged c count) (IsNone c pair) (Err fault) old new
-        → Judges history (λ all (u : Unit {0}). TakesDocument all (record { now = now; documents = documents; keys = count; seen = seen }) pair next) Refuses_all (Err fault) old new
+        → Judges history
+        (λ all (u : Unit {0}). TakesDocument all (record { now = now; documents = documents; keys = count; seen = seen }) pair next) Refuses_all
+        (Err fault) old new
     document_failed fault next judged =
-        failed_as history (IsJudged c count) (IsNone c pair) (λ all (u : Unit {0}). TakesDocument all (record { now = now; documents = documents; keys = count; seen = seen }) pair next) Refuses_all old new fault judged (λ all none. document_refuses all none)
+        failed_as history (IsJudged c count) (IsNone c pair)
+        (λ all (u : Unit {0}). TakesDocument all (record { now = now; documents = documents; keys = count; seen = seen }) pair next) Refuses_all old new fault
+        judged (λ all none. document_refuses all none)
 
 -- ---- which entry is refused
 
@@ -160,7 +184,8 @@ module _ (all : List Entry) (names : List Collection) (p : Progress) (pair : Ent
   -- a key without two numbers
   pub short_refused : length pair.key < 8 → Refuses all p pair
   short_refused short next (inl t) = omega (arith, short, under_size 0 (tree_text (words t.name.name)) (ap (λ (x : Entry). x.key) t.is.pair_is))
-  short_refused short next (inr (inl t)) = omega (arith, short, under_size t.collection.number (tree_text (key_of t.document)) (ap (λ (x : Entry). x.key) t.is.pair_is))
+  short_refused short next (inr (inl t)) =
+      omega (arith, short, under_size t.collection.number (tree_text (key_of t.document)) (ap (λ (x : Entry). x.key) t.is.pair_is))
   short_refused short next (inr (inr t)) = omega (arith, short, t.long)
 
   module _ (number : ℕ) (is_number : (n : ℕ) (text : List ℕ) → n < 2 ^ 32 → pair.key ≡ key_under n 0 text → number ≡ n) (no_index : index_in pair.key ≡ 0) where
@@ -178,7 +203,9 @@ module _ (all : List Entry) (names : List Collection) (p : Progress) (pair : Ent
     name_refused zero none next (inr (inl t)) = omega (arith, zero, number_stored t.collection t.document t.listed t.is, least_of t.collection t.listed)
     name_refused zero none next (inr (inr t)) = no_key t.is
 
-    pub document_refused : (number ≡ 0 → ⊥) → ((c : Collection) (d : Pairs) → c.number ≡ number → numbered number (listed_of p.now) ≡ Some c → IsStoredAt c pair d → HasItsKeys all c d → ⊥) → Refuses all p pair
+    pub document_refused : (number ≡ 0 → ⊥)
+        → ((c : Collection) (d : Pairs) → c.number ≡ number → numbered number (listed_of p.now) ≡ Some c → IsStoredAt c pair d → HasItsKeys all c d → ⊥)
+        → Refuses all p pair
     document_refused more none next (inl t) = more (number_named t.name t.is)
     document_refused more none next (inr (inl t)) =
         let same = number_stored t.collection t.document t.listed t.is in
@@ -201,17 +228,22 @@ module _ {D : Type 0} (history : D → History) (file : State D) (pair : Entry) 
   abbrev Refused : List Entry → Type 0
   Refused all = Refuses all p pair
 
-  pub key_judged : (r : Result (Unit {0}) OpenFault) → OnOk r (next ≡ record p { seen = p.seen + 1 }) → IfErr r (λ e. e ≡ faults.Memory) → 8 ≤ length pair.key → is_of_index pair ≡ true → Judges history Taken Refused r file file
-  key_judged (Ok u) ok err long is = judged_so history Taken Refused file file u (read_none history file) (λ k all has. inr (inr (record { long = long; is = is; next_is = ok })))
+  pub key_judged : (r : Result (Unit {0}) OpenFault) → OnOk r (next ≡ record p { seen = p.seen + 1 }) → IfErr r (λ e. e ≡ faults.Memory) → 8 ≤ length pair.key
+      → is_of_index pair ≡ true → Judges history Taken Refused r file file
+  key_judged (Ok u) ok err long is =
+      judged_so history Taken Refused file file u (read_none history file) (λ k all has. inr (inr (record { long = long; is = is; next_is = ok })))
   key_judged (Err e) ok err long is = judged_fault history Taken Refused file file e (read_none history file) (λ all. inl err)
 
-  pub name_judged : {W : Type 0} (r : Result (Unit {0}) OpenFault) → OnOk r (TakesName p pair next) → IfErr r (λ e. IsFaultOf e W) → ((all : List Entry) → W → Refuses all p pair) → Judges history Taken Refused r file file
+  pub name_judged : {W : Type 0} (r : Result (Unit {0}) OpenFault) → OnOk r (TakesName p pair next) → IfErr r (λ e. IsFaultOf e W)
+      → ((all : List Entry) → W → Refuses all p pair) → Judges history Taken Refused r file file
   name_judged (Ok u) ok err on = judged_so history Taken Refused file file u (read_none history file) (λ k all has. inl ok)
   name_judged (Err e) ok err on = judged_fault history Taken Refused file file e (read_none history file) (λ all. fault_of e (on all) err)
 
-  pub document_judged : (W : List Entry → Type 0) (r : Result (Unit {0}) OpenFault) (new : State D) → Judges history (λ all (u : Unit {0}). TakesDocument all p pair next) W r file new → ((all : List Entry) → W all → Refuses all p pair)
+  pub document_judged : (W : List Entry → Type 0) (r : Result (Unit {0}) OpenFault) (new : State D)
+      → Judges history (λ all (u : Unit {0}). TakesDocument all p pair next) W r file new → ((all : List Entry) → W all → Refuses all p pair)
       → Judges history Taken Refused r file new
-  document_judged W (Ok u) new judged on = judged_as history (λ all (u : Unit {0}). TakesDocument all p pair next) W Taken Refused file new u u judged (λ all t. inr (inl t))
+  document_judged W (Ok u) new judged on =
+      judged_as history (λ all (u : Unit {0}). TakesDocument all p pair next) W Taken Refused file new u u judged (λ all t. inr (inl t))
   document_judged W (Err e) new judged on = failed_as history (λ all (u : Unit {0}). TakesDocument all p pair next) W Taken Refused file new e judged on
 
 pub ok_on : {A B : Type 0} {X E : Type 0} (r : Result X E) → (A → B) → OnOk r A → OnOk r B
@@ -230,10 +262,12 @@ pub record TakesUpTo {D : Type 0} (history : D → History) (entries : List OwnE
   pub read : IsRead history old new
   pub so_far : KeepsWord (disk_history history new) → (all : List Entry) → HasEntries history old all → ComesTo entries i first p all
 
-pub entries_none : {D : Type 0} (history : D → History) (entries : List OwnEntry) (first : Progress) (file : State D) → TakesUpTo history entries 0 first first file file
+pub entries_none : {D : Type 0} (history : D → History) (entries : List OwnEntry) (first : Progress) (file : State D)
+    → TakesUpTo history entries 0 first first file file
 entries_none history entries first file = record { read = read_none history file; so_far = λ k all has. record { takes = λ last h. h; refuses = λ h. h } }
 
-module _ {D : Type 0} (history : D → History) (entries : List OwnEntry) (i : ℕ) (first p : Progress) (old mid : State D) (up : TakesUpTo history entries i first p old mid) where
+module _ {D : Type 0} (history : D → History) (entries : List OwnEntry) (i : ℕ) (first p : Progress) (old mid : State D)
+    (up : TakesUpTo history entries i first p old mid) where
   abbrev Takes_these : Progress → List Entry → Unit {0} → Type 0
   Takes_these last all u = TakesAll all first (map entry_in entries) last
 
@@ -260,10 +294,12 @@ module _ {D : Type 0} (history : D → History) (entries : List OwnEntry) (i : �
           };
     }
 
-    pub entries_failed : (fault : OpenFault) (last : Progress) → Judges history Takes_this Refuses_this (Err fault) mid new → Judges history (Takes_these last) Refuses_one (Err fault) old new
+    pub entries_failed : (fault : OpenFault) (last : Progress) → Judges history Takes_this Refuses_this (Err fault) mid new
+        → Judges history (Takes_these last) Refuses_one (Err fault) old new
     entries_failed fault last judged =
         judged_failed history (ComesTo entries i first p) Takes_this Refuses_this (Takes_these last) Refuses_one old mid new up.read up.so_far fault judged
         (λ all so refuses. so.refuses (refuses_here all entries i x within is p refuses))
 
   pub entries_end : length entries ≤ i → Judges history (Takes_these p) Refuses_one (Ok tt) old mid
-  entries_end whole = judged_so history (Takes_these p) Refuses_one old mid tt up.read (λ k all has. (up.so_far k all has).takes p (takes_end all entries i p whole))
+  entries_end whole =
+      judged_so history (Takes_these p) Refuses_one old mid tt up.read (λ k all has. (up.so_far k all has).takes p (takes_end all entries i p whole))

@@ -28,7 +28,8 @@ around x [] h = absurd h
 around x (y ∷ ys) (inl e) = record { front = []; back = ys; split = ap (λ z. z ∷ ys) (sym e) }
 around x (y ∷ ys) (inr h) = let r = around x ys h in record { front = y ∷ r.front; back = r.back; split = ap (λ zs. y ∷ zs) r.split }
 
-rest_within : {X : Type 0} (x : X) (xs front back : List X) → (Among x xs → ⊥) → ((z : X) → Among z xs → Among z (front ++ x ∷ back)) → (z : X) → Among z xs → Among z (front ++ back)
+rest_within : {X : Type 0} (x : X) (xs front back : List X) → (Among x xs → ⊥) → ((z : X) → Among z xs → Among z (front ++ x ∷ back)) → (z : X) → Among z xs
+    → Among z (front ++ back)
 rest_within x xs front back once h z there = elim (among_middle z x front back (h z there)) [
   | inl e ↦ absurd (once (subst (λ w. Among w xs) e there))
   | inr g ↦ g
@@ -48,7 +49,8 @@ all_within [] (y ∷ ys) once h long z there = absurd (omega (arith, long))
 all_within {X} (x ∷ xs) ys once h long z there =
     let r = around x ys (h x (inl refl)) in
     let within : (w : X) → Among w xs → Among w (r.front ++ x ∷ r.back) = λ w g. subst (Among w) r.split (h w (inr g)) in
-    let short : length (r.front ++ r.back) ≤ length xs = omega (arith, long, ap length r.split, length-append r.front (x ∷ r.back), length-append r.front r.back) in
+    let short : length (r.front ++ r.back) ≤ length xs =
+    omega (arith, long, ap length r.split, length-append r.front (x ∷ r.back), length-append r.front r.back) in
     elim (among_middle z x r.front r.back (subst (Among z) r.split there)) [
       | inl e ↦ inl e
       | inr g ↦ inr (all_within xs (r.front ++ r.back) once.1 (rest_within x xs r.front r.back once.0 within) short z g)
@@ -74,11 +76,13 @@ once_map f (x ∷ xs) h same = (
 abbrev pub GiveApart : {X Y : Type 0} → (X → List Y) → X → X → Type 0
 GiveApart {Y = Y} f x y = (z : Y) → Among z (f x) → Among z (f y) → ⊥
 
-pub once_flat : {X Y : Type 0} (R : X → X → Type 0) (f : X → List Y) (xs : List X) → ((x : X) → Among x xs → AreOnce (f x)) → AllPairs R xs → ((x y : X) → Among x xs → Among y xs → R x y → GiveApart f x y) → AreOnce (flat_map f xs)
+pub once_flat : {X Y : Type 0} (R : X → X → Type 0) (f : X → List Y) (xs : List X) → ((x : X) → Among x xs → AreOnce (f x)) → AllPairs R xs
+    → ((x y : X) → Among x xs → Among y xs → R x y → GiveApart f x y) → AreOnce (flat_map f xs)
 once_flat R f [] h pairs apart = tt
 once_flat R f (x ∷ xs) h pairs apart =
     once_append (f x) (flat_map f xs) (h x (inl refl))
-    (once_flat R f xs (λ y p. h y (inr p)) (λ i j d lt below. pairs (suc i) (suc j) d (omega (arith, lt)) (omega (arith, below))) (λ y z p q. apart y z (inr p) (inr q)))
+    (once_flat R f xs (λ y p. h y (inr p)) (λ i j d lt below. pairs (suc i) (suc j) d (omega (arith, lt)) (omega (arith, below)))
+    (λ y z p q. apart y z (inr p) (inr q)))
     (λ z p q. let y = among_flat f z xs q in apart x y.0 (inl refl) (inr y.1) (first_of R x xs y.0 pairs y.1) z p y.2)
 
 -- keys that ascend
@@ -112,7 +116,9 @@ only p (x ∷ xs) = keep_if (p x) x (only p xs)
 pub only_append : {X : Type 0} (p : X → Bool) (xs ys : List X) → only p (xs ++ ys) ≡ only p xs ++ only p ys
 only_append p [] ys = refl
 only_append p (x ∷ xs) ys =
-    elim (p x) as (λ b. keep_if b x (only p (xs ++ ys)) ≡ keep_if b x (only p xs) ++ only p ys) [ true ↦ ap (λ zs. x ∷ zs) (only_append p xs ys) | false ↦ only_append p xs ys ]
+    elim (p x) as
+    (λ b. keep_if b x (only p (xs ++ ys)) ≡ keep_if b x (only p xs)
+    ++ only p ys) [ true ↦ ap (λ zs. x ∷ zs) (only_append p xs ys) | false ↦ only_append p xs ys ]
 
 pub only_there : {X : Type 0} (p : X → Bool) (xs : List X) (x : X) → Among x xs → p x ≡ true → Among x (only p xs)
 only_there p [] x h e = absurd h

@@ -1,5 +1,6 @@
 -- No entry of lawful collections is refused, and they have as many entries of indexes as their documents have keys.
-use Rattle.std.proofs.Common.{◌≡◌, ◌⊎◌, ℕ, ◌+◌, ◌<◌, ◌≤◌, Bool, true, false, not, ◌&&◌, ◌||◌, List, [], ◌∷◌, ◌++◌, length, map, Some, inl, inr, refl, sym, ap, subst, ◌∙◌, arith, append_assoc, eqb-true, Result, Ok}
+use Rattle.std.proofs.Common.{◌≡◌, ◌⊎◌, ℕ, ◌+◌, ◌<◌, ◌≤◌, Bool, true, false, not, ◌&&◌, ◌||◌, List, [], ◌∷◌, ◌++◌, length, map, Some, inl, inr, refl, sym, ap}
+use Rattle.std.proofs.Common.{subst, ◌∙◌, arith, append_assoc, eqb-true, Result, Ok}
 use Rattle.std.specs.Prelude.{All, ◌==◌, if◌then◌else◌, Option}
 use Rattle.std.specs.List.{list_all, list_any}
 use Rattle.std.specs.Cmp.{nat_cmp_is}
@@ -47,7 +48,8 @@ use Rattle.index.proofs.PlaceLemmas.{apart_rest, name_itself}
 use Rattle.index.proofs.ReadLaws.{in_map, there_of}
 use Rattle.index.proofs.WindowLemmas.{under_cmp}
 use Rattle.collections.specs.IndexChecks.{has_entry, is_empty_at, lacks_any, lacks_key, lacks_one}
-use Rattle.opening.specs.Judging.{HasItsKeys, IsIndexable, MakesNone, Progress, RefusesOne, Takes, bare, is_of_index, key_count, keys_among, listed_of, nothing_read, numbered, stands_behind, with_document_at}
+use Rattle.opening.specs.Judging.{HasItsKeys, IsIndexable, MakesNone, Progress, RefusesOne, Takes, bare, is_of_index, key_count, keys_among, listed_of}
+use Rattle.opening.specs.Judging.{nothing_read, numbered, stands_behind, with_document_at}
 use Rattle.database_model.specs.Lawful.{IsStored}
 use Rattle.opening.proofs.EntriesSoFar.{IsPlain, Stands, catalogue_none, document_none, key_some, nothing_stands}
 use Rattle.opening.proofs.FileEntries.{all_stand, each_before, one_step, owed_seen}
@@ -60,7 +62,8 @@ pub any_none : {X : Type 0} (f : X → Bool) (xs : List X) → ((x : X) → Amon
 any_none f [] h = refl
 any_none f (x ∷ xs) h = ap (λ (b : Bool). b || list_any f xs) (h x (inl refl)) ∙ any_none f xs (λ y there. h y (inr there))
 
-all_behind : (n : Collection) (xs : List Collection) → ((x : Collection) → Among x xs → stands_behind n (bare x) ≡ true) → list_all (stands_behind n) (listed_of xs) ≡ true
+all_behind : (n : Collection) (xs : List Collection) → ((x : Collection) → Among x xs → stands_behind n (bare x) ≡ true)
+    → list_all (stands_behind n) (listed_of xs) ≡ true
 all_behind n [] h = refl
 all_behind n (x ∷ xs) h = ap (λ (b : Bool). b && list_all (stands_behind n) (listed_of xs)) (h x (inl refl)) ∙ all_behind n xs (λ y there. h y (inr there))
 
@@ -68,7 +71,8 @@ numbered_there : (xs : List Collection) (x : Collection) → AreNumberedApart xs
 numbered_there [] x apart there = absurd there
 numbered_there (y ∷ ys) x apart there = by (y.number == x.number) refl there (numbered_there ys x apart.1)
   where
-    by : (b : Bool) → (y.number == x.number) ≡ b → Among x (y ∷ ys) → (Among x ys → numbered x.number (listed_of ys) ≡ Some (bare x)) → (if b then Some (bare y) else numbered x.number (listed_of ys)) ≡ Some (bare x)
+    by : (b : Bool) → (y.number == x.number) ≡ b → Among x (y ∷ ys) → (Among x ys → numbered x.number (listed_of ys) ≡ Some (bare x))
+        → (if b then Some (bare y) else numbered x.number (listed_of ys)) ≡ Some (bare x)
     by true same at later = ap (λ (z : Collection). Some (bare z)) (one_number (y ∷ ys) y x apart (inl refl) at (eqb-true y.number x.number same))
     by false other (inl e) later =
         let itself : (y.number == x.number) ≡ true = ap (λ (z : Collection). z.number == x.number) (sym e) ∙ number_itself x.number in
@@ -106,14 +110,16 @@ record IsLike (c e : Collection) : Type 0 where
 
 same_catalogue : (c e : Collection) → IsIndexKept c → IsIndexKept e → IsOneOf e (catalogue_entry c) → IsLike c e
 same_catalogue c e kept other (inl same) =
-    let parts = same_value c.number e.number c.indexes e.indexes kept.most other.most kept.few other.few (lawful_indexes c.indexes c.documents kept.indexes) (lawful_indexes e.indexes e.documents other.indexes)
+    let parts = same_value c.number e.number c.indexes e.indexes kept.most other.most kept.few other.few (lawful_indexes c.indexes c.documents kept.indexes)
+    (lawful_indexes e.indexes e.documents other.indexes)
     (ap (λ (y : Entry). y.value) same) in
     record {
       name = same_words c.name e.name (same_rest 0 0 0 0 (tree_text (words c.name)) (tree_text (words e.name)) (ap (λ (y : Entry). y.key) same));
       number = parts.0;
       indexes = parts.1;
     }
-same_catalogue c e kept other (inr inside) = absurd (not_inside c e (catalogue_entry c) (catalogue_entry c) other refl (inside_of e (catalogue_entry c) inside) refl)
+same_catalogue c e kept other (inr inside) =
+    absurd (not_inside c e (catalogue_entry c) (catalogue_entry c) other refl (inside_of e (catalogue_entry c) inside) refl)
 
 plain_one : (now : List Collection) (x : Entry) (h : IsPlain now x) → IsOneOf h.collection x
 plain_one now x h = at h.is
@@ -146,13 +152,16 @@ pub document_spells : (d : Pairs) → IsStorable d → SpellsDocument (frame_of 
 document_spells d h = record { lawful = h.lawful; spelled = refl; size = omega (arith, h.size) }
 
 -- a document's entry in the one is that of the document in the other
-same_document : (c e : Collection) (d : Pairs) → IsIndexKept c → IsIndexKept e → Among d c.documents → IsOneOf e (document_entry c.number d) → (c.number ≡ e.number) × Among d e.documents
+same_document : (c e : Collection) (d : Pairs) → IsIndexKept c → IsIndexKept e → Among d c.documents → IsOneOf e (document_entry c.number d)
+    → (c.number ≡ e.number) × Among d e.documents
 same_document c e d kept other there (inl f) =
-    absurd (not_inside e c (document_entry c.number d) (document_entry c.number d) kept f (inside_of c (document_entry c.number d) (inl (record { document = d; there = there; is = refl }))) refl)
+    absurd (not_inside e c (document_entry c.number d) (document_entry c.number d) kept f
+    (inside_of c (document_entry c.number d) (inl (record { document = d; there = there; is = refl }))) refl)
 same_document c e d kept other there (inr (inl g)) =
     let keys : key_under c.number 0 (tree_text (key_of d)) ≡ key_under e.number 0 (tree_text (key_of g.document)) = ap (λ (y : Entry). y.key) g.is in
     let same : d ≡ g.document =
-    (one_spelling (frame_of (pairs_bytes d)) (frame_of (pairs_bytes g.document)) [] [] d g.document (document_spells d (storable_of c d kept there)) (document_spells g.document (storable_of e g.document other g.there))
+    (one_spelling (frame_of (pairs_bytes d)) (frame_of (pairs_bytes g.document)) [] [] d g.document (document_spells d (storable_of c d kept there))
+    (document_spells g.document (storable_of e g.document other g.there))
     (ap (λ (y : Entry). y.value ++ []) g.is)).0 in (
       same_first c.number e.number 0 0 (tree_text (key_of d)) (tree_text (key_of g.document)) (number_fits c kept) (number_fits e other) keys,
       subst (λ (f : Pairs). Among f e.documents) (sym same) g.there,
@@ -166,7 +175,8 @@ let_through false r x y e = (refl, e)
 
 keyed_one : (fs : List Field) (d : Pairs) → keys_in fs d ≡ Ok (encoded_keys fs d) → (is_too_long fs d ≡ false) × (has_parallel_arrays fs d ≡ false)
 keyed_one fs d e =
-    let first = let_through (is_too_long fs d) refusals.KeyTooLong (unless (has_parallel_arrays fs d) refusals.CannotIndexParallelArrays (Ok (encoded_keys fs d))) (encoded_keys fs d) e in
+    let first = let_through (is_too_long fs d) refusals.KeyTooLong
+    (unless (has_parallel_arrays fs d) refusals.CannotIndexParallelArrays (Ok (encoded_keys fs d))) (encoded_keys fs d) e in
     let second = let_through (has_parallel_arrays fs d) refusals.CannotIndexParallelArrays (Ok (encoded_keys fs d)) (encoded_keys fs d) first.1 in
     (first.0, second.0)
 
@@ -174,8 +184,11 @@ keyed_one fs d e =
 indexable_in : (c : Collection) (d : Pairs) → IsIndexKept c → Among d c.documents → IsIndexable c.indexes d
 indexable_in c d kept inside = record {
   keys = λ k. unless (any_none (λ i. is_too_long i.fields d) c.indexes (λ i there. (keyed i there).0) k) refusals.KeyTooLong
-      (unless (any_none (λ i. has_parallel_arrays i.fields d) c.indexes (λ i there. (keyed i there).1) k) refusals.CannotIndexParallelArrays (Ok (keys_among c.indexes d)));
-  noted = any_none (becomes_multikey d) c.indexes (λ i there. not_becoming i.is_multi (is_multikey i.fields d) (of_all (λ e. is_multikey i.fields e ≡ true → i.is_multi ≡ true) c.documents d (indexed_of c i kept there).multi inside));
+      (unless (any_none (λ i. has_parallel_arrays i.fields d) c.indexes (λ i there. (keyed i there).1) k) refusals.CannotIndexParallelArrays
+      (Ok (keys_among c.indexes d)));
+  noted = any_none (becomes_multikey d) c.indexes
+      (λ i there. not_becoming i.is_multi (is_multikey i.fields d)
+      (of_all (λ e. is_multikey i.fields e ≡ true → i.is_multi ≡ true) c.documents d (indexed_of c i kept there).multi inside));
 }
   where
     keyed : (i : Definition) → Among i c.indexes → (is_too_long i.fields d ≡ false) × (has_parallel_arrays i.fields d ≡ false)
@@ -186,15 +199,19 @@ indexable_in c d kept inside = record {
     not_becoming false true h = absurd (let never : false ≡ true = h refl in cc)
     not_becoming false false h = refl
 
-no_key_lacks : (n : ℕ) (i : Definition) (id : List ℕ) (keys : List (List ℕ)) (all : List Entry) → ((key : List ℕ) → Among key keys → lacks_key n i id key all ≡ false) → lacks_one n i id keys all ≡ false
+no_key_lacks : (n : ℕ) (i : Definition) (id : List ℕ) (keys : List (List ℕ)) (all : List Entry)
+    → ((key : List ℕ) → Among key keys → lacks_key n i id key all ≡ false) → lacks_one n i id keys all ≡ false
 no_key_lacks n i id [] all h = refl
-no_key_lacks n i id (key ∷ keys) all h = ap (λ (b : Bool). b || lacks_one n i id keys all) (h key (inl refl)) ∙ no_key_lacks n i id keys all (λ k there. h k (inr there))
+no_key_lacks n i id (key ∷ keys) all h =
+    ap (λ (b : Bool). b || lacks_one n i id keys all) (h key (inl refl)) ∙ no_key_lacks n i id keys all (λ k there. h k (inr there))
 
-none_lacks : (n : ℕ) (id : List ℕ) (is : List Definition) (d : Pairs) (all : List Entry) → ((i : Definition) → Among i is → (key : List ℕ) → Among key (encoded_keys i.fields d) → lacks_key n i id key all ≡ false)
+none_lacks : (n : ℕ) (id : List ℕ) (is : List Definition) (d : Pairs) (all : List Entry)
+    → ((i : Definition) → Among i is → (key : List ℕ) → Among key (encoded_keys i.fields d) → lacks_key n i id key all ≡ false)
     → lacks_any n id is (keys_among is d) all ≡ false
 none_lacks n id [] d all h = refl
 none_lacks n id (i ∷ is) d all h =
-    ap (λ (b : Bool). b || lacks_any n id is (keys_among is d) all) (no_key_lacks n i id (encoded_keys i.fields d) all (h i (inl refl))) ∙ none_lacks n id is d all (λ j there. h j (inr there))
+    ap (λ (b : Bool). b || lacks_any n id is (keys_among is d) all) (no_key_lacks n i id (encoded_keys i.fields d) all (h i (inl refl)))
+    ∙ none_lacks n id is d all (λ j there. h j (inr there))
 
 and_false : (b : Bool) → (b && false) ≡ false
 and_false true = refl
@@ -211,8 +228,10 @@ module _ (all : List Entry) (cs : List Collection) (spells : Spells all cs) (law
     good : IsStorable d
     good = storable_of c d kept_one inside
 
-    none_other : (i : Definition) (key : List ℕ) → Among i c.indexes → Among key (encoded_keys i.fields d) → i.is_unique ≡ true → another_has i key (key_of d) c.documents ≡ false
-    none_other i key listed mine unique = any_none (λ e. is_among (encoded_keys i.fields e) key && not (is_eq (compare (key_of d) (key_of e)))) c.documents (λ e in_c. at e in_c)
+    none_other : (i : Definition) (key : List ℕ) → Among i c.indexes → Among key (encoded_keys i.fields d) → i.is_unique ≡ true
+        → another_has i key (key_of d) c.documents ≡ false
+    none_other i key listed mine unique =
+        any_none (λ e. is_among (encoded_keys i.fields e) key && not (is_eq (compare (key_of d) (key_of e)))) c.documents (λ e in_c. at e in_c)
       where
         has_it : is_among (encoded_keys i.fields d) key ≡ true
         has_it = among_test (encoded_keys i.fields d) key mine
@@ -223,12 +242,16 @@ module _ (all : List Entry) (cs : List Collection) (spells : Spells all cs) (law
 
         at : (e : Pairs) → Among e c.documents → (is_among (encoded_keys i.fields e) key && not (is_eq (compare (key_of d) (key_of e)))) ≡ false
         at e in_c = elim (of_pairs (ShareNoKey i.fields) c.documents d e ((indexed_of c i kept_one listed).unique unique) inside in_c) [
-          | inl same ↦ ap (λ (o : Ordering). is_among (encoded_keys i.fields e) key && not (is_eq o)) (ap (λ (f : Pairs). compare (key_of f) (key_of e)) same ∙ tied_itself compare_total (key_of e)) ∙ and_false (is_among (encoded_keys i.fields e) key)
+          | inl same ↦ ap (λ (o : Ordering). is_among (encoded_keys i.fields e) key && not (is_eq o))
+              (ap (λ (f : Pairs). compare (key_of f) (key_of e)) same ∙ tied_itself compare_total (key_of e))
+              ∙ and_false (is_among (encoded_keys i.fields e) key)
           | inr (inl share) ↦ ap (λ (b : Bool). b && not (is_eq (compare (key_of d) (key_of e)))) (share key has_it)
-          | inr (inr share) ↦ ap (λ (b : Bool). b && not (is_eq (compare (key_of d) (key_of e)))) (lacks_it e share (is_among (encoded_keys i.fields e) key) refl)
+          | inr (inr share) ↦ ap (λ (b : Bool). b && not (is_eq (compare (key_of d) (key_of e))))
+              (lacks_it e share (is_among (encoded_keys i.fields e) key) refl)
         ]
 
-    stands_so : (i : Definition) → Among i c.indexes → (key : List ℕ) → Among key (encoded_keys i.fields d) → lacks_key c.number i (tree_text (key_of d)) key all ≡ false
+    stands_so : (i : Definition) → Among i c.indexes → (key : List ℕ) → Among key (encoded_keys i.fields d)
+        → lacks_key c.number i (tree_text (key_of d)) key all ≡ false
     stands_so i listed key mine =
         let x = index_entry c.number i.number (key_of d) key in
         let stands : Among x all = in_map all cs all_lawful c x there (keyed_among c d i key inside listed mine) in
@@ -239,7 +262,8 @@ module _ (all : List Entry) (cs : List Collection) (spells : Spells all cs) (law
         alone : (b : Bool) → i.is_unique ≡ b → (b && has_other_key c.number i.number key (tree_text (key_of d)) all) ≡ false
         alone false e = refl
         alone true e =
-            tells_other_key all cs c i d key all_lawful (find_there cs c lawful.apart there) (contains_of c.indexes i listed) good (among_test (encoded_keys i.fields d) key mine)
+            tells_other_key all cs c i d key all_lawful (find_there cs c lawful.apart there) (contains_of c.indexes i listed) good
+            (among_test (encoded_keys i.fields d) key mine)
             ∙ none_other i key listed mine e
 
     has_its_keys : HasItsKeys all c d
@@ -304,7 +328,8 @@ module _ (all : List Entry) (cs : List Collection) (spells : Spells all cs) (law
 
     less : pair ≡ catalogue_entry c → (x : Collection) → Among x p.now → slice_cmp nat_cmp x.name c.name ≡ orders.Less
     less is x before =
-        sym (names_order x c (kept_so_far x before) kept) ∙ subst (λ (q : Entry). IsUnder (catalogue_entry x).key q.key) is (under (catalogue_entry x) (its_entry x before))
+        sym (names_order x c (kept_so_far x before) kept)
+        ∙ subst (λ (q : Entry). IsUnder (catalogue_entry x).key q.key) is (under (catalogue_entry x) (its_entry x before))
 
     behind : pair ≡ catalogue_entry c → (x : Collection) → Among x p.now → stands_behind (bare c) (bare x) ≡ true
     behind is x before =
@@ -323,7 +348,8 @@ module _ (all : List Entry) (cs : List Collection) (spells : Spells all cs) (law
     room : pair ≡ catalogue_entry c → length (listed_of p.now) < 1000
     room is =
         let name_of : Collection → List ℕ = λ x. x.name in
-        let fits : length (c.name ∷ map (λ (x : Collection). x.name) p.now) ≤ length (map (λ (x : Collection). x.name) cs) = once_fits (c.name ∷ map (λ (x : Collection). x.name) p.now) (map (λ (x : Collection). x.name) cs) once within in
+        let fits : length (c.name ∷ map (λ (x : Collection). x.name) p.now) ≤ length (map (λ (x : Collection). x.name) cs) =
+        once_fits (c.name ∷ map (λ (x : Collection). x.name) p.now) (map (λ (x : Collection). x.name) cs) once within in
         omega (arith, fits, length-map p.now (λ (x : Collection). x.name), length-map cs (λ (x : Collection). x.name), length-map p.now bare, lawful.few)
       where
         once : AreOnce (c.name ∷ map (λ (x : Collection). x.name) p.now)
@@ -339,7 +365,8 @@ module _ (all : List Entry) (cs : List Collection) (spells : Spells all cs) (law
         within n (inr h) =
             let m = among_map (λ (x : Collection). x.name) n p.now h in
             let at = like_there m.0 m.1 in
-            subst (λ (k : List ℕ). Among k (map (λ (x : Collection). x.name) cs)) (sym (m.2 ∙ at.like.name)) (among_image (λ (x : Collection). x.name) at.one cs at.there)
+            subst (λ (k : List ℕ). Among k (map (λ (x : Collection). x.name) cs)) (sym (m.2 ∙ at.like.name))
+            (among_image (λ (x : Collection). x.name) at.one cs at.there)
 
     takes_name : pair ≡ catalogue_entry c → (next : Progress) × Takes all p pair next
     takes_name is = (
@@ -352,7 +379,8 @@ module _ (all : List Entry) (cs : List Collection) (spells : Spells all cs) (law
     )
 
     abbrev with_it : Collection → Pairs → Progress
-    with_it e d = record { now = with_document_at e.number d p.now; documents = p.documents + 1; keys = p.keys + key_count (keys_among e.indexes d); seen = p.seen }
+    with_it e d = record
+        { now = with_document_at e.number d p.now; documents = p.documents + 1; keys = p.keys + key_count (keys_among e.indexes d); seen = p.seen }
 
     takes_document : (d : Pairs) → Among d c.documents → pair ≡ document_entry c.number d → (next : Progress) × Takes all p pair next
     takes_document d inside is =
@@ -376,7 +404,8 @@ module _ (all : List Entry) (cs : List Collection) (spells : Spells all cs) (law
               readable = (storable_of c d kept inside).lawful;
               indexable = subst (λ (is : List Definition). IsIndexable is d) like.indexes (indexable_in c d kept inside);
             };
-            keyed = (λ k. lacks_any (sym like.number k) (tree_text (key_of d)) (sym like.indexes k) (keys_among (sym like.indexes k) d) all) ∙ has_its_keys all cs spells lawful c there d inside;
+            keyed = (λ k. lacks_any (sym like.number k) (tree_text (key_of d)) (sym like.indexes k) (keys_among (sym like.indexes k) d) all)
+                ∙ has_its_keys all cs spells lawful c there d inside;
             next_is = refl {a = with_it e d};
           })),
         )
@@ -436,7 +465,9 @@ module _ (all : List Entry) (cs : List Collection) (spells : Spells all cs) (law
             let e_kept = kept_of end.now e s.loaded.lawful first.there in
             let like = same_catalogue c e kept e_kept (plain_one end.now (catalogue_entry c) first) in
             let y = document_entry c.number k.document in
-            let second = s.made y (in_map all cs whole c y there (document_among c k.document k.there)) (document_none c y (record { document = k.document; there = k.there; is = refl })) in
+            let second =
+            s.made y (in_map all cs whole c y there (document_among c k.document k.there))
+            (document_none c y (record { document = k.document; there = k.there; is = refl })) in
             let f = second.collection in
             let same = same_document c f k.document kept (kept_of end.now f s.loaded.lawful second.there) k.there (plain_one end.now y second) in
             let one : f ≡ e = one_number end.now f e s.loaded.lawful.numbers second.there first.there (sym same.0 ∙ like.number) in
@@ -457,7 +488,8 @@ module _ (all : List Entry) (cs : List Collection) (spells : Spells all cs) (law
     even : end.keys ≡ end.seen
     even =
         let few : length s.owed ≤ length (only is_of_index all) = once_fits s.owed (only is_of_index all) s.once (owed_seen all end s) in
-        let many : length (only is_of_index all) ≤ length s.owed = once_fits (only is_of_index all) s.owed (once_only is_of_index all (rises_once all spells.rises)) seen_owed in
+        let many : length (only is_of_index all) ≤ length s.owed =
+        once_fits (only is_of_index all) s.owed (once_only is_of_index all (rises_once all spells.rises)) seen_owed in
         omega (arith, few, many, s.keys, s.seen)
 
   -- Entries of lawful collections make some.

@@ -37,7 +37,8 @@ first_place d h =
     let found = (found_some (lookup d id_name) (key_of d) h.key).0 in
     subst (λ (ps : Pairs). place ps id_name ≡ Some 0) (ap (λ (o : Option Tree). first_pair id_name o (without d id_name)) (sym found) ∙ h.first) refl
 
-pub is_stored : (d : Pairs) (t : Tree) → limits_fault 65535 d ≡ None → pairs_fault d ≡ None → IsDocument d → place d id_name ≡ Some 0 → id_of d ≡ Some t → length (tree_text t) ≤ 500 → IsStored d × (tree_text t ≡ tree_text (key_of d))
+pub is_stored : (d : Pairs) (t : Tree) → limits_fault 65535 d ≡ None → pairs_fault d ≡ None → IsDocument d → place d id_name ≡ Some 0 → id_of d ≡ Some t
+    → length (tree_text t) ≤ 500 → IsStored d × (tree_text t ≡ tree_text (key_of d))
 is_stored d t limits names lawful placed id short =
     let within = parted (nat_lt 65535 (length (frame_of (pairs_bytes d)))) (nat_lt 90 (suc (pairs_levels d))) limits in
     let key : key_of d ≡ t = (found_some (lookup d id_name) t id).1 in (

@@ -1,5 +1,6 @@
 -- What is kept of the collections while the entries of a file are taken.
-use Rattle.std.proofs.Common.{◌≡◌, ℕ, ◌<◌, Bool, true, false, not, ◌&&◌, ◌||◌, List, [], ◌∷◌, ◌++◌, length, map, Some, None, inl, inr, refl, sym, ap, subst, ◌∙◌, arith, eqb-true, get_or}
+use Rattle.std.proofs.Common.{◌≡◌, ℕ, ◌<◌, Bool, true, false, not, ◌&&◌, ◌||◌, List, [], ◌∷◌, ◌++◌, length, map, Some, None, inl, inr, refl, sym, ap, subst}
+use Rattle.std.proofs.Common.{◌∙◌, arith, eqb-true, get_or}
 use Rattle.std.specs.Prelude.{All, ◌==◌, if◌then◌else◌, Option, codes, unwrap_or}
 use Rattle.std.specs.List.{list_all, list_any}
 use Rattle.std.specs.Option.{option_and_then}
@@ -31,7 +32,8 @@ use Rattle.index.proofs.MemberLemmas.{Among, first_of, of_all}
 use Rattle.index.proofs.PlaceLemmas.{apart_rest, name_itself}
 use Rattle.index.proofs.StateEditLaws.{put_same}
 use Rattle.database_model.specs.Documents.{key_of}
-use Rattle.opening.specs.Judging.{AreLoaded, IsIndexable, IsLoadingAs, IsName, IsStoredAt, bare, keys_among, listed_of, numbered, stands_behind, with_document_at, with_document_in}
+use Rattle.opening.specs.Judging.{AreLoaded, IsIndexable, IsLoadingAs, IsName, IsStoredAt, bare, keys_among, listed_of, numbered, stands_behind}
+use Rattle.opening.specs.Judging.{with_document_at, with_document_in}
 use Rattle.database_model.specs.Lawful.{IsLawfulState, IsStored}
 use Rattle.statements.proofs.ShortIndexes.{definitions_short}
 
@@ -56,7 +58,8 @@ loaded_lawful now h = record {
 
 pub none_loaded : AreLoaded []
 none_loaded = record {
-  lawful = record { apart = λ i j d lt below. absurd (omega (arith, below)); numbers = tt; kept = λ k d below. absurd (omega (arith, below)); few = omega arith };
+  lawful = record
+      { apart = λ i j d lt below. absurd (omega (arith, below)); numbers = tt; kept = λ k d below. absurd (omega (arith, below)); few = omega arith };
   stored = λ k d below. absurd (omega (arith, below));
 }
 
@@ -105,7 +108,8 @@ named_apart n x less = by (bytes_eq n x.name) refl
     by true same = absurd (name_itself x.name (subst (λ (m : List ℕ). slice_cmp nat_cmp x.name m ≡ orders.Less) ((bytes_eq-Decides n x.name).0 same) less))
     by false other = refl
 
-none_named : (n : Collection) (xs : List Collection) → list_all (stands_behind n) (listed_of xs) ≡ true → (find_collection xs n.name ≡ None) × (uses xs n.number ≡ false)
+none_named : (n : Collection) (xs : List Collection) → list_all (stands_behind n) (listed_of xs) ≡ true
+    → (find_collection xs n.name ≡ None) × (uses xs n.number ≡ false)
 none_named n [] h = (refl, refl)
 none_named n (x ∷ xs) h =
     let parts = both_true (stands_behind n (bare x)) (list_all (stands_behind n) (listed_of xs)) h in
@@ -119,13 +123,16 @@ pub put_last : (new : Collection) (xs : List Collection) → list_all (stands_be
 put_last new [] h = refl
 put_last new (x ∷ xs) h =
     let parts = both_true (stands_behind new (bare x)) (list_all (stands_behind new) (listed_of xs)) h in
-    let more : slice_cmp nat_cmp new.name x.name ≡ orders.Greater = nat_list_cmp_total.antisymm new.name x.name ∙ ap ordering_reverse (is_behind new x parts.0).less in
-    ap (λ (o : Ordering). by_order o (new ∷ x ∷ xs) (new ∷ xs) (x ∷ put_collection new xs)) more ∙ ap (λ (cs : List Collection). x ∷ cs) (put_last new xs parts.1)
+    let more : slice_cmp nat_cmp new.name x.name ≡ orders.Greater =
+    nat_list_cmp_total.antisymm new.name x.name ∙ ap ordering_reverse (is_behind new x parts.0).less in
+    ap (λ (o : Ordering). by_order o (new ∷ x ∷ xs) (new ∷ xs) (x ∷ put_collection new xs)) more
+    ∙ ap (λ (cs : List Collection). x ∷ cs) (put_last new xs parts.1)
 
 bare_same : (n : Collection) → n.documents ≡ [] → n ≡ bare n
 bare_same n plain = λ i. record n { documents = plain i }
 
-pub listed_more : (n : Collection) (now : List Collection) → n.documents ≡ [] → list_all (stands_behind n) (listed_of now) ≡ true → listed_of (put_collection n now) ≡ listed_of now ++ n ∷ []
+pub listed_more : (n : Collection) (now : List Collection) → n.documents ≡ [] → list_all (stands_behind n) (listed_of now) ≡ true
+    → listed_of (put_collection n now) ≡ listed_of now ++ n ∷ []
 listed_more n now plain h =
     ap listed_of (put_last n now h) ∙ map_append bare now (n ∷ []) ∙ ap (λ (x : Collection). listed_of now ++ x ∷ []) (sym (bare_same n plain))
 
@@ -134,13 +141,15 @@ bare_put new [] = refl
 bare_put new (d ∷ cs) = by (slice_cmp nat_cmp new.name d.name) (bare_put new cs)
   where
     by : (o : Ordering) → map bare (put_collection new cs) ≡ put_collection (bare new) (map bare cs)
-        → map bare (by_order o (new ∷ d ∷ cs) (new ∷ cs) (d ∷ put_collection new cs)) ≡ by_order o (bare new ∷ bare d ∷ map bare cs) (bare new ∷ map bare cs) (bare d ∷ put_collection (bare new) (map bare cs))
+        → map bare (by_order o (new ∷ d ∷ cs) (new ∷ cs) (d ∷ put_collection new cs))
+        ≡ by_order o (bare new ∷ bare d ∷ map bare cs) (bare new ∷ map bare cs) (bare d ∷ put_collection (bare new) (map bare cs))
     by orders.Less later = refl
     by orders.Equal later = refl
     by orders.Greater later = ap (λ (xs : List Collection). bare d ∷ xs) later
 
 -- other documents in a collection leave what the catalogue tells as it is
-listed_same : (c : Collection) (ds : List Pairs) (cs : List Collection) → AreNamedApart cs → find_collection cs c.name ≡ Some c → listed_of (with_documents c ds cs) ≡ listed_of cs
+listed_same : (c : Collection) (ds : List Pairs) (cs : List Collection) → AreNamedApart cs → find_collection cs c.name ≡ Some c
+    → listed_of (with_documents c ds cs) ≡ listed_of cs
 listed_same c ds cs apart found = bare_put (record c { documents = ds }) cs ∙ sym (bare_put c cs) ∙ ap listed_of (put_same c cs apart found)
 
 -- ---- the collection of a number
@@ -159,7 +168,8 @@ found_at n (c ∷ cs) b is = by (c.number == n) refl is (found_at n cs b)
     some_same : {x y : Collection} → Some x ≡ Some y → x ≡ y
     some_same e = cc
 
-    by : (t : Bool) → (c.number == n) ≡ t → (if t then Some (bare c) else numbered n (listed_of cs)) ≡ Some b → (numbered n (listed_of cs) ≡ Some b → IsFoundAt n cs b) → IsFoundAt n (c ∷ cs) b
+    by : (t : Bool) → (c.number == n) ≡ t → (if t then Some (bare c) else numbered n (listed_of cs)) ≡ Some b
+        → (numbered n (listed_of cs) ≡ Some b → IsFoundAt n cs b) → IsFoundAt n (c ∷ cs) b
     by true same is later = record {
       collection = c;
       found = ap (λ (t : Bool). if t then Some c else numbered n cs) same;
@@ -179,14 +189,16 @@ found_at n (c ∷ cs) b is = by (c.number == n) refl is (found_at n cs b)
 pub find_there : (cs : List Collection) (c : Collection) → AreNamedApart cs → Among c cs → find_collection cs c.name ≡ Some c
 find_there [] c apart there = absurd there
 find_there (d ∷ cs) c apart (inl e) =
-    subst (λ (x : Collection). find_collection (d ∷ cs) x.name ≡ Some x) (sym e) (ap (λ (b : Bool). if b then Some d else find_collection cs d.name) ((bytes_eq-Decides d.name d.name).1 refl))
+    subst (λ (x : Collection). find_collection (d ∷ cs) x.name ≡ Some x) (sym e)
+    (ap (λ (b : Bool). if b then Some d else find_collection cs d.name) ((bytes_eq-Decides d.name d.name).1 refl))
 find_there (d ∷ cs) c apart (inr there) =
     let less = first_of (λ p q. slice_cmp nat_cmp p.name q.name ≡ orders.Less) d cs c apart there in
     ap (λ (b : Bool). if b then Some d else find_collection cs c.name) (named_apart c.name d less) ∙ find_there cs c (apart_rest d cs apart) there
 
 -- ---- one collection more
 
-pub name_loaded : (listed now : List Collection) (pair : Entry) (n : Collection) → IsLoadingAs listed now → IsName listed pair n → IsLoadingAs (listed ++ n ∷ []) (put_collection n now)
+pub name_loaded : (listed now : List Collection) (pair : Entry) (n : Collection) → IsLoadingAs listed now → IsName listed pair n
+    → IsLoadingAs (listed ++ n ∷ []) (put_collection n now)
 name_loaded listed now pair n h is =
     let behind : list_all (stands_behind n) (listed_of now) ≡ true = subst (λ (ls : List Collection). list_all (stands_behind n) ls ≡ true) h.named is.behind in
     let none = none_named n now behind in
@@ -196,7 +208,8 @@ name_loaded listed now pair n h is =
       loaded = record {
         lawful = makes_lawful now n h.loaded.lawful none.0 none.1 is.kept room;
         stored = all_of (λ (c : Collection). All IsStored c.documents) (put_collection n now) (λ x there. elim (put_in n now x h.loaded.lawful.apart there) [
-          | inl e ↦ subst (λ (ds : List Pairs). All IsStored ds) (sym (ap (λ (c : Collection). c.documents) e ∙ is.plain)) (λ k d below. absurd (omega (arith, below)))
+          | inl e ↦ subst (λ (ds : List Pairs). All IsStored ds) (sym (ap (λ (c : Collection). c.documents) e ∙ is.plain))
+              (λ k d below. absurd (omega (arith, below)))
           | inr g ↦ of_all (λ (c : Collection). All IsStored c.documents) now x h.loaded.stored g
         ]);
       };
@@ -208,7 +221,8 @@ name_loaded listed now pair n h is =
 pub kept_with : (c : Collection) (d : Pairs) → IsIndexKept c → IsStorable d → IsIndexable c.indexes d → list_any (clashes c.documents d) c.indexes ≡ false
     → IsIndexKept (record c { documents = put_document d c.documents })
 kept_with c d h good may clear =
-    let stay = stay_with c.indexes c.documents d (keys_among c.indexes d) may.keys clear (record { rising = h.rising; indexes = h.indexes; distinct = h.distinct; few = h.few }) in
+    let stay = stay_with c.indexes c.documents d (keys_among c.indexes d) may.keys clear
+    (record { rising = h.rising; indexes = h.indexes; distinct = h.distinct; few = h.few }) in
     let as_noted : map (noted d) c.indexes ≡ c.indexes = noted_so d c.indexes may.noted in
     let stays : AreIndexed (put_document d c.documents) c.indexes = subst (AreIndexed (put_document d c.documents)) as_noted stay in
     record {
@@ -223,15 +237,17 @@ kept_with c d h good may clear =
       few = stays.few;
     }
 
-with_loaded : (now : List Collection) (c : Collection) (ds : List Pairs) → AreLoaded now → Among c now → IsIndexKept (record c { documents = ds }) → All IsStored ds → AreLoaded (with_documents c ds now) × (listed_of (with_documents c ds now) ≡ listed_of now)
+with_loaded : (now : List Collection) (c : Collection) (ds : List Pairs) → AreLoaded now → Among c now → IsIndexKept (record c { documents = ds })
+    → All IsStored ds → AreLoaded (with_documents c ds now) × (listed_of (with_documents c ds now) ≡ listed_of now)
 with_loaded now c ds h there kept stored =
     let found = find_there now c h.lawful.apart there in (
       record {
         lawful = stays_lawful now c (record c { documents = ds }) (record { lawful = h.lawful; found = found; named = refl; numbered = refl; kept = kept });
-        stored = all_of (λ (x : Collection). All IsStored x.documents) (with_documents c ds now) (λ x g. elim (put_in (record c { documents = ds }) now x h.lawful.apart g) [
-          | inl e ↦ subst (λ (y : Collection). All IsStored y.documents) (sym e) stored
-          | inr k ↦ of_all (λ (x : Collection). All IsStored x.documents) now x h.stored k
-        ]);
+        stored = all_of (λ (x : Collection). All IsStored x.documents) (with_documents c ds now)
+            (λ x g. elim (put_in (record c { documents = ds }) now x h.lawful.apart g) [
+              | inl e ↦ subst (λ (y : Collection). All IsStored y.documents) (sym e) stored
+              | inr k ↦ of_all (λ (x : Collection). All IsStored x.documents) now x h.stored k
+            ]);
       },
       listed_same c ds now h.lawful.apart found,
     )
@@ -243,13 +259,16 @@ document_in now c d h there stored readable may = by (list_any (clashes c.docume
     kept : IsIndexKept c
     kept = kept_of now c h.lawful there
 
-    by : (b : Bool) → list_any (clashes c.documents d) c.indexes ≡ b → AreLoaded (if b then now else with_documents c (put_document d c.documents) now) × (listed_of (if b then now else with_documents c (put_document d c.documents) now) ≡ listed_of now)
+    by : (b : Bool) → list_any (clashes c.documents d) c.indexes ≡ b
+        → AreLoaded (if b then now else with_documents c (put_document d c.documents) now)
+        × (listed_of (if b then now else with_documents c (put_document d c.documents) now) ≡ listed_of now)
     by true e = (h, refl)
     by false e =
         with_loaded now c (put_document d c.documents) h there (kept_with c d kept (is_storable d stored readable) may e)
         (all_put IsStored d c.documents (placed d c.documents kept.rising) (of_all (λ (x : Collection). All IsStored x.documents) now c h.stored there) stored)
 
-pub document_loaded : (listed now : List Collection) (pair : Entry) (b : Collection) (d : Pairs) → IsLoadingAs listed now → numbered b.number listed ≡ Some b → IsStoredAt b pair d
+pub document_loaded : (listed now : List Collection) (pair : Entry) (b : Collection) (d : Pairs) → IsLoadingAs listed now → numbered b.number listed ≡ Some b
+    → IsStoredAt b pair d
     → IsLoadingAs listed (with_document_at b.number d now)
 document_loaded listed now pair b d h told is =
     let at = found_at b.number now b (subst (λ (ls : List Collection). numbered b.number ls ≡ Some b) h.named told) in

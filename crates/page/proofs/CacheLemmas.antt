@@ -17,7 +17,8 @@ module _ {V : Type 0} where
   pub removed_other : (p k : ℕ) → k ≢ p → (es : List (ℕ × V)) → lookup (nat_eq k) (remove_entry (nat_eq p) es) ≡ lookup (nat_eq k) es
   removed_other p k other [] = refl
   removed_other p k other (e ∷ es) =
-      (elim (nat_eq p e.0) as (λ b. nat_eq p e.0 ≡ b → lookup (nat_eq k) (cond b es (e ∷ remove_entry (nat_eq p) es)) ≡ cond (nat_eq k e.0) (Some e.1) (lookup (nat_eq k) es)) [
+      (elim (nat_eq p e.0) as (λ b. nat_eq p e.0 ≡ b
+      → lookup (nat_eq k) (cond b es (e ∷ remove_entry (nat_eq p) es)) ≡ cond (nat_eq k e.0) (Some e.1) (lookup (nat_eq k) es)) [
         | true ↦ λ t. ap (λ (b : Bool). cond b (Some e.1) (lookup (nat_eq k) es)) (sym (apart_tests p k e.0 other t))
         | false ↦ λ t. ap (λ (o : Option V). cond (nat_eq k e.0) (Some e.1) o) (removed_other p k other es)
       ]) refl
@@ -39,7 +40,8 @@ module _ {V : Type 0} where
         | false ↦ λ t. found_value p es e t
       ]) is
 
-  front_same : (p k : ℕ) (es : List (ℕ × V)) (e : ℕ × V) → lookup_entry (nat_eq p) es ≡ Some e → cond (nat_eq k e.0) (Some e.1) (lookup (nat_eq k) (remove_entry (nat_eq p) es)) ≡ lookup (nat_eq k) es
+  front_same : (p k : ℕ) (es : List (ℕ × V)) (e : ℕ × V) → lookup_entry (nat_eq p) es ≡ Some e
+      → cond (nat_eq k e.0) (Some e.1) (lookup (nat_eq k) (remove_entry (nat_eq p) es)) ≡ lookup (nat_eq k) es
   front_same p k es e is =
       let here : nat_eq p e.0 ≡ true = (Contains-lookup_entry (nat_eq p) es e is).1 in
       (elim (nat_eq k p) as (λ b. nat_eq k p ≡ b → cond (nat_eq k e.0) (Some e.1) (lookup (nat_eq k) (remove_entry (nat_eq p) es)) ≡ lookup (nat_eq k) es) [
@@ -54,7 +56,8 @@ module _ {V : Type 0} where
             ∙ removed_other p k other es
       ]) refl
 
-  promoted_by : (p k : ℕ) (es : List (ℕ × V)) (o : Option (ℕ × V)) → lookup_entry (nat_eq p) es ≡ o → lookup (nat_eq k) (option_map_or (λ e. e ∷ remove_entry (nat_eq p) es) o es) ≡ lookup (nat_eq k) es
+  promoted_by : (p k : ℕ) (es : List (ℕ × V)) (o : Option (ℕ × V)) → lookup_entry (nat_eq p) es ≡ o
+      → lookup (nat_eq k) (option_map_or (λ e. e ∷ remove_entry (nat_eq p) es) o es) ≡ lookup (nat_eq k) es
   promoted_by p k es None is = refl
   promoted_by p k es (Some e) is = front_same p k es e is
 
@@ -66,7 +69,9 @@ module _ {V : Type 0} where
   taken k (suc n) [] = inl refl
   taken k (suc n) (e ∷ es) = elim (taken k n es) [
     | inl same ↦ inl (ap (λ (o : Option V). cond (nat_eq k e.0) (Some e.1) o) same)
-    | inr none ↦ elim (nat_eq k e.0) as (λ b. (cond b (Some e.1) (lookup (nat_eq k) (take n es)) ≡ cond b (Some e.1) (lookup (nat_eq k) es)) ⊎ (cond b (Some e.1) (lookup (nat_eq k) (take n es)) ≡ None)) [ true ↦ inl refl | false ↦ inr none ]
+    | inr none ↦ elim (nat_eq k e.0) as
+        (λ b. (cond b (Some e.1) (lookup (nat_eq k) (take n es)) ≡ cond b (Some e.1) (lookup (nat_eq k) es))
+        ⊎ (cond b (Some e.1) (lookup (nat_eq k) (take n es)) ≡ None)) [ true ↦ inl refl | false ↦ inr none ]
   ]
 
   put_by : (p k : ℕ) (v : V) (n : ℕ) (es : List (ℕ × V)) → k ≢ p → (o : Option (ℕ × V)) → lookup_entry (nat_eq p) es ≡ o
@@ -74,7 +79,8 @@ module _ {V : Type 0} where
       ⊎ (lookup (nat_eq k) (option_map_or (λ e. (e.0, v) ∷ remove_entry (nat_eq p) es) o ((p, v) ∷ take n es)) ≡ None)
   put_by p k v n es other None is =
       let t : nat_eq k p ≡ false = grind (arith, nat_tests, other) in
-      let skip : cond (nat_eq k p) (Some v) (lookup (nat_eq k) (take n es)) ≡ lookup (nat_eq k) (take n es) = ap (λ (b : Bool). cond b (Some v) (lookup (nat_eq k) (take n es))) t in
+      let skip : cond (nat_eq k p) (Some v) (lookup (nat_eq k) (take n es)) ≡ lookup (nat_eq k) (take n es) =
+      ap (λ (b : Bool). cond b (Some v) (lookup (nat_eq k) (take n es))) t in
       elim (taken k n es) [ inl same ↦ inl (skip ∙ same) | inr none ↦ inr (skip ∙ none) ]
   put_by p k v n es other (Some e) is =
       let here : nat_eq p e.0 ≡ true = (Contains-lookup_entry (nat_eq p) es e is).1 in
@@ -89,12 +95,16 @@ module _ {V : Type 0} where
   not_there (Some v) none = absurd (none refl)
 
   -- after a put that may have found no memory
-  pub put_this_by : {E : Type 0} (r : Result (Option V) E) (old new : LruCache ℕ V) (p : ℕ) (v : V) → OnOk r (new ≡ lru_cache (put_entries nat_eq old p v) old.cap) → OnErr r (new ≡ old)
+  pub put_this_by : {E : Type 0} (r : Result (Option V) E) (old new : LruCache ℕ V) (p : ℕ) (v : V)
+      → OnOk r (new ≡ lru_cache (put_entries nat_eq old p v) old.cap) → OnErr r (new ≡ old)
       → (IsSome (lookup (nat_eq p) old.entries) → IsOk r) → (lookup (nat_eq p) new.entries ≡ Some v) ⊎ (lookup (nat_eq p) new.entries ≡ None)
-  put_this_by (Ok o) old new p v is same there = inl (ap (λ (c : LruCache ℕ V). lookup (nat_eq p) c.entries) is ∙ lookup-put_entries nat_eq old p v nat_eq_equiv)
-  put_this_by (Err e) old new p v is same there = inr (ap (λ (c : LruCache ℕ V). lookup (nat_eq p) c.entries) same ∙ not_there (lookup (nat_eq p) old.entries) (λ some. let no_ok = there some in cc))
+  put_this_by (Ok o) old new p v is same there =
+      inl (ap (λ (c : LruCache ℕ V). lookup (nat_eq p) c.entries) is ∙ lookup-put_entries nat_eq old p v nat_eq_equiv)
+  put_this_by (Err e) old new p v is same there =
+      inr (ap (λ (c : LruCache ℕ V). lookup (nat_eq p) c.entries) same ∙ not_there (lookup (nat_eq p) old.entries) (λ some. let no_ok = there some in cc))
 
-  pub put_others_by : {E : Type 0} (r : Result (Option V) E) (old new : LruCache ℕ V) (p k : ℕ) (v : V) → OnOk r (new ≡ lru_cache (put_entries nat_eq old p v) old.cap) → OnErr r (new ≡ old)
+  pub put_others_by : {E : Type 0} (r : Result (Option V) E) (old new : LruCache ℕ V) (p k : ℕ) (v : V)
+      → OnOk r (new ≡ lru_cache (put_entries nat_eq old p v) old.cap) → OnErr r (new ≡ old)
       → k ≢ p → (lookup (nat_eq k) new.entries ≡ lookup (nat_eq k) old.entries) ⊎ (lookup (nat_eq k) new.entries ≡ None)
   put_others_by (Ok o) old new p k v is same other =
       let at = ap (λ (c : LruCache ℕ V). lookup (nat_eq k) c.entries) is in

@@ -1,5 +1,6 @@
 -- A cell's bytes are read as what was written, and what is read spells the bytes.
-use Rattle.std.proofs.Common.{◌≡◌, ℕ, ◌+◌, ◌^◌, ◌<◌, ◌≤◌, Bool, true, false, List, ◌++◌, length, take, drop, refl, sym, ap, ◌∙◌, arith, append_assoc, length-append, length-drop, ◌∷◌, [], ◌*◌}
+use Rattle.std.proofs.Common.{◌≡◌, ℕ, ◌+◌, ◌^◌, ◌<◌, ◌≤◌, Bool, true, false, List, ◌++◌, length, take, drop, refl, sym, ap, ◌∙◌, arith, append_assoc}
+use Rattle.std.proofs.Common.{length-append, length-drop, ◌∷◌, [], ◌*◌}
 use Rattle.std.specs.Prelude.{nat_lt, if◌then◌else◌}
 use Rattle.std.specs.Int.{w16, w32, from_le_bytes}
 use Rattle.std.proofs.lemmas.Nat.{le_bytes_2, le_bytes_4}
@@ -9,7 +10,8 @@ use Rattle.std.proofs.Math.Seq.{take-add, take-append_seam, drop-append_seam}
 use Rattle.byteorder.specs.Endian.{little_bytes, little_number}
 use Rattle.byteorder.specs.Numbers.{little_number-reads_back, little_from-take, little_from-lt}
 use Rattle.page.specs.Content.{Arm, IsArm, IsItem, IsPlace, Item, Place, arm_size, inline, item_size, place_size, spilled, total}
-use Rattle.page.specs.Format.{arm_bytes, arm_in, branch_cell_size, item_bytes, item_in, leaf_cell_size, numbers_in, place_bytes, place_in, stored_size, value_length}
+use Rattle.page.specs.Format.{arm_bytes, arm_in, branch_cell_size, item_bytes, item_in, leaf_cell_size, numbers_in, place_bytes, place_in, stored_size}
+use Rattle.page.specs.Format.{value_length}
 use Rattle.page.proofs.PlaceLemmas.{AreBytes, bytes_drop, bytes_take, length-joined}
 use Rattle.std.specs.List.{AllByRecursion, flat_map}
 
@@ -32,28 +34,34 @@ fours (n ∷ numbers) = omega (arith, fours numbers)
 pub numbers_len : (numbers : List ℕ) → length (flat_map (little_bytes 4) numbers) ≡ 4 * length numbers
 numbers_len numbers = length-joined (little_bytes 4) (λ (n : ℕ). 4) (λ n. refl) numbers ∙ fours numbers
 
-pub numbers_back : (numbers rest : List ℕ) → AllByRecursion (λ (n : ℕ). n < 2 ^ 32) numbers → numbers_in (length numbers) (flat_map (little_bytes 4) numbers ++ rest) ≡ numbers
+pub numbers_back : (numbers rest : List ℕ) → AllByRecursion (λ (n : ℕ). n < 2 ^ 32) numbers
+    → numbers_in (length numbers) (flat_map (little_bytes 4) numbers ++ rest) ≡ numbers
 numbers_back [] rest small = refl
 numbers_back (n ∷ numbers) rest small =
-    let one : little_number 4 (little_bytes 4 n ++ (flat_map (little_bytes 4) numbers ++ rest)) ≡ n = little_number-reads_back 4 n (flat_map (little_bytes 4) numbers ++ rest) (omega (arith, small.0)) in
+    let one : little_number 4 (little_bytes 4 n ++ (flat_map (little_bytes 4) numbers ++ rest)) ≡ n =
+    little_number-reads_back 4 n (flat_map (little_bytes 4) numbers ++ rest) (omega (arith, small.0)) in
     let others = numbers_back numbers rest small.1 in
     (λ i. one i ∷ others i)
 
 -- ---- a value's place
 
-place_length : (t : Bool) (v : ℕ) (b : List ℕ) → (if t then 4 else v) ≤ length b → value_length (if t then spilled v (little_number 4 b) else inline (take v b)) ≡ v
+place_length : (t : Bool) (v : ℕ) (b : List ℕ) → (if t then 4 else v) ≤ length b
+    → value_length (if t then spilled v (little_number 4 b) else inline (take v b)) ≡ v
 place_length true v b long = refl
 place_length false v b long = length-take-le v b long
 
-place_again : (t : Bool) (v : ℕ) (b : List ℕ) → AreBytes b → (if t then 4 else v) ≤ length b → place_bytes (if t then spilled v (little_number 4 b) else inline (take v b)) ≡ take (if t then 4 else v) b
+place_again : (t : Bool) (v : ℕ) (b : List ℕ) → AreBytes b → (if t then 4 else v) ≤ length b
+    → place_bytes (if t then spilled v (little_number 4 b) else inline (take v b)) ≡ take (if t then 4 else v) b
 place_again true v b small long = four_again b small long
 place_again false v b small long = refl
 
-place_size_is : (t : Bool) (v : ℕ) (b : List ℕ) → (if t then 4 else v) ≤ length b → place_size (if t then spilled v (little_number 4 b) else inline (take v b)) ≡ (if t then 4 else v)
+place_size_is : (t : Bool) (v : ℕ) (b : List ℕ) → (if t then 4 else v) ≤ length b
+    → place_size (if t then spilled v (little_number 4 b) else inline (take v b)) ≡ (if t then 4 else v)
 place_size_is true v b long = refl
 place_size_is false v b long = length-take-le v b long
 
-place_sound : (t : Bool) (v : ℕ) (b : List ℕ) → AreBytes b → v < 2 ^ 32 → t ≡ nat_lt 330 v → (if t then 4 else v) ≤ length b → IsPlace (if t then spilled v (little_number 4 b) else inline (take v b))
+place_sound : (t : Bool) (v : ℕ) (b : List ℕ) → AreBytes b → v < 2 ^ 32 → t ≡ nat_lt 330 v → (if t then 4 else v) ≤ length b
+    → IsPlace (if t then spilled v (little_number 4 b) else inline (take v b))
 place_sound true v b small near is long =
     let above : 330 < v = grind (arith, nat_tests, is) in
     (above, near, omega (arith, little_from-lt 0 4 b small))
@@ -123,7 +131,8 @@ module _ (b : List ℕ) (small : AreBytes b) (fits : leaf_cell_size b ≤ length
   pub leaf_item : leaf_cell_size b ≤ 1360 → IsItem (item_in b)
   leaf_item near = record {
     size = omega (arith, leaf_size_is);
-    place = place_sound (nat_lt 330 (little_number 4 (drop 2 b))) (little_number 4 (drop 2 b)) (drop (little_number 2 b) (drop 6 b)) rest_small (omega (arith, little_from-lt 0 4 (drop 2 b) (bytes_drop 2 b small))) refl rest_long;
+    place = place_sound (nat_lt 330 (little_number 4 (drop 2 b))) (little_number 4 (drop 2 b)) (drop (little_number 2 b) (drop 6 b)) rest_small
+        (omega (arith, little_from-lt 0 4 (drop 2 b) (bytes_drop 2 b small))) refl rest_long;
   }
 
   pub leaf_spelled : item_bytes (item_in b) ≡ take (leaf_cell_size b) b
@@ -133,7 +142,8 @@ module _ (b : List ℕ) (small : AreBytes b) (fits : leaf_cell_size b ≤ length
       let two : little_bytes 4 (value_length (item_in b).place) ≡ take 4 (drop 2 b) =
       ap (little_bytes 4) (place_length (nat_lt 330 (little_number 4 (drop 2 b))) (little_number 4 (drop 2 b)) (drop (little_number 2 b) (drop 6 b)) rest_long)
       ∙ four_again (drop 2 b) (bytes_drop 2 b small) (omega (arith, length-drop 2 b)) in
-      let four : place_bytes (item_in b).place ≡ take s (drop (little_number 2 b) (drop 6 b)) = place_again (nat_lt 330 (little_number 4 (drop 2 b))) (little_number 4 (drop 2 b)) (drop (little_number 2 b) (drop 6 b)) rest_small rest_long in
+      let four : place_bytes (item_in b).place ≡ take s (drop (little_number 2 b) (drop 6 b)) =
+      place_again (nat_lt 330 (little_number 4 (drop 2 b))) (little_number 4 (drop 2 b)) (drop (little_number 2 b) (drop 6 b)) rest_small rest_long in
       (λ i. one i ++ two i ++ take (little_number 2 b) (drop 6 b) ++ four i)
       ∙ sym (four_parts b (little_number 2 b) s)
 
@@ -145,7 +155,8 @@ module _ (item : Item) (rest : List ℕ) (sound : IsItem item) where
   key_len = little_number-reads_back 2 (length item.key) (little_bytes 4 (value_length item.place) ++ ((item.key ++ place_bytes item.place) ++ rest)) key_near
 
   value_len : little_number 4 (drop 2 (item_bytes item ++ rest)) ≡ value_length item.place
-  value_len = little_number-reads_back 4 (value_length item.place) ((item.key ++ place_bytes item.place) ++ rest) (omega (arith, length_near item.place sound.place))
+  value_len = little_number-reads_back 4 (value_length item.place) ((item.key ++ place_bytes item.place) ++ rest)
+      (omega (arith, length_near item.place sound.place))
 
   key_is : take (little_number 2 (item_bytes item ++ rest)) (drop 6 (item_bytes item ++ rest)) ≡ item.key
   key_is =

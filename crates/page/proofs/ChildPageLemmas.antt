@@ -1,5 +1,6 @@
 -- A branch with another page for a child: four bytes of it are others.
-use Rattle.std.proofs.Common.{◌≡◌, ℕ, zero, suc, ◌+◌, ◌-◌, ◌^◌, ◌<◌, ◌≤◌, List, [], ◌∷◌, ◌++◌, length, take, drop, replicate, get_or, refl, sym, ap, ◌∙◌, subst, arith, append_assoc}
+use Rattle.std.proofs.Common.{◌≡◌, ℕ, zero, suc, ◌+◌, ◌-◌, ◌^◌, ◌<◌, ◌≤◌, List, [], ◌∷◌, ◌++◌, length, take, drop, replicate, get_or, refl, sym, ap, ◌∙◌, subst}
+use Rattle.std.proofs.Common.{arith, append_assoc}
 use Rattle.std.specs.Prelude.{Option, Some, None, slice_get}
 use Rattle.std.proofs.lemmas.Option.{slice_get-get_or}
 use Rattle.std.specs.List.{AllByRecursion, flat_map}
@@ -29,7 +30,8 @@ patched_behind xs ys at n =
 patched_here : (old n : ℕ) (rest : List ℕ) → patched 0 n (little_bytes 4 old ++ rest) ≡ little_bytes 4 n ++ rest
 patched_here old n rest = refl
 
-arm_patched : (arm : Arm) (n : ℕ) (rest : List ℕ) → patched (2 + length arm.key) n (arm_bytes arm ++ rest) ≡ arm_bytes (record { key = arm.key; child = n }) ++ rest
+arm_patched : (arm : Arm) (n : ℕ) (rest : List ℕ)
+    → patched (2 + length arm.key) n (arm_bytes arm ++ rest) ≡ arm_bytes (record { key = arm.key; child = n }) ++ rest
 arm_patched arm n rest =
     let xs = little_bytes 2 (length arm.key) ++ arm.key in
     let e : 2 + length arm.key ≡ length xs + 0 = omega arith in
@@ -38,7 +40,8 @@ arm_patched arm n rest =
     ∙ ap (λ (l : List ℕ). xs ++ l) (patched_here arm.child n rest)
     ∙ sym (append_assoc xs (little_bytes 4 n) rest)
 
-arms_patched : (i n : ℕ) (arms : List Arm) (rest : List ℕ) → i < length arms → patched (later_place i arms) n (flat_map arm_bytes arms ++ rest) ≡ flat_map arm_bytes (with_child i n arms) ++ rest
+arms_patched : (i n : ℕ) (arms : List Arm) (rest : List ℕ) → i < length arms
+    → patched (later_place i arms) n (flat_map arm_bytes arms ++ rest) ≡ flat_map arm_bytes (with_child i n arms) ++ rest
 arms_patched i n [] rest lt = absurd (omega arith)
 arms_patched zero n (arm ∷ arms) rest lt =
     ap (patched (2 + length arm.key) n) (append_assoc (arm_bytes arm) (flat_map arm_bytes arms) rest)
@@ -51,7 +54,8 @@ arms_patched (suc i) n (arm ∷ arms) rest lt =
     ∙ ap (λ (l : List ℕ). arm_bytes arm ++ l) (arms_patched i n arms rest (omega arith))
     ∙ sym (append_assoc (arm_bytes arm) (flat_map arm_bytes (with_child i n arms)) rest)
 
-branch_patched : (i n : ℕ) (arms : List Arm) (rest : List ℕ) → i < length arms → patched (page_place i arms) n (arms_bytes arms ++ rest) ≡ arms_bytes (with_child i n arms) ++ rest
+branch_patched : (i n : ℕ) (arms : List Arm) (rest : List ℕ) → i < length arms
+    → patched (page_place i arms) n (arms_bytes arms ++ rest) ≡ arms_bytes (with_child i n arms) ++ rest
 branch_patched i n [] rest lt = absurd (omega arith)
 branch_patched zero n (first ∷ arms) rest lt = refl
 branch_patched (suc i) n (first ∷ arms) rest lt =
@@ -111,30 +115,36 @@ bytes_long (first ∷ arms) = omega (arith, length-joined arm_bytes arm_size len
 -- ---- the branch that was made
 
 module _ (i n : ℕ) (range : n < 2 ^ 32) where
-  made_whole : (arms : List Arm) (bytes made : List ℕ) → i < length arms → bytes ≡ body_and_zeros (arms_bytes arms) → made ≡ patched (page_place i arms) n bytes → made ≡ body_and_zeros (arms_bytes (with_child i n arms))
+  made_whole : (arms : List Arm) (bytes made : List ℕ) → i < length arms → bytes ≡ body_and_zeros (arms_bytes arms)
+      → made ≡ patched (page_place i arms) n bytes → made ≡ body_and_zeros (arms_bytes (with_child i n arms))
   made_whole arms bytes made lt is made_is =
-      let same : length (arms_bytes arms) ≡ length (arms_bytes (with_child i n arms)) = bytes_long arms ∙ sym (with_size i n arms) ∙ sym (bytes_long (with_child i n arms)) in
+      let same : length (arms_bytes arms) ≡ length (arms_bytes (with_child i n arms)) =
+      bytes_long arms ∙ sym (with_size i n arms) ∙ sym (bytes_long (with_child i n arms)) in
       made_is ∙ ap (patched (page_place i arms) n) is ∙ branch_patched i n arms (replicate (4080 - length (arms_bytes arms)) 0) lt
       ∙ ap (λ (k : ℕ). arms_bytes (with_child i n arms) ++ replicate (4080 - k) 0) same
 
   abbrev IsMadeOf : List Arm → List ℕ → List ℕ → Type 0
   IsMadeOf arms made places = KeepsBranch made places × (arms_at made places ≡ arms)
 
-  made_of : (first : Arm) (arms : List Arm) (made places : List ℕ) → IsBranch (first ∷ arms) → made ≡ body_and_zeros (arms_bytes (first ∷ arms)) → places ≡ starts arm_size 4 arms → IsMadeOf (first ∷ arms) made places
+  made_of : (first : Arm) (arms : List Arm) (made places : List ℕ) → IsBranch (first ∷ arms) → made ≡ body_and_zeros (arms_bytes (first ∷ arms))
+      → places ≡ starts arm_size 4 arms → IsMadeOf (first ∷ arms) made places
   made_of first arms made places sound whole at =
       (subst (KeepsBranch made) (sym at) (branch_made first arms sound made whole), ap (arms_at made) at ∙ branch_again first arms sound made whole)
 
-  with_made : (i' : ℕ) (first : Arm) (arms : List Arm) (made places : List ℕ) → IsBranch (with_child i' n (first ∷ arms)) → made ≡ body_and_zeros (arms_bytes (with_child i' n (first ∷ arms))) → places ≡ starts arm_size 4 arms
+  with_made : (i' : ℕ) (first : Arm) (arms : List Arm) (made places : List ℕ) → IsBranch (with_child i' n (first ∷ arms))
+      → made ≡ body_and_zeros (arms_bytes (with_child i' n (first ∷ arms))) → places ≡ starts arm_size 4 arms
       → IsMadeOf (with_child i' n (first ∷ arms)) made places
   with_made zero first arms made places sound whole at = made_of (record { key = first.key; child = n }) arms made places sound whole at
   with_made (suc k) first arms made places sound whole at = made_of first (with_child k n arms) made places sound whole (at ∙ sym (with_starts k n 4 arms))
 
-  module _ (bytes places made : List ℕ) (now : List Arm) (kept : KeepsBranch bytes places) (seen : arms_at bytes places ≡ now) (lt : i < length now) (made_is : made ≡ patched (page_place i now) n bytes) where
+  module _ (bytes places made : List ℕ) (now : List Arm) (kept : KeepsBranch bytes places) (seen : arms_at bytes places ≡ now) (lt : i < length now)
+      (made_is : made ≡ patched (page_place i now) n bytes) where
     made_there : KeepsBranch made places × (arms_at made places ≡ with_child i n (arms_at bytes places))
     made_there =
         let there : i < length (arms_at bytes places) = omega (arith, ap (λ (l : List Arm). length l) seen) in
         let is : made ≡ patched (page_place i (arms_at bytes places)) n bytes = made_is ∙ ap (λ (l : List Arm). patched (page_place i l) n bytes) (sym seen) in
-        with_made i _ _ made places (with_branch i n (arms_at bytes places) range kept.sound) (made_whole (arms_at bytes places) bytes made there kept.spelled is) kept.placed
+        with_made i _ _ made places (with_branch i n (arms_at bytes places) range kept.sound)
+        (made_whole (arms_at bytes places) bytes made there kept.spelled is) kept.placed
 
     pub with_kept : KeepsBranch made places
     with_kept = made_there.0
@@ -179,19 +189,23 @@ key_found : (keys : List (List ℕ)) (i : ℕ) (key : List ℕ) → i < length k
 unfolding key_or
 key_found keys i key lt is = ap (key_or []) (sym (slice_get-get_or keys i [] lt) ∙ is)
 
-place_there : (i at : ℕ) (key : List ℕ) (first : Arm) (arms : List Arm) (places : List ℕ) → (i ≡ 0 → ⊥) → i < length (first ∷ arms) → places ≡ starts arm_size 4 arms → at ≡ get_or places (i - 1) at
+place_there : (i at : ℕ) (key : List ℕ) (first : Arm) (arms : List Arm) (places : List ℕ) → (i ≡ 0 → ⊥) → i < length (first ∷ arms)
+    → places ≡ starts arm_size 4 arms → at ≡ get_or places (i - 1) at
     → slice_get (arm_keys (first ∷ arms)) i ≡ Some key → at + 2 + length key ≡ page_place i (first ∷ arms)
 place_there zero at key first arms places some lt placed is key_is = absurd (some refl)
 place_there (suc i) at key first arms places some lt placed is key_is =
     let less : suc i - 1 ≡ i = omega arith in
     let start : at ≡ 4 + total arm_size (take i arms) = is ∙ (λ j. get_or (placed j) (less j) at) ∙ get_starts arm_size 4 i at arms (omega arith) in
-    let there : get_or (arm_keys arms) i [] ≡ key = key_found (arm_keys (first ∷ arms)) (suc i) key (omega (arith, length-map arms (λ (arm : Arm). arm.key))) key_is in
+    let there : get_or (arm_keys arms) i [] ≡ key =
+    key_found (arm_keys (first ∷ arms)) (suc i) key (omega (arith, length-map arms (λ (arm : Arm). arm.key))) key_is in
     omega (arith, start, later_is i arms (omega arith), ap (λ (l : List ℕ). length l) there)
 
 module _ (bytes places : List ℕ) (now : List Arm) (kept : KeepsBranch bytes places) (seen : arms_at bytes places ≡ now) where
-  pub place_seen : (i at : ℕ) (key : List ℕ) → (i ≡ 0 → ⊥) → i < length now → at ≡ get_or places (i - 1) at → slice_get (arm_keys now) i ≡ Some key → at + 2 + length key ≡ page_place i now
+  pub place_seen : (i at : ℕ) (key : List ℕ) → (i ≡ 0 → ⊥) → i < length now → at ≡ get_or places (i - 1) at → slice_get (arm_keys now) i ≡ Some key
+      → at + 2 + length key ≡ page_place i now
   place_seen i at key some lt is key_is =
-      place_there i at key _ _ places some (omega (arith, ap (λ (l : List Arm). length l) seen)) kept.placed is (ap (λ (l : List Arm). slice_get (arm_keys l) i) seen ∙ key_is)
+      place_there i at key _ _ places some (omega (arith, ap (λ (l : List Arm). length l) seen)) kept.placed is
+      (ap (λ (l : List Arm). slice_get (arm_keys l) i) seen ∙ key_is)
       ∙ ap (page_place i) seen
 
   pub now_long : length places + 1 ≡ length now

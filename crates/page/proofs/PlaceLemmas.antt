@@ -1,5 +1,6 @@
 -- Where cells begin in a page's bytes: what reading finds there, and what writing leaves there.
-use Rattle.std.proofs.Common.{◌≡◌, ℕ, zero, suc, ◌+◌, ◌-◌, ◌<◌, ◌≤◌, Bool, true, false, List, [], ◌∷◌, ◌++◌, length, map, take, drop, replicate, get_or, refl, sym, ap, ◌∙◌, subst, arith, append_assoc, length-append, length-drop}
+use Rattle.std.proofs.Common.{◌≡◌, ℕ, zero, suc, ◌+◌, ◌-◌, ◌<◌, ◌≤◌, Bool, true, false, List, [], ◌∷◌, ◌++◌, length, map, take, drop, replicate, get_or, refl}
+use Rattle.std.proofs.Common.{sym, ap, ◌∙◌, subst, arith, append_assoc, length-append, length-drop}
 use Rattle.std.specs.Prelude.{◌==◌, ◌&&◌, not, ◌||◌, nat_lt, Result, Ok, Err}
 use Rattle.std.specs.List.{AllByRecursion, flat_map}
 use Rattle.std.proofs.lemmas.List.{drop-drop, take-append-drop, length-take-le}
@@ -65,7 +66,8 @@ rest_of at (Err fault) places is = cc
 
 -- ---- where cells of these sizes begin
 
-pub starts_more : {X : Type 0} (width : X → ℕ) (at : ℕ) (xs : List X) (x : X) → starts width at (xs ++ x ∷ []) ≡ starts width at xs ++ (at + total width xs) ∷ []
+pub starts_more : {X : Type 0} (width : X → ℕ) (at : ℕ) (xs : List X) (x : X)
+    → starts width at (xs ++ x ∷ []) ≡ starts width at xs ++ (at + total width xs) ∷ []
 starts_more width at [] x = let e : at ≡ at + 0 = omega arith in ap (λ (n : ℕ). n ∷ []) e
 starts_more width at (y ∷ xs) x =
     let e : at + width y + total width xs ≡ at + (width y + total width xs) = omega arith in
@@ -75,7 +77,8 @@ pub length-starts : {X : Type 0} (width : X → ℕ) (at : ℕ) (xs : List X) �
 length-starts width at [] = refl
 length-starts width at (x ∷ xs) = ap (λ (n : ℕ). suc n) (length-starts width (at + width x) xs)
 
-pub starts_append : {X : Type 0} (width : X → ℕ) (at : ℕ) (xs ys : List X) → starts width at (xs ++ ys) ≡ starts width at xs ++ starts width (at + total width xs) ys
+pub starts_append : {X : Type 0} (width : X → ℕ) (at : ℕ) (xs ys : List X)
+    → starts width at (xs ++ ys) ≡ starts width at xs ++ starts width (at + total width xs) ys
 starts_append width at [] ys = ap (λ (n : ℕ). starts width n ys) (omega arith)
 starts_append width at (x ∷ xs) ys =
     ap (λ (l : List ℕ). at ∷ l)
@@ -84,7 +87,8 @@ starts_append width at (x ∷ xs) ys =
 -- further behind, and further in front
 pub starts_later : {X : Type 0} (width : X → ℕ) (at more : ℕ) (xs : List X) → map (λ n. n + more) (starts width at xs) ≡ starts width (at + more) xs
 starts_later width at more [] = refl
-starts_later width at more (x ∷ xs) = ap (λ (l : List ℕ). (at + more) ∷ l) (starts_later width (at + width x) more xs ∙ ap (λ (n : ℕ). starts width n xs) (omega arith))
+starts_later width at more (x ∷ xs) =
+    ap (λ (l : List ℕ). (at + more) ∷ l) (starts_later width (at + width x) more xs ∙ ap (λ (n : ℕ). starts width n xs) (omega arith))
 
 pub starts_earlier : {X : Type 0} (width : X → ℕ) (at less : ℕ) (xs : List X) → map (λ n. n - less) (starts width (at + less) xs) ≡ starts width at xs
 starts_earlier width at less [] = refl
@@ -113,7 +117,8 @@ pub total-append : {X : Type 0} (size : X → ℕ) (xs ys : List X) → total si
 total-append size [] ys = omega arith
 total-append size (x ∷ xs) ys = omega (arith, total-append size xs ys)
 
-pub length-joined : {X : Type 0} (bytes : X → List ℕ) (width : X → ℕ) → ((x : X) → length (bytes x) ≡ width x) → (xs : List X) → length (flat_map bytes xs) ≡ total width xs
+pub length-joined : {X : Type 0} (bytes : X → List ℕ) (width : X → ℕ) → ((x : X) → length (bytes x) ≡ width x) → (xs : List X)
+    → length (flat_map bytes xs) ≡ total width xs
 length-joined bytes width each [] = refl
 length-joined bytes width each (x ∷ xs) = omega (arith, length-append (bytes x) (flat_map bytes xs), each x, length-joined bytes width each xs)
 
@@ -170,12 +175,14 @@ module _ {X : Type 0} (size : List ℕ → ℕ) (read : List ℕ → X) (bytes_o
     pub placed : places ≡ starts (λ x. length (bytes_of x)) at (map (λ p. read (drop p bytes)) places)
 
   module _ (again : (b : List ℕ) → AreBytes b → size b ≤ length b → bytes_of (read b) ≡ take (size b) b) (some : (b : List ℕ) → 0 < size b) where
-    pub found : (bytes : List ℕ) (n at : ℕ) (places : List ℕ) → AreBytes bytes → at ≤ length bytes → places_in size n at bytes ≡ Ok places → Found bytes n at places
+    pub found : (bytes : List ℕ) (n at : ℕ) (places : List ℕ) → AreBytes bytes → at ≤ length bytes → places_in size n at bytes ≡ Ok places
+        → Found bytes n at places
     found bytes zero at places small room is =
         let none : (not (are_zeros (drop at bytes))) ≡ false = passed (not (are_zeros (drop at bytes))) faults.Length (Ok []) places is in
         let all : are_zeros (drop at bytes) ≡ true = not_not (are_zeros (drop at bytes)) none in
         let e : [] ≡ places = ap (ok_or []) (went_on (not (are_zeros (drop at bytes))) faults.Length (Ok []) places is) in
-        subst (Found bytes zero at) e (record { count = refl; whole = tt; zeros = length (drop at bytes); spelled = zeros_of (drop at bytes) all; placed = refl })
+        subst (Found bytes zero at) e
+        (record { count = refl; whole = tt; zeros = length (drop at bytes); spelled = zeros_of (drop at bytes) all; placed = refl })
     found bytes (suc n) at places small room is =
         let b = drop at bytes in
         let s = size b in
@@ -191,12 +198,14 @@ module _ {X : Type 0} (size : List ℕ → ℕ) (read : List ℕ → X) (bytes_o
         let joined : b ≡ (bytes_of (read b) ++ flat_map bytes_of (map (λ p. read (drop p bytes)) r.behind)) ++ replicate rest.zeros 0 =
         sym (take-append-drop s b)
         ∙ ap (λ (l : List ℕ). take s b ++ l) (drop-drop s at bytes ∙ rest.spelled)
-        ∙ ap (λ (l : List ℕ). l ++ (flat_map bytes_of (map (λ p. read (drop p bytes)) r.behind) ++ replicate rest.zeros 0)) (sym (again b (bytes_drop at bytes small) fits))
+        ∙ ap (λ (l : List ℕ). l ++ (flat_map bytes_of (map (λ p. read (drop p bytes)) r.behind) ++ replicate rest.zeros 0))
+        (sym (again b (bytes_drop at bytes small) fits))
         ∙ sym (append_assoc (bytes_of (read b)) (flat_map bytes_of (map (λ p. read (drop p bytes)) r.behind)) (replicate rest.zeros 0)) in
         let long : length (bytes_of (read b)) ≡ s = ap (λ (l : List ℕ). length l) (again b (bytes_drop at bytes small) fits) ∙ length-take-le s b fits in
         let next : r.behind ≡ starts (λ x. length (bytes_of x)) (at + length (bytes_of (read b))) (map (λ p. read (drop p bytes)) r.behind) =
         rest.placed ∙ ap (λ (k : ℕ). starts (λ x. length (bytes_of x)) (at + k) (map (λ p. read (drop p bytes)) r.behind)) (sym long) in
-        subst (Found bytes (suc n) at) r.all (record { count = ap (λ (k : ℕ). suc k) rest.count; whole = ((ends, small_size), rest.whole); zeros = rest.zeros; spelled = joined; placed = λ i. at ∷ next i })
+        subst (Found bytes (suc n) at) r.all
+        (record { count = ap (λ (k : ℕ). suc k) rest.count; whole = ((ends, small_size), rest.whole); zeros = rest.zeros; spelled = joined; placed = λ i. at ∷ next i })
 
   module _ (width : X → ℕ) (Sound : X → Type 0) (len : (x : X) → length (bytes_of x) ≡ width x)
       (back : (x : X) (rest : List ℕ) → Sound x → read (bytes_of x ++ rest) ≡ x)
@@ -220,7 +229,8 @@ module _ {X : Type 0} (size : List ℕ → ℕ) (read : List ℕ → X) (bytes_o
         let others = read_again bytes (at + width x) xs rest sound.1 (behind bytes at x xs rest is) in
         (λ i. one i ∷ others i)
 
-    size_is : (bytes : List ℕ) (at : ℕ) (x : X) (xs : List X) (rest : List ℕ) → Sound x → drop at bytes ≡ flat_map bytes_of (x ∷ xs) ++ rest → size (drop at bytes) ≡ width x
+    size_is : (bytes : List ℕ) (at : ℕ) (x : X) (xs : List X) (rest : List ℕ) → Sound x → drop at bytes ≡ flat_map bytes_of (x ∷ xs) ++ rest
+        → size (drop at bytes) ≡ width x
     size_is bytes at x xs rest sound is = ap size (front bytes at x xs rest is) ∙ sizes x (flat_map bytes_of xs ++ rest) sound
 
     -- they are whole
@@ -232,7 +242,8 @@ module _ {X : Type 0} (size : List ℕ → ℕ) (read : List ℕ → X) (bytes_o
         (omega (arith, e), whole_again bytes (at + width x) xs rest sound.1 (behind bytes at x xs rest is) (omega arith))
 
     -- and their places are found
-    pub found_again : ((x : X) → Sound x → width x ≤ 1360) → (bytes : List ℕ) (at : ℕ) (xs : List X) (zeros : ℕ) → AllByRecursion Sound xs → drop at bytes ≡ flat_map bytes_of xs ++ replicate zeros 0
+    pub found_again : ((x : X) → Sound x → width x ≤ 1360) → (bytes : List ℕ) (at : ℕ) (xs : List X) (zeros : ℕ) → AllByRecursion Sound xs
+        → drop at bytes ≡ flat_map bytes_of xs ++ replicate zeros 0
         → places_in size (length xs) at bytes ≡ Ok (starts width at xs)
     found_again most bytes at [] zeros sound is =
         let all : are_zeros (drop at bytes) ≡ true = ap are_zeros is ∙ zeros_are zeros in
@@ -242,9 +253,12 @@ module _ {X : Type 0} (size : List ℕ → ℕ) (read : List ℕ → X) (bytes_o
         let e : size (drop at bytes) ≡ width x = size_is bytes at x xs (replicate zeros 0) sound.0 is in
         let near : width x ≤ 1360 = most x sound.0 in
         let long : length (drop at bytes) ≡ width x + length (flat_map bytes_of xs ++ replicate zeros 0) =
-        ap (λ (l : List ℕ). length l) (front bytes at x xs (replicate zeros 0) is) ∙ length-append (bytes_of x) (flat_map bytes_of xs ++ replicate zeros 0) ∙ ap (λ (k : ℕ). k + length (flat_map bytes_of xs ++ replicate zeros 0)) (len x) in
-        let passes : (nat_lt 1360 (size (drop at bytes)) || nat_lt (length (drop at bytes)) (size (drop at bytes))) ≡ false = both_pass 1360 (length (drop at bytes)) (size (drop at bytes)) (omega (arith, e)) (omega (arith, e, long)) in
+        ap (λ (l : List ℕ). length l) (front bytes at x xs (replicate zeros 0) is) ∙ length-append (bytes_of x) (flat_map bytes_of xs ++ replicate zeros 0)
+        ∙ ap (λ (k : ℕ). k + length (flat_map bytes_of xs ++ replicate zeros 0)) (len x) in
+        let passes : (nat_lt 1360 (size (drop at bytes)) || nat_lt (length (drop at bytes)) (size (drop at bytes))) ≡ false =
+        both_pass 1360 (length (drop at bytes)) (size (drop at bytes)) (omega (arith, e)) (omega (arith, e, long)) in
         let rest : places_in size (length xs) (at + size (drop at bytes)) bytes ≡ Ok (starts width (at + width x) xs) =
-        ap (λ (k : ℕ). places_in size (length xs) (at + k) bytes) e ∙ found_again most bytes (at + width x) xs zeros sound.1 (behind bytes at x xs (replicate zeros 0) is) in
+        ap (λ (k : ℕ). places_in size (length xs) (at + k) bytes) e
+        ∙ found_again most bytes (at + width x) xs zeros sound.1 (behind bytes at x xs (replicate zeros 0) is) in
         ap (λ (t : Bool). unless t faults.Length (places_in size (length xs) (at + size (drop at bytes)) bytes >>= λ places. Ok (at ∷ places))) passes
         ∙ ap (λ (r : Result (List ℕ) PageFault). r >>= λ places. Ok (at ∷ places)) rest

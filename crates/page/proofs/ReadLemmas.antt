@@ -1,5 +1,6 @@
 -- The steps of reading a page: one cell more, one key more, one number more.
-use Rattle.std.proofs.Common.{◌≡◌, ◌≢◌, ℕ, zero, suc, ◌+◌, ◌-◌, ◌*◌, ◌<◌, ◌≤◌, Bool, true, false, List, [], ◌∷◌, ◌++◌, length, map, take, drop, get_or, refl, sym, ap, ◌∙◌, subst, arith, append_assoc, length-drop}
+use Rattle.std.proofs.Common.{◌≡◌, ◌≢◌, ℕ, zero, suc, ◌+◌, ◌-◌, ◌*◌, ◌<◌, ◌≤◌, Bool, true, false, List, [], ◌∷◌, ◌++◌, length, map, take, drop, get_or, refl}
+use Rattle.std.proofs.Common.{sym, ap, ◌∙◌, subst, arith, append_assoc, length-drop}
 use Rattle.std.specs.Prelude.{◌==◌, ◌&&◌, ◌||◌, not, nat_lt, Result, Ok, Err, Some, slice_get, slice_index}
 use Rattle.std.specs.Option.{option_map}
 use Rattle.std.specs.List.{AllByRecursion}
@@ -14,7 +15,8 @@ use Rattle.std.proofs.Math.Seq.{drop-cons}
 use Rattle.byteorder.specs.Endian.{little_number}
 use Rattle.outcome.specs.Outcome.{◌>>=◌, unless}
 use Rattle.page.specs.Content.{Content, leaf, branch, item_keys, arm_keys, is_below, rise, rise_above}
-use Rattle.page.specs.Format.{item_in, arm_in, items_at, arms_at, leaf_cell_size, branch_cell_size, Sheet, generation_in, content_in, sheet_in, places_in, leaf_in, branch_in, numbers_in}
+use Rattle.page.specs.Format.{item_in, arm_in, items_at, arms_at, leaf_cell_size, branch_cell_size, Sheet, generation_in, content_in, sheet_in, places_in}
+use Rattle.page.specs.Format.{leaf_in, branch_in, numbers_in}
 use Rattle.page.specs.declared.page_fault.PageFault.{PageFault}
 use Rattle.page.specs.declared.page_fault.PageFault.TheVariants as faults
 use Rattle.page.proofs.PlaceLemmas.{with_front, with_one}
@@ -103,13 +105,18 @@ module _ (size : List ℕ → ℕ) (bytes : List ℕ) (count counter at : ℕ) (
       (next ∙ step_ok (nat_lt 1360 (size (drop at bytes)) || nat_lt (length (drop at bytes)) (size (drop at bytes))) (size (drop at bytes)) found
       (places_in size (count - (counter + 1)) (at + size (drop at bytes)) bytes >>= λ places. Ok (at ∷ places)) (behind (Ok found) is))
       ∙ with_one front at (places_in size (count - (counter + 1)) (at + size (drop at bytes)) bytes)
-      ∙ ap (λ (n : ℕ). with_front (front ++ at ∷ []) (places_in size (count - (counter + 1)) (at + n) bytes)) (step_size (nat_lt 1360 (size (drop at bytes)) || nat_lt (length (drop at bytes)) (size (drop at bytes))) (size (drop at bytes)) found (behind (Ok found) is))
+      ∙ ap (λ (n : ℕ). with_front (front ++ at ∷ []) (places_in size (count - (counter + 1)) (at + n) bytes))
+      (step_size (nat_lt 1360 (size (drop at bytes)) || nat_lt (length (drop at bytes)) (size (drop at bytes))) (size (drop at bytes)) found
+      (behind (Ok found) is))
 
   pub place_room : (found : ℕ) → Judged (take (length bytes - at) (drop at bytes)) (Ok found)
       → found ≤ length (drop at bytes)
   place_room found is =
-      subst (λ (n : ℕ). n ≤ length (drop at bytes)) (step_size (nat_lt 1360 (size (drop at bytes)) || nat_lt (length (drop at bytes)) (size (drop at bytes))) (size (drop at bytes)) found (behind (Ok found) is))
-      (step_room (nat_lt 1360 (size (drop at bytes)) || nat_lt (length (drop at bytes)) (size (drop at bytes))) 1360 (length (drop at bytes)) (size (drop at bytes)) found refl (behind (Ok found) is))
+      subst (λ (n : ℕ). n ≤ length (drop at bytes))
+      (step_size (nat_lt 1360 (size (drop at bytes)) || nat_lt (length (drop at bytes)) (size (drop at bytes))) (size (drop at bytes)) found
+      (behind (Ok found) is))
+      (step_room (nat_lt 1360 (size (drop at bytes)) || nat_lt (length (drop at bytes)) (size (drop at bytes))) 1360 (length (drop at bytes))
+      (size (drop at bytes)) found refl (behind (Ok found) is))
 
 pub cell_at : {X : Type 0} (f : ℕ → X) (places : List ℕ) (i : ℕ) → i < length places → slice_get (map f places) i ≡ Some (f (get_or places i 0))
 cell_at f places i within = slice_get-map f places i ∙ ap (option_map f) (slice_get-get_or places i 0 within)
@@ -122,7 +129,8 @@ all_drop P (suc n) (x ∷ xs) all = all_drop P n xs all.1
 -- ---- a leaf and a branch, by their places
 
 pub leaf_rises : (bytes places : List ℕ) → 0 < length places
-    → rise_above (item_in (drop (get_or places 0 0) bytes)).key (map (λ at. (item_in (drop at bytes)).key) (drop 1 places)) ≡ rise (item_keys (items_at bytes places))
+    → rise_above (item_in (drop (get_or places 0 0) bytes)).key (map (λ at. (item_in (drop at bytes)).key) (drop 1 places))
+    ≡ rise (item_keys (items_at bytes places))
 leaf_rises bytes [] some = absurd (omega arith)
 leaf_rises bytes (p ∷ ps) some =
     ap (rise_above (item_in (drop p bytes)).key) (sym (map-map (λ item. item.key) (λ at. item_in (drop at bytes)) ps))
@@ -139,7 +147,8 @@ module _ (count : ℕ) (bytes places : List ℕ) where
       let t : (count == 0) ≡ false = grind (arith, nat_tests, some) in
       rw (t, is, rises) refl
 
-  pub branch_judged : (ascends : Bool) → 2 ≤ count → places_in branch_cell_size (count - 1) 4 bytes ≡ Ok places → rise (arm_keys (arms_at bytes places)) ≡ ascends
+  pub branch_judged : (ascends : Bool) → 2 ≤ count → places_in branch_cell_size (count - 1) 4 bytes ≡ Ok places
+      → rise (arm_keys (arms_at bytes places)) ≡ ascends
       → branch_in count bytes ≡ unless (not ascends) faults.Order (Ok (branch (arms_at bytes places)))
   branch_judged ascends some is rises =
       let t : nat_lt count 2 ≡ false = grind (arith, nat_tests, some) in
@@ -148,12 +157,14 @@ module _ (count : ℕ) (bytes places : List ℕ) where
 -- ---- numbers
 
 pub numbers_step : (front : List ℕ) (count i : ℕ) (bytes : List ℕ) → i < count
-    → front ++ numbers_in (count - i) (drop (4 * i) bytes) ≡ (front ++ little_number 4 (drop (4 * i) bytes) ∷ []) ++ numbers_in (count - (i + 1)) (drop (4 * (i + 1)) bytes)
+    → front ++ numbers_in (count - i) (drop (4 * i) bytes) ≡ (front ++ little_number 4 (drop (4 * i) bytes) ∷ [])
+    ++ numbers_in (count - (i + 1)) (drop (4 * (i + 1)) bytes)
 numbers_step front count i bytes within =
     let e : count - i ≡ suc (count - (i + 1)) = omega arith in
     let on : 4 * i + 4 ≡ 4 * (i + 1) = omega arith in
     ap (λ (n : ℕ). front ++ numbers_in n (drop (4 * i) bytes)) e
-    ∙ ap (λ (l : List ℕ). front ++ (little_number 4 (drop (4 * i) bytes) ∷ numbers_in (count - (i + 1)) l)) (drop-drop 4 (4 * i) bytes ∙ ap (λ (n : ℕ). drop n bytes) on)
+    ∙ ap (λ (l : List ℕ). front ++ (little_number 4 (drop (4 * i) bytes) ∷ numbers_in (count - (i + 1)) l))
+    (drop-drop 4 (4 * i) bytes ∙ ap (λ (n : ℕ). drop n bytes) on)
     ∙ sym (append_assoc front (little_number 4 (drop (4 * i) bytes) ∷ []) (numbers_in (count - (i + 1)) (drop (4 * (i + 1)) bytes)))
 
 -- ---- a whole page
@@ -162,13 +173,16 @@ abbrev sheet_by : ℕ → ℕ → Content → Result Sheet PageFault
 sheet_by number born inside = Ok (record { page = number; generation = born; content = inside })
 
 -- what a page gives whose generation was read
-pub sheet_planned : (number generation born count : ℕ) (bytes : List ℕ) (inside : Result Content PageFault) → length bytes ≡ 4096 → generation_in number generation bytes ≡ Ok born
+pub sheet_planned : (number generation born count : ℕ) (bytes : List ℕ) (inside : Result Content PageFault) → length bytes ≡ 4096
+    → generation_in number generation bytes ≡ Ok born
     → count ≡ little_number 2 (take 4094 (drop 2 bytes)) → content_in (slice_index bytes 0) count (take 4080 (drop 16 bytes)) ≡ inside
     → sheet_in number generation bytes ≡ (inside >>= sheet_by number born)
 sheet_planned number generation born count bytes inside len gen is found =
     let two : take 4094 (drop 2 bytes) ≡ drop 2 bytes = take_all 4094 (drop 2 bytes) (omega (arith, len, length-drop 2 bytes)) in
     let body : take 4080 (drop 16 bytes) ≡ drop 16 bytes = take_all 4080 (drop 16 bytes) (omega (arith, len, length-drop 16 bytes)) in
-    let same : content_in (slice_index bytes 0) count (take 4080 (drop 16 bytes)) ≡ content_in (slice_index bytes 0) (little_number 2 (drop 2 bytes)) (drop 16 bytes) =
+    let same : content_in (slice_index bytes 0) count (take 4080 (drop 16 bytes))
+    ≡ content_in (slice_index bytes 0) (little_number 2 (drop 2 bytes)) (drop 16 bytes) =
     (λ i. content_in (slice_index bytes 0) ((is ∙ ap (little_number 2) two) i) (body i)) in
-    ap (λ (r : Result ℕ PageFault). r >>= λ born. content_in (slice_index bytes 0) (little_number 2 (drop 2 bytes)) (drop 16 bytes) >>= sheet_by number born) gen
+    ap (λ (r : Result ℕ PageFault). r >>= λ born. content_in (slice_index bytes 0) (little_number 2 (drop 2 bytes)) (drop 16 bytes) >>= sheet_by number born)
+    gen
     ∙ ap (λ (r : Result Content PageFault). r >>= sheet_by number born) (sym same ∙ found)

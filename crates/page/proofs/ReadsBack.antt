@@ -27,7 +27,8 @@ all_pass t1 t2 born inside number e1 e2 = rw (e1, e2) refl
 module _ (number generation : ℕ) (bs : List ℕ) (n next born : ℕ) (bytes : List ℕ)
     (kind : slice_index bs 0 ≡ 3) (gap : slice_index bs 1 ≡ 0) (own : little_number 4 (drop 4 bs) ≡ number) (is_born : little_number 8 (drop 8 bs) ≡ born)
     (some : 1 ≤ born) (until : born ≤ generation) (count : little_number 2 (drop 2 bs) ≡ n) (onward : little_number 4 (drop 16 bs) ≡ next)
-    (fits : n ≤ 4076) (full : (next ≡ 0) ⊎ (n ≡ 4076)) (tail : are_zeros (drop n (drop 4 (drop 16 bs))) ≡ true) (inside : take n (drop 4 (drop 16 bs)) ≡ bytes) where
+    (fits : n ≤ 4076) (full : (next ≡ 0) ⊎ (n ≡ 4076)) (tail : are_zeros (drop n (drop 4 (drop 16 bs))) ≡ true)
+    (inside : take n (drop 4 (drop 16 bs)) ≡ bytes) where
   full_test : (not (next == 0) && nat_lt n 4076) ≡ false
   full_test = elim full [ inl last ↦ grind (arith, nat_tests, last) | inr whole ↦ grind (arith, nat_tests, whole) ]
 
@@ -42,7 +43,8 @@ module _ (number generation : ℕ) (bs : List ℕ) (n next born : ℕ) (bytes : 
 -- A chain's page is read as what it was written as, under any root from its own generation on.
 pub chain_read_back : (page born next generation : ℕ) (bytes : List ℕ) → page < 2 ^ 32 → next < 2 ^ 32 → born < 2 ^ 64 → 1 ≤ born → born ≤ generation
     → length bytes ≤ 4076 → (next ≡ 0) ⊎ (length bytes ≡ 4076)
-    → sheet_in page generation (page_bytes (record { page = page; generation = born; content = chain next bytes })) ≡ Ok (record { page = page; generation = born; content = chain next bytes })
+    → sheet_in page generation (page_bytes (record { page = page; generation = born; content = chain next bytes }))
+    ≡ Ok (record { page = page; generation = born; content = chain next bytes })
 unfolding page_bytes
 chain_read_back page born next generation bytes small near short some until fits full =
     let bs = page_bytes (record { page = page; generation = born; content = chain next bytes }) in

@@ -34,11 +34,13 @@ use Rattle.pager.proofs.MemberLemmas.{all_among, all_filter, lie_filter, member}
 some_number : (image : ℕ → List ℕ) (root : Root) (n : ℕ) (sheet : Sheet) → sheet_at image root n ≡ Ok sheet → 0 < n
 some_number image root n sheet is = by_test (nat_lt 0 n) refl is
   where
-    by_test : (some : Bool) → nat_lt 0 n ≡ some → (if some && nat_lt n root.pages then sheet_in n root.generation (page_at image n) else Err page_faults.Number) ≡ Ok sheet → 0 < n
+    by_test : (some : Bool) → nat_lt 0 n ≡ some
+        → (if some && nat_lt n root.pages then sheet_in n root.generation (page_at image n) else Err page_faults.Number) ≡ Ok sheet → 0 < n
     by_test true test is = grind (arith, nat_tests, test)
     by_test false test is = absurd cc
 
-module _ {D : Type 0} (history : D → History) (store : Store D) (cache : PageCache) (made : List Sheet) (retired : List ℕ) (book : Book) (so : IsKept history store cache made book) (version : ℕ) where
+module _ {D : Type 0} (history : D → History) (store : Store D) (cache : PageCache) (made : List Sheet) (retired : List ℕ) (book : Book)
+    (so : IsKept history store cache made book) (version : ℕ) where
   abbrev pub planned : Book
   planned = retired_all version retired book
 
@@ -60,7 +62,8 @@ module _ {D : Type 0} (history : D → History) (store : Store D) (cache : PageC
   pub written_sheets : AllByRecursion (λ (m : Sheet). IsContent m.content) written → AllByRecursion (IsSheet ((durable_root store).generation + 1)) written
   written_sheets content =
       all_both (IsNew (durable_root store).generation cache) (λ (m : Sheet). IsContent m.content) (IsSheet ((durable_root store).generation + 1))
-      (λ m one holds. record { page = omega (arith, one.inside); some = one.some; small = one.small; until = one.until; content = holds }) written written_new content
+      (λ m one holds. record { page = omega (arith, one.inside); some = one.some; small = one.small; until = one.until; content = holds }) written written_new
+      content
 
   -- the book of the next turn
   pub booked_after : (last : ℕ) → IsBookFor [] (committed last planned)
@@ -78,7 +81,8 @@ module _ {D : Type 0} (history : D → History) (store : Store D) (cache : PageC
         behind = λ n free. tt;
       }
 
-  module _ (new : Store D) (after : PageCache) (tree : ℕ) (leaves : LeavesPages history written tree (Ok tt) store new) (content : AllByRecursion (λ (m : Sheet). IsContent m.content) written) (keeps : KeepsAll written cache after)
+  module _ (new : Store D) (after : PageCache) (tree : ℕ) (leaves : LeavesPages history written tree (Ok tt) store new)
+      (content : AllByRecursion (λ (m : Sheet). IsContent m.content) written) (keeps : KeepsAll written cache after)
       (on : KeepsWord (disk_history history new) → KeepsWord (disk_history history store)) where
     abbrev next : Root
     next = next_root (durable_root store) written tree
@@ -110,7 +114,9 @@ module _ {D : Type 0} (history : D → History) (store : Store D) (cache : PageC
     joined_sheet root n some = sheet_same before joined root n (λ k here. joined_high k (omega (arith, some, here.0)))
 
     inside_next : AllByRecursion (λ (m : Sheet). m.page < next.pages) written
-    inside_next = all_weaker (λ (m : Sheet). m.page < end_behind 1 written) (λ (m : Sheet). m.page < next.pages) (λ m less. omega (arith, less)) written (inside_end written 0 1 written_lie)
+    inside_next =
+        all_weaker (λ (m : Sheet). m.page < end_behind 1 written) (λ (m : Sheet). m.page < next.pages) (λ m less. omega (arith, less)) written
+        (inside_end written 0 1 written_lie)
 
     now_read : KeepsWord (disk_history history new) → (n : ℕ) → 0 < n → sheet_at behind next n ≡ made_or written n (sheet_at before next n)
     now_read k n some =
@@ -134,7 +140,8 @@ module _ {D : Type 0} (history : D → History) (store : Store D) (cache : PageC
           ∙ still_read before (durable_root store) next n found (omega arith) (omega arith) there
       | inr (at, among) ↦
           let all = made_there (λ m. sheet_at before next m) 0 written written_lie in
-          let here : made_or written found.page (sheet_at before next found.page) ≡ Ok found = all_among (λ (m : Sheet). made_or written m.page (sheet_at before next m.page) ≡ Ok m) written found all among in
+          let here : made_or written found.page (sheet_at before next found.page) ≡ Ok found =
+          all_among (λ (m : Sheet). made_or written m.page (sheet_at before next m.page) ≡ Ok m) written found all among in
           let some : 0 < found.page = all_among (λ (m : Sheet). 0 < m.page) written found (above 0 written written_lie) among in
           subst (λ (m : ℕ). sheet_at behind next m ≡ Ok found) at (now_read k found.page some ∙ here)
     ]
@@ -154,18 +161,21 @@ module _ {D : Type 0} (history : D → History) (store : Store D) (cache : PageC
     }
 
   -- a commit that failed: the pages that it wrote aren't in the cache
-  pub kept_failed : (new : Store D) (tree : ℕ) (fault : CommitFault) → LeavesPages history written tree (Err fault) store new → (KeepsWord (disk_history history new) → KeepsWord (disk_history history store)) → IsKept history new cache made book
+  pub kept_failed : (new : Store D) (tree : ℕ) (fault : CommitFault) → LeavesPages history written tree (Err fault) store new
+      → (KeepsWord (disk_history history new) → KeepsWord (disk_history history store)) → IsKept history new cache made book
   kept_failed new tree fault leaves on = record {
     cached = λ k n found is.
         let there : sheet_at (reads (now (disk_history history store))) (durable_root store) n ≡ Ok found = so.cached (on k) n found is in
         let some : 0 < n = some_number (reads (now (disk_history history store))) (durable_root store) n found there in
         ap (λ (r : Root). sheet_at (reads (now (disk_history history new))) r n) leaves.still
         ∙ sheet_same (reads (now (disk_history history store))) (reads (now (disk_history history new))) (durable_root store) n
-        (λ j here. leaves.others k j (omega (arith, some, here.0)) (off_written n j here written (all_filter (λ (m : Sheet). m.page ≢ n) test made (none_made n found is))))
+        (λ j here. leaves.others k j (omega (arith, some, here.0))
+        (off_written n j here written (all_filter (λ (m : Sheet). m.page ≢ n) test made (none_made n found is))))
         ∙ there;
     ascending = so.ascending;
     each = all_weaker (IsNew (durable_root store).generation cache) (IsNew (durable_root new).generation cache)
-        (λ m one. record { inside = one.inside; some = one.some; small = one.small; until = subst (λ (r : Root). m.generation ≤ r.generation + 1) (sym leaves.still) one.until; uncached = one.uncached }) made so.each;
+        (λ m one. record
+        { inside = one.inside; some = one.some; small = one.small; until = subst (λ (r : Root). m.generation ≤ r.generation + 1) (sym leaves.still) one.until; uncached = one.uncached }) made so.each;
     booked = so.booked;
   }
     where

@@ -35,7 +35,8 @@ some_used : (b : Bool) → 1 ≤ flag b → b ≡ true
 some_used true some = refl
 some_used false some = absurd (omega (arith, some))
 
-module _ {D : Type 0} (history : D → History) (p : State D) (live : List ℕ) (entries : List Entry) (begun : IsBegun history p live entries) (k : KeepsWord (pager_history history p)) where
+module _ {D : Type 0} (history : D → History) (p : State D) (live : List ℕ) (entries : List Entry) (begun : IsBegun history p live entries)
+    (k : KeepsWord (pager_history history p)) where
   abbrev sheets : ℕ → Result Sheet PageFault
   sheets = sheet_at (reads (now (pager_history history p))) (durable_root p.store)
 
@@ -44,7 +45,8 @@ module _ {D : Type 0} (history : D → History) (p : State D) (live : List ℕ) 
 
   not_free : (n : ℕ) → 1 ≤ times n live → is_free p.book.states n ≡ false
   not_free n reached = elim (cases_lt n (length p.book.states)) [
-    | inl within ↦ used_state (get_or p.book.states n states.Retired) (nat_lt 0 n) (some_used (is_in_use p.book.states n) (omega (arith, reached, (begun.in_use k).used n within)))
+    | inl within ↦ used_state (get_or p.book.states n states.Retired) (nat_lt 0 n)
+        (some_used (is_in_use p.book.states n) (omega (arith, reached, (begun.in_use k).used n within)))
     | inr past ↦ ap (λ (s : PageState). nat_lt 0 n && is_free_state s) (get_or_past p.book.states n states.Retired past) ∙ none_free (nat_lt 0 n)
   ]
     where
@@ -68,7 +70,8 @@ module _ {D : Type 0} (history : D → History) (p : State D) (live : List ℕ) 
   moved_all (n ∷ rest) less = (moved_there n (omega (arith, less n, one_time n n rest refl)), moved_all rest (λ m. omega (arith, less m, more_times m n rest)))
 
   pub begun_map : HasMap (store_of history p) (durable_root p.store).tree live entries
-  begun_map = map_moved (image_store sheets) (store_of history p) (durable_root p.store).tree live entries (moved_all live (λ n. omega arith)) ((begun.committed k).keeps.holds k).map
+  begun_map = map_moved (image_store sheets) (store_of history p) (durable_root p.store).tree live entries (moved_all live (λ n. omega arith))
+      ((begun.committed k).keeps.holds k).map
 
   -- a turn in which nothing was done
   pub turn_begins : IsTurn history p p (durable_root p.store).tree live live entries

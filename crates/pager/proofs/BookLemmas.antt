@@ -1,5 +1,6 @@
 -- What a turn makes of the book: pages in use, before and after its commit.
-use Rattle.std.proofs.Common.{◌≡◌, ◌≢◌, ℕ, zero, suc, ◌+◌, ◌<◌, Bool, true, false, List, [], ◌∷◌, ◌++◌, length, take, map, set, get_or, refl, sym, ◌∙◌, ap, arith, inl, inr}
+use Rattle.std.proofs.Common.{◌≡◌, ◌≢◌, ℕ, zero, suc, ◌+◌, ◌<◌, Bool, true, false, List, [], ◌∷◌, ◌++◌, length, take, map, set, get_or, refl, sym, ◌∙◌, ap}
+use Rattle.std.proofs.Common.{arith, inl, inr}
 use Rattle.std.specs.Prelude.{◌==◌, ◌&&◌, not, nat_lt, if◌then◌else◌}
 use Rattle.std.proofs.lemmas.Bool.{cases_Bool, cases_eq}
 use Rattle.std.proofs.lemmas.Bool.Decides.{nat_tests}
@@ -85,7 +86,8 @@ retired_last : (v : ℕ) (pages : List ℕ) (p : ℕ) (b : Book) → retired_all
 retired_last v [] p b = refl
 retired_last v (q ∷ pages) p b = retired_last v pages p (retired q v b)
 
-pub retired_more : (v : ℕ) (pages : List ℕ) (i d : ℕ) (b : Book) → i < length pages → retired_all v (take (i + 1) pages) b ≡ retired (get_or pages i d) v (retired_all v (take i pages) b)
+pub retired_more : (v : ℕ) (pages : List ℕ) (i d : ℕ) (b : Book) → i < length pages
+    → retired_all v (take (i + 1) pages) b ≡ retired (get_or pages i d) v (retired_all v (take i pages) b)
 retired_more v pages i d b lt = ap (λ l. retired_all v l b) (take_more pages i d lt) ∙ retired_last v (take i pages) (get_or pages i d) b
 
 use_other : (p v n : ℕ) (b : Book) → n ≢ p → is_in_use (retired p v b).states n ≡ is_in_use b.states n
@@ -183,7 +185,8 @@ others_of made b so n some within =
     let test : nat_lt 0 n ≡ true = grind (arith, nat_tests, some) in
     let none : listed n (retired_in b.turn) ≡ 0 = ap (λ (turn : List Change). listed n (retired_in turn)) so.turn ∙ ap (listed n) (takes_retire_none made) in
     let waits : listed n b.waiting ≡ 0 = ap (listed n) so.none_waits in
-    let count : retired_count (get_or b.states n states.Retired) ≡ 0 = ap retired_count (sym (get_or_default b.states n states.Free states.Retired within)) ∙ omega (arith, so.sound.listed n, none, waits) in
+    let count : retired_count (get_or b.states n states.Retired) ≡ 0 =
+    ap retired_count (sym (get_or_default b.states n states.Free states.Retired within)) ∙ omega (arith, so.sound.listed n, none, waits) in
     by_state (nat_lt 0 n) test (get_or b.states n states.Retired) count
   where
     by_state : (some : Bool) → some ≡ true → (s : PageState) → retired_count s ≡ 0 → (some && is_free_state s) ≡ not (is_used_state s)
@@ -204,9 +207,11 @@ taken_use (m ∷ made) pages can n =
           let within : m.page < length later = below later m.page states.InUse can.0 (λ e. cc) in
           let used : flag (is_in_use later n) ≡ 1 = ap (λ (k : ℕ). flag (is_in_use later k)) is ∙ ap (λ (s : PageState). flag (is_used_state s)) can.0 in
           let free : flag (is_in_use (set later m.page states.Free) n) ≡ 0 =
-          ap (λ (k : ℕ). flag (is_in_use (set later m.page states.Free) k)) is ∙ ap (λ (s : PageState). flag (is_used_state s)) (get_or-set_same later m.page states.Free states.Retired within) in
+          ap (λ (k : ℕ). flag (is_in_use (set later m.page states.Free) k)) is
+          ∙ ap (λ (s : PageState). flag (is_used_state s)) (get_or-set_same later m.page states.Free states.Retired within) in
           omega (arith, taken_use made pages can.1 n, used, free, one_time n m.page (numbers_of made) is)
       | inr ne ↦
-          let same : flag (is_in_use (set later m.page states.Free) n) ≡ flag (is_in_use later n) = ap (λ (s : PageState). flag (is_used_state s)) (get_or-set_other later m.page n states.Free states.Retired ne) in
+          let same : flag (is_in_use (set later m.page states.Free) n) ≡ flag (is_in_use later n) =
+          ap (λ (s : PageState). flag (is_used_state s)) (get_or-set_other later m.page n states.Free states.Retired ne) in
           omega (arith, taken_use made pages can.1 n, same, no_time n m.page (numbers_of made) ne)
     ]

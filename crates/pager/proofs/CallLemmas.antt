@@ -28,7 +28,8 @@ no_longer : {X : Type 0} (a b : Option X) → b ≡ None → ((x : X) → a ≡ 
 no_longer None b none less = refl
 no_longer {X = X} (Some x) b none less = let never : Some x ≡ None = sym (less x refl) ∙ none in absurd cc
 
-pub read_kept : {D : Type 0} (history : D → History) (store new : Store D) (cache after : PageCache) (made : List Sheet) (book : Book) (page : ℕ) (result : Result Sheet TreeFault) → IsKept history store cache made book
+pub read_kept : {D : Type 0} (history : D → History) (store new : Store D) (cache after : PageCache) (made : List Sheet) (book : Book) (page : ℕ)
+    (result : Result Sheet TreeFault) → IsKept history store cache made book
     → ReadsPage history page result store new cache after → AllByRecursion (λ (m : Sheet). m.page ≢ page) made → IsKept history new after made book
 read_kept history store new cache after made book page result so read ne = record {
   cached = read.agrees so.cached;
@@ -44,17 +45,22 @@ read_kept history store new cache after made book page result so read ne = recor
   booked = so.booked;
 }
 
-pub read_value : {D : Type 0} (history : D → History) (store new : Store D) (cache after : PageCache) (made : List Sheet) (retired : List ℕ) (book : Book) (page : ℕ) (result : Result Sheet TreeFault) (old : State D)
-    → record { store = store; made = made; retired = retired; book = book } ≡ old → IsKept history store cache made book → ReadsPage history page result store new cache after → AllByRecursion (λ (m : Sheet). m.page ≢ page) made
-    → KeepsWord (store_of history (record { store = new; made = made; retired = retired; book = book })) → IfOk result (λ shared. content_in (sheets_of history old page) ≡ shared.content)
+pub read_value : {D : Type 0} (history : D → History) (store new : Store D) (cache after : PageCache) (made : List Sheet) (retired : List ℕ) (book : Book)
+    (page : ℕ) (result : Result Sheet TreeFault) (old : State D)
+    → record { store = store; made = made; retired = retired; book = book } ≡ old → IsKept history store cache made book
+    → ReadsPage history page result store new cache after → AllByRecursion (λ (m : Sheet). m.page ≢ page) made
+    → KeepsWord (store_of history (record { store = new; made = made; retired = retired; book = book }))
+    → IfOk result (λ shared. content_in (sheets_of history old page) ≡ shared.content)
 read_value {D = D} history store new cache after made retired book page result old view_is so read ne word =
     subst (λ (p : State D). IfOk result (λ shared. content_in (sheets_of history p page) ≡ shared.content)) view_is (go result (read.value so.cached word))
   where
-    go : (r : Result Sheet TreeFault) → IfOk r (λ shared. sheet_in history store page ≡ Ok shared) → IfOk r (λ shared. content_in (sheets_of history (record { store = store; made = made; retired = retired; book = book }) page) ≡ shared.content)
+    go : (r : Result Sheet TreeFault) → IfOk r (λ shared. sheet_in history store page ≡ Ok shared)
+        → IfOk r (λ shared. content_in (sheets_of history (record { store = store; made = made; retired = retired; book = book }) page) ≡ shared.content)
     go (Ok shared) is = ap content_in (made_none made page (sheet_in history store page) ne ∙ is)
     go (Err fault) is = tt
 
-pub read_stays : {D : Type 0} (history : D → History) (store new : Store D) (cache after : PageCache) (made : List Sheet) (retired : List ℕ) (book : Book) (page : ℕ) (result : Result Sheet TreeFault) (old : State D)
+pub read_stays : {D : Type 0} (history : D → History) (store new : Store D) (cache after : PageCache) (made : List Sheet) (retired : List ℕ) (book : Book)
+    (page : ℕ) (result : Result Sheet TreeFault) (old : State D)
     → record { store = store; made = made; retired = retired; book = book } ≡ old → ReadsPage history page result store new cache after
     → Stays (store_of history old) (store_of history (record { store = new; made = made; retired = retired; book = book }))
 read_stays {D = D} history store new cache after made retired book page result old view_is read =
@@ -68,7 +74,8 @@ first_true : (a b : Bool) → (a && b) ≡ true → a ≡ true
 first_true true b is = refl
 first_true false b is = absurd cc
 
-more_cause : (old new : Pages) (h0 h1 : History) (fault : TreeFault) → (h0.failures < h1.failures → old.history.failures < new.history.failures) → HasReadCause h0 h1 fault → HasCause old new fault
+more_cause : (old new : Pages) (h0 h1 : History) (fault : TreeFault) → (h0.failures < h1.failures → old.history.failures < new.history.failures)
+    → HasReadCause h0 h1 fault → HasCause old new fault
 more_cause old new h0 h1 faults.Memory to cause = tt
 more_cause old new h0 h1 faults.Device to cause = to cause
 more_cause old new h0 h1 faults.Full to cause = absurd cause
@@ -77,21 +84,32 @@ more_cause old new h0 h1 faults.Number to cause = cause
 more_cause old new h0 h1 faults.Order to cause = cause
 more_cause old new h0 h1 faults.Length to cause = cause
 
-pub read_cause : {D : Type 0} (history : D → History) (store new : Store D) (cache after : PageCache) (made : List Sheet) (retired : List ℕ) (book : Book) (page : ℕ) (result : Result Sheet TreeFault) (old : State D)
-    → record { store = store; made = made; retired = retired; book = book } ≡ old → ReadsPage history page result store new cache after → AllByRecursion (λ (m : Sheet). m.page ≢ page) made
-    → let last : State D = record { store = new; made = made; retired = retired; book = book } in KeepsWord (store_of history last) → (content : Content) → IsAt (store_of history old) page content
+pub read_cause : {D : Type 0} (history : D → History) (store new : Store D) (cache after : PageCache) (made : List Sheet) (retired : List ℕ) (book : Book)
+    (page : ℕ) (result : Result Sheet TreeFault) (old : State D)
+    → record { store = store; made = made; retired = retired; book = book } ≡ old → ReadsPage history page result store new cache after
+    → AllByRecursion (λ (m : Sheet). m.page ≢ page) made
+    → let last : State D = record { store = new; made = made; retired = retired; book = book } in KeepsWord (store_of history last) → (content : Content)
+    → IsAt (store_of history old) page content
     → IfErr result (HasCause (store_of history old) (store_of history last))
 read_cause {D = D} history store new cache after made retired book page result old view_is read ne word content =
-    subst (λ (p : State D). IsAt (store_of history p) page content → IfErr result (HasCause (store_of history p) (store_of history (record { store = new; made = made; retired = retired; book = book })))) view_is caused
+    subst (λ (p : State D). IsAt (store_of history p) page content
+    → IfErr result (HasCause (store_of history p) (store_of history (record { store = new; made = made; retired = retired; book = book })))) view_is caused
   where
     go : (r : Result Sheet TreeFault) → IfErr r (HasReadCause (disk_history history store) (disk_history history new))
-        → IfErr r (HasCause (store_of history (record { store = store; made = made; retired = retired; book = book })) (store_of history (record { store = new; made = made; retired = retired; book = book })))
+        → IfErr r (HasCause (store_of history (record { store = store; made = made; retired = retired; book = book }))
+        (store_of history (record { store = new; made = made; retired = retired; book = book })))
     go (Ok shared) cause = tt
-    go (Err fault) cause = more_cause (store_of history (record { store = store; made = made; retired = retired; book = book })) (store_of history (record { store = new; made = made; retired = retired; book = book })) (disk_history history store) (disk_history history new) fault (λ less. less) cause
+    go (Err fault) cause =
+        more_cause (store_of history (record { store = store; made = made; retired = retired; book = book }))
+        (store_of history (record { store = new; made = made; retired = retired; book = book })) (disk_history history store) (disk_history history new) fault
+        (λ less. less) cause
 
     caused : IsAt (store_of history (record { store = store; made = made; retired = retired; book = book })) page content
-        → IfErr result (HasCause (store_of history (record { store = store; made = made; retired = retired; book = book })) (store_of history (record { store = new; made = made; retired = retired; book = book })))
+        → IfErr result
+        (HasCause (store_of history (record { store = store; made = made; retired = retired; book = book }))
+        (store_of history (record { store = new; made = made; retired = retired; book = book })))
     caused at =
         let p : State D = record { store = store; made = made; retired = retired; book = book } in
-        let found : IsFound (sheets_of history p page) content = found_at (sheets_of history p) page content (first_true (is_ok (sheets_of history p page)) (not (is_free book.states page)) at.live) at.holds in
+        let found : IsFound (sheets_of history p page) content =
+        found_at (sheets_of history p) page content (first_true (is_ok (sheets_of history p page)) (not (is_free book.states page)) at.live) at.holds in
         go result (read.cause word found.sheet (sym (made_none made page (sheet_in history store page) ne) ∙ found.is))

@@ -90,7 +90,8 @@ sheet_below image root n there = elim (cases_lt n root.pages) [
 
 -- ---- the pages that were live
 
-module _ {D : Type 0} (history : D → History) (start : State D) (live : List ℕ) (before : List Entry) (begun : IsBegun history start live before) (k : KeepsWord (pager_history history start)) where
+module _ {D : Type 0} (history : D → History) (start : State D) (live : List ℕ) (before : List Entry) (begun : IsBegun history start live before)
+    (k : KeepsWord (pager_history history start)) where
   abbrev image : ℕ → List ℕ
   image = reads (now (pager_history history start))
 
@@ -112,7 +113,8 @@ module _ {D : Type 0} (history : D → History) (start : State D) (live : List �
         let used : is_in_use start.book.states n ≡ true = flag_is (is_in_use start.book.states n) (omega (arith, some, (begun.in_use k).used n within)) in
         not_both (nat_lt 0 n) (is_free_state (get_or start.book.states n states.Retired)) (used_state (get_or start.book.states n states.Retired) used)
     | inr past ↦
-        not_both (nat_lt 0 n) (is_free_state (get_or start.book.states n states.Retired)) (ap is_free_state (get_or_past start.book.states n states.Retired past))
+        not_both (nat_lt 0 n) (is_free_state (get_or start.book.states n states.Retired))
+        (ap is_free_state (get_or_past start.book.states n states.Retired past))
   ]
 
   live_flag : (n : ℕ) → times n live ≤ flag ((store_of history start).live n)
@@ -132,7 +134,8 @@ module _ {D : Type 0} (history : D → History) (start : State D) (live : List �
 
   -- ---- and those that the turn reaches
 
-  module _ (p : State D) (inside : AllByRecursion (λ (m : Sheet). m.page < 1048576) p.made) (tree : ℕ) (pages : List ℕ) (after : List Entry) (turn : IsTurn history start p tree live pages after)
+  module _ (p : State D) (inside : AllByRecursion (λ (m : Sheet). m.page < 1048576) p.made) (tree : ℕ) (pages : List ℕ) (after : List Entry)
+      (turn : IsTurn history start p tree live pages after)
       (frame : Frame (store_of history start) (store_of history p)) where
     once : AreOnce pages
     once n = omega (arith, turn.account n, live_flag n, frame.made n, none_made n, flag_small ((store_of history p).live n))
@@ -156,9 +159,11 @@ module _ {D : Type 0} (history : D → History) (start : State D) (live : List �
           few = omega (arith, entries_are_few (store_of history p) tree pages after turn.holds, pages_are_few 1048576 pages once all);
         }
 
-pub trees_fit : {D : Type 0} (history : D → History) (store : Store D) (cache : PageCache) (made : List Sheet) (retired : List ℕ) (book : Book) → IsKept history store cache made book
+pub trees_fit : {D : Type 0} (history : D → History) (store : Store D) (cache : PageCache) (made : List Sheet) (retired : List ℕ) (book : Book)
+    → IsKept history store cache made book
     → TreesFit history (record { store = store; made = made; retired = retired; book = book })
 trees_fit history store cache made retired book so start live before begun root pages after turn k =
-    let inside : AllByRecursion (λ (m : Sheet). m.page < 1048576) made = all_weaker (IsNew (durable_root store).generation cache) (λ (m : Sheet). m.page < 1048576) (λ m new. new.inside) made so.each in
+    let inside : AllByRecursion (λ (m : Sheet). m.page < 1048576) made =
+    all_weaker (IsNew (durable_root store).generation cache) (λ (m : Sheet). m.page < 1048576) (λ m new. new.inside) made so.each in
     let frame = turn.grows.frame k in
     fits history start live before begun frame.word (record { store = store; made = made; retired = retired; book = book }) inside root pages after turn frame

@@ -61,7 +61,8 @@ module _ {D : Type 0} (history : D → History) (store new : Store D) (only : On
           full_takes = omega arith;
         }
 
-    pub counts_so : (result : Result PageCounts OpenFault) → Looks result (disk_history history store) (disk_history history new) → CountsStore history result store new → CountsPages history result before after
+    pub counts_so : (result : Result PageCounts OpenFault) → Looks result (disk_history history store) (disk_history history new)
+        → CountsStore history result store new → CountsPages history result before after
     counts_so result looks counts = record {
       grows = grows_same (store_of history before) (store_of history after) stays_read same_read;
       same = same_read;

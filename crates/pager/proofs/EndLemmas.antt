@@ -28,7 +28,8 @@ use Rattle.pager.proofs.AfterLemmas.{booked_after, written_inside, written_lie, 
 use Rattle.pager.proofs.BookLemmas.{all_length, all_pins, all_sound, all_waiting, committed_length, committed_use, kept_use, lost_use, others_of}
 use Rattle.pager.proofs.TurnLemmas.{account, committed_still, flag_most, roots_turn, used_now}
 
-module _ {D : Type 0} (history : D → History) (store : Store D) (cache : PageCache) (made : List Sheet) (retired : List ℕ) (book : Book) (so : IsKept history store cache made book) (version : ℕ) where
+module _ {D : Type 0} (history : D → History) (store : Store D) (cache : PageCache) (made : List Sheet) (retired : List ℕ) (book : Book)
+    (so : IsKept history store cache made book) (version : ℕ) where
   abbrev p : State D
   p = record { store = store; made = made; retired = retired; book = book }
 
@@ -38,7 +39,8 @@ module _ {D : Type 0} (history : D → History) (store : Store D) (cache : PageC
   abbrev written : List Sheet
   written = written_of planned made
 
-  module _ (root : ℕ) (start : State D) (live : List ℕ) (before : List Entry) (begun : IsBegun history start live before) (pages : List ℕ) (after : List Entry) (turn : IsTurn history start p root live pages after) (k : KeepsWord (disk_history history store)) where
+  module _ (root : ℕ) (start : State D) (live : List ℕ) (before : List Entry) (begun : IsBegun history start live before) (pages : List ℕ) (after : List Entry)
+      (turn : IsTurn history start p root live pages after) (k : KeepsWord (disk_history history store)) where
     -- in the book the pages of the new tree are in use
     in_use_after : (last : ℕ) → AreInUse pages (committed last planned)
     in_use_after last =
@@ -50,7 +52,8 @@ module _ {D : Type 0} (history : D → History) (store : Store D) (cache : PageC
               let low : n < length book.states = omega (arith, within, committed_length last planned sound pins waiting, all_length version retired book) in
               let count = account history p start turn.grows.stays k live before begun so.booked root pages after turn version n in
               let now_used = used_now history p start turn.grows.stays k live before begun so.booked n low in
-              let same : flag (is_in_use (committed last planned).states n) ≡ flag (is_in_use planned.states n) = ap flag (committed_use last planned sound pins waiting n) in
+              let same : flag (is_in_use (committed last planned).states n) ≡ flag (is_in_use planned.states n) =
+              ap flag (committed_use last planned sound pins waiting n) in
               elim (cases_lt 0 (times n retired)) [
                 | inl some ↦ omega (arith, some, count, now_used, flag_most (is_in_use book.states n), same, ap flag (lost_use version retired n book some))
                 | inr none ↦ omega (arith, none, count, now_used, same, ap flag (kept_use version retired n book (omega (arith, none))))
@@ -58,17 +61,21 @@ module _ {D : Type 0} (history : D → History) (store : Store D) (cache : PageC
           others = others_of [] (committed last planned) (booked_after history store cache made retired book so version last);
         }
 
-  module _ (root : ℕ) (result : Result (Unit {0}) CommitFault) (new : Store D) (commits : CommitsRoot history root result store new) (moves : MovesMaps history written root result store new)
+  module _ (root : ℕ) (result : Result (Unit {0}) CommitFault) (new : Store D) (commits : CommitsRoot history root result store new)
+      (moves : MovesMaps history written root result store new)
       (content : AllByRecursion (λ (m : Sheet). IsContent m.content) written) where
-    moved : (start : State D) (live : List ℕ) (before : List Entry) → IsBegun history start live before → (pages : List ℕ) (after : List Entry) → (KeepsWord (disk_history history store) → IsTurn history start p root live pages after)
+    moved : (start : State D) (live : List ℕ) (before : List Entry) → IsBegun history start live before → (pages : List ℕ) (after : List Entry)
+        → (KeepsWord (disk_history history store) → IsTurn history start p root live pages after)
         → KeepsWord (disk_history history new) → MovesMap history (next_root (durable_root store) written root) pages before after result store new
     moved start live before begun pages after turn k2 =
         let k = commits.on.kept k2 in
         moves before live (committed_still history p start (turn k).grows.stays k live before begun) after pages
-        (roots_turn history p start (turn k).grows.stays k live before begun so.booked root pages after (turn k) version (written_lie history store cache made retired book so version) (written_inside history store cache made retired book so version)
+        (roots_turn history p start (turn k).grows.stays k live before begun so.booked root pages after (turn k) version
+        (written_lie history store cache made retired book so version) (written_inside history store cache made retired book so version)
         (written_sheets history store cache made retired book so version content) k)
 
-  pub moves_done : (root : ℕ) (new : Store D) → CommitsRoot history root (Ok tt) store new → MovesMaps history written root (Ok tt) store new → AllByRecursion (λ (m : Sheet). IsContent m.content) written → (last : ℕ)
+  pub moves_done : (root : ℕ) (new : Store D) → CommitsRoot history root (Ok tt) store new → MovesMaps history written root (Ok tt) store new
+      → AllByRecursion (λ (m : Sheet). IsContent m.content) written → (last : ℕ)
       → MovesTurns history root (Ok tt) p (record { store = new; made = []; retired = []; book = committed last planned })
   moves_done root new commits moves content last start live before begun pages after turn =
       let all = moved root (Ok tt) new commits moves content start live before begun pages after turn in
@@ -84,7 +91,8 @@ module _ {D : Type 0} (history : D → History) (store : Store D) (cache : PageC
         };
       }
 
-  pub moves_failed : (root : ℕ) (fault : CommitFault) (new : Store D) → CommitsRoot history root (Err fault) store new → MovesMaps history written root (Err fault) store new → AllByRecursion (λ (m : Sheet). IsContent m.content) written
+  pub moves_failed : (root : ℕ) (fault : CommitFault) (new : Store D) → CommitsRoot history root (Err fault) store new
+      → MovesMaps history written root (Err fault) store new → AllByRecursion (λ (m : Sheet). IsContent m.content) written
       → MovesTurns history root (Err fault) p (record { store = new; made = made; retired = retired; book = book })
   moves_failed root fault new commits moves content start live before begun pages after turn =
       let all = moved root (Err fault) new commits moves content start live before begun pages after turn in

@@ -18,12 +18,14 @@ pub record IsBetween (made : List Sheet) (n from to : ℕ) : Type 0 where
 
 lie_above : (last : ℕ) (made : List Sheet) → LieBehind last made → AllByRecursion (λ (m : Sheet). last < m.page) made
 lie_above last [] lie = tt
-lie_above last (m ∷ ms) lie = (lie.0, all_weaker (λ (x : Sheet). m.page < x.page) (λ (x : Sheet). last < x.page) (λ x less. omega (arith, less, lie.0)) ms (lie_above m.page ms lie.1))
+lie_above last (m ∷ ms) lie =
+    (lie.0, all_weaker (λ (x : Sheet). m.page < x.page) (λ (x : Sheet). last < x.page) (λ x less. omega (arith, less, lie.0)) ms (lie_above m.page ms lie.1))
 
 lie_at : (last : ℕ) (made : List Sheet) (i : ℕ) (x : Sheet) → i < length made → x ≡ get_or made i x → LieBehind last made
     → AllByRecursion (λ (m : Sheet). m.page < x.page) (take i made) × AllByRecursion (λ (m : Sheet). x.page < m.page) (drop (i + 1) made)
 lie_at last [] i x lt is lie = absurd (omega (arith, lt))
-lie_at last (m ∷ ms) zero x lt is lie = (tt, subst (λ (k : ℕ). AllByRecursion (λ (s : Sheet). k < s.page) ms) (ap (λ (s : Sheet). s.page) (sym is)) (lie_above m.page ms lie.1))
+lie_at last (m ∷ ms) zero x lt is lie =
+    (tt, subst (λ (k : ℕ). AllByRecursion (λ (s : Sheet). k < s.page) ms) (ap (λ (s : Sheet). s.page) (sym is)) (lie_above m.page ms lie.1))
 lie_at last (m ∷ ms) (suc i) x lt is lie =
     let less : i < length ms = omega (arith, lt) in
     let later = lie_at m.page ms i x less is lie.1 in
@@ -44,7 +46,8 @@ between_all made n = record { order = omega arith; within = omega arith; below =
     none [] = tt
     none (x ∷ xs) = none xs
 
-module _ (made : List Sheet) (n from to mid : ℕ) (x : Sheet) (lie : LieBehind 0 made) (so : IsBetween made n from to) (low : from ≤ mid) (high : mid < to) (is : x ≡ get_or made mid x) where
+module _ (made : List Sheet) (n from to mid : ℕ) (x : Sheet) (lie : LieBehind 0 made) (so : IsBetween made n from to) (low : from ≤ mid) (high : mid < to)
+    (is : x ≡ get_or made mid x) where
   less : mid < length made
   less = omega (arith, high, so.within)
 
@@ -54,7 +57,8 @@ module _ (made : List Sheet) (n from to mid : ℕ) (x : Sheet) (lie : LieBehind 
     order = omega (arith, high);
     within = so.within;
     below = all_taken_more (λ (m : Sheet). m.page < n) made mid x less is
-        (all_weaker (λ (m : Sheet). m.page < x.page) (λ (m : Sheet). m.page < n) (λ m lower. omega (arith, lower, under)) (take mid made) (lie_at 0 made mid x less is lie).0) under;
+        (all_weaker (λ (m : Sheet). m.page < x.page) (λ (m : Sheet). m.page < n) (λ m lower. omega (arith, lower, under)) (take mid made)
+        (lie_at 0 made mid x less is lie).0) under;
     above = so.above;
   }
 
@@ -64,16 +68,22 @@ module _ (made : List Sheet) (n from to mid : ℕ) (x : Sheet) (lie : LieBehind 
     order = low;
     within = omega (arith, less);
     below = so.below;
-    above = subst (AllByRecursion (λ (m : Sheet). n < m.page)) (sym (drop_more made mid x less ∙ ap (λ (m : Sheet). m ∷ drop (mid + 1) made) (sym is)))
-        (over, all_weaker (λ (m : Sheet). x.page < m.page) (λ (m : Sheet). n < m.page) (λ m higher. omega (arith, higher, over)) (drop (mid + 1) made) (lie_at 0 made mid x less is lie).1);
+    above = subst (AllByRecursion (λ (m : Sheet). n < m.page)) (sym (drop_more made mid x less ∙ ap (λ (m : Sheet). m ∷ drop (mid + 1) made) (sym is))) (
+      over,
+      all_weaker (λ (m : Sheet). x.page < m.page) (λ (m : Sheet). n < m.page) (λ m higher. omega (arith, higher, over)) (drop (mid + 1) made)
+          (lie_at 0 made mid x less is lie).1,
+    );
   }
 
   pub between_here : x.page ≡ n → (other : Result Sheet PageFault) → made_or made n other ≡ Ok x
   between_here here other =
-      found_there made n mid x is less (all_weaker (λ (m : Sheet). m.page < x.page) (λ (m : Sheet). m.page ≢ n) (λ m lower same. omega (arith, lower, here, same)) (take mid made) (lie_at 0 made mid x less is lie).0) here other
+      found_there made n mid x is less
+      (all_weaker (λ (m : Sheet). m.page < x.page) (λ (m : Sheet). m.page ≢ n) (λ m lower same. omega (arith, lower, here, same)) (take mid made)
+      (lie_at 0 made mid x less is lie).0) here other
 
 pub between_none : (made : List Sheet) (n from to : ℕ) → IsBetween made n from to → to ≤ from → AllByRecursion (λ (m : Sheet). m.page ≢ n) made
 between_none made n from to so end =
-    all_joined (λ (m : Sheet). m.page ≢ n) from made (all_weaker (λ (m : Sheet). m.page < n) (λ (m : Sheet). m.page ≢ n) (λ m lower same. omega (arith, lower, same)) (take from made) so.below)
+    all_joined (λ (m : Sheet). m.page ≢ n) from made
+    (all_weaker (λ (m : Sheet). m.page < n) (λ (m : Sheet). m.page ≢ n) (λ m lower same. omega (arith, lower, same)) (take from made) so.below)
     (all_weaker (λ (m : Sheet). n < m.page) (λ (m : Sheet). m.page ≢ n) (λ m higher same. omega (arith, higher, same)) (drop from made)
     (subst (λ (k : ℕ). AllByRecursion (λ (m : Sheet). n < m.page) (drop k made)) (omega (arith, so.order, end)) so.above))

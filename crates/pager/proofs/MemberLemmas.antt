@@ -1,5 +1,6 @@
 -- Pages by their numbers, among those that were made and those of them that are written.
-use Rattle.std.proofs.Common.{◌≡◌, ◌≢◌, ℕ, zero, suc, ◌+◌, ◌<◌, ◌≤◌, Bool, true, false, List, [], ◌∷◌, ◌++◌, length, get_or, refl, sym, ◌∙◌, ap, subst, arith, inl, inr}
+use Rattle.std.proofs.Common.{◌≡◌, ◌≢◌, ℕ, zero, suc, ◌+◌, ◌<◌, ◌≤◌, Bool, true, false, List, [], ◌∷◌, ◌++◌, length, get_or, refl, sym, ◌∙◌, ap, subst, arith}
+use Rattle.std.proofs.Common.{inl, inr}
 use Rattle.std.specs.Prelude.{◌⊎◌, ◌==◌, if◌then◌else◌, reverse, Result, Ok}
 use Rattle.std.specs.List.{AllByRecursion, filter}
 use Rattle.std.proofs.lemmas.Bool.{cases_Bool, cases_eq}
@@ -22,7 +23,8 @@ among_at [] i x d is lt = absurd (omega (arith, lt))
 among_at (m ∷ ms) zero x d is lt = inl is
 among_at (m ∷ ms) (suc i) x d is lt = inr (among_at ms i x d is (omega (arith, lt)))
 
-pub keeps_more : (pages : List Sheet) (before mid after : PageCache) (page : ℕ) (x : Sheet) → KeepsAll pages before mid → Keeps page x mid after → x.page ≡ page → IsAmong x pages → KeepsAll pages before after
+pub keeps_more : (pages : List Sheet) (before mid after : PageCache) (page : ℕ) (x : Sheet) → KeepsAll pages before mid → Keeps page x mid after
+    → x.page ≡ page → IsAmong x pages → KeepsAll pages before after
 keeps_more pages before mid after page x all keeps named among n found is = elim (keeps n found is) [
   | inl earlier ↦ all n found earlier
   | inr (at, same) ↦ inr (ap (λ (m : Sheet). m.page) same ∙ named ∙ sym at, subst (λ (m : Sheet). IsAmong m pages) (sym same) among)
@@ -106,7 +108,8 @@ pub each_counted : (made : List Sheet) → AllByRecursion (λ (m : Sheet). 1 ≤
 each_counted [] = tt
 each_counted (m ∷ ms) = (
   omega (arith, one_time m.page m.page (numbers_of ms) refl),
-  all_weaker (λ (x : Sheet). 1 ≤ times x.page (numbers_of ms)) (λ (x : Sheet). 1 ≤ times x.page (numbers_of (m ∷ ms))) (λ x some. omega (arith, some, more_times x.page m.page (numbers_of ms))) ms (each_counted ms),
+  all_weaker (λ (x : Sheet). 1 ≤ times x.page (numbers_of ms)) (λ (x : Sheet). 1 ≤ times x.page (numbers_of (m ∷ ms)))
+      (λ x some. omega (arith, some, more_times x.page m.page (numbers_of ms))) ms (each_counted ms),
 )
 
 times_append : (n : ℕ) (xs ys : List ℕ) → times n (xs ++ ys) ≡ times n xs + times n ys

@@ -1,5 +1,6 @@
 -- What opening leaves.
-use Rattle.std.proofs.Common.{◌≡◌, ℕ, zero, suc, ◌+◌, ◌<◌, ◌≤◌, max, min, false, List, [], ◌∷◌, length, set, replicate, refl, sym, ◌∙◌, ap, subst, arith, inl, inr, Some, None}
+use Rattle.std.proofs.Common.{◌≡◌, ℕ, zero, suc, ◌+◌, ◌<◌, ◌≤◌, max, min, false, List, [], ◌∷◌, length, set, replicate, refl, sym, ◌∙◌, ap, subst, arith, inl}
+use Rattle.std.proofs.Common.{inr, Some, None}
 use Rattle.std.specs.Prelude.{Ok}
 use Rattle.std.proofs.lemmas.Bool.{cases_eq}
 use Rattle.std.proofs.lemmas.List.{get_or-set_other, get_or-set_same, length-replicate, length-set}
@@ -37,21 +38,36 @@ none_used zero n = refl
 none_used (suc count) zero = refl
 none_used (suc count) (suc n) = none_used count n
 
-used_all : (in_use : List ℕ) (pages : List PageState) (n : ℕ) → n < length pages → flag (is_in_use pages n) + times n in_use ≤ 1 → flag (is_in_use (with_used in_use pages) n) ≡ flag (is_in_use pages n) + times n in_use
+used_all : (in_use : List ℕ) (pages : List PageState) (n : ℕ) → n < length pages → flag (is_in_use pages n) + times n in_use ≤ 1
+    → flag (is_in_use (with_used in_use pages) n) ≡ flag (is_in_use pages n) + times n in_use
 used_all [] pages n within once = omega arith
 used_all (p ∷ rest) pages n within once = elim (cases_eq n p) [
   | inl is ↦
       let here : flag (is_in_use (set pages p states.InUse) n) ≡ 1 =
-      ap (λ (k : ℕ). flag (is_in_use (set pages p states.InUse) k)) is ∙ ap (λ (s : PageState). flag (is_used_state s)) (get_or-set_same pages p states.InUse states.Retired (omega (arith, within, is))) in
+      ap (λ (k : ℕ). flag (is_in_use (set pages p states.InUse) k)) is
+      ∙ ap (λ (s : PageState). flag (is_used_state s)) (get_or-set_same pages p states.InUse states.Retired (omega (arith, within, is))) in
       let one = one_time n p rest is in
-      omega (arith, used_all rest (set pages p states.InUse) n (omega (arith, within, length-set pages p states.InUse)) (omega (arith, here, one, once)), here, one, once)
+      omega (
+        arith,
+        used_all rest (set pages p states.InUse) n (omega (arith, within, length-set pages p states.InUse)) (omega (arith, here, one, once)),
+        here,
+        one,
+        once,
+      )
   | inr ne ↦
-      let same : flag (is_in_use (set pages p states.InUse) n) ≡ flag (is_in_use pages n) = ap (λ (s : PageState). flag (is_used_state s)) (get_or-set_other pages p n states.InUse states.Retired ne) in
+      let same : flag (is_in_use (set pages p states.InUse) n) ≡ flag (is_in_use pages n) =
+      ap (λ (s : PageState). flag (is_used_state s)) (get_or-set_other pages p n states.InUse states.Retired ne) in
       let none = no_time n p rest ne in
-      omega (arith, used_all rest (set pages p states.InUse) n (omega (arith, within, length-set pages p states.InUse)) (omega (arith, same, none, once)), same, none)
+      omega (
+        arith,
+        used_all rest (set pages p states.InUse) n (omega (arith, within, length-set pages p states.InUse)) (omega (arith, same, none, once)),
+        same,
+        none,
+      )
 ]
 
-opened_used : (live : List ℕ) (count generation : ℕ) → AreOnce live → (n : ℕ) → n < length (opened live count generation).states → times n live ≡ flag (is_in_use (opened live count generation).states n)
+opened_used : (live : List ℕ) (count generation : ℕ) → AreOnce live → (n : ℕ) → n < length (opened live count generation).states
+    → times n live ≡ flag (is_in_use (opened live count generation).states n)
 opened_used live count generation once n within =
     let low : n < length (replicate count states.Free) = omega (arith, within, length_used live (replicate count states.Free)) in
     let none : flag (is_in_use (replicate count states.Free) n) ≡ 0 = ap flag (none_used count n) in
@@ -68,7 +84,8 @@ booked_new in_use count generation few = record {
   behind = λ n free. tt;
 }
 
-module _ {D : Type 0} (history : D → History) (disk : D) (mid new : Store D) (book : Book) (limit : ℕ) (few : limit ≤ 1048576) (first : IsStoreOpened history disk mid)
+module _ {D : Type 0} (history : D → History) (disk : D) (mid new : Store D) (book : Book) (limit : ℕ) (few : limit ≤ 1048576)
+    (first : IsStoreOpened history disk mid)
     (only : ReadsOnly (disk_history history mid) (disk_history history new)) (finds : FindsFree history limit (Ok book) mid new) where
   booked : IsBookFor [] book
   booked = subst (IsBookFor []) (sym finds.some.is) (booked_new finds.some.in_use _ (durable_root mid).generation (omega (arith, few, first.known.pages)))
@@ -76,7 +93,8 @@ module _ {D : Type 0} (history : D → History) (disk : D) (mid new : Store D) (
   pub limit_opened : (asked : ℕ) → limit ≡ min asked 1048576 → length book.states ≡ max (min asked 1048576) (durable_root new).pages
   limit_opened asked is =
       let count = max (max limit (durable_root mid).pages) 1 in
-      let long : length book.states ≡ count = ap (λ (b : Book). length b.states) finds.some.is ∙ length_used finds.some.in_use (replicate count states.Free) ∙ length-replicate count states.Free in
+      let long : length book.states ≡ count =
+      ap (λ (b : Book). length b.states) finds.some.is ∙ length_used finds.some.in_use (replicate count states.Free) ∙ length-replicate count states.Free in
       let most : length book.states ≡ max limit (durable_root new).pages = omega (arith, long, first.known.tree, ap (λ (r : Root). r.pages) finds.root) in
       most ∙ ap (λ (n : ℕ). max n (durable_root new).pages) is
 
@@ -88,7 +106,8 @@ module _ {D : Type 0} (history : D → History) (disk : D) (mid new : Store D) (
     booked = booked;
   })
 
-  begins : (live : List ℕ) (entries : List Entry) → (KeepsWord (disk_history history new) → HoldsMap (sheet_at (reads (now (history disk))) (durable_root new)) (durable_root new) live entries)
+  begins : (live : List ℕ) (entries : List Entry)
+      → (KeepsWord (disk_history history new) → HoldsMap (sheet_at (reads (now (history disk))) (durable_root new)) (durable_root new) live entries)
       → IsBegun history (record { store = new; made = []; retired = []; book = book }) live entries
   begins live entries holds = record {
     made = refl;
@@ -106,9 +125,11 @@ module _ {D : Type 0} (history : D → History) (disk : D) (mid new : Store D) (
   }
     where
       committed_then : KeepsWord (disk_history history new) → IsCommitted history mid live entries
-      committed_then k = first.committed live entries (λ _. subst (λ (r : Root). HoldsMap (sheet_at (reads (now (history disk))) r) r live entries) finds.root (holds k))
+      committed_then k =
+          first.committed live entries (λ _. subst (λ (r : Root). HoldsMap (sheet_at (reads (now (history disk))) r) r live entries) finds.root (holds k))
 
-  pub opened_so : (made : List Sheet) (retired : List ℕ) → made ≡ [] → retired ≡ [] → IsOpened history disk (record { store = new; made = made; retired = retired; book = book })
+  pub opened_so : (made : List Sheet) (retired : List ℕ) → made ≡ [] → retired ≡ []
+      → IsOpened history disk (record { store = new; made = made; retired = retired; book = book })
   opened_so made retired none empty =
       let h0 = history disk in
       let h1 = disk_history history mid in
@@ -134,5 +155,6 @@ module _ {D : Type 0} (history : D → History) (disk : D) (mid new : Store D) (
         alone = λ entries stands k image is. first.alone entries stands (only.on.kept k) image (subst (λ (s : ℕ → Sector). IsImage s image) (only.same k) is);
         any_moment = λ readable.
             leaves_further h0 h1 h2 (IsImage (now h0)) only.on (first.any_moment readable)
-            (λ k image left. leaves_now h0 h1 (IsImage (now h0)) first.on (first.any_moment readable) (only.on.kept k) image (reads_moments h1 h2 only k image left));
+            (λ k image left. leaves_now h0 h1 (IsImage (now h0)) first.on (first.any_moment readable) (only.on.kept k) image
+            (reads_moments h1 h2 only k image left));
       })

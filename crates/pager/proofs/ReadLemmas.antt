@@ -31,12 +31,14 @@ module _ {D : Type 0} (history : D → History) (old new : Store D) (only : Only
       (λ i. sheet_at (reads (only.reads.same k i)) (durable_root new) n)
       ∙ ap (λ (root : Root). sheet_at (reads (now (disk_history history old))) root n) only.root
 
-  pub still_agrees : (before after : PageCache) → ((n : ℕ) (found : Sheet) → kept after n ≡ Some found → kept before n ≡ Some found) → Agrees history old before → Agrees history new after
+  pub still_agrees : (before after : PageCache) → ((n : ℕ) (found : Sheet) → kept after n ≡ Some found → kept before n ≡ Some found)
+      → Agrees history old before → Agrees history new after
   still_agrees before after less agrees k n found is = still_there k n ∙ agrees (only.reads.on.kept k) n found (less n found is)
 
   -- no page was read
   pub read_failed : (page : ℕ) (fault : TreeFault) (before after : PageCache) → ((n : ℕ) → kept after n ≡ kept before n)
-      → (KeepsWord (disk_history history new) → (found : Sheet) → sheet_in history old page ≡ Ok found → HasReadCause (disk_history history old) (disk_history history new) fault)
+      → (KeepsWord (disk_history history new) → (found : Sheet) → sheet_in history old page ≡ Ok found
+      → HasReadCause (disk_history history old) (disk_history history new) fault)
       → ReadsPage history page (Err fault) old new before after
   read_failed page fault before after same cause = record {
     only = only;
@@ -75,7 +77,8 @@ found_kept history store page sheet before after found same = record {
 }
 
 -- a page that is there isn't refused for what its bytes are
-pub read_cause : (old new : History) (fault : OpenFault) (found : Result Sheet PageFault) (sheet : Sheet) → HasCause old new fault → (fault ≡ opens.Damaged → (other : Sheet) → found ≡ Ok other → ⊥)
+pub read_cause : (old new : History) (fault : OpenFault) (found : Result Sheet PageFault) (sheet : Sheet) → HasCause old new fault
+    → (fault ≡ opens.Damaged → (other : Sheet) → found ≡ Ok other → ⊥)
     → KeepsWord new → found ≡ Ok sheet → HasReadCause old new (tree_fault fault)
 read_cause old new opens.Device found sheet cause none k is = cause k
 read_cause old new opens.Memory found sheet cause none k is = tt

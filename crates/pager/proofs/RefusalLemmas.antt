@@ -30,15 +30,18 @@ read_fault old new faults.NewerFormat cause = absurd cause
 
 -- Reads behind an opened store failed. Where a tree is committed, it isn't damaged.
 module _ {D : Type 0} (history : D → History) (disk : D) (mid : Store D) (first : IsStoreOpened history disk mid) where
-  committed_there : (entries : List Entry) (stands : StandsFor (reads (now (history disk))) entries) → KeepsWord (disk_history history mid) → IsCommitted history mid stands.pages entries
+  committed_there : (entries : List Entry) (stands : StandsFor (reads (now (history disk))) entries) → KeepsWord (disk_history history mid)
+      → IsCommitted history mid stands.pages entries
   committed_there entries stands k =
       let image = reads (now (history disk)) in
       let both : Ok stands.root ≡ Ok (durable_root mid) = sym stands.opens ∙ first.opens k in
       let same : stands.root ≡ durable_root mid = cc in
       first.committed stands.pages entries (λ _. subst (λ (r : Root). HoldsMap (sheet_at image r) r stands.pages entries) same stands.holds)
 
-  refused_reading : (back : D) (fault : OpenFault) → ReadsOnly (disk_history history mid) (history back) → IsReadFault (disk_history history mid) (history back) fault
-      → (fault ≡ faults.Damaged → KeepsWord (history back) → (live : List ℕ) (entries : List Entry) → IsCommitted history mid live entries → ⊥) → IsRefused history disk back fault
+  refused_reading : (back : D) (fault : OpenFault) → ReadsOnly (disk_history history mid) (history back)
+      → IsReadFault (disk_history history mid) (history back) fault
+      → (fault ≡ faults.Damaged → KeepsWord (history back) → (live : List ℕ) (entries : List Entry) → IsCommitted history mid live entries → ⊥)
+      → IsRefused history disk back fault
   refused_reading back fault only read_so damaged =
       let h0 = history disk in
       let h1 = disk_history history mid in
@@ -47,8 +50,10 @@ module _ {D : Type 0} (history : D → History) (disk : D) (mid : Store D) (firs
         on = goes_further h0 h1 h2 first.on only.on;
         any_moment = λ readable.
             leaves_further h0 h1 h2 (IsImage (now h0)) only.on (first.any_moment readable)
-            (λ k image left. leaves_now h0 h1 (IsImage (now h0)) first.on (first.any_moment readable) (only.on.kept k) image (reads_moments h1 h2 only k image left));
-        damaged = λ other memory k entries stands. damaged (by_others fault other memory read_so.known read_so.old_format) k stands.pages entries (committed_there entries stands (only.on.kept k));
+            (λ k image left. leaves_now h0 h1 (IsImage (now h0)) first.on (first.any_moment readable) (only.on.kept k) image
+            (reads_moments h1 h2 only k image left));
+        damaged = λ other memory k entries stands. damaged (by_others fault other memory read_so.known read_so.old_format) k stands.pages entries
+            (committed_there entries stands (only.on.kept k));
         foreign = λ is. absurd (read_so.known is);
         later = λ is. absurd (read_so.old_format is);
         device = λ is k. omega (arith, read_so.on_device is k, first.on.failures (only.on.kept k));
@@ -62,10 +67,12 @@ module _ {D : Type 0} (history : D → History) (disk : D) (mid : Store D) (firs
       by_others faults.NewerFormat a b c d = absurd (d refl)
 
   -- in the walk over the tree's pages
-  pub refused_walking : (limit : ℕ) (new : Store D) (back : D) (fault : OpenFault) → history back ≡ disk_history history new → ReadsOnly (disk_history history mid) (disk_history history new)
+  pub refused_walking : (limit : ℕ) (new : Store D) (back : D) (fault : OpenFault) → history back ≡ disk_history history new
+      → ReadsOnly (disk_history history mid) (disk_history history new)
       → HasCause (disk_history history mid) (disk_history history new) fault → FindsFree history limit (Err fault) mid new → IsRefused history disk back fault
   refused_walking limit new back fault same only cause finds =
       let h1 = disk_history history mid in
       let h2 = disk_history history new in
-      refused_reading back fault (subst (ReadsOnly h1) (sym same) only) (subst (λ (h : History). IsReadFault h1 h fault) (sym same) (read_fault h1 h2 fault cause))
+      refused_reading back fault (subst (ReadsOnly h1) (sym same) only)
+      (subst (λ (h : History). IsReadFault h1 h fault) (sym same) (read_fault h1 h2 fault cause))
       (λ is k live entries committed. finds.book (subst (λ (h : History). KeepsWord h) same k) live entries committed is)

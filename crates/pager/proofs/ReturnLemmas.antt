@@ -1,5 +1,6 @@
 -- A turn that is undone to an earlier moment of it.
-use Rattle.std.proofs.Common.{◌≡◌, ◌≢◌, ℕ, ◌<◌, Bool, true, false, List, [], ◌∷◌, ◌++◌, length, map, take, drop, set, get_or, refl, sym, ◌∙◌, ap, subst, arith, inl, inr}
+use Rattle.std.proofs.Common.{◌≡◌, ◌≢◌, ℕ, ◌<◌, Bool, true, false, List, [], ◌∷◌, ◌++◌, length, map, take, drop, set, get_or, refl, sym, ◌∙◌, ap, subst, arith}
+use Rattle.std.proofs.Common.{inl, inr}
 use Rattle.std.specs.Prelude.{◌==◌, ◌&&◌, nat_lt, not, if◌then◌else◌, reverse, is_ok, Result, Ok}
 use Rattle.std.specs.List.{AllByRecursion}
 use Rattle.std.proofs.lemmas.List.{length-map, reverse-append, reverse-reverse, take-append-drop, take-map}
@@ -51,7 +52,8 @@ none_made [] n none = tt
 none_made (m ∷ ms) n none = (none.0, none_made ms n none.1)
 
 -- with these numbers, none there is none here
-none_too : (one other : List Sheet) (n : ℕ) → numbers_of one ≡ numbers_of other → AllByRecursion (λ (m : Sheet). m.page ≢ n) one → AllByRecursion (λ (m : Sheet). m.page ≢ n) other
+none_too : (one other : List Sheet) (n : ℕ) → numbers_of one ≡ numbers_of other → AllByRecursion (λ (m : Sheet). m.page ≢ n) one
+    → AllByRecursion (λ (m : Sheet). m.page ≢ n) other
 none_too one other n same none = none_made other n (subst (AllByRecursion (λ (k : ℕ). k ≢ n)) same (none_named one n none))
 
 made_joined : (xs ys : List Sheet) (n : ℕ) (other : Result Sheet PageFault) → made_or (xs ++ ys) n other ≡ made_or xs n (made_or ys n other)
@@ -61,7 +63,8 @@ made_joined (x ∷ xs) ys n other = ap (λ (r : Result Sheet PageFault). if x.pa
 -- ---- the book
 
 -- Where all takes can be undone, what they lead back to tells what they made.
-rewound_once : (made : List Sheet) (one other : List PageState) → CanRewind (takes_of made) one → CanRewind (takes_of made) other → rewind (takes_of made) one ≡ rewind (takes_of made) other → one ≡ other
+rewound_once : (made : List Sheet) (one other : List PageState) → CanRewind (takes_of made) one → CanRewind (takes_of made) other
+    → rewind (takes_of made) one ≡ rewind (takes_of made) other → one ≡ other
 rewound_once [] one other can could same = same
 rewound_once (m ∷ ms) one other can could same =
     rewound_once ms one other can.1 could.1
@@ -81,7 +84,8 @@ same_start n b = sym (rewind-append (take n b.turn) (drop n b.turn) b.states) �
 
 -- ---- the pages
 
-module _ {D : Type 0} (history : D → History) (earlier old : State D) (orderly : IsOrderly earlier) (booked : IsBookFor old.made old.book) (grows : Grows (store_of history earlier) (store_of history old))
+module _ {D : Type 0} (history : D → History) (earlier old : State D) (orderly : IsOrderly earlier) (booked : IsBookFor old.made old.book)
+    (grows : Grows (store_of history earlier) (store_of history old))
     (some few : ℕ) (some_is : some ≡ length earlier.made) (few_is : few ≡ length earlier.retired) where
   abbrev last : State D
   last = undone_to some few old
@@ -116,7 +120,8 @@ module _ {D : Type 0} (history : D → History) (earlier old : State D) (orderly
     states_same : (undone some old.book).states ≡ earlier.book.states
     states_same =
         rewound_once earlier.made (undone some old.book).states earlier.book.states
-        (subst (λ (turn : List Change). CanRewind turn (undone some old.book).states) turn_same ((stays_sound old.book booked.sound).undone some).undoable) could
+        (subst (λ (turn : List Change). CanRewind turn (undone some old.book).states) turn_same ((stays_sound old.book booked.sound).undone some).undoable)
+        could
         (ap (λ (turn : List Change). rewind turn (undone some old.book).states) (sym turn_same) ∙ same_beginning last earlier base_same
         ∙ ap (λ (turn : List Change). rewind turn earlier.book.states) orderly.booked.turn)
 
@@ -138,9 +143,11 @@ module _ {D : Type 0} (history : D → History) (earlier old : State D) (orderly
         let then_there : sheets_of history earlier n ≡ Ok was.sheet = was.there (disk_of earlier n) in
         let now_there : sheets_of history last n ≡ Ok is.sheet = is.there (disk_of old n) in
         let between : sheets_of history old n ≡ Ok is.sheet =
-        ap (λ (l : List Sheet). made_or l n (disk_of old n)) (sym (take-append-drop some old.made)) ∙ made_joined (take some old.made) (drop some old.made) n (disk_of old n)
+        ap (λ (l : List Sheet). made_or l n (disk_of old n)) (sym (take-append-drop some old.made))
+        ∙ made_joined (take some old.made) (drop some old.made) n (disk_of old n)
         ∙ is.there (made_or (drop some old.made) n (disk_of old n)) in
-        let used : is_in_use earlier.book.states n ≡ true = flag_some (is_in_use earlier.book.states n) (omega (arith, was.count, taken_use earlier.made earlier.book.states could n)) in
+        let used : is_in_use earlier.book.states n ≡ true =
+        flag_some (is_in_use earlier.book.states n) (omega (arith, was.count, taken_use earlier.made earlier.book.states could n)) in
         let some_number : 0 < n = subst (λ (m : ℕ). 0 < m) was.is (behind_among 0 earlier.made was.sheet orderly.ascending was.among) in
         let at : IsAt (store_of history earlier) n (content_in (sheets_of history earlier n)) = record {
           number = some_number;
@@ -156,11 +163,13 @@ module _ {D : Type 0} (history : D → History) (earlier old : State D) (orderly
     as_then n = elim (member earlier.made n) [
       | inl none ↦
           let then_disk : sheets_of history earlier n ≡ disk_of earlier n = made_none earlier.made n (disk_of earlier n) none in
-          let now_disk : sheets_of history last n ≡ disk_of old n = made_none (take some old.made) n (disk_of old n) (none_too earlier.made (take some old.made) n (sym numbers_same) none) in
+          let now_disk : sheets_of history last n ≡ disk_of old n =
+          made_none (take some old.made) n (disk_of old n) (none_too earlier.made (take some old.made) n (sym numbers_same) none) in
           let same : sheets_of history last n ≡ sheets_of history earlier n = now_disk ∙ disk_same n ∙ sym then_disk in
           record { content = ap content_in same; there = ap is_ok same }
       | inr was ↦ elim (member (take some old.made) n) [
-        | inl none ↦ absurd (all_among (λ (m : Sheet). m.page ≢ n) earlier.made was.sheet (none_too (take some old.made) earlier.made n numbers_same none) was.among was.is)
+        | inl none ↦ absurd
+            (all_among (λ (m : Sheet). m.page ≢ n) earlier.made was.sheet (none_too (take some old.made) earlier.made n numbers_same none) was.among was.is)
         | inr is ↦ as_then_made n was is
       ]
     ]
@@ -179,6 +188,7 @@ module _ {D : Type 0} (history : D → History) (earlier old : State D) (orderly
   pub grows_back : Grows (store_of history earlier) (store_of history last)
   grows_back = grows_same (store_of history earlier) (store_of history last) stays_back same_back
 
-pub returns_back : {D : Type 0} (history : D → History) (old : State D) → IsBookFor old.made old.book → (some few : ℕ) → Returns history some few old (undone_to some few old)
+pub returns_back : {D : Type 0} (history : D → History) (old : State D) → IsBookFor old.made old.book → (some few : ℕ)
+    → Returns history some few old (undone_to some few old)
 returns_back history old booked some few earlier orderly grows some_is few_is =
     (grows_back history earlier old orderly booked grows some few some_is few_is, same_back history earlier old orderly booked grows some few some_is few_is)

@@ -1,5 +1,6 @@
 -- A page is taken and made.
-use Rattle.std.proofs.Common.{◌≡◌, ◌≢◌, ℕ, ◌+◌, ◌-◌, ◌^◌, ◌<◌, ◌≤◌, Bool, true, false, List, [], ◌∷◌, ◌++◌, length, map, set, refl, sym, ◌∙◌, ap, subst, arith, inl, inr, Option, Some, None}
+use Rattle.std.proofs.Common.{◌≡◌, ◌≢◌, ℕ, ◌+◌, ◌-◌, ◌^◌, ◌<◌, ◌≤◌, Bool, true, false, List, [], ◌∷◌, ◌++◌, length, map, set, refl, sym, ◌∙◌, ap, subst, arith}
+use Rattle.std.proofs.Common.{inl, inr, Option, Some, None}
 use Rattle.std.specs.Prelude.{◌&&◌, ◌==◌, not, nat_lt, min, get_or, reverse, if◌then◌else◌, is_ok, Result, Ok, Err, MatchResult}
 use Rattle.std.specs.List.{AllByRecursion}
 use Rattle.std.proofs.lemmas.Bool.{cases_eq, cases_lt}
@@ -85,7 +86,8 @@ module _ (b : Book) (page : ℕ) (least : least_free b.states ≡ Some page) whe
 
 -- ---- a page more
 
-module _ {D : Type 0} (history : D → History) (store : Store D) (cache : PageCache) (made : List Sheet) (retired : List ℕ) (book : Book) (kept_so : IsKept history store cache made book)
+module _ {D : Type 0} (history : D → History) (store : Store D) (cache : PageCache) (made : List Sheet) (retired : List ℕ) (book : Book)
+    (kept_so : IsKept history store cache made book)
     (sheet : Sheet) (least : least_free book.states ≡ Some sheet.page) where
   below_all : AllByRecursion (λ (m : Sheet). m.page < sheet.page) made
   below_all = kept_so.booked.behind sheet.page (was_free book sheet.page least)
@@ -106,7 +108,8 @@ module _ {D : Type 0} (history : D → History) (store : Store D) (cache : PageC
   live_other n ne = (λ i. is_ok (sheet_other n ne i) && not (others_free book sheet.page least n ne i))
 
   was_dead : (store_of history before).live sheet.page ≡ false
-  was_dead = (λ i. is_ok (sheets_of history before sheet.page) && not (was_free book sheet.page least i)) ∙ and_false (is_ok (sheets_of history before sheet.page))
+  was_dead = (λ i. is_ok (sheets_of history before sheet.page) && not (was_free book sheet.page least i))
+      ∙ and_false (is_ok (sheets_of history before sheet.page))
     where
       and_false : (b : Bool) → (b && false) ≡ false
       and_false true = refl
@@ -124,7 +127,9 @@ module _ {D : Type 0} (history : D → History) (store : Store D) (cache : PageC
   newest : reverse (numbers_of (made ++ sheet ∷ [])) ≡ sheet.page ∷ reverse (numbers_of made)
   newest = ap reverse (map-append (λ (m : Sheet). m.page) made (sheet ∷ [])) ∙ reverse-append (numbers_of made) (sheet.page ∷ [])
 
-  counted : (n : ℕ) → times n (store_of history afterwards).made + flag ((store_of history before).live n) ≡ times n (store_of history before).made + flag ((store_of history afterwards).live n)
+  counted : (n : ℕ)
+      → times n (store_of history afterwards).made + flag ((store_of history before).live n) ≡ times n (store_of history before).made
+      + flag ((store_of history afterwards).live n)
   counted n = elim (cases_eq n sheet.page) [
     | inl is ↦
         let test : (n == sheet.page) ≡ true = grind (arith, nat_tests, is) in
@@ -167,7 +172,8 @@ module _ {D : Type 0} (history : D → History) (store : Store D) (cache : PageC
     retired = refl;
   }
 
-  module _ (after_cache : PageCache) (this : kept after_cache sheet.page ≡ None) (others : (n : ℕ) → n ≢ sheet.page → kept after_cache n ≡ kept cache n) (some : 1 ≤ sheet.generation)
+  module _ (after_cache : PageCache) (this : kept after_cache sheet.page ≡ None) (others : (n : ℕ) → n ≢ sheet.page → kept after_cache n ≡ kept cache n)
+      (some : 1 ≤ sheet.generation)
       (small : sheet.generation < 2 ^ 64) (until : sheet.generation ≤ (durable_root store).generation + 1) where
     agrees_still : Agrees history store after_cache
     agrees_still k n found is = elim (cases_eq n sheet.page) [
@@ -203,13 +209,15 @@ module _ {D : Type 0} (history : D → History) (store : Store D) (cache : PageC
       cached = agrees_still;
       ascending = lie_more 0 made sheet kept_so.ascending (some_page book sheet.page least) below_all;
       each = all_more (IsNew (durable_root store).generation after_cache) made sheet
-          (all_both (IsNew (durable_root store).generation cache) (λ (m : Sheet). m.page < sheet.page) (IsNew (durable_root store).generation after_cache) new_still made kept_so.each below_all)
+          (all_both (IsNew (durable_root store).generation cache) (λ (m : Sheet). m.page < sheet.page)
+          (IsNew (durable_root store).generation after_cache) new_still made kept_so.each below_all)
           (record { inside = omega (arith, page_below book sheet.page least, kept_so.booked.limit); some = some; small = small; until = until; uncached = this });
       booked = record {
         sound = (stays_sound book kept_so.booked.sound).taken sheet.page least;
         no_pins = kept_so.booked.no_pins;
         none_waits = kept_so.booked.none_waits;
-        turn = ap (λ (turn : List Change). turn ++ changes.Taken sheet.page ∷ []) kept_so.booked.turn ∙ sym (map-append (λ (m : Sheet). changes.Taken m.page) made (sheet ∷ []));
+        turn = ap (λ (turn : List Change). turn ++ changes.Taken sheet.page ∷ []) kept_so.booked.turn
+            ∙ sym (map-append (λ (m : Sheet). changes.Taken m.page) made (sheet ∷ []));
         limit = omega (arith, length-set book.states sheet.page states.InUse, kept_so.booked.limit);
         count = kept_so.booked.count;
         behind = behind_still;
@@ -218,14 +226,16 @@ module _ {D : Type 0} (history : D → History) (store : Store D) (cache : PageC
 
 -- ---- no page more
 
-module _ {D : Type 0} (history : D → History) (store : Store D) (made : List Sheet) (retired : List ℕ) (book new_book : Book) (count : book.full_takes < 2 ^ 64) where
+module _ {D : Type 0} (history : D → History) (store : Store D) (made : List Sheet) (retired : List ℕ) (book new_book : Book)
+    (count : book.full_takes < 2 ^ 64) where
   abbrev start : State D
   start = record { store = store; made = made; retired = retired; book = book }
 
   abbrev stop : State D
   stop = record { store = store; made = made; retired = retired; book = new_book }
 
-  same_pages : new_book.states ≡ book.states → new_book.turn ≡ book.turn → book.full_takes ≤ new_book.full_takes → KeepsWord (store_of history stop) → IsSame (store_of history start) (store_of history stop)
+  same_pages : new_book.states ≡ book.states → new_book.turn ≡ book.turn → book.full_takes ≤ new_book.full_takes → KeepsWord (store_of history stop)
+      → IsSame (store_of history start) (store_of history stop)
   same_pages is turn more word = record {
     word = word;
     page = refl;
@@ -257,7 +267,8 @@ module _ {D : Type 0} (history : D → History) (store : Store D) (made : List S
     | inr most ↦ inr (omega (arith, is, most))
   ]
 
-  pub take_failed : (fault : TreeFault) → Refuses fault book new_book → KeepsWord (store_of history stop) → HasFailed (store_of history start) (store_of history stop) fault
+  pub take_failed : (fault : TreeFault) → Refuses fault book new_book → KeepsWord (store_of history stop)
+      → HasFailed (store_of history start) (store_of history stop) fault
   take_failed faults.Memory is word = record {
     same = same_pages (ap (λ (b : Book). b.states) is) (ap (λ (b : Book). b.turn) is) (omega (arith, ap (λ (b : Book). b.full_takes) is)) word;
     cause = tt;
@@ -272,7 +283,8 @@ module _ {D : Type 0} (history : D → History) (store : Store D) (made : List S
   take_failed faults.Order is word = absurd is
   take_failed faults.Length is word = absurd is
 
-  pub refused_kept : (cache : PageCache) (fault : TreeFault) → Refuses fault book new_book → IsKept history store cache made book → IsKept history store cache made new_book
+  pub refused_kept : (cache : PageCache) (fault : TreeFault) → Refuses fault book new_book → IsKept history store cache made book
+      → IsKept history store cache made new_book
   refused_kept cache faults.Memory is so = subst (IsKept history store cache made) (sym is) so
   refused_kept cache faults.Full (none, is) so = subst (IsKept history store cache made) (sym is) (record {
     cached = so.cached;
@@ -296,47 +308,72 @@ module _ {D : Type 0} (history : D → History) (store : Store D) (made : List S
 
 -- ---- as the call has it
 
-pub fresh_refused : {D : Type 0} (history : D → History) (store : Store D) (made more : List Sheet) (retired : List ℕ) (book new_book : Book) (old : State D) → book.full_takes < 2 ^ 64
-    → record { store = store; made = made; retired = retired; book = book } ≡ old → more ≡ made → (fault : TreeFault) → Refuses fault book new_book → (content : Content) (result : Result ℕ TreeFault) → result ≡ Err fault
+pub fresh_refused : {D : Type 0} (history : D → History) (store : Store D) (made more : List Sheet) (retired : List ℕ) (book new_book : Book) (old : State D)
+    → book.full_takes < 2 ^ 64
+    → record { store = store; made = made; retired = retired; book = book } ≡ old → more ≡ made → (fault : TreeFault) → Refuses fault book new_book
+    → (content : Content) (result : Result ℕ TreeFault) → result ≡ Err fault
     → let new : State D = record { store = store; made = more; retired = retired; book = new_book } in KeepsWord (store_of history new)
     → MatchResult result (λ page. IsMade (store_of history old) (store_of history new) page content) (HasFailed (store_of history old) (store_of history new))
 fresh_refused {D = D} history store made more retired book new_book old count view_is same fault refuses content result is =
     let new : List Sheet → State D = λ m. record { store = store; made = m; retired = retired; book = new_book } in
-    subst (λ (m : List Sheet). KeepsWord (store_of history (new m)) → MatchResult result (λ page. IsMade (store_of history old) (store_of history (new m)) page content) (HasFailed (store_of history old) (store_of history (new m)))) (sym same)
-    (subst (λ (s : State D). KeepsWord (store_of history (new made)) → MatchResult result (λ page. IsMade (store_of history s) (store_of history (new made)) page content) (HasFailed (store_of history s) (store_of history (new made)))) view_is
-    (λ word. subst (λ (r : Result ℕ TreeFault). MatchResult r (λ page. IsMade (store_of history (start history store made retired book new_book count)) (store_of history (new made)) page content) (HasFailed (store_of history (start history store made retired book new_book count)) (store_of history (new made)))) (sym is)
+    subst (λ (m : List Sheet). KeepsWord (store_of history (new m))
+    → MatchResult result (λ page. IsMade (store_of history old) (store_of history (new m)) page content)
+    (HasFailed (store_of history old) (store_of history (new m)))) (sym same)
+    (subst (λ (s : State D). KeepsWord (store_of history (new made))
+    → MatchResult result (λ page. IsMade (store_of history s) (store_of history (new made)) page content)
+    (HasFailed (store_of history s) (store_of history (new made)))) view_is
+    (λ word. subst
+    (λ (r : Result ℕ TreeFault). MatchResult r
+    (λ page. IsMade (store_of history (start history store made retired book new_book count)) (store_of history (new made)) page content)
+    (HasFailed (store_of history (start history store made retired book new_book count)) (store_of history (new made)))) (sym is)
     (take_failed history store made retired book new_book count fault refuses word)))
 
-pub fresh_done : {D : Type 0} (history : D → History) (store : Store D) (cache : PageCache) (made more : List Sheet) (retired : List ℕ) (book new_book : Book) (old : State D) → IsKept history store cache made book
-    → record { store = store; made = made; retired = retired; book = book } ≡ old → (sheet : Sheet) → more ≡ made ++ sheet ∷ [] → Takes (Some sheet.page) book new_book → (page : ℕ) → sheet.page ≡ page → (content : Content) → sheet.content ≡ content
-    → let new : State D = record { store = store; made = more; retired = retired; book = new_book } in KeepsWord (store_of history new) → IsMade (store_of history old) (store_of history new) page content
+pub fresh_done : {D : Type 0} (history : D → History) (store : Store D) (cache : PageCache) (made more : List Sheet) (retired : List ℕ) (book new_book : Book)
+    (old : State D) → IsKept history store cache made book
+    → record { store = store; made = made; retired = retired; book = book } ≡ old → (sheet : Sheet) → more ≡ made ++ sheet ∷ []
+    → Takes (Some sheet.page) book new_book → (page : ℕ) → sheet.page ≡ page → (content : Content) → sheet.content ≡ content
+    → let new : State D = record { store = store; made = more; retired = retired; book = new_book } in KeepsWord (store_of history new)
+    → IsMade (store_of history old) (store_of history new) page content
 fresh_done {D = D} history store cache made more retired book new_book old so view_is sheet pushed takes page page_is content content_is =
     let new : List Sheet → Book → State D = λ m b. record { store = store; made = m; retired = retired; book = b } in
-    subst (λ (m : List Sheet). KeepsWord (store_of history (new m new_book)) → IsMade (store_of history old) (store_of history (new m new_book)) page content) (sym pushed)
-    (subst (λ (b : Book). KeepsWord (store_of history (new (made ++ sheet ∷ []) b)) → IsMade (store_of history old) (store_of history (new (made ++ sheet ∷ []) b)) page content) (sym takes.1)
-    (subst (λ (s : State D). KeepsWord (store_of history (new (made ++ sheet ∷ []) (taken sheet.page book))) → IsMade (store_of history s) (store_of history (new (made ++ sheet ∷ []) (taken sheet.page book))) page content) view_is
-    (subst (λ (n : ℕ). KeepsWord (store_of history (new (made ++ sheet ∷ []) (taken sheet.page book))) → IsMade (store_of history (new made book)) (store_of history (new (made ++ sheet ∷ []) (taken sheet.page book))) n content) page_is
-    (subst (λ (x : Content). KeepsWord (store_of history (new (made ++ sheet ∷ []) (taken sheet.page book))) → IsMade (store_of history (new made book)) (store_of history (new (made ++ sheet ∷ []) (taken sheet.page book))) sheet.page x) content_is
+    subst (λ (m : List Sheet). KeepsWord (store_of history (new m new_book)) → IsMade (store_of history old) (store_of history (new m new_book)) page content)
+    (sym pushed)
+    (subst (λ (b : Book). KeepsWord (store_of history (new (made ++ sheet ∷ []) b))
+    → IsMade (store_of history old) (store_of history (new (made ++ sheet ∷ []) b)) page content) (sym takes.1)
+    (subst (λ (s : State D). KeepsWord (store_of history (new (made ++ sheet ∷ []) (taken sheet.page book)))
+    → IsMade (store_of history s) (store_of history (new (made ++ sheet ∷ []) (taken sheet.page book))) page content) view_is
+    (subst (λ (n : ℕ). KeepsWord (store_of history (new (made ++ sheet ∷ []) (taken sheet.page book)))
+    → IsMade (store_of history (new made book)) (store_of history (new (made ++ sheet ∷ []) (taken sheet.page book))) n content) page_is
+    (subst (λ (x : Content). KeepsWord (store_of history (new (made ++ sheet ∷ []) (taken sheet.page book)))
+    → IsMade (store_of history (new made book)) (store_of history (new (made ++ sheet ∷ []) (taken sheet.page book))) sheet.page x) content_is
     (one_made history store cache made retired book so sheet takes.0)))))
 
-pub fresh_kept : {D : Type 0} (history : D → History) (store : Store D) (cache after_cache : PageCache) (made more : List Sheet) (book new_book : Book) → IsKept history store cache made book
-    → (sheet : Sheet) → more ≡ made ++ sheet ∷ [] → Takes (Some sheet.page) book new_book → (page : ℕ) → sheet.page ≡ page → kept after_cache page ≡ None → ((n : ℕ) → n ≢ page → kept after_cache n ≡ kept cache n)
-    → (generation : ℕ) → sheet.generation ≡ generation → generation ≡ min ((durable_root store).generation + 1) (2 ^ 64 - 1) → IsKept history store after_cache more new_book
+pub fresh_kept : {D : Type 0} (history : D → History) (store : Store D) (cache after_cache : PageCache) (made more : List Sheet) (book new_book : Book)
+    → IsKept history store cache made book
+    → (sheet : Sheet) → more ≡ made ++ sheet ∷ [] → Takes (Some sheet.page) book new_book → (page : ℕ) → sheet.page ≡ page → kept after_cache page ≡ None
+    → ((n : ℕ) → n ≢ page → kept after_cache n ≡ kept cache n)
+    → (generation : ℕ) → sheet.generation ≡ generation → generation ≡ min ((durable_root store).generation + 1) (2 ^ 64 - 1)
+    → IsKept history store after_cache more new_book
 fresh_kept history store cache after_cache made more book new_book so sheet pushed takes page page_is this others generation born is =
     subst (λ (m : List Sheet). IsKept history store after_cache m new_book) (sym pushed)
     (subst (IsKept history store after_cache (made ++ sheet ∷ [])) (sym takes.1)
-    (one_kept history store cache made [] book so sheet takes.0 after_cache (ap (kept after_cache) page_is ∙ this) (λ n ne. others n (λ same. ne (same ∙ sym page_is))) (omega (arith, born, is)) (omega (arith, born, is)) (omega (arith, born, is))))
+    (one_kept history store cache made [] book so sheet takes.0 after_cache (ap (kept after_cache) page_is ∙ this)
+    (λ n ne. others n (λ same. ne (same ∙ sym page_is))) (omega (arith, born, is)) (omega (arith, born, is)) (omega (arith, born, is))))
 
-pub fresh_stays_refused : {D : Type 0} (history : D → History) (store : Store D) (made more : List Sheet) (retired : List ℕ) (book new_book : Book) (old : State D) → book.full_takes < 2 ^ 64
+pub fresh_stays_refused : {D : Type 0} (history : D → History) (store : Store D) (made more : List Sheet) (retired : List ℕ) (book new_book : Book)
+    (old : State D) → book.full_takes < 2 ^ 64
     → record { store = store; made = made; retired = retired; book = book } ≡ old → more ≡ made → (fault : TreeFault) → Refuses fault book new_book
     → Stays (store_of history old) (store_of history (record { store = store; made = more; retired = retired; book = new_book }))
 fresh_stays_refused {D = D} history store made more retired book new_book old count view_is same fault refuses =
     let after : List Sheet → State D = λ m. record { store = store; made = m; retired = retired; book = new_book } in
     subst (λ (m : List Sheet). Stays (store_of history old) (store_of history (after m))) (sym same)
-    (subst (λ (s : State D). Stays (store_of history s) (store_of history (after made))) view_is (refused_stays history store made retired book new_book count fault refuses))
+    (subst (λ (s : State D). Stays (store_of history s) (store_of history (after made))) view_is
+    (refused_stays history store made retired book new_book count fault refuses))
 
-pub fresh_stays : {D : Type 0} (history : D → History) (store : Store D) (cache : PageCache) (made more : List Sheet) (retired : List ℕ) (book new_book : Book) (old : State D) → IsKept history store cache made book
-    → record { store = store; made = made; retired = retired; book = book } ≡ old → (sheet : Sheet) → more ≡ made ++ sheet ∷ [] → Takes (Some sheet.page) book new_book
+pub fresh_stays : {D : Type 0} (history : D → History) (store : Store D) (cache : PageCache) (made more : List Sheet) (retired : List ℕ) (book new_book : Book)
+    (old : State D) → IsKept history store cache made book
+    → record { store = store; made = made; retired = retired; book = book } ≡ old → (sheet : Sheet) → more ≡ made ++ sheet ∷ []
+    → Takes (Some sheet.page) book new_book
     → Stays (store_of history old) (store_of history (record { store = store; made = more; retired = retired; book = new_book }))
 fresh_stays {D = D} history store cache made more retired book new_book old so view_is sheet pushed takes =
     let after : List Sheet → Book → State D = λ m b. record { store = store; made = m; retired = retired; book = b } in

@@ -47,9 +47,12 @@ body_pages : (s : Store) (d : ℕ) (body : Body d) → Shows s d body → Each (
 body_pages s zero [] shown = tt
 body_pages s zero (x ∷ xs) shown = each_join (IsOfTree s) x.links (pages_of zero xs) (value_pages s x shown.0) (body_pages s zero xs shown.1)
 body_pages s (suc d) [] shown = tt
-body_pages s (suc d) (w ∷ ws) shown =
-    (body_page s d w.body w.page shown.0.0, each_join (IsOfTree s) (pages_of d w.body) (pages_of (suc d) ws) (body_pages s d w.body shown.0.1) (body_pages s (suc d) ws shown.1))
+body_pages s (suc d) (w ∷ ws) shown = (
+  body_page s d w.body w.page shown.0.0,
+  each_join (IsOfTree s) (pages_of d w.body) (pages_of (suc d) ws) (body_pages s d w.body shown.0.1) (body_pages s (suc d) ws shown.1),
+)
 
 pub map_pages : (s : Store) (root : ℕ) (pages : List ℕ) (entries : List Entry) → HasMap s root pages entries → Each (IsOfTree s) pages
 map_pages s root pages entries (inl (zero_is, (none, empty))) = subst (Each (IsOfTree s)) (sym none) tt
-map_pages s root pages entries (inr has) = subst (Each (IsOfTree s)) (sym has.pages_are) (body_page s has.d has.body root has.tree.at, body_pages s has.d has.body has.tree.shown)
+map_pages s root pages entries (inr has) =
+    subst (Each (IsOfTree s)) (sym has.pages_are) (body_page s has.d has.body root has.tree.at, body_pages s has.d has.body has.tree.shown)

@@ -1,5 +1,6 @@
 -- What is known of a pager whose turn began with committed entries.
-use Rattle.std.proofs.Common.{◌≡◌, ◌≢◌, ℕ, ◌+◌, ◌<◌, ◌≤◌, Bool, true, false, List, [], ◌∷◌, length, drop, map, get_or, refl, sym, ◌∙◌, ap, subst, arith, inl, inr}
+use Rattle.std.proofs.Common.{◌≡◌, ◌≢◌, ℕ, ◌+◌, ◌<◌, ◌≤◌, Bool, true, false, List, [], ◌∷◌, length, drop, map, get_or, refl, sym, ◌∙◌, ap, subst, arith, inl}
+use Rattle.std.proofs.Common.{inr}
 use Rattle.std.specs.Prelude.{◌&&◌, is_ok, Result, Ok}
 use Rattle.std.specs.List.{AllByRecursion}
 use Rattle.std.proofs.lemmas.Bool.{cases_lt}
@@ -74,7 +75,8 @@ same_root p start same =
 pub same_beginning : {D : Type 0} (p start : State D) → base_of p ≡ base_of start → rewind p.book.turn p.book.states ≡ rewind start.book.turn start.book.states
 same_beginning p start same = same_states (rewind p.book.turn p.book.states) (rewind start.book.turn start.book.states) (ap (drop 4) same)
 
-module _ {D : Type 0} (history : D → History) (p start : State D) (stays : Stays (store_of history start) (store_of history p)) (word : KeepsWord (pager_history history p)) (live : List ℕ) (before : List Entry) (begun : IsBegun history start live before) where
+module _ {D : Type 0} (history : D → History) (p start : State D) (stays : Stays (store_of history start) (store_of history p))
+    (word : KeepsWord (pager_history history p)) (live : List ℕ) (before : List Entry) (begun : IsBegun history start live before) where
   sectors_same : now (pager_history history p) ≡ now (pager_history history start)
   sectors_same = stays.reads.same word
 
@@ -91,14 +93,17 @@ module _ {D : Type 0} (history : D → History) (p start : State D) (stays : Sta
       record {
         running = running_by (is_stopped p.store) (is_stopped start.store) (ap (λ (numbers : List ℕ). get_or numbers 0 0) stays.base) then_committed.running;
         keeps = record {
-          opens = λ k. subst (λ (s : ℕ → Sector). OpensAs (reads s) (durable_root p.store)) (sym sectors_same) (subst (λ (r : Root). OpensAs (reads (now (pager_history history start))) r) (sym root_same) (then_committed.keeps.opens word_then));
+          opens = λ k. subst (λ (s : ℕ → Sector). OpensAs (reads s) (durable_root p.store)) (sym sectors_same)
+              (subst (λ (r : Root). OpensAs (reads (now (pager_history history start))) r) (sym root_same) (then_committed.keeps.opens word_then));
           holds = λ k. subst (λ (s : ℕ → Sector). HoldsMap (sheet_at (reads s) (durable_root p.store)) (durable_root p.store) live before) (sym sectors_same)
-              (subst (λ (r : Root). HoldsMap (sheet_at (reads (now (pager_history history start))) r) r live before) (sym root_same) (then_committed.keeps.holds word_then));
+              (subst (λ (r : Root). HoldsMap (sheet_at (reads (now (pager_history history start))) r) r live before) (sym root_same)
+              (then_committed.keeps.holds word_then));
           durable = λ k j kept. subst (λ (s : ℕ → Sector). IsDurable (s j)) (sym sectors_same) (then_committed.keeps.durable word_then j kept);
         };
       }
 
-module _ {D : Type 0} (history : D → History) (p start : State D) (stays : Stays (store_of history start) (store_of history p)) (word : KeepsWord (pager_history history p)) (live : List ℕ) (before : List Entry) (begun : IsBegun history start live before)
+module _ {D : Type 0} (history : D → History) (p start : State D) (stays : Stays (store_of history start) (store_of history p))
+    (word : KeepsWord (pager_history history p)) (live : List ℕ) (before : List Entry) (begun : IsBegun history start live before)
     (booked : IsBookFor p.made p.book) where
   -- what each page was when the turn began
   pub states_then : rewind (takes_of p.made) p.book.states ≡ start.book.states
@@ -115,8 +120,10 @@ module _ {D : Type 0} (history : D → History) (p start : State D) (stays : Sta
 
   pub used_now : (n : ℕ) → n < length p.book.states → times n live + times n (numbers_of p.made) ≡ flag (is_in_use p.book.states n)
   used_now n within =
-      let then_used : times n live ≡ flag (is_in_use start.book.states n) = (begun.in_use (stays.reads.on.kept word)).used n (omega (arith, within, length_then)) in
-      let same : flag (is_in_use (rewind (takes_of p.made) p.book.states) n) ≡ flag (is_in_use start.book.states n) = ap (λ (pages : List PageState). flag (is_in_use pages n)) states_then in
+      let then_used : times n live ≡ flag (is_in_use start.book.states n) =
+      (begun.in_use (stays.reads.on.kept word)).used n (omega (arith, within, length_then)) in
+      let same : flag (is_in_use (rewind (takes_of p.made) p.book.states) n) ≡ flag (is_in_use start.book.states n) =
+      ap (λ (pages : List PageState). flag (is_in_use pages n)) states_then in
       omega (arith, then_used, same, taken_use p.made p.book.states can n)
 
   made_within : (n : ℕ) → 1 ≤ times n (numbers_of p.made) → n < length p.book.states
@@ -185,21 +192,25 @@ module _ {D : Type 0} (history : D → History) (p start : State D) (stays : Sta
               record { number = at.number; live = ap is_ok found; holds = ap content_in found ∙ ap content_in (sym is) ∙ at.holds }
         ]
 
-    moved_pages : KeepsWord (pager_history history p) → (some : List ℕ) → Each (IsOfTree (store_of history p)) some → ((n : ℕ) → times n some ≤ times n pages) → Each (Moves (store_of history p) after_store) some
+    moved_pages : KeepsWord (pager_history history p) → (some : List ℕ) → Each (IsOfTree (store_of history p)) some → ((n : ℕ) → times n some ≤ times n pages)
+        → Each (Moves (store_of history p) after_store) some
     moved_pages k [] whole less = tt
     moved_pages k (n ∷ rest) whole less = (
       moved_page k n (omega (arith, less n, one_time n n rest refl)) whole.0,
       moved_pages k rest whole.1 (λ m. omega (arith, less m, more_times m n rest)),
     )
 
-    pub roots_turn : LieBehind 0 written → AllByRecursion (λ (m : Sheet). m.page < 1048576) written → AllByRecursion (IsSheet ((durable_root p.store).generation + 1)) written → KeepsWord (pager_history history p) → IsRootsTurn (pager_history history p) (durable_root p.store) live written root pages after
+    pub roots_turn : LieBehind 0 written → AllByRecursion (λ (m : Sheet). m.page < 1048576) written
+        → AllByRecursion (IsSheet ((durable_root p.store).generation + 1)) written → KeepsWord (pager_history history p)
+        → IsRootsTurn (pager_history history p) (durable_root p.store) live written root pages after
     roots_turn lie inside sheets k = record {
       ascending = lie;
       inside = inside;
       sheets = sheets;
       free = all_filter (λ (m : Sheet). times m.page live ≡ 0) test p.made made_apart;
       holds = λ _. record {
-        map = map_moved (store_of history p) after_store root pages after (moved_pages k pages (map_pages (store_of history p) root pages after turn.holds) (λ n. omega arith)) turn.holds;
+        map = map_moved (store_of history p) after_store root pages after
+            (moved_pages k pages (map_pages (store_of history p) root pages after turn.holds) (λ n. omega arith)) turn.holds;
         once = λ n. omega (arith, account n, times_once k n);
       };
     }

@@ -70,12 +70,14 @@ dropped_among zero made x among = among
 dropped_among (suc n) [] x among = among
 dropped_among (suc n) (m ∷ ms) x among = inr (dropped_among n ms x among)
 
-before_rest : (last n : ℕ) (made : List Sheet) (x : Sheet) → LieBehind last made → IsAmong x (drop n made) → AllByRecursion (λ (m : Sheet). m.page < x.page) (take n made)
+before_rest : (last n : ℕ) (made : List Sheet) (x : Sheet) → LieBehind last made → IsAmong x (drop n made)
+    → AllByRecursion (λ (m : Sheet). m.page < x.page) (take n made)
 before_rest last zero made x lie among = tt
 before_rest last (suc n) [] x lie among = tt
 before_rest last (suc n) (m ∷ ms) x lie among = (behind_among m.page ms x lie.1 (dropped_among n ms x among), before_rest m.page n ms x lie.1 among)
 
-module _ {D : Type 0} (history : D → History) (store : Store D) (cache : PageCache) (made : List Sheet) (book : Book) (so : IsKept history store cache made book) (n : ℕ) where
+module _ {D : Type 0} (history : D → History) (store : Store D) (cache : PageCache) (made : List Sheet) (book : Book)
+    (so : IsKept history store cache made book) (n : ℕ) where
   later_is : drop n book.turn ≡ takes_of (drop n made)
   later_is = ap (drop n) so.booked.turn ∙ drop_takes n made
 
@@ -105,8 +107,10 @@ module _ {D : Type 0} (history : D → History) (store : Store D) (cache : PageC
   }
 
 -- back to where the turn began
-pub begun_again : {D : Type 0} (history : D → History) (store : Store D) (cache : PageCache) (made : List Sheet) (retired : List ℕ) (book : Book) (so : IsKept history store cache made book)
-    (start : State D) (live : List ℕ) (entries : List Entry) → IsBegun history start live entries → let p : State D = record { store = store; made = made; retired = retired; book = book } in
+pub begun_again : {D : Type 0} (history : D → History) (store : Store D) (cache : PageCache) (made : List Sheet) (retired : List ℕ) (book : Book)
+    (so : IsKept history store cache made book)
+    (start : State D) (live : List ℕ) (entries : List Entry) → IsBegun history start live entries
+    → let p : State D = record { store = store; made = made; retired = retired; book = book } in
     Grows (store_of history start) (store_of history p) → IsBegun history (undone_to 0 0 p) live entries
 begun_again {D = D} history store cache made retired book so start live entries begun grows =
     let p : State D = record { store = store; made = made; retired = retired; book = book } in
@@ -117,14 +121,18 @@ begun_again {D = D} history store cache made retired book so start live entries 
       committed = λ k. committed_still history p start grows.stays k live entries begun;
       in_use = λ k. record {
         used = λ n within.
-            let same : (undone 0 book).states ≡ start.book.states = ap (λ (turn : List Change). rewind turn book.states) so.booked.turn ∙ states_then history p start grows.stays k live entries begun so.booked in
-            (begun.in_use (grows.stays.reads.on.kept k)).used n (omega (arith, within, ap length same)) ∙ ap (λ (pages : List PageState). flag (is_in_use pages n)) (sym same);
+            let same : (undone 0 book).states ≡ start.book.states =
+            ap (λ (turn : List Change). rewind turn book.states) so.booked.turn ∙ states_then history p start grows.stays k live entries begun so.booked in
+            (begun.in_use (grows.stays.reads.on.kept k)).used n (omega (arith, within, ap length same))
+            ∙ ap (λ (pages : List PageState). flag (is_in_use pages n)) (sym same);
         others = others_of [] (undone 0 book) (kept_undone history store cache made book so 0).booked;
       };
     }
 
-pub leads_back : {D : Type 0} (history : D → History) (store : Store D) (cache : PageCache) (made : List Sheet) (retired : List ℕ) (book : Book) → IsKept history store cache made book → (some few : ℕ)
+pub leads_back : {D : Type 0} (history : D → History) (store : Store D) (cache : PageCache) (made : List Sheet) (retired : List ℕ) (book : Book)
+    → IsKept history store cache made book → (some few : ℕ)
     → let p : State D = record { store = store; made = made; retired = retired; book = book } in LeadsBack history some few p (undone_to some few p)
 leads_back {D = D} history store cache made retired book so some few start live entries begun grows none empty =
     let p : State D = record { store = store; made = made; retired = retired; book = book } in
-    subst (λ (s : State D). IsBegun history s live entries) (λ i. undone_to (sym none i) (sym empty i) p) (begun_again history store cache made retired book so start live entries begun grows)
+    subst (λ (s : State D). IsBegun history s live entries) (λ i. undone_to (sym none i) (sym empty i) p)
+    (begun_again history store cache made retired book so start live entries begun grows)

@@ -1,5 +1,6 @@
 -- Items of an array by an index, which code counts up to 2^64 - 1.
-use Rattle.std.proofs.Common.{◌≡◌, ℕ, zero, suc, ◌+◌, ◌<◌, ◌≤◌, true, false, List, length, get_or, Option, Some, None, Result, Ok, Err, min, refl, sym, ap, ◌∙◌, arith}
+use Rattle.std.proofs.Common.{◌≡◌, ℕ, zero, suc, ◌+◌, ◌<◌, ◌≤◌, true, false, List, length, get_or, Option, Some, None, Result, Ok, Err, min, refl, sym, ap, ◌∙◌}
+use Rattle.std.proofs.Common.{arith}
 use Rattle.std.specs.Prelude.{option_map, nat_lt}
 use Rattle.std.specs.Option.{option_and_then}
 use Rattle.std.proofs.lemmas.Bool.{lt-ltb, le-ltb}
@@ -34,7 +35,8 @@ there vs m i o v e lt le is =
     let found = some_or_none m o i e in
     let n : ℕ = found.0 in
     let whole : n ≡ i = omega (arith, found.2) in
-    ap (λ (w : Value). Some (tree w)) is ∙ sym (item_at-items_of vs i v lt) ∙ ap (item_at (items_of vs)) (sym whole) ∙ ap (option_and_then (item_at (items_of vs))) (sym found.1)
+    ap (λ (w : Value). Some (tree w)) is ∙ sym (item_at-items_of vs i v lt) ∙ ap (item_at (items_of vs)) (sym whole)
+    ∙ ap (option_and_then (item_at (items_of vs))) (sym found.1)
 
 pub past : (vs : List Value) (m i : ℕ) (o : Option ℕ) → option_map (min m) o ≡ Some i → length vs ≤ i → None ≡ option_and_then (item_at (items_of vs)) o
 past vs m i o e le =
@@ -67,7 +69,8 @@ items_len-with_item (item t ts) (suc i) u = ap suc (items_len-with_item ts i u)
 
 -- ---- setting and cutting at an index that was counted so far
 
-module _ (made : Option Tree → Result Tree Refusal) (ts : Items) (m i : ℕ) (o : Option ℕ) (e : option_map (min m) o ≡ Some i) (room : items_len ts + 1000 < m) where
+module _ (made : Option Tree → Result Tree Refusal) (ts : Items) (m i : ℕ) (o : Option ℕ) (e : option_map (min m) o ≡ Some i)
+    (room : items_len ts + 1000 < m) where
   pub write_item-there : (old : Tree) (r : Result Tree Refusal) → i < items_len ts → item_at ts i ≡ Some old → within 98 (made (Some old)) ≡ r
       → write_item made o ts ≡ if_ok r (λ u. Ok (put_item ts i u))
   write_item-there old r lt is given =

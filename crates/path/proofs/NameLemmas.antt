@@ -1,5 +1,6 @@
 -- Parts of a path, one after another.
-use Rattle.std.proofs.Common.{◌≡◌, ℕ, suc, ◌+◌, ◌*◌, ◌-◌, ◌<◌, Bool, true, false, if◌then◌else◌, List, [], ◌∷◌, length, drop, get_or, Option, Some, None, min, refl, sym, ap, ◌∙◌, arith, drop-cons, eq-eqb}
+use Rattle.std.proofs.Common.{◌≡◌, ℕ, suc, ◌+◌, ◌*◌, ◌-◌, ◌<◌, Bool, true, false, if◌then◌else◌, List, [], ◌∷◌, length, drop, get_or, Option, Some, None, min}
+use Rattle.std.proofs.Common.{refl, sym, ap, ◌∙◌, arith, drop-cons, eq-eqb}
 use Rattle.std.proofs.lemmas.Bool.{false≢true}
 use Rattle.std.proofs.lemmas.List.Splits.{length-slice_split}
 use Rattle.std.specs.Prelude.{◌≢◌, ◌==◌, ◌||◌, nat_lt}
@@ -23,7 +24,8 @@ or_none : (a b : Bool) → (a || b) ≡ false → (a ≡ false) × (b ≡ false)
 or_none true b e = absurd cc
 or_none false b e = (refl, e)
 
-all_pass : (names : List (List ℕ)) → list_any is_empty names ≡ false → list_any begins_with_dollar names ≡ false → list_any has_zero names ≡ false → AllPass names
+all_pass : (names : List (List ℕ)) → list_any is_empty names ≡ false → list_any begins_with_dollar names ≡ false → list_any has_zero names ≡ false
+    → AllPass names
 all_pass [] a b c = tt
 all_pass (name ∷ names) a b c =
     let p = or_none (is_empty name) (list_any is_empty names) a in
@@ -61,6 +63,7 @@ number-capped m a (b ∷ bs) =
     let same : min m (min m a * 10 + (b - 48)) ≡ min m (a * 10 + (b - 48)) = omega arith in
     sym (number-capped m (min m a * 10 + (b - 48)) bs) ∙ ap (λ (n : ℕ). min m (number n bs)) same ∙ number-capped m (a * 10 + (b - 48)) bs
 
-pub number_step : (m n next total : ℕ) (b : ℕ) (bs left : List ℕ) → left ≡ b ∷ bs → next ≡ min m (n * 10 + (b - 48)) → min m (number n left) ≡ min m total → min m (number next bs) ≡ min m total
+pub number_step : (m n next total : ℕ) (b : ℕ) (bs left : List ℕ) → left ≡ b ∷ bs → next ≡ min m (n * 10 + (b - 48)) → min m (number n left) ≡ min m total
+    → min m (number next bs) ≡ min m total
 number_step m n next total b bs left e same h =
     ap (λ (k : ℕ). min m (number k bs)) same ∙ number-capped m (n * 10 + (b - 48)) bs ∙ ap (λ (l : List ℕ). min m (number n l)) (sym e) ∙ h

@@ -1,5 +1,6 @@
 -- What the neighbours of a path in order tell of those that it meets.
-use Rattle.std.proofs.Common.{◌≡◌, ℕ, Bool, true, false, ◌||◌, ◌&&◌, List, [], ◌∷◌, ◌++◌, ◌⊎◌, inl, inr, ◌<◌, ◌≤◌, length, drop, drop-cons, arith, refl, sym, ap, ◌∙◌, subst, bytes_eq, slice_get, IfSome}
+use Rattle.std.proofs.Common.{◌≡◌, ℕ, Bool, true, false, ◌||◌, ◌&&◌, List, [], ◌∷◌, ◌++◌, ◌⊎◌, inl, inr, ◌<◌, ◌≤◌, length, drop, drop-cons, arith, refl, sym}
+use Rattle.std.proofs.Common.{ap, ◌∙◌, subst, bytes_eq, slice_get, IfSome}
 use Rattle.std.proofs.lemmas.Bool.{cases_lt, true≢false}
 use Rattle.std.proofs.lemmas.List.{drop_all}
 use Rattle.std.specs.Cmp.{nat_cmp_is}
@@ -57,7 +58,8 @@ front_between (x ∷ xs) [] (y ∷ ys) e low high = absurd cc
 front_between (x ∷ xs) (z ∷ zs) (y ∷ ys) e low high =
     let told = both_true (bytes_eq x y) (is_front xs ys) e in
     let same : x ≡ y = (bytes_eq-Decides x y).0 told.0 in
-    by (part_cmp x z) refl low (subst (λ (w : List ℕ). is_gt (ordering_then (part_cmp z w) (path_cmp zs ys)) ≡ false) (sym same) high) (front_between xs zs ys told.1)
+    by (part_cmp x z) refl low (subst (λ (w : List ℕ). is_gt (ordering_then (part_cmp z w) (path_cmp zs ys)) ≡ false) (sym same) high)
+    (front_between xs zs ys told.1)
   where
     by : (o : Ordering) → part_cmp x z ≡ o → is_gt (ordering_then o (path_cmp xs zs)) ≡ false → is_gt (ordering_then (part_cmp z x) (path_cmp zs ys)) ≡ false
         → (is_gt (path_cmp xs zs) ≡ false → is_gt (path_cmp zs ys) ≡ false → is_front xs zs ≡ true) → is_front (x ∷ xs) (z ∷ zs) ≡ true
@@ -71,7 +73,8 @@ front_between (x ∷ xs) (z ∷ zs) (y ∷ ys) e low high =
     by Greater is low high on = absurd cc
 
 -- where the parts of the one have ended
-pub ended : (a b : Path) (i : ℕ) → length a ≤ i → i ≤ length a → i ≤ length b → path_cmp (drop i a) (drop i b) ≡ path_cmp a b → nat_cmp (length a) (length b) ≡ path_cmp a b
+pub ended : (a b : Path) (i : ℕ) → length a ≤ i → i ≤ length a → i ≤ length b → path_cmp (drop i a) (drop i b) ≡ path_cmp a b
+    → nat_cmp (length a) (length b) ≡ path_cmp a b
 ended a b i past there within so_far = by (cases_lt (length a) (length b)) ∙ so_far
   where
     by : (length a < length b) ⊎ (length b ≤ length a) → nat_cmp (length a) (length b) ≡ path_cmp (drop i a) (drop i b)
@@ -133,7 +136,8 @@ one_of_both (p ∷ ps) apart m h in_m in_h e = elim (first_or_later m p ps in_m)
   | inl same ↦ elim (first_or_later h p ps in_h) [
     | inl as_well ↦ same ∙ sym as_well
     | inr later ↦
-        absurd (true≢false (sym (passed (meets p) ps h later (either (is_front p h) (is_front h p) (subst (λ (q : Path). is_front q h ≡ true) same e))) ∙ apart.0))
+        absurd (true≢false
+        (sym (passed (meets p) ps h later (either (is_front p h) (is_front h p) (subst (λ (q : Path). is_front q h ≡ true) same e))) ∙ apart.0))
   ]
   | inr earlier ↦ elim (first_or_later h p ps in_h) [
     | inl same ↦
@@ -207,7 +211,9 @@ meets_back a b = or_comm (is_front a b) (is_front b a)
 
 pub meets_either : (path : Path) (ps : List Path) → (list_any (is_front path) ps || list_any (λ p. is_front p path) ps) ≡ list_any (meets path) ps
 meets_either path [] = refl
-meets_either path (p ∷ ps) = four (is_front path p) (list_any (is_front path) ps) (is_front p path) (list_any (λ q. is_front q path) ps) (list_any (meets path) ps) (meets_either path ps)
+meets_either path (p ∷ ps) =
+    four (is_front path p) (list_any (is_front path) ps) (is_front p path) (list_any (λ q. is_front q path) ps) (list_any (meets path) ps)
+    (meets_either path ps)
   where
     four : (a b c d e : Bool) → (b || d) ≡ e → ((a || b) || (c || d)) ≡ ((a || c) || e)
     four true b c d e is = refl
@@ -228,10 +234,12 @@ one_more other path [] = refl
 one_more other path (p ∷ ps) = by (path_cmp path p) refl (one_more other path ps)
   where
     by : (o : Ordering) → path_cmp path p ≡ o → list_any (meets other) (insert_key path_cmp ps path) ≡ (meets other path || list_any (meets other) ps)
-        → list_any (meets other) (match_ordering o (path ∷ p ∷ ps) (p ∷ ps) (p ∷ insert_key path_cmp ps path)) ≡ (meets other path || (meets other p || list_any (meets other) ps))
+        → list_any (meets other) (match_ordering o (path ∷ p ∷ ps) (p ∷ ps) (p ∷ insert_key path_cmp ps path))
+        ≡ (meets other path || (meets other p || list_any (meets other) ps))
     by Less is later = refl
     by Equal is later =
-        subst (λ (q : Path). (meets other p || list_any (meets other) ps) ≡ (meets other q || (meets other p || list_any (meets other) ps))) (sym (path_exact path p is))
+        subst (λ (q : Path). (meets other p || list_any (meets other) ps) ≡ (meets other q || (meets other p || list_any (meets other) ps)))
+        (sym (path_exact path p is))
         (or_twice (meets other p) (list_any (meets other) ps))
     by Greater is later = ap (λ (b : Bool). meets other p || b) later ∙ swap_or (meets other p) (meets other path) (list_any (meets other) ps)
 

@@ -1,5 +1,6 @@
 -- Going on in a document by a field and in an array by an index.
-use Rattle.std.proofs.Common.{◌≡◌, ℕ, zero, suc, ◌-◌, ◌<◌, ◌≤◌, Bool, true, false, List, [], ◌∷◌, ◌++◌, length, take, drop, get_or, Option, Some, None, Result, Ok, Err, refl, sym, ap, ◌∙◌, arith, append_assoc, append-nil}
+use Rattle.std.proofs.Common.{◌≡◌, ℕ, zero, suc, ◌-◌, ◌<◌, ◌≤◌, Bool, true, false, List, [], ◌∷◌, ◌++◌, length, take, drop, get_or, Option, Some, None, Result}
+use Rattle.std.proofs.Common.{Ok, Err, refl, sym, ap, ◌∙◌, arith, append_assoc, append-nil}
 use Rattle.std.specs.Prelude.{◌≢◌, if◌then◌else◌, option_map}
 use Rattle.std.specs.Str.{bytes_eq}
 use Rattle.std.proofs.lemmas.List.{take_all}
@@ -22,7 +23,8 @@ pub place_within : (ps : Pairs) (name : List ℕ) (i : ℕ) → place ps name �
 place_within ps name i e = let found = place-there ps name i e in found.3
 
 -- what stands at a name's place is its value
-pub place_value : (ps : Pairs) (name : List ℕ) (i : ℕ) (t : Tree) → place ps name ≡ Some i → option_map (λ (p : List ℕ × Tree). p.1) (pair_at ps i) ≡ Some t → lookup ps name ≡ Some t
+pub place_value : (ps : Pairs) (name : List ℕ) (i : ℕ) (t : Tree) → place ps name ≡ Some i → option_map (λ (p : List ℕ × Tree). p.1) (pair_at ps i) ≡ Some t
+    → lookup ps name ≡ Some t
 place_value ps name i t e h =
     let found = place-there ps name i e in
     let here : ◌≡◌ {A = Option Tree} (Some found.0) (Some t) = ap (option_map (λ (p : List ℕ × Tree). p.1)) (sym found.1) ∙ h in
@@ -37,7 +39,8 @@ pub lookup-levels : (ps : Pairs) (name : List ℕ) (t : Tree) → lookup ps name
 lookup-levels no_pairs name t e = absurd cc
 lookup-levels (pair other u ps) name t e = by (bytes_eq name other) e (lookup-levels ps name t)
   where
-    by : (b : Bool) → (if b then Some u else lookup ps name) ≡ Some t → (lookup ps name ≡ Some t → levels t ≤ pairs_levels ps) → levels t ≤ pairs_levels (pair other u ps)
+    by : (b : Bool) → (if b then Some u else lookup ps name) ≡ Some t → (lookup ps name ≡ Some t → levels t ≤ pairs_levels ps)
+        → levels t ≤ pairs_levels (pair other u ps)
     by true e later = let same : u ≡ t = cc in omega (arith, ap levels same)
     by false e later = omega (arith, later e)
 
@@ -56,14 +59,16 @@ first_and_rest (y ∷ ys) x le is =
     let all : take (length ys) ys ≡ ys = take_all (length ys) ys (omega arith) in
     λ i. sym is i ∷ sym (ap (λ (k : ℕ). take k ys) n ∙ all) i
 
-pub write-refused : (made : Option Tree → Result Tree Refusal) (parts rest : List (List ℕ)) (name : List ℕ) (old : Option Tree) (ts : Items) (f : Refusal) → parts ≡ name ∷ rest → old ≡ Some (array ts)
+pub write-refused : (made : Option Tree → Result Tree Refusal) (parts rest : List (List ℕ)) (name : List ℕ) (old : Option Tree) (ts : Items) (f : Refusal)
+    → parts ≡ name ∷ rest → old ≡ Some (array ts)
     → write_item (write made rest) (index_of name) ts ≡ Err f → write made parts old ≡ Err f
 write-refused made parts rest name old ts f p o e = rw (p, o, e) refl
 
 -- ---- a field that is there, and one that isn't
 
 module _ (made : Option Tree → Result Tree Refusal) (name : List ℕ) (ps : Pairs) where
-  pub write_field-there : (i : ℕ) (old : Tree) (r : Result Tree Refusal) → place ps name ≡ Some i → option_map (λ (p : List ℕ × Tree). p.1) (pair_at ps i) ≡ Some old
+  pub write_field-there : (i : ℕ) (old : Tree) (r : Result Tree Refusal) → place ps name ≡ Some i
+      → option_map (λ (p : List ℕ × Tree). p.1) (pair_at ps i) ≡ Some old
       → within 99 (made (Some old)) ≡ r → write_field made name ps ≡ if_ok r (λ u. Ok (put ps name u))
   write_field-there i old r e h given = rw (place_value ps name i old e h, given) refl
 
@@ -124,7 +129,8 @@ without_pair-with_value (pair name u ps) (suc i) t = ap (pair name u) (without_p
 
 -- ---- what an array gives: its elements, and the one that the part numbers
 
-pub gathered : (go : Tree → List Reached) (name : List ℕ) (ts us : Items) (found : Option Tree) (old mid new : List Reached) → ts ≡ us → found ≡ option_and_then (item_at ts) (index_of name)
+pub gathered : (go : Tree → List Reached) (name : List ℕ) (ts us : Items) (found : Option Tree) (old mid new : List Reached) → ts ≡ us
+    → found ≡ option_and_then (item_at ts) (index_of name)
     → mid ++ [] ≡ old ++ in_elements go name ts → new ≡ mid ++ onwards go found [] → new ≡ old ++ (in_elements go name us ++ in_place go name us)
 gathered go name ts us found old mid new same numbered begun ended =
     ended

@@ -20,7 +20,8 @@ use Rattle.index.proofs.MemberLemmas.{Among, among_of, contains_of, of_all}
 use Rattle.planner.specs.AnswerLaws.{answer_cmp, FrontOfAnswer, HaveSameMembers, OrderedOnce, SortsToAnswer, IsFound, NeverChangesAnswer, KeptAreNoted}
 use Rattle.planner.specs.Plan.{fields_of, is_multi, range_in}
 use Rattle.planner.proofs.KeyBytesLemmas.{has_bytes_in_range}
-use Rattle.planner.proofs.RisingLemmas.{Rises, rises_of, pairs_of, front_rising, one_rising, sorted_rises, among_sorted, sorted_among, filter_among, among_filter, rises_filter}
+use Rattle.planner.proofs.RisingLemmas.{Rises, rises_of, pairs_of, front_rising, one_rising, sorted_rises, among_sorted, sorted_among, filter_among}
+use Rattle.planner.proofs.RisingLemmas.{among_filter, rises_filter}
 
 by_sort : (fields : List SortField) → IsTotalOrder (compare_by fields)
 by_sort fields = (orders_stably fields).0
@@ -87,7 +88,9 @@ never_changes_answer rs sort index ds found noted spelled storable rising up to 
     lies : (d : Pairs) → Among d ds → matches rs d ≡ true → IsFound rs (range_in rs sort index) ds d
     lies d g e = record {
       stored = contains_of ds d g;
-      lies_there = has_bytes_in_range rs sort index d (of_all (λ x. is_multikey (fields_of index) x ≡ true → is_multi index ≡ true) ds d noted g) (document_is_key d (of_all IsStorable ds d storable g)) spelled e;
+      lies_there =
+          has_bytes_in_range rs sort index d (of_all (λ x. is_multikey (fields_of index) x ≡ true → is_multi index ≡ true) ds d noted g)
+          (document_is_key d (of_all IsStorable ds d storable g)) spelled e;
       matched = e;
     }
 

@@ -1,5 +1,6 @@
 -- The first range of the greatest rank is the first that none outranks.
-use Rattle.std.proofs.Common.{◌≡◌, ℕ, ◌+◌, ◌*◌, ◌<◌, ◌≤◌, Bool, true, false, List, [], ◌∷◌, ◌++◌, length, map, Some, None, inl, inr, ◌⊎◌, refl, sym, ap, subst, arith, append_assoc}
+use Rattle.std.proofs.Common.{◌≡◌, ℕ, ◌+◌, ◌*◌, ◌<◌, ◌≤◌, Bool, true, false, List, [], ◌∷◌, ◌++◌, length, map, Some, None, inl, inr, ◌⊎◌, refl, sym, ap, subst}
+use Rattle.std.proofs.Common.{arith, append_assoc}
 use Rattle.std.specs.Prelude.{nat_lt, ◌==◌, if◌then◌else◌}
 use Rattle.std.specs.List.{AllByRecursion}
 use Rattle.bson.specs.Tree.{Tree}
@@ -86,7 +87,8 @@ record IsGreatest (ranges : List Range) (r : Range) : Type 0 where
 
 -- r is the first of the greatest rank among those before
 best_of : (front middle : List Range) (r : Range) (ss : List Range) → Lower r front → NoHigher r middle → IsGreatest (front ++ r ∷ (middle ++ ss)) (best r ss)
-best_of front middle r [] low high = record { front = front; back = middle ++ []; split = refl; lower = low; no_higher = all_append (λ s. rank s ≤ rank r) middle [] high tt }
+best_of front middle r [] low high = record
+    { front = front; back = middle ++ []; split = refl; lower = low; no_higher = all_append (λ s. rank s ≤ rank r) middle [] high tt }
 best_of front middle r (s ∷ ss) low high = by (nat_lt (rank r) (rank s)) refl
     (λ less. best_of (front ++ r ∷ middle) [] s ss (lower_all less) tt)
     (λ no_less. best_of front (middle ++ s ∷ []) r ss low (all_append (λ x. rank x ≤ rank r) middle (s ∷ []) high (no_less, tt)))

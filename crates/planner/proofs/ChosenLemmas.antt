@@ -14,7 +14,8 @@ pub record IsGivenIn (rs : Conditions) (sort : List SortField) (indexes : List D
   pub there : Contains indexes i
   pub given : r ≡ range_in rs sort (Some i)
 
-pub chosen_range : (rs : Conditions) (sort : List SortField) (indexes : List Definition) (r : Range) (i : Definition) → choose rs sort indexes ≡ by_index r → r.index ≡ Some i → IsGivenIn rs sort indexes i r
+pub chosen_range : (rs : Conditions) (sort : List SortField) (indexes : List Definition) (r : Range) (i : Definition) → choose rs sort indexes ≡ by_index r
+    → r.index ≡ Some i → IsGivenIn rs sort indexes i r
 chosen_range rs sort indexes r i chose is =
     let best : IsFirstBest (all_ranges rs sort indexes) r = (subst (IsChosen (all_ranges rs sort indexes)) chose (chooses_first_best rs sort indexes)).0 in
     among (subst (Among r) (sym best.stands_there) (among_back r best.before (r ∷ best.behind) (inl refl)))

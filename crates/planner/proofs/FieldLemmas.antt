@@ -1,5 +1,6 @@
 -- The fields of an index one after the other, and those of a sort beside them.
-use Rattle.std.proofs.Common.{◌≡◌, ℕ, zero, suc, ◌<◌, ◌≤◌, Bool, true, false, List, [], ◌∷◌, length, get_or, drop, map, Option, Some, None, refl, sym, ap, ◌∙◌, arith}
+use Rattle.std.proofs.Common.{◌≡◌, ℕ, zero, suc, ◌<◌, ◌≤◌, Bool, true, false, List, [], ◌∷◌, length, get_or, drop, map, Option, Some, None, refl, sym, ap, ◌∙◌}
+use Rattle.std.proofs.Common.{arith}
 use Rattle.std.specs.Prelude.{◌==◌, ◌&&◌, not, is_some, option_map, slice_get}
 use Rattle.std.specs.List.{filter, count_by}
 use Rattle.std.specs.Option.{option_and}
@@ -41,7 +42,8 @@ asked_nowhere rs (g ∷ fs) (suc i) e = asked_nowhere rs fs i e
 
 -- ---- a sort beside an index
 
-pub sorts_on : {X : Type 0} (of : X → SortField) (items : List X) (fs : List Field) (i : ℕ) (s : X) (f : Field) → i < length items → s ≡ get_or items i s → Some f ≡ slice_get fs i
+pub sorts_on : {X : Type 0} (of : X → SortField) (items : List X) (fs : List Field) (i : ℕ) (s : X) (f : Field) → i < length items → s ≡ get_or items i s
+    → Some f ≡ slice_get fs i
     → sorts_as (map of (drop i items)) (drop i fs) ≡ (is_sorted_at (of s) f && sorts_as (map of (drop (suc i) items)) (drop (suc i) fs))
 sorts_on of [] fs i s f within there e = absurd (omega (arith, within))
 sorts_on of (x ∷ items) [] zero s f within there e = absurd cc
@@ -56,7 +58,8 @@ nothing_beside of [] i within = absurd (omega (arith, within))
 nothing_beside of (x ∷ items) zero within = refl
 nothing_beside of (x ∷ items) (suc i) within = nothing_beside of items i (omega (arith, within))
 
-pub sorts_past : {X : Type 0} (of : X → SortField) (items : List X) (fs : List Field) (i : ℕ) → i < length items → None ≡ slice_get fs i → sorts_as (map of (drop i items)) (drop i fs) ≡ false
+pub sorts_past : {X : Type 0} (of : X → SortField) (items : List X) (fs : List Field) (i : ℕ) → i < length items → None ≡ slice_get fs i
+    → sorts_as (map of (drop i items)) (drop i fs) ≡ false
 sorts_past of [] fs i within e = absurd (omega (arith, within))
 sorts_past of (x ∷ items) [] zero within e = refl
 sorts_past of (x ∷ items) [] (suc i) within e = nothing_beside of items i (omega (arith, within))
@@ -75,7 +78,8 @@ all_of [] (suc i) = refl
 all_of (g ∷ fs) zero = refl
 all_of (g ∷ fs) (suc i) = all_of fs i
 
-sorts_end : {X : Type 0} (of : X → SortField) (items : List X) (fs : List Field) (i : ℕ) → length items ≤ i → sorts_as (map of (drop i items)) (drop i fs) ≡ not (is_some (slice_get fs i))
+sorts_end : {X : Type 0} (of : X → SortField) (items : List X) (fs : List Field) (i : ℕ) → length items ≤ i
+    → sorts_as (map of (drop i items)) (drop i fs) ≡ not (is_some (slice_get fs i))
 sorts_end of [] fs zero past = all_of fs zero
 sorts_end of [] fs (suc i) past = all_of fs (suc i)
 sorts_end of (x ∷ items) [] zero past = absurd (omega (arith, past))
@@ -92,15 +96,18 @@ some_image f None = refl
 some_image f (Some x) = refl
 
 -- whether a field is left behind those of the sort
-pub sorts_all : {X Y : Type 0} (of : X → SortField) (field : Y → Field) (items : List X) (fs : List Field) (i : ℕ) (o : Option Y) (r : Bool) → length items ≤ i → i ≤ length items
+pub sorts_all : {X Y : Type 0} (of : X → SortField) (field : Y → Field) (items : List X) (fs : List Field) (i : ℕ) (o : Option Y) (r : Bool) → length items ≤ i
+    → i ≤ length items
     → option_map field o ≡ slice_get fs (length items) → is_some o ≡ not r → r ≡ sorts_as (map of (drop i items)) (drop i fs)
 sorts_all of field items fs i o r past within at_end none =
     let same : length items ≡ i = omega (arith, past, within) in
-    sym (not_twice r) ∙ ap not (sym none ∙ sym (some_image field o) ∙ ap is_some at_end ∙ ap (λ (n : ℕ). is_some (slice_get fs n)) same) ∙ sym (sorts_end of items fs i past)
+    sym (not_twice r) ∙ ap not (sym none ∙ sym (some_image field o) ∙ ap is_some at_end ∙ ap (λ (n : ℕ). is_some (slice_get fs n)) same)
+    ∙ sym (sorts_end of items fs i past)
 
 -- ---- the values of the leading fields
 
-by_first : (rs : Conditions) (fs : List Field) (o : Option (Bor Value)) (rest : List Tree) → value_in o ≡ (asked_next rs fs).equal → rest ≡ leading rs (drop 1 fs) → and_then (value_in o) rest ≡ leading rs fs
+by_first : (rs : Conditions) (fs : List Field) (o : Option (Bor Value)) (rest : List Tree) → value_in o ≡ (asked_next rs fs).equal
+    → rest ≡ leading rs (drop 1 fs) → and_then (value_in o) rest ≡ leading rs fs
 by_first rs [] o rest e more = ap (λ (p : Option Tree). and_then p rest) e
 by_first rs (f ∷ fs) o rest e more = λ i. and_then (e i) (more i)
 
@@ -116,15 +123,18 @@ none_past rs [] (suc i) few = refl
 none_past rs (f ∷ fs) zero few = absurd (omega (arith, few))
 none_past rs (f ∷ fs) (suc i) few = none_past rs fs i (omega (arith, few))
 
-on : (rs : Conditions) (fs : List Field) (i : ℕ) (o : Option (Bor Value)) (rest : List Tree) → value_in o ≡ (asked_next rs (drop i fs)).equal → rest ≡ leading rs (drop (suc i) fs) → and_then (value_in o) rest ≡ leading rs (drop i fs)
+on : (rs : Conditions) (fs : List Field) (i : ℕ) (o : Option (Bor Value)) (rest : List Tree) → value_in o ≡ (asked_next rs (drop i fs)).equal
+    → rest ≡ leading rs (drop (suc i) fs) → and_then (value_in o) rest ≡ leading rs (drop i fs)
 on rs fs i o rest e more = by_first rs (drop i fs) o rest e (more ∙ ap (leading rs) (sym (drop_more fs i)))
 
-first_value : (a b c d : Option (Bor Value)) → values_of (a ∷ option_and a b ∷ option_and (option_and a b) c ∷ option_and (option_and (option_and a b) c) d ∷ [])
+first_value : (a b c d : Option (Bor Value))
+    → values_of (a ∷ option_and a b ∷ option_and (option_and a b) c ∷ option_and (option_and (option_and a b) c) d ∷ [])
     ≡ and_then (value_in a) (values_of (b ∷ option_and b c ∷ option_and (option_and b c) d ∷ []))
 first_value None b c d = refl
 first_value (Some v) b c d = refl
 
-second_value : (b c d : Option (Bor Value)) → values_of (b ∷ option_and b c ∷ option_and (option_and b c) d ∷ []) ≡ and_then (value_in b) (values_of (c ∷ option_and c d ∷ []))
+second_value : (b c d : Option (Bor Value))
+    → values_of (b ∷ option_and b c ∷ option_and (option_and b c) d ∷ []) ≡ and_then (value_in b) (values_of (c ∷ option_and c d ∷ []))
 second_value None c d = refl
 second_value (Some v) c d = refl
 
@@ -138,7 +148,8 @@ fourth_value (Some v) = refl
 
 -- each as far as those before it are there
 pub four_values : (rs : Conditions) (fs : List Field) (a b c d : Option (Bor Value)) → length fs ≤ 4
-    → value_in a ≡ (asked_next rs (drop 0 fs)).equal → value_in b ≡ (asked_next rs (drop 1 fs)).equal → value_in c ≡ (asked_next rs (drop 2 fs)).equal → value_in d ≡ (asked_next rs (drop 3 fs)).equal
+    → value_in a ≡ (asked_next rs (drop 0 fs)).equal → value_in b ≡ (asked_next rs (drop 1 fs)).equal → value_in c ≡ (asked_next rs (drop 2 fs)).equal
+    → value_in d ≡ (asked_next rs (drop 3 fs)).equal
     → values_of (a ∷ option_and a b ∷ option_and (option_and a b) c ∷ option_and (option_and (option_and a b) c) d ∷ []) ≡ leading rs fs
 four_values rs fs a b c d few ea eb ec ed =
     let e3 = fourth_value d ∙ on rs fs 3 d [] ed (none_past rs fs 4 few) in

@@ -40,7 +40,8 @@ use Rattle.planner.proofs.SortedLemmas.{walks_in_order}
 
 behind_front : (front x y : List ℕ) → bytes_cmp (front ++ x) (front ++ y) ≡ bytes_cmp x y
 behind_front [] x y = refl
-behind_front (b ∷ front) x y = ap (λ (o : Ordering). ordering_then o (bytes_cmp (front ++ x) (front ++ y))) (tied_itself nat_cmp_total b) ∙ behind_front front x y
+behind_front (b ∷ front) x y =
+    ap (λ (o : Ordering). ordering_then o (bytes_cmp (front ++ x) (front ++ y))) (tied_itself nat_cmp_total b) ∙ behind_front front x y
 
 -- the text of an entry of this document, by one of its lists of keys
 record IsTextOf (i : Definition) (ds : List Pairs) (d : Pairs) (text : List ℕ) : Type 0 where
@@ -51,7 +52,8 @@ record IsTextOf (i : Definition) (ds : List Pairs) (d : Pairs) (text : List ℕ)
 
 text_of : (i : Definition) (ds : List Pairs) (text : List ℕ) → IsEntryText ds i text → (d : Pairs) × IsTextOf i ds d text
 text_of i ds text h =
-    let key = among_map (key_bytes i.fields) h.1 (index_keys i.fields h.0) (set_members (map (key_bytes i.fields) (index_keys i.fields h.0)) h.1 (among_of (encoded_keys i.fields h.0) h.1 h.3)) in
+    let key = among_map (key_bytes i.fields) h.1 (index_keys i.fields h.0)
+    (set_members (map (key_bytes i.fields) (index_keys i.fields h.0)) h.1 (among_of (encoded_keys i.fields h.0) h.1 h.3)) in
     (h.0, record { stored = among_of ds h.0 h.2; keys = key.0; there = key.1; is = h.4 ∙ ap (λ (k : List ℕ). k ++ id_of h.0) key.2 })
 
 module _ (i : Definition) (ds : List Pairs) where
@@ -76,7 +78,8 @@ module _ (i : Definition) (ds : List Pairs) where
   stored_in (text ∷ texts) (e ∷ es) h d (inr g) = stored_in texts es h.1 d g
 
   -- the text of one of them
-  text_for : (texts : List (List ℕ)) (es : List Pairs) → AreTextsOf texts es → (d : Pairs) → Among d es → (text : List ℕ) × Among text texts × IsTextOf i ds d text
+  text_for : (texts : List (List ℕ)) (es : List Pairs) → AreTextsOf texts es → (d : Pairs) → Among d es
+      → (text : List ℕ) × Among text texts × IsTextOf i ds d text
   text_for [] [] h d g = absurd g
   text_for [] (e ∷ es) h d g = absurd h
   text_for (text ∷ texts) [] h d g = absurd h
@@ -84,7 +87,8 @@ module _ (i : Definition) (ds : List Pairs) where
   text_for (text ∷ texts) (e ∷ es) h d (inr g) = let t = text_for texts es h.1 d g in (t.0, inr t.1, t.2)
 
   -- the one of a text
-  led_by : (texts : List (List ℕ)) (es : List Pairs) → AreTextsOf texts es → (text : List ℕ) → Among text texts → (d : Pairs) × Among d es × IsTextOf i ds d text
+  led_by : (texts : List (List ℕ)) (es : List Pairs) → AreTextsOf texts es → (text : List ℕ) → Among text texts
+      → (d : Pairs) × Among d es × IsTextOf i ds d text
   led_by [] es h text g = absurd g
   led_by (t ∷ texts) [] h text g = absurd h
   led_by (t ∷ texts) (e ∷ es) h text (inl same) = (e, inl refl, subst (λ (x : List ℕ). IsTextOf i ds e x) (sym same) h.0)
@@ -92,7 +96,8 @@ module _ (i : Definition) (ds : List Pairs) where
 
   module _ (storable : All IsStorable ds) where
     id_there : (d : Pairs) (text : List ℕ) → IsTextOf i ds d text → id_text i.fields text ≡ Some (id_of d)
-    id_there d text h = id_behind i.fields d (key_bytes i.fields h.keys) text (of_all IsStorable ds d storable h.stored) (encoded_there i.fields d h.keys h.there) h.is
+    id_there d text h =
+        id_behind i.fields d (key_bytes i.fields h.keys) text (of_all IsStorable ds d storable h.stored) (encoded_there i.fields d h.keys h.there) h.is
 
     spelled_by : (texts : List (List ℕ)) (es : List Pairs) → AreTextsOf texts es → ids_of i.fields texts ≡ map id_of es
     spelled_by [] [] h = refl
@@ -107,10 +112,13 @@ module _ (i : Definition) (ds : List Pairs) where
       in_order d e t u h k =
           let a = key_bytes i.fields h.keys ++ id_of d in
           let b = key_bytes i.fields k.keys ++ id_of e in
-          (λ j. bytes_cmp (h.is j) (k.is j)) ∙ sym (behind_front (to_be_bytes w32 i.number) a b) ∙ sym (behind_front (to_be_bytes w32 0) (to_be_bytes w32 i.number ++ a) (to_be_bytes w32 i.number ++ b))
-          ∙ walks_in_order rs sort i ds d e h.keys k.keys 0 sorted noted storable (contains_of ds d h.stored) (contains_of ds e k.stored) (contains_of (index_keys i.fields d) h.keys h.there) (contains_of (index_keys i.fields e) k.keys k.there)
+          (λ j. bytes_cmp (h.is j) (k.is j)) ∙ sym (behind_front (to_be_bytes w32 i.number) a b)
+          ∙ sym (behind_front (to_be_bytes w32 0) (to_be_bytes w32 i.number ++ a) (to_be_bytes w32 i.number ++ b))
+          ∙ walks_in_order rs sort i ds d e h.keys k.keys 0 sorted noted storable (contains_of ds d h.stored) (contains_of ds e k.stored)
+          (contains_of (index_keys i.fields d) h.keys h.there) (contains_of (index_keys i.fields e) k.keys k.there)
 
-      below_led : (d : Pairs) (text : List ℕ) (texts : List (List ℕ)) (es : List Pairs) → IsTextOf i ds d text → Below bytes_cmp text texts → AreTextsOf texts es → Below (answer_cmp sort) d es
+      below_led : (d : Pairs) (text : List ℕ) (texts : List (List ℕ)) (es : List Pairs) → IsTextOf i ds d text → Below bytes_cmp text texts
+          → AreTextsOf texts es → Below (answer_cmp sort) d es
       below_led d text [] [] h up k = tt
       below_led d text [] (e ∷ es) h up k = absurd k
       below_led d text (t ∷ texts) [] h up k = absurd k
@@ -141,7 +149,8 @@ first_ids_lead rs sort i ds texts sorted noted spelled storable rising read = re
       few_rise
       to above;
   whole = λ all.
-      (sorts_to_answer sort (filter (matches rs) ds) (pairs_of (on key_of compare) (filter (matches rs) ds) (rises_filter (matches rs) (on key_of compare) ds (rises_of (on key_of compare) ds rising)))).1
+      (sorts_to_answer sort (filter (matches rs) ds)
+      (pairs_of (on key_of compare) (filter (matches rs) ds) (rises_filter (matches rs) (on key_of compare) ds (rises_of (on key_of compare) ds rising)))).1
       (filter (matches rs) es) few_rise (record {
         to = λ d h. let t = to d h in contains_of (filter (matches rs) ds) d (among_filter (matches rs) d ds (among_of ds d t.0) t.1);
         from = λ d h.
@@ -158,7 +167,8 @@ first_ids_lead rs sort i ds texts sorted noted spelled storable rising read = re
     es = led_there.0
 
     few_rise : RisesInOrder sort (filter (matches rs) es)
-    few_rise = pairs_of (answer_cmp sort) (filter (matches rs) es) (rises_filter (matches rs) (answer_cmp sort) es (led_rise i ds storable rs sort sorted noted texts es (rises_of bytes_cmp texts read.rise) led_there.1))
+    few_rise = pairs_of (answer_cmp sort) (filter (matches rs) es)
+        (rises_filter (matches rs) (answer_cmp sort) es (led_rise i ds storable rs sort sorted noted texts es (rises_of bytes_cmp texts read.rise) led_there.1))
 
     to : (d : Pairs) → Contains (filter (matches rs) es) d → Contains ds d × (matches rs d ≡ true)
     to d h =
@@ -169,9 +179,11 @@ first_ids_lead rs sort i ds texts sorted noted spelled storable rising read = re
     lies_there d h e =
         let r = range_in rs sort (Some i) in
         let stored = of_all IsStorable ds d storable h in
-        let multi : is_multikey i.fields d ≡ true → is_multi (Some i) ≡ true = of_all (λ x. is_multikey i.fields x ≡ true → is_multi (Some i) ≡ true) ds d noted h in
+        let multi : is_multikey i.fields d ≡ true
+        → is_multi (Some i) ≡ true = of_all (λ x. is_multikey i.fields x ≡ true → is_multi (Some i) ≡ true) ds d noted h in
         let k : IsPassing i.fields (has_key r) (index_keys i.fields d) =
-        passing i.fields (has_key r) (index_keys i.fields d) (keys_spellable i.fields d (document_is_key d stored)) (has_key_in_range rs sort (Some i) d multi e) in
+        passing i.fields (has_key r) (index_keys i.fields d) (keys_spellable i.fields d (document_is_key d stored))
+        (has_key_in_range rs sort (Some i) d multi e) in
         let key : List ℕ = key_bytes i.fields k.one in
         record {
           text = key ++ id_of d;
@@ -180,13 +192,16 @@ first_ids_lead rs sort i ds texts sorted noted spelled storable rising read = re
           lies = spans_range rs sort (Some i) (key ++ id_of d) (has_bytes_behind i.fields r k.one (id_of d) k.spellable spelled k.passes);
         }
 
-    one_of : (d : Pairs) → Among d ds → matches rs d ≡ true → (l : LiesThere rs sort i ds d) → (x : Pairs) × Among x es × IsTextOf i ds x l.text → Contains (filter (matches rs) es) d
+    one_of : (d : Pairs) → Among d ds → matches rs d ≡ true → (l : LiesThere rs sort i ds d) → (x : Pairs) × Among x es × IsTextOf i ds x l.text
+        → Contains (filter (matches rs) es) d
     one_of d h m l x =
-        let agree : id_of d ≡ id_of x.0 = same_some (id_of d) (id_of x.0) (sym (id_there i ds storable d l.text l.of) ∙ id_there i ds storable x.0 l.text x.2) in
+        let agree : id_of d ≡ id_of x.0 =
+        same_some (id_of d) (id_of x.0) (sym (id_there i ds storable d l.text l.of) ∙ id_there i ds storable x.0 l.text x.2) in
         let same : d ≡ x.0 = same_document ds d x.0 storable rising h (stored_in i ds texts es led_there.1 x.0 x.1) agree in
         contains_of (filter (matches rs) es) d (among_filter (matches rs) d es (subst (λ (y : Pairs). Among y es) (sym same) x.1) m)
 
-    above : (d e : Pairs) → Contains ds d → matches rs d ≡ true → Contains (filter (matches rs) es) e → Contains (filter (matches rs) es) d ⊎ (answer_cmp sort e d ≡ Less)
+    above : (d e : Pairs) → Contains ds d → matches rs d ≡ true → Contains (filter (matches rs) es) e
+        → Contains (filter (matches rs) es) d ⊎ (answer_cmp sort e d ≡ Less)
     above d e h m g =
         let l = lies_there d (among_of ds d h) m in
         let there = filter_among (matches rs) e es (among_of (filter (matches rs) es) e g) in

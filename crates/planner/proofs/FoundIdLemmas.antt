@@ -48,7 +48,8 @@ pub set_members : (ks : List (List ℕ)) (k : List ℕ) → Among k (ascending_s
 set_members ks k h = test_among ks k (sym (set_among ks k) ∙ among_test (ascending_set ks) k h)
 
 -- the text in which an `_id` is found
-text_of : (i : Definition) (texts : List (List ℕ)) (id : List ℕ) → Among id (ids_of i.fields texts) → (text : List ℕ) × Among text texts × (id_text i.fields text ≡ Some id)
+text_of : (i : Definition) (texts : List (List ℕ)) (id : List ℕ) → Among id (ids_of i.fields texts)
+    → (text : List ℕ) × Among text texts × (id_text i.fields text ≡ Some id)
 text_of i texts id h =
     let t = among_flat (λ (text : List ℕ). option_to_list (id_text i.fields text)) id texts h in
     (t.0, t.1, only (id_text i.fields t.0) t.2)
@@ -60,14 +61,16 @@ text_of i texts id h =
 
 id_among : (i : Definition) (texts : List (List ℕ)) (text id : List ℕ) → Among text texts → id_text i.fields text ≡ Some id → Among id (ids_of i.fields texts)
 id_among i texts text id h e =
-    among_each (λ (t : List ℕ). option_to_list (id_text i.fields t)) id text texts h (subst (λ (o : Option (List ℕ)). Among id (option_to_list o)) (sym e) (inl refl))
+    among_each (λ (t : List ℕ). option_to_list (id_text i.fields t)) id text texts h
+    (subst (λ (o : Option (List ℕ)). Among id (option_to_list o)) (sym e) (inl refl))
 
 -- ---- documents by their `_id`s
 
 found_there : (d : Pairs) (ds : List Pairs) → Rises (on key_of compare) ds → Among d ds → find_document ds (key_of d) ≡ Some d
 found_there d [] up h = absurd h
 found_there d (x ∷ ds) up (inl e) =
-    ap (λ (o : Ordering). if is_eq o then Some x else find_document ds (key_of d)) (ap (λ (y : Pairs). compare (key_of d) (key_of y)) (sym e) ∙ tied_itself compare_total (key_of d)) ∙ ap Some (sym e)
+    ap (λ (o : Ordering). if is_eq o then Some x else find_document ds (key_of d))
+    (ap (λ (y : Pairs). compare (key_of d) (key_of y)) (sym e) ∙ tied_itself compare_total (key_of d)) ∙ ap Some (sym e)
 found_there d (x ∷ ds) up (inr g) =
     ap (λ (o : Ordering). if is_eq o then Some x else find_document ds (key_of d))
     (compare_total.antisymm (key_of d) (key_of x) ∙ ap ordering_reverse (below_each (on key_of compare) x d ds up.0 g))
@@ -108,12 +111,14 @@ documents_of ds (id ∷ ids) each =
     one e there later d (inl same) = subst (λ (x : Pairs). Among x ds) (sym same) there
     one e there later d (inr h) = later.stored d h
 
-pub each_found : (ds es : List Pairs) → Rises (on key_of compare) ds → ((d : Pairs) → Among d es → Among d ds) → AllByRecursion (λ d. find_document ds (key_of d) ≡ Some d) es
+pub each_found : (ds es : List Pairs) → Rises (on key_of compare) ds → ((d : Pairs) → Among d es → Among d ds)
+    → AllByRecursion (λ d. find_document ds (key_of d) ≡ Some d) es
 each_found ds [] up within = tt
 each_found ds (e ∷ es) up within = (found_there e ds up (within e (inl refl)), each_found ds es up (λ d h. within d (inr h)))
 
 -- they rise as their texts do
-below_ids : (d : Pairs) (es : List Pairs) → IsStorable d → ((e : Pairs) → Among e es → IsStorable e) → AllByRecursion (λ k. bytes_cmp (id_of d) k ≡ Less) (map id_of es) → Below (on key_of compare) d es
+below_ids : (d : Pairs) (es : List Pairs) → IsStorable d → ((e : Pairs) → Among e es → IsStorable e)
+    → AllByRecursion (λ k. bytes_cmp (id_of d) k ≡ Less) (map id_of es) → Below (on key_of compare) d es
 below_ids d [] hd all h = tt
 below_ids d (e ∷ es) hd all h = (
   sym (texts_order Ascending (value (key_of d)) (value (key_of e)) (id_is_key d hd) (id_is_key e (all e (inl refl)))) ∙ h.0,
@@ -167,7 +172,8 @@ ids_lead_to_matching rs sort i ds texts noted spelled storable rising read = rec
     from d h =
         let g = filter_among (matches rs) d ds h in
         let t = leads.1 d (contains_of ds d g.0) g.1 in
-        let id : Among (id_of d) (ids_in i.fields texts) = among_set (ids_of i.fields texts) (id_of d) (id_among i texts t.0 (id_of d) (among_of texts t.0 t.1) t.2) in
+        let id : Among (id_of d) (ids_in i.fields texts) =
+        among_set (ids_of i.fields texts) (id_of d) (id_among i texts t.0 (id_of d) (among_of texts t.0 t.1) t.2) in
         let e = among_map id_of (id_of d) of.documents (subst (λ (ids : List (List ℕ)). Among (id_of d) ids) of.spelled id) in
         let same : d ≡ e.0 = same_document ds d e.0 storable rising g.0 (of.stored e.0 e.1) e.2 in
         among_filter (matches rs) d of.documents (subst (λ (x : Pairs). Among x of.documents) (sym same) e.1) g.1

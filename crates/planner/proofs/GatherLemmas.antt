@@ -49,5 +49,6 @@ none_left give (c ∷ items) zero past = absurd (omega (arith, past))
 none_left give (c ∷ items) (suc k) past = none_left give items k (omega (arith, past))
 
 -- no condition is left
-pub gather_done : (give : Condition → Usable) (items : List Made) (k : ℕ) (u all : Usable) → length items ≤ k → or u (gather give (conditions_of (drop k items))) ≡ all → u ≡ all
+pub gather_done : (give : Condition → Usable) (items : List Made) (k : ℕ) (u all : Usable) → length items ≤ k
+    → or u (gather give (conditions_of (drop k items))) ≡ all → u ≡ all
 gather_done give items k u all past so_far = sym (or_nothing u) ∙ sym (ap (or u) (none_left give items k past)) ∙ so_far

@@ -48,7 +48,8 @@ found_there (x ∷ ds) id d up (inr g) tied = at (compare id (key_of x)) refl (f
     less (y ∷ ys) h (inl e) = ap (ids_cmp x) e ∙ h.0
     less (y ∷ ys) h (inr g) = less ys h.1 g
 
-    at : (o : Ordering) → compare id (key_of x) ≡ o → find_document ds id ≡ Some d → (if is_eq (compare id (key_of x)) then Some x else find_document ds id) ≡ Some d
+    at : (o : Ordering) → compare id (key_of x) ≡ o → find_document ds id ≡ Some d
+        → (if is_eq (compare id (key_of x)) then Some x else find_document ds id) ≡ Some d
     at Less e later = rw e later
     at Greater e later = rw e later
     at Equal e later =
@@ -60,7 +61,8 @@ module _ (passes : Pairs → Bool) (ds : List Pairs) (storable : All IsStorable 
   key_there d g = id_is_key d (of_all IsStorable ds d storable g)
 
   -- those that are found of later `_id`s stand behind the one of this
-  below : (id : Tree) (e : Pairs) (ts : List (List ℕ)) (ids : List Tree) → IsKey (value id) → compare id (key_of e) ≡ Equal → Below bytes_cmp (tree_text id) ts → AreIdTexts ts ids → Below ids_cmp e (found_by ds ids)
+  below : (id : Tree) (e : Pairs) (ts : List (List ℕ)) (ids : List Tree) → IsKey (value id) → compare id (key_of e) ≡ Equal → Below bytes_cmp (tree_text id) ts
+      → AreIdTexts ts ids → Below ids_cmp e (found_by ds ids)
   below id e [] [] k tied h told = tt
   below id e [] (i ∷ ids) k tied h told = absurd told
   below id e (t ∷ ts) [] k tied h told = absurd told
@@ -99,7 +101,8 @@ module _ (passes : Pairs → Bool) (ds : List Pairs) (storable : All IsStorable 
       at (Some x) is later (inr g) = later g
 
   -- one whose text is told is found
-  among_found : (ts : List (List ℕ)) (ids : List Tree) (d : Pairs) → Among d ds → AreIdTexts ts ids → Among (tree_text (key_of d)) ts → Among d (found_by ds ids)
+  among_found : (ts : List (List ℕ)) (ids : List Tree) (d : Pairs) → Among d ds → AreIdTexts ts ids → Among (tree_text (key_of d)) ts
+      → Among d (found_by ds ids)
   among_found [] ids d there told g = absurd g
   among_found (t ∷ ts) [] d there told g = absurd told
   among_found (t ∷ ts) (i ∷ ids) d there told (inl same) =

@@ -1,5 +1,6 @@
 -- A key in a range of an index has its bytes there.
-use Rattle.std.proofs.Common.{◌≡◌, ℕ, ◌-◌, Bool, true, false, List, [], ◌∷◌, ◌++◌, length, take, drop, map, Option, Some, None, refl, sym, ap, subst, ◌∙◌, append_assoc, append-nil}
+use Rattle.std.proofs.Common.{◌≡◌, ℕ, ◌-◌, Bool, true, false, List, [], ◌∷◌, ◌++◌, length, take, drop, map, Option, Some, None, refl, sym, ap, subst, ◌∙◌}
+use Rattle.std.proofs.Common.{append_assoc, append-nil}
 use Rattle.std.specs.Prelude.{IfSome, ◌==◌, ◌||◌, All}
 use Rattle.std.specs.List.{AllByRecursion, list_any}
 use Rattle.std.specs.Str.{bytes_eq}
@@ -28,7 +29,8 @@ use Rattle.index.proofs.SetLemmas.{set_among, same_itself}
 use Rattle.index.proofs.SpellableLaws.{keys_spellable}
 use Rattle.planner.specs.Usable.{Bound}
 use Rattle.planner.specs.Plan.{Range, fields_of, range_in}
-use Rattle.planner.specs.KeyRange.{is_equal_to, lies_by, lies_within, is_in, has_key, front_text, place_by, in_direction, is_of_class, bytes_lie_by, bytes_within, first_bytes_lie, has_bytes, IsSpellable, HasBytesInRange}
+use Rattle.planner.specs.KeyRange.{is_equal_to, lies_by, lies_within, is_in, has_key, front_text, place_by, in_direction, is_of_class, bytes_lie_by}
+use Rattle.planner.specs.KeyRange.{bytes_within, first_bytes_lie, has_bytes, IsSpellable, HasBytesInRange}
 use Rattle.planner.proofs.UsableLemmas.{and_both, and_first, and_second, or_last}
 use Rattle.planner.proofs.KeyRangeLemmas.{has_key_in_range}
 
@@ -59,7 +61,8 @@ undirected : (d : Direction) (a b : Key) → in_direction d (directed_cmp d a b)
 undirected Ascending a b = refl
 undirected Descending a b = twice (key_cmp a b)
 
-place_is : (d : Direction) (a b : Key) (rest : List ℕ) → IsKey a → IsKey b → in_direction d (place_by (directed_text d b) (directed_text d a ++ rest)) ≡ key_cmp a b
+place_is : (d : Direction) (a b : Key) (rest : List ℕ) → IsKey a → IsKey b
+    → in_direction d (place_by (directed_text d b) (directed_text d a ++ rest)) ≡ key_cmp a b
 place_is d a b rest ka kb =
     ap (in_direction d) (apart_place (directed_text d a) (directed_text d b) (λ x y e. (none_begins d a b x y ka kb e).0) rest ∙ texts_order d a b ka kb)
     ∙ undirected d a b
@@ -80,20 +83,24 @@ own_byte Ascending (value t) = refl
 own_byte Descending empty_array = refl
 own_byte Descending (value t) = refl
 
-class_there : (d : Direction) (a b : Key) (rest : List ℕ) → (key_class a == key_class b) ≡ true → is_of_class (directed_text d b) (directed_text d a ++ rest) ≡ true
+class_there : (d : Direction) (a b : Key) (rest : List ℕ) → (key_class a == key_class b) ≡ true
+    → is_of_class (directed_text d b) (directed_text d a ++ rest) ≡ true
 class_there d a b rest e =
     (bytes_eq-Decides (take 1 (directed_text d a ++ rest)) (take 1 (directed_text d b))).1
     (first_byte d a rest ∙ ap (λ (n : ℕ). class_byte d n ∷ []) (eqb-true (key_class a) (key_class b) e) ∙ sym (own_byte d b))
 
-lies_there : (d : Direction) (b : Bound) (k : Key) (rest : List ℕ) → IsKey k → IsKey (value b.operand) → lies_by b k ≡ true → bytes_lie_by d b (directed_text d k ++ rest) ≡ true
+lies_there : (d : Direction) (b : Bound) (k : Key) (rest : List ℕ) → IsKey k → IsKey (value b.operand) → lies_by b k ≡ true
+    → bytes_lie_by d b (directed_text d k ++ rest) ≡ true
 lies_there d b k rest kk kb h =
     let of_class = key_class k == class b.operand in
     let there = allows b.comparison (key_cmp k (value b.operand)) in
-    and_both (is_of_class (directed_text d (value b.operand)) (directed_text d k ++ rest)) (allows b.comparison (in_direction d (place_by (directed_text d (value b.operand)) (directed_text d k ++ rest))))
+    and_both (is_of_class (directed_text d (value b.operand)) (directed_text d k ++ rest))
+    (allows b.comparison (in_direction d (place_by (directed_text d (value b.operand)) (directed_text d k ++ rest))))
     (class_there d k (value b.operand) rest (and_first of_class there h))
     (ap (allows b.comparison) (place_is d k (value b.operand) rest kk kb) ∙ and_second of_class there h)
 
-within_there : (d : Direction) (o : Option Bound) (k : Key) (rest : List ℕ) → IsKey k → IfSome o (λ b. IsKey (value b.operand)) → lies_within o k ≡ true → bytes_within d o (directed_text d k ++ rest) ≡ true
+within_there : (d : Direction) (o : Option Bound) (k : Key) (rest : List ℕ) → IsKey k → IfSome o (λ b. IsKey (value b.operand)) → lies_within o k ≡ true
+    → bytes_within d o (directed_text d k ++ rest) ≡ true
 within_there d None k rest kk s h = refl
 within_there d (Some b) k rest kk s h = lies_there d b k rest kk s h
 
@@ -109,7 +116,8 @@ abbrev IsBehind : List Field → List Tree → Option Bound → Option Bound →
 IsBehind fs ts low high bytes = (rest : List ℕ) × (bytes ≡ front_text fs ts ++ rest) × (first_bytes_lie low high (drop (length ts) fs) rest ≡ true)
 
 module _ (low high : Option Bound) (sl : IfSome low (λ b. IsKey (value b.operand))) (sh : IfSome high (λ b. IsKey (value b.operand))) (tail : List ℕ) where
-  behind : (fs : List Field) (ts : List Tree) (ks : List Key) → IsIndexKey fs ks → All (λ t. IsKey (value t)) ts → is_in ts low high ks ≡ true → IsBehind fs ts low high (key_bytes fs ks ++ tail)
+  behind : (fs : List Field) (ts : List Tree) (ks : List Key) → IsIndexKey fs ks → All (λ t. IsKey (value t)) ts → is_in ts low high ks ≡ true
+      → IsBehind fs ts low high (key_bytes fs ks ++ tail)
   behind [] [] ks g s h = (tail, refl, refl)
   behind [] (t ∷ ts) [] g s h = absurd cc
   behind [] (t ∷ ts) (k ∷ ks) g s h = absurd g
@@ -124,7 +132,8 @@ module _ (low high : Option Bound) (sl : IfSome low (λ b. IsKey (value b.operan
       )
   behind (f ∷ fs) (t ∷ ts) (k ∷ ks) g s h =
       let same : directed_text f.direction k ≡ directed_text f.direction (value t) =
-      (texts_agree f.direction k (value t) g.0 (All-head (λ x. IsKey (value x)) t ts s)).1 (equal_is (key_cmp k (value t)) (and_first (is_equal_to t k) (is_in ts low high ks) h)) in
+      (texts_agree f.direction k (value t) g.0 (All-head (λ x. IsKey (value x)) t ts s)).1
+      (equal_is (key_cmp k (value t)) (and_first (is_equal_to t k) (is_in ts low high ks) h)) in
       let later = behind fs ts ks g.1 (All-tail (λ x. IsKey (value x)) t ts s) (and_second (is_equal_to t k) (is_in ts low high ks) h) in (
         later.0,
         append_assoc (directed_text f.direction k) (key_bytes fs ks) tail ∙ (λ i. same i ++ later.1 i)
@@ -133,7 +142,8 @@ module _ (low high : Option Bound) (sl : IfSome low (λ b. IsKey (value b.operan
       )
 
 -- whatever stands behind the key
-pub has_bytes_behind : (fs : List Field) (r : Range) (ks : List Key) (tail : List ℕ) → IsIndexKey fs ks → IsSpellable r → has_key r ks ≡ true → has_bytes fs r (key_bytes fs ks ++ tail) ≡ true
+pub has_bytes_behind : (fs : List Field) (r : Range) (ks : List Key) (tail : List ℕ) → IsIndexKey fs ks → IsSpellable r → has_key r ks ≡ true
+    → has_bytes fs r (key_bytes fs ks ++ tail) ≡ true
 has_bytes_behind fs r ks tail g s h =
     let b = behind r.low r.high s.low_spelled s.high_spelled tail fs r.equal ks g s.equal_spelled h in
     subst (λ (bytes : List ℕ). has_bytes fs r bytes ≡ true) (sym b.1) (at b.0 b.2)
@@ -141,7 +151,8 @@ has_bytes_behind fs r ks tail g s h =
     at : (rest : List ℕ) → first_bytes_lie r.low r.high (drop (length r.equal) fs) rest ≡ true → has_bytes fs r (front_text fs r.equal ++ rest) ≡ true
     at rest e =
         let front = front_text fs r.equal in
-        and_both (bytes_eq (take (length front) (front ++ rest)) front) (first_bytes_lie r.low r.high (drop (length r.equal) fs) (drop (length front) (front ++ rest)))
+        and_both (bytes_eq (take (length front) (front ++ rest)) front)
+        (first_bytes_lie r.low r.high (drop (length r.equal) fs) (drop (length front) (front ++ rest)))
         ((bytes_eq-Decides (take (length front) (front ++ rest)) front).1 (take-append_seam front rest))
         (ap (first_bytes_lie r.low r.high (drop (length r.equal) fs)) (drop-append_seam front rest) ∙ e)
 
@@ -156,7 +167,8 @@ any_of : (p : List ℕ → Bool) (keys : List (List ℕ)) → list_any p keys �
 any_of p [] e = absurd cc
 any_of p (k ∷ keys) e = by (p k) refl (any_of p keys) e
   where
-    by : (b : Bool) → p k ≡ b → (list_any p keys ≡ true → (l : List ℕ) × (p l ≡ true) × (is_among keys l ≡ true)) → (b || list_any p keys) ≡ true → (l : List ℕ) × (p l ≡ true) × (is_among (k ∷ keys) l ≡ true)
+    by : (b : Bool) → p k ≡ b → (list_any p keys ≡ true → (l : List ℕ) × (p l ≡ true) × (is_among keys l ≡ true)) → (b || list_any p keys) ≡ true
+        → (l : List ℕ) × (p l ≡ true) × (is_among (k ∷ keys) l ≡ true)
     by true so later f = (k, so, ap (λ (c : Bool). c || is_among keys k) (same_itself k))
     by false not_so later f = let l = later f in (l.0, l.1, or_last (eq_by_cmp bytes_cmp l.0 k) (is_among keys l.0) l.2)
 
@@ -164,7 +176,8 @@ passes_there : (p : List ℕ → Bool) (keys : List (List ℕ)) (k : List ℕ) �
 passes_there p [] k e h = absurd cc
 passes_there p (l ∷ keys) k e h = by (bytes_cmp k l) refl (passes_there p keys k e) h
   where
-    by : (o : Ordering) → bytes_cmp k l ≡ o → (is_among keys k ≡ true → list_any p keys ≡ true) → (is_eq o || is_among keys k) ≡ true → (p l || list_any p keys) ≡ true
+    by : (o : Ordering) → bytes_cmp k l ≡ o → (is_among keys k ≡ true → list_any p keys ≡ true) → (is_eq o || is_among keys k) ≡ true
+        → (p l || list_any p keys) ≡ true
     by Less not_so later f = or_last (p l) (list_any p keys) (later f)
     by Equal so later f = ap (λ (c : Bool). c || list_any p keys) (ap p (sym (exact_bytes k l so)) ∙ e)
     by Greater not_so later f = or_last (p l) (list_any p keys) (later f)
@@ -172,11 +185,13 @@ passes_there p (l ∷ keys) k e h = by (bytes_cmp k l) refl (passes_there p keys
 any_in_set : (p : List ℕ → Bool) (keys : List (List ℕ)) → list_any p keys ≡ true → list_any p (ascending_set keys) ≡ true
 any_in_set p keys e = let k = any_of p keys e in passes_there p (ascending_set keys) k.0 k.1 (set_among keys k.0 ∙ k.2)
 
-any_encoded : (fs : List Field) (r : Range) (keys : List (List Key)) → AllByRecursion (IsIndexKey fs) keys → IsSpellable r → list_any (has_key r) keys ≡ true → list_any (has_bytes fs r) (map (key_bytes fs) keys) ≡ true
+any_encoded : (fs : List Field) (r : Range) (keys : List (List Key)) → AllByRecursion (IsIndexKey fs) keys → IsSpellable r → list_any (has_key r) keys ≡ true
+    → list_any (has_bytes fs r) (map (key_bytes fs) keys) ≡ true
 any_encoded fs r [] g s e = absurd cc
 any_encoded fs r (ks ∷ keys) g s e = by (has_key r ks) refl (any_encoded fs r keys g.1 s) e
   where
-    by : (b : Bool) → has_key r ks ≡ b → (list_any (has_key r) keys ≡ true → list_any (has_bytes fs r) (map (key_bytes fs) keys) ≡ true) → (b || list_any (has_key r) keys) ≡ true → (has_bytes fs r (key_bytes fs ks) || list_any (has_bytes fs r) (map (key_bytes fs) keys)) ≡ true
+    by : (b : Bool) → has_key r ks ≡ b → (list_any (has_key r) keys ≡ true → list_any (has_bytes fs r) (map (key_bytes fs) keys) ≡ true)
+        → (b || list_any (has_key r) keys) ≡ true → (has_bytes fs r (key_bytes fs ks) || list_any (has_bytes fs r) (map (key_bytes fs) keys)) ≡ true
     by true so later f = ap (λ (c : Bool). c || list_any (has_bytes fs r) (map (key_bytes fs) keys)) (has_bytes_of fs r ks g.0 s so)
     by false not_so later f = or_last (has_bytes fs r (key_bytes fs ks)) (list_any (has_bytes fs r) (map (key_bytes fs) keys)) (later f)
 

@@ -18,7 +18,8 @@ use Rattle.planner.proofs.UsableLemmas.{and_both, or_none, or_last, any_more, an
 
 -- ---- combinations
 
-any_image : {X Y : Type 0} (g : X → Y) (s : X → Bool) (p : Y → Bool) → ((x : X) → s x ≡ true → p (g x) ≡ true) → (xs : List X) → list_any s xs ≡ true → list_any p (map g xs) ≡ true
+any_image : {X Y : Type 0} (g : X → Y) (s : X → Bool) (p : Y → Bool) → ((x : X) → s x ≡ true → p (g x) ≡ true) → (xs : List X) → list_any s xs ≡ true
+    → list_any p (map g xs) ≡ true
 any_image g s p h [] e = e
 any_image {X} g s p h (x ∷ xs) e = by (s x) refl (any_image g s p h xs) e
   where
@@ -35,7 +36,8 @@ any_combination : (p : List Key → Bool) (q : Key → Bool) (s : List Key → B
 any_combination p q s h [] more e f = absurd cc
 any_combination p q s h (k ∷ keys) more e f = by (q k) refl (λ g. any_combination p q s h keys more g f) e
   where
-    by : (b : Bool) → q k ≡ b → (list_any q keys ≡ true → list_any p (combined more keys) ≡ true) → (b || list_any q keys) ≡ true → list_any p (map (λ ks. k ∷ ks) more ++ combined more keys) ≡ true
+    by : (b : Bool) → q k ≡ b → (list_any q keys ≡ true → list_any p (combined more keys) ≡ true) → (b || list_any q keys) ≡ true
+        → list_any p (map (λ ks. k ∷ ks) more ++ combined more keys) ≡ true
     by true so later g = any_append p (map (λ ks. k ∷ ks) more) (combined more keys) (any_image (λ ks. k ∷ ks) s p (λ ks. h k ks so) more f)
     by false not_so later g = append_any p (map (λ ks. k ∷ ks) more) (combined more keys) (later g)
 
@@ -61,7 +63,8 @@ some_key path ps = at (reach (parts_of path) (document ps))
 some_combination : (fs : List Field) (ps : Pairs) → HasSome (index_keys fs ps)
 some_combination [] ps = refl
 some_combination (f ∷ fs) ps =
-    any_combination (λ ks. true) (λ k. true) (λ ks. true) (λ k ks g h. refl) (field_keys f.path ps) (index_keys fs ps) (some_key f.path ps) (some_combination fs ps)
+    any_combination (λ ks. true) (λ k. true) (λ ks. true) (λ k ks g h. refl) (field_keys f.path ps) (index_keys fs ps) (some_key f.path ps)
+    (some_combination fs ps)
 
 abbrev pub IsAlone : List Key → Type 0
 IsAlone keys = (k : Key) × (keys ≡ k ∷ [])
@@ -112,7 +115,8 @@ module _ (keys : List Key) (some : HasSome keys) where
   one_end None (Some h) ml mh = mh
   one_end (Some l) high ml mh = any_more (lies_by l) (λ k. lies_by l k && true) (λ k. with_true (lies_by l k)) keys ml
 
-  ends : (multi : Bool) (low high : Option Bound) → (multi ≡ false → IsAlone keys) → Met low → Met high → list_any (λ k. lies_within low k && lies_within (upper_beside multi low high) k) keys ≡ true
+  ends : (multi : Bool) (low high : Option Bound) → (multi ≡ false → IsAlone keys) → Met low → Met high
+      → list_any (λ k. lies_within low k && lies_within (upper_beside multi low high) k) keys ≡ true
   ends true low high alone ml mh = one_end low high ml mh
   ends false low high alone ml mh = both_alone low high (alone refl) ml mh
 
@@ -154,7 +158,8 @@ module _ (rs : Conditions) (ps : Pairs) (multi : Bool) (matching : matches rs ps
           (some_combination fs ps)
       by (Some t) m later =
           let next = asked_next rs (drop (length (leading rs fs)) fs) in
-          any_combination (is_in (t ∷ leading rs fs) next.low (upper_beside multi next.low next.high)) (is_equal_to t) (is_in (leading rs fs) next.low (upper_beside multi next.low next.high))
+          any_combination (is_in (t ∷ leading rs fs) next.low (upper_beside multi next.low next.high)) (is_equal_to t)
+          (is_in (leading rs fs) next.low (upper_beside multi next.low next.high))
           (λ k ks g h. and_both (is_equal_to t k) (is_in (leading rs fs) next.low (upper_beside multi next.low next.high) ks) g h)
           (field_keys f.path ps) (index_keys fs ps) m later
 

@@ -1,5 +1,6 @@
 -- Behind the text of a value stands what follows it, in either direction.
-use Rattle.std.proofs.Common.{◌≡◌, ◌≢◌, ℕ, zero, suc, ◌+◌, ◌^◌, ◌<◌, ◌≤◌, Bool, true, false, List, [], ◌∷◌, ◌++◌, length, map, drop, Option, Some, None, inl, inr, refl, ◌∙◌, ap, subst, arith, append_assoc, length-append}
+use Rattle.std.proofs.Common.{◌≡◌, ◌≢◌, ℕ, zero, suc, ◌+◌, ◌^◌, ◌<◌, ◌≤◌, Bool, true, false, List, [], ◌∷◌, ◌++◌, length, map, drop, Option, Some, None, inl}
+use Rattle.std.proofs.Common.{inr, refl, ◌∙◌, ap, subst, arith, append_assoc, length-append}
 use Rattle.std.specs.Prelude.{◌==◌, if◌then◌else◌}
 use Rattle.std.specs.Fmt.{decimal}
 use Rattle.std.specs.Int.{w32, w64, to_be_bytes, from_be_bytes}
@@ -9,7 +10,8 @@ use Rattle.std.proofs.lemmas.Bool.{le-ltb}
 use Rattle.std.proofs.lemmas.Bool.Decides.{eqb_tells}
 use Rattle.std.proofs.lemmas.List.{length-map, map-append}
 use Rattle.std.proofs.lemmas.Nat.{from_be_bytes-to_be_bytes_4}
-use Rattle.bson.specs.Tree.{Scalar, text, binary, object_id, boolean, date, null, int32, timestamp, int64, min_key, max_key, Tree, scalar, document, array, Pairs, no_pairs, pair, Items, no_items, item}
+use Rattle.bson.specs.Tree.{Scalar, text, binary, object_id, boolean, date, null, int32, timestamp, int64, min_key, max_key, Tree, scalar, document, array}
+use Rattle.bson.specs.Tree.{Pairs, no_pairs, pair, Items, no_items, item}
 use Rattle.bson.specs.Lawful.{NoZero, IsScalar, IsTree, IsPairs, IsItems}
 use Rattle.bson.specs.Spelling.{tree_bytes, pairs_bytes, items_bytes}
 use Rattle.value_order.specs.CodingLaws.{class_above}
@@ -24,7 +26,8 @@ use Rattle.value_order.proofs.ScalarLaws.{IsSized}
 use Rattle.index.specs.Definition.{Field}
 use Rattle.index.specs.KeyTexts.{key_bytes}
 use Rattle.index.specs.Laws.{IsIndexKey}
-use Rattle.planner.specs.KeyScan.{plain, behind, behind_name, behind_string, number_in, behind_binary, behind_scalar, by_class, behind_value, behind_pairs, behind_items, behind_fields}
+use Rattle.planner.specs.KeyScan.{plain, behind, behind_name, behind_string, number_in, behind_binary, behind_scalar, by_class, behind_value, behind_pairs}
+use Rattle.planner.specs.KeyScan.{behind_items, behind_fields}
 use Rattle.planner.specs.KeyScanLaws.{FindsIdText}
 
 -- ---- bytes in a direction
@@ -85,19 +88,23 @@ string_behind Descending [] rest = refl
 string_behind Ascending (zero ∷ s) rest = string_behind Ascending s rest
 string_behind Descending (zero ∷ s) rest = string_behind Descending s rest
 string_behind d (suc b ∷ s) rest =
-    ap (λ (c : Bool). if c then behind_string d true (turned d (escaped_text s) ++ rest) else behind_string d false (turned d (escaped_text s) ++ rest)) (not_zero d (suc b) (omega arith))
+    ap (λ (c : Bool). if c then behind_string d true (turned d (escaped_text s) ++ rest) else behind_string d false (turned d (escaped_text s) ++ rest))
+    (not_zero d (suc b) (omega arith))
     ∙ string_behind d s rest
 
-binary_behind : (d : Direction) (kind : ℕ) (bytes rest : List ℕ) → length bytes < 2 ^ 32 → behind_binary d (turned d (to_be_bytes w32 (length bytes) ++ kind ∷ bytes) ++ rest) ≡ Some rest
+binary_behind : (d : Direction) (kind : ℕ) (bytes rest : List ℕ) → length bytes < 2 ^ 32
+    → behind_binary d (turned d (to_be_bytes w32 (length bytes) ++ kind ∷ bytes) ++ rest) ≡ Some rest
 binary_behind d kind bytes rest small =
     (λ i. if le-ltb (length (turned d (to_be_bytes w32 (length bytes) ++ kind ∷ bytes) ++ rest)) 4 (omega arith) i then None
     else behind (number i + 1) (turned d (kind ∷ bytes) ++ rest))
     ∙ behind_turned d (kind ∷ bytes) rest (length bytes + 1) (omega arith)
   where
     number : number_in d (turned d (to_be_bytes w32 (length bytes) ++ kind ∷ bytes) ++ rest) ≡ length bytes
-    number = ap (from_be_bytes w32) (all_back d (to_be_bytes w32 (length bytes)) (high_bytes 4 (length bytes))) ∙ from_be_bytes-to_be_bytes_4 (length bytes) small
+    number = ap (from_be_bytes w32) (all_back d (to_be_bytes w32 (length bytes)) (high_bytes 4 (length bytes)))
+        ∙ from_be_bytes-to_be_bytes_4 (length bytes) small
 
-scalar_behind : (d : Direction) (s : Scalar) (rest : List ℕ) → IsScalar s → IsSized s → behind_scalar d (scalar_class s) (turned d (scalar_text s) ++ rest) ≡ Some rest
+scalar_behind : (d : Direction) (s : Scalar) (rest : List ℕ) → IsScalar s → IsSized s
+    → behind_scalar d (scalar_class s) (turned d (scalar_text s) ++ rest) ≡ Some rest
 scalar_behind d (int32 z) rest h sized = behind_turned d (to_be_bytes w64 (sortable_bits z)) rest 8 refl
 scalar_behind d (int64 z) rest h sized = behind_turned d (to_be_bytes w64 (sortable_bits z)) rest 8 refl
 scalar_behind d (date z) rest h sized = behind_turned d (to_be_bytes w64 (sortable_bits z)) rest 8 refl
@@ -119,7 +126,8 @@ value_step d zero b bs rest some step = absurd (omega (arith, some))
 value_step d (suc n) b bs rest some step = step n refl
 
 pairs_step : (d : Direction) (steps b : ℕ) (bs rest : List ℕ) → 1 ≤ steps
-    → ((n : ℕ) → suc n ≡ steps → (if plain d b == 0 then Some bs else option_and_then (behind_pairs d n) (option_and_then (behind_value d n) (behind_name d bs))) ≡ Some rest)
+    → ((n : ℕ) → suc n ≡ steps
+    → (if plain d b == 0 then Some bs else option_and_then (behind_pairs d n) (option_and_then (behind_value d n) (behind_name d bs))) ≡ Some rest)
     → behind_pairs d steps (b ∷ bs) ≡ Some rest
 pairs_step d zero b bs rest some step = absurd (omega (arith, some))
 pairs_step d (suc n) b bs rest some step = step n refl
@@ -178,18 +186,22 @@ mutual
       → behind_value d steps (turned d (tree_text t) ++ rest) ≡ Some rest
   value_behind (scalar s) d steps rest h small fits =
       value_step d steps (plain d (scalar_class s)) (turned d (scalar_text s) ++ rest) rest (omega (arith, fits)) (λ n e.
-      (λ i. by_class (plain_back d (scalar_class s) (class_below (scalar s)) i) (behind_pairs d n (turned d (scalar_text s) ++ rest)) (behind_items d n (turned d (scalar_text s) ++ rest))
+      (λ i. by_class (plain_back d (scalar_class s) (class_below (scalar s)) i) (behind_pairs d n (turned d (scalar_text s) ++ rest))
+      (behind_items d n (turned d (scalar_text s) ++ rest))
       (behind_scalar d (plain_back d (scalar_class s) (class_below (scalar s)) i) (turned d (scalar_text s) ++ rest)))
-      ∙ scalar_way s (behind_pairs d n (turned d (scalar_text s) ++ rest)) (behind_items d n (turned d (scalar_text s) ++ rest)) (behind_scalar d (scalar_class s) (turned d (scalar_text s) ++ rest))
+      ∙ scalar_way s (behind_pairs d n (turned d (scalar_text s) ++ rest)) (behind_items d n (turned d (scalar_text s) ++ rest))
+      (behind_scalar d (scalar_class s) (turned d (scalar_text s) ++ rest))
       ∙ scalar_behind d s rest h (sized s small))
   value_behind (document ps) d steps rest h small fits =
       value_step d steps (plain d 0x50) (turned d (pairs_text ps) ++ rest) rest (omega (arith, fits)) (λ n e.
-      (λ i. by_class (plain_back d 0x50 (omega arith) i) (behind_pairs d n (turned d (pairs_text ps) ++ rest)) (behind_items d n (turned d (pairs_text ps) ++ rest))
+      (λ i. by_class (plain_back d 0x50 (omega arith) i) (behind_pairs d n (turned d (pairs_text ps) ++ rest))
+      (behind_items d n (turned d (pairs_text ps) ++ rest))
       (behind_scalar d (plain_back d 0x50 (omega arith) i) (turned d (pairs_text ps) ++ rest)))
       ∙ pairs_behind ps d n rest h (omega (arith, small, length-append (pairs_bytes ps) (0 ∷ []))) (omega (arith, fits, e)))
   value_behind (array ts) d steps rest h small fits =
       value_step d steps (plain d 0x60) (turned d (items_text ts) ++ rest) rest (omega (arith, fits)) (λ n e.
-      (λ i. by_class (plain_back d 0x60 (omega arith) i) (behind_pairs d n (turned d (items_text ts) ++ rest)) (behind_items d n (turned d (items_text ts) ++ rest))
+      (λ i. by_class (plain_back d 0x60 (omega arith) i) (behind_pairs d n (turned d (items_text ts) ++ rest))
+      (behind_items d n (turned d (items_text ts) ++ rest))
       (behind_scalar d (plain_back d 0x60 (omega arith) i) (turned d (items_text ts) ++ rest)))
       ∙ items_behind ts d n 0 rest h (omega (arith, small, length-append (items_bytes 0 ts) (0 ∷ []))) (omega (arith, fits, e)))
 
@@ -203,7 +215,8 @@ mutual
       let long : length (name ++ 0 ∷ after) ≡ length name + (1 + (length (tree_text t) + length (pairs_text ps))) =
       length-append name (0 ∷ after) ∙ ap (λ (k : ℕ). length name + k) (omega (arith, length-append (tree_text t) (pairs_text ps))) in
       pairs_step d steps (plain d (class t)) (turned d (name ++ 0 ∷ after) ++ rest) rest (omega (arith, fits)) (λ n e.
-      ap (λ (c : Bool). if c then Some (turned d (name ++ 0 ∷ after) ++ rest) else option_and_then (behind_pairs d n) (option_and_then (behind_value d n) (behind_name d (turned d (name ++ 0 ∷ after) ++ rest))))
+      ap (λ (c : Bool). if c then Some (turned d (name ++ 0 ∷ after) ++ rest)
+      else option_and_then (behind_pairs d n) (option_and_then (behind_value d n) (behind_name d (turned d (name ++ 0 ∷ after) ++ rest))))
       (not_zero d (class t) (λ z. omega (arith, z, class_above t)))
       ∙ ap (λ (o : Option (List ℕ)). option_and_then (behind_pairs d n) (option_and_then (behind_value d n) o)) (name_behind d name after rest h.0.no_zero)
       ∙ ap (λ (xs : List ℕ). option_and_then (behind_pairs d n) (behind_value d n xs)) (turned_append d (tree_text t) (pairs_text ps) rest)
@@ -221,12 +234,14 @@ mutual
   items_behind (item t ts) d steps i rest h small fits =
       let long : length (content_text t ++ items_text ts) ≡ length (content_text t) + length (items_text ts) = length-append (content_text t) (items_text ts) in
       items_step d steps (plain d (class t)) (turned d (content_text t ++ items_text ts) ++ rest) rest (omega (arith, fits)) (λ n e.
-      ap (λ (c : Bool). if c then Some (turned d (content_text t ++ items_text ts) ++ rest) else option_and_then (behind_items d n) (behind_value d n (turned d (tree_text t ++ items_text ts) ++ rest)))
+      ap (λ (c : Bool). if c then Some (turned d (content_text t ++ items_text ts) ++ rest)
+      else option_and_then (behind_items d n) (behind_value d n (turned d (tree_text t ++ items_text ts) ++ rest)))
       (not_zero d (class t) (λ z. omega (arith, z, class_above t)))
       ∙ ap (λ (xs : List ℕ). option_and_then (behind_items d n) (behind_value d n xs)) (turned_append d (tree_text t) (items_text ts) rest)
       ∙ ap (λ (o : Option (List ℕ)). option_and_then (behind_items d n) o)
       (value_behind t d n (turned d (items_text ts) ++ rest) h.0
-      (omega (arith, small, length-append (decimal i ++ 0 ∷ tree_bytes t) (items_bytes (i + 1) ts), length-append (decimal i) (0 ∷ tree_bytes t))) (omega (arith, fits, e, long, items_some ts)))
+      (omega (arith, small, length-append (decimal i ++ 0 ∷ tree_bytes t) (items_bytes (i + 1) ts), length-append (decimal i) (0 ∷ tree_bytes t)))
+      (omega (arith, fits, e, long, items_some ts)))
       ∙ items_behind ts d n (i + 1) rest h.1
       (omega (arith, small, length-append (decimal i ++ 0 ∷ tree_bytes t) (items_bytes (i + 1) ts))) (omega (arith, fits, e, long)))
 
@@ -240,25 +255,30 @@ directed_is : (d : Direction) (k : Key) → directed_text d k ≡ turned d (key_
 directed_is Ascending k = id_mapped (key_text k)
 directed_is Descending k = refl
 
-plain_key : (d : Direction) (k : Key) (steps : ℕ) (rest : List ℕ) → IsKey k → length (key_text k) ≤ steps → behind_value d steps (turned d (key_text k) ++ rest) ≡ Some rest
+plain_key : (d : Direction) (k : Key) (steps : ℕ) (rest : List ℕ) → IsKey k → length (key_text k) ≤ steps
+    → behind_value d steps (turned d (key_text k) ++ rest) ≡ Some rest
 plain_key d empty_array steps rest h fits =
     value_step d steps (plain d 0x18) rest rest (omega (arith, fits)) (λ n e.
-    (λ i. by_class (plain_back d 0x18 (omega arith) i) (behind_pairs d n rest) (behind_items d n rest) (behind_scalar d (plain_back d 0x18 (omega arith) i) rest)))
+    (λ i. by_class (plain_back d 0x18 (omega arith) i) (behind_pairs d n rest) (behind_items d n rest)
+    (behind_scalar d (plain_back d 0x18 (omega arith) i) rest)))
 plain_key d (value t) steps rest h fits = value_behind t d steps rest h.0 (omega (arith, h.1)) fits
 
-key_behind : (d : Direction) (k : Key) (steps : ℕ) (rest : List ℕ) → IsKey k → length (directed_text d k) ≤ steps → behind_value d steps (directed_text d k ++ rest) ≡ Some rest
+key_behind : (d : Direction) (k : Key) (steps : ℕ) (rest : List ℕ) → IsKey k → length (directed_text d k) ≤ steps
+    → behind_value d steps (directed_text d k ++ rest) ≡ Some rest
 key_behind d k steps rest h fits =
     ap (λ (xs : List ℕ). behind_value d steps (xs ++ rest)) (directed_is d k)
     ∙ plain_key d k steps rest h (omega (arith, fits, ap length (directed_is d k), turned_length d (key_text k)))
 
 -- ---- the keys of an index
 
-fields_behind : (fs : List Field) (ks : List Key) (steps : ℕ) (id : List ℕ) → IsIndexKey fs ks → length (key_bytes fs ks) ≤ steps → behind_fields fs steps (key_bytes fs ks ++ id) ≡ Some id
+fields_behind : (fs : List Field) (ks : List Key) (steps : ℕ) (id : List ℕ) → IsIndexKey fs ks → length (key_bytes fs ks) ≤ steps
+    → behind_fields fs steps (key_bytes fs ks ++ id) ≡ Some id
 fields_behind [] [] steps id h fits = refl
 fields_behind [] (k ∷ ks) steps id h fits = absurd h
 fields_behind (f ∷ fs) [] steps id h fits = absurd h
 fields_behind (f ∷ fs) (k ∷ ks) steps id h fits =
-    ap (λ (xs : List ℕ). option_and_then (behind_fields fs steps) (behind_value f.direction steps xs)) (append_assoc (directed_text f.direction k) (key_bytes fs ks) id)
+    ap (λ (xs : List ℕ). option_and_then (behind_fields fs steps) (behind_value f.direction steps xs))
+    (append_assoc (directed_text f.direction k) (key_bytes fs ks) id)
     ∙ ap (λ (o : Option (List ℕ)). option_and_then (behind_fields fs steps) o)
     (key_behind f.direction k steps (key_bytes fs ks ++ id) h.0 (omega (arith, fits, length-append (directed_text f.direction k) (key_bytes fs ks))))
     ∙ fields_behind fs ks steps id h.1 (omega (arith, fits, length-append (directed_text f.direction k) (key_bytes fs ks)))

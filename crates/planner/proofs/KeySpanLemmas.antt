@@ -14,7 +14,8 @@ use Rattle.bson.specs.Tree.{Tree, array, scalar, document}
 use Rattle.value_order.specs.Order.{bytes_cmp}
 use Rattle.value_order.specs.declared.texts.Direction.{Direction}
 use Rattle.value_order.specs.declared.texts.Direction.TheVariants.{Ascending, Descending}
-use Rattle.filter.specs.Condition.{equal, ordered, there, of_kinds, size, Condition, all, any, not_all, not_any, at, is, element, element_document, Conditions, no_conditions, condition}
+use Rattle.filter.specs.Condition.{equal, ordered, there, of_kinds, size, Condition, all, any, not_all, not_any, at, is, element, element_document, Conditions}
+use Rattle.filter.specs.Condition.{no_conditions, condition}
 use Rattle.filter.specs.Matches.{allows}
 use Rattle.filter.specs.declared.condition.Comparison.{Comparison}
 use Rattle.filter.specs.declared.condition.Comparison.TheVariants.{Below, AtMost, Above, AtLeast}
@@ -126,7 +127,8 @@ not_below [] (m ∷ bytes) e = refl
 not_below (n ∷ text) [] e = absurd cc
 not_below (n ∷ text) (m ∷ bytes) e = by (nat_cmp m n) (not_below text bytes) e
   where
-    by : (o : Ordering) → (is_lt (place_by text bytes) ≡ false → is_lt (bytes_cmp bytes text) ≡ false) → is_lt (ordering_then o (place_by text bytes)) ≡ false → is_lt (ordering_then o (bytes_cmp bytes text)) ≡ false
+    by : (o : Ordering) → (is_lt (place_by text bytes) ≡ false → is_lt (bytes_cmp bytes text) ≡ false) → is_lt (ordering_then o (place_by text bytes)) ≡ false
+        → is_lt (ordering_then o (bytes_cmp bytes text)) ≡ false
     by Less later f = absurd cc
     by Equal later f = later f
     by Greater later f = refl
@@ -158,19 +160,24 @@ above_nothing (m ∷ bytes) = refl
 of_class : (d : Direction) (b : Bound) (rest : List ℕ) → bytes_lie_by d b rest ≡ true → is_of_class (bound_text d b) rest ≡ true
 of_class d b rest e = and_first (is_of_class (bound_text d b) rest) (allows b.comparison (in_direction d (place_by (bound_text d b) rest))) e
 
-placed : (d : Direction) (b : Bound) (rest : List ℕ) → bytes_lie_by d b rest ≡ true → allows b.comparison (in_direction d (place_by (bound_text d b) rest)) ≡ true
+placed : (d : Direction) (b : Bound) (rest : List ℕ) → bytes_lie_by d b rest ≡ true
+    → allows b.comparison (in_direction d (place_by (bound_text d b) rest)) ≡ true
 placed d b rest e = and_second (is_of_class (bound_text d b) rest) (allows b.comparison (in_direction d (place_by (bound_text d b) rest))) e
 
-least_holds : (d : Direction) (low high : Option Bound) → IfSome low IsLow → IfSome high IsHigh → (rest : List ℕ) → bytes_within d low rest ≡ true → bytes_within d high rest ≡ true → is_lt (bytes_cmp rest (least_end d low high)) ≡ false
-least_holds Ascending (Some b) high sl sh rest wl wh = not_below (bound_text Ascending b) rest (sl (place_by (bound_text Ascending b) rest) (placed Ascending b rest wl))
+least_holds : (d : Direction) (low high : Option Bound) → IfSome low IsLow → IfSome high IsHigh → (rest : List ℕ) → bytes_within d low rest ≡ true
+    → bytes_within d high rest ≡ true → is_lt (bytes_cmp rest (least_end d low high)) ≡ false
+least_holds Ascending (Some b) high sl sh rest wl wh =
+    not_below (bound_text Ascending b) rest (sl (place_by (bound_text Ascending b) rest) (placed Ascending b rest wl))
 least_holds Ascending None (Some b) sl sh rest wl wh = class_below (bound_text Ascending b) rest (of_class Ascending b rest wh)
 least_holds Ascending None None sl sh rest wl wh = above_nothing rest
 least_holds Descending low (Some b) sl sh rest wl wh =
-    not_below (bound_text Descending b) rest (turn_low (place_by (bound_text Descending b) rest) (sh (ordering_reverse (place_by (bound_text Descending b) rest)) (placed Descending b rest wh)))
+    not_below (bound_text Descending b) rest
+    (turn_low (place_by (bound_text Descending b) rest) (sh (ordering_reverse (place_by (bound_text Descending b) rest)) (placed Descending b rest wh)))
 least_holds Descending (Some b) None sl sh rest wl wh = class_below (bound_text Descending b) rest (of_class Descending b rest wl)
 least_holds Descending None None sl sh rest wl wh = above_nothing rest
 
-greatest_holds : (d : Direction) (low high : Option Bound) → IfSome low IsLow → IfSome high IsHigh → (rest : List ℕ) → bytes_within d low rest ≡ true → bytes_within d high rest ≡ true → is_gt (place_by (least_end d high low) rest) ≡ false
+greatest_holds : (d : Direction) (low high : Option Bound) → IfSome low IsLow → IfSome high IsHigh → (rest : List ℕ) → bytes_within d low rest ≡ true
+    → bytes_within d high rest ≡ true → is_gt (place_by (least_end d high low) rest) ≡ false
 greatest_holds Ascending low (Some b) sl sh rest wl wh = sh (place_by (bound_text Ascending b) rest) (placed Ascending b rest wh)
 greatest_holds Ascending (Some b) None sl sh rest wl wh = ap is_gt (class_place (bound_text Ascending b) rest (of_class Ascending b rest wl))
 greatest_holds Ascending None None sl sh rest wl wh = refl
@@ -210,7 +217,8 @@ spanned fs r key sl sh e =
     let front = front_text fs r.equal in
     let next = drop (length r.equal) fs in
     let rest = drop (length front) key in
-    let begins = (bytes_eq-Decides (take (length front) key) front).0 (and_first (bytes_eq (take (length front) key) front) (first_bytes_lie r.low r.high next rest) e) in
+    let begins =
+    (bytes_eq-Decides (take (length front) key) front).0 (and_first (bytes_eq (take (length front) key) front) (first_bytes_lie r.low r.high next rest) e) in
     let parts : front ++ rest ≡ key = ap (λ (p : List ℕ). p ++ rest) (sym begins) ∙ take-append-drop (length front) key in
     let ends = ends_hold r.low r.high sl sh next rest (and_second (bytes_eq (take (length front) key) front) (first_bytes_lie r.low r.high next rest) e) in
     subst (λ (k : List ℕ). IsSpanned fs r k) parts (behind_front front (least_text r.low r.high next) (least_text r.high r.low next) rest ends.0 ends.1)

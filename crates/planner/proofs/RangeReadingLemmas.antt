@@ -33,7 +33,8 @@ pub record IsPassing (fs : List Field) (p : List Key → Bool) (keys : List (Lis
   pub spellable : IsIndexKey fs one
   pub passes : p one ≡ true
 
-pub passing : (fs : List Field) (p : List Key → Bool) (keys : List (List Key)) → AllByRecursion (IsIndexKey fs) keys → list_any p keys ≡ true → IsPassing fs p keys
+pub passing : (fs : List Field) (p : List Key → Bool) (keys : List (List Key)) → AllByRecursion (IsIndexKey fs) keys → list_any p keys ≡ true
+    → IsPassing fs p keys
 passing fs p [] g e = absurd cc
 passing fs p (ks ∷ keys) g e = by (p ks) refl (passing fs p keys g.1) e
   where
@@ -45,10 +46,12 @@ passing fs p (ks ∷ keys) g e = by (p ks) refl (passing fs p keys g.1) e
 pub encoded_there : (fs : List Field) (d : Pairs) (ks : List Key) → Among ks (index_keys fs d) → Among (key_bytes fs ks) (encoded_keys fs d)
 encoded_there fs d ks there =
     let keys = map (key_bytes fs) (index_keys fs d) in
-    test_among (encoded_keys fs d) (key_bytes fs ks) (set_among keys (key_bytes fs ks) ∙ among_test keys (key_bytes fs ks) (among_image (key_bytes fs) ks (index_keys fs d) there))
+    test_among (encoded_keys fs d) (key_bytes fs ks)
+    (set_among keys (key_bytes fs ks) ∙ among_test keys (key_bytes fs ks) (among_image (key_bytes fs) ks (index_keys fs d) there))
 
 -- the text of the `_id` is found behind a document's key
-pub id_behind : (fs : List Field) (d : Pairs) (key text : List ℕ) → IsStorable d → Among key (encoded_keys fs d) → text ≡ key ++ tree_text (key_of d) → id_text fs text ≡ Some (tree_text (key_of d))
+pub id_behind : (fs : List Field) (d : Pairs) (key text : List ℕ) → IsStorable d → Among key (encoded_keys fs d) → text ≡ key ++ tree_text (key_of d)
+    → id_text fs text ≡ Some (tree_text (key_of d))
 id_behind fs d key text stored there is =
     let e : IsEncoded fs key = encoded_of fs d key stored there in
     ap (id_text fs) (is ∙ ap (λ (k : List ℕ). k ++ tree_text (key_of d)) e.is) ∙ finds_id_text fs e.keys (tree_text (key_of d)) e.spellable
@@ -67,9 +70,11 @@ range_finds_matching rs sort i ds texts noted spelled storable read = (to, from)
     from : (d : Pairs) → Contains ds d → matches rs d ≡ true → (text : List ℕ) × Contains texts text × (id_text i.fields text ≡ Some (tree_text (key_of d)))
     from d h e =
         let r = range_in rs sort (Some i) in
-        let multi : is_multikey i.fields d ≡ true → is_multi (Some i) ≡ true = of_all (λ x. is_multikey i.fields x ≡ true → is_multi (Some i) ≡ true) ds d noted (among_of ds d h) in
+        let multi : is_multikey i.fields d ≡ true
+        → is_multi (Some i) ≡ true = of_all (λ x. is_multikey i.fields x ≡ true → is_multi (Some i) ≡ true) ds d noted (among_of ds d h) in
         let k : IsPassing i.fields (has_key r) (index_keys i.fields d) =
-        passing i.fields (has_key r) (index_keys i.fields d) (keys_spellable i.fields d (document_is_key d (stored d h))) (has_key_in_range rs sort (Some i) d multi e) in
+        passing i.fields (has_key r) (index_keys i.fields d) (keys_spellable i.fields d (document_is_key d (stored d h)))
+        (has_key_in_range rs sort (Some i) d multi e) in
         let key : List ℕ = key_bytes i.fields k.one in
         let there : Among key (encoded_keys i.fields d) = encoded_there i.fields d k.one k.there in
         let text : List ℕ = key ++ tree_text (key_of d) in

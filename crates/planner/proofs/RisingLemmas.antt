@@ -117,7 +117,8 @@ module _ {X : Type 0} (cmp : X → X → Ordering) where
   among_insert z x [] g = g
   among_insert z x (y ∷ ys) g = by (cmp x y) (among_insert z x ys) g
     where
-      by : (c : Ordering) → (Among z (insert_in_order cmp x ys) → (z ≡ x) ⊎ Among z ys) → Among z (put_before c x y (insert_in_order cmp x ys) ys) → (z ≡ x) ⊎ Among z (y ∷ ys)
+      by : (c : Ordering) → (Among z (insert_in_order cmp x ys) → (z ≡ x) ⊎ Among z ys) → Among z (put_before c x y (insert_in_order cmp x ys) ys)
+          → (z ≡ x) ⊎ Among z (y ∷ ys)
       by Less later h = h
       by Equal later h = h
       by Greater later (inl e) = inr (inl e)
@@ -127,7 +128,8 @@ module _ {X : Type 0} (cmp : X → X → Ordering) where
   insert_among z x [] g = g
   insert_among z x (y ∷ ys) g = by (cmp x y) (insert_among z x ys) g
     where
-      by : (c : Ordering) → ((z ≡ x) ⊎ Among z ys → Among z (insert_in_order cmp x ys)) → (z ≡ x) ⊎ Among z (y ∷ ys) → Among z (put_before c x y (insert_in_order cmp x ys) ys)
+      by : (c : Ordering) → ((z ≡ x) ⊎ Among z ys → Among z (insert_in_order cmp x ys)) → (z ≡ x) ⊎ Among z (y ∷ ys)
+          → Among z (put_before c x y (insert_in_order cmp x ys) ys)
       by Less later h = h
       by Equal later h = h
       by Greater later (inl e) = inr (later (inl e))
@@ -173,7 +175,8 @@ module _ {X : Type 0} (cmp next : X → X → Ordering) (c : IsTotalOrder cmp) (
       in_front : both cmp next x y ≡ Less → Rises (both cmp next) (x ∷ y ∷ ys)
       in_front e = ((e, below_all (both cmp next) total x y ys e r.0), r)
 
-      at : (o : Ordering) → cmp x y ≡ o → Rises (both cmp next) (insert_in_order cmp x ys) → Rises (both cmp next) (put_before o x y (insert_in_order cmp x ys) ys)
+      at : (o : Ordering) → cmp x y ≡ o → Rises (both cmp next) (insert_in_order cmp x ys)
+          → Rises (both cmp next) (put_before o x y (insert_in_order cmp x ys) ys)
       at Less e later = in_front (first Less e refl)
       at Equal e later = in_front (first Equal e h.0)
       at Greater e later =
@@ -192,7 +195,8 @@ module _ {X : Type 0} (p : X → Bool) where
   filter_among z [] g = absurd g
   filter_among z (x ∷ xs) g = by (p x) refl (filter_among z xs) g
     where
-      by : (b : Bool) → p x ≡ b → (Among z (filter p xs) → Among z xs × (p z ≡ true)) → Among z (cond b (x ∷ filter p xs) (filter p xs)) → Among z (x ∷ xs) × (p z ≡ true)
+      by : (b : Bool) → p x ≡ b → (Among z (filter p xs) → Among z xs × (p z ≡ true)) → Among z (cond b (x ∷ filter p xs) (filter p xs))
+          → Among z (x ∷ xs) × (p z ≡ true)
       by true so later (inl e) = (inl e, ap p e ∙ so)
       by true so later (inr h) = (inr (later h).0, (later h).1)
       by false so later h = (inr (later h).0, (later h).1)

@@ -57,7 +57,8 @@ turned Less = refl
 turned Equal = refl
 turned Greater = refl
 
-same_direction : (descending : Bool) (way : Direction) (a b : Key) → is_direction descending way ≡ true → directed_cmp way a b ≡ in_direction descending (key_cmp a b)
+same_direction : (descending : Bool) (way : Direction) (a b : Key) → is_direction descending way ≡ true
+    → directed_cmp way a b ≡ in_direction descending (key_cmp a b)
 same_direction true Ascending a b e = absurd cc
 same_direction false Ascending a b e = refl
 same_direction true Descending a b e = turned (key_cmp a b)
@@ -84,7 +85,8 @@ first_of f fs d ks single g =
     only a b (inl e) = e
     only a b (inr h) = absurd h
 
-keys_sort : (sort : List SortField) (fs : List Field) (d e : Pairs) (ks ls : List Key) → sorts_as sort fs ≡ true → is_multikey fs d ≡ false → is_multikey fs e ≡ false
+keys_sort : (sort : List SortField) (fs : List Field) (d e : Pairs) (ks ls : List Key) → sorts_as sort fs ≡ true → is_multikey fs d ≡ false
+    → is_multikey fs e ≡ false
     → Among ks (index_keys fs d) → Among ls (index_keys fs e) → index_key_cmp fs ks ls ≡ compare_by sort d e
 keys_sort [] [] d e ks ls same sd se gd ge = refl
 keys_sort [] (f ∷ fs) d e ks ls same sd se gd ge = absurd cc
@@ -97,7 +99,8 @@ keys_sort (s ∷ sort) (f ∷ fs) d e ks ls same sd se gd ge =
     let ae = either_array (field_meets_array e f) (is_multikey fs e) se in
     let k = first_of f fs d ks ad.0 gd in
     let l = first_of f fs e ls ae.0 ge in
-    let later : index_key_cmp fs k.1 l.1 ≡ compare_by sort d e = keys_sort sort fs d e k.1 l.1 (and_second (is_sorted_at s f) (sorts_as sort fs) same) ad.1 ae.1 k.4 l.4 in
+    let later : index_key_cmp fs k.1 l.1 ≡ compare_by sort d e =
+    keys_sort sort fs d e k.1 l.1 (and_second (is_sorted_at s f) (sorts_as sort fs) same) ad.1 ae.1 k.4 l.4 in
     (λ i. index_key_cmp (f ∷ fs) (k.2 i) (l.2 i))
     ∙ ap (λ (o : Ordering). ordering_then o (index_key_cmp fs k.1 l.1)) (same_direction s.1 f.direction k.0 l.0 way)
     ∙ (λ i. ordering_then (in_direction s.1 (key_cmp (sym (sort_key_is s f d k.0 there k.3) i) (sym (sort_key_is s f e l.0 there l.3) i))) (later i))
@@ -122,12 +125,15 @@ walks_in_order rs sort i ds d e ks ls collection sorted noted storable gd ge hk 
     let stored_d = of_all IsStorable ds d storable (among_of ds d gd) in
     let stored_e = of_all IsStorable ds e storable (among_of ds e ge) in
     let one_array = not_multi i.is_multi (sorts_as sort i.fields) sorted in
-    let single_d = single_of (is_multikey i.fields d) i.is_multi (of_all (λ x. is_multikey i.fields x ≡ true → i.is_multi ≡ true) ds d noted (among_of ds d gd)) one_array in
-    let single_e = single_of (is_multikey i.fields e) i.is_multi (of_all (λ x. is_multikey i.fields x ≡ true → i.is_multi ≡ true) ds e noted (among_of ds e ge)) one_array in
+    let single_d =
+    single_of (is_multikey i.fields d) i.is_multi (of_all (λ x. is_multikey i.fields x ≡ true → i.is_multi ≡ true) ds d noted (among_of ds d gd)) one_array in
+    let single_e =
+    single_of (is_multikey i.fields e) i.is_multi (of_all (λ x. is_multikey i.fields x ≡ true → i.is_multi ≡ true) ds e noted (among_of ds e ge)) one_array in
     let ak = among_of (index_keys i.fields d) ks hk in
     let al = among_of (index_keys i.fields e) ls hl in
     entries_order collection i.number i.fields ks ls (key_of d) (key_of e)
     (each_among (IsIndexKey i.fields) (index_keys i.fields d) ks (keys_spellable i.fields d (document_is_key d stored_d)) ak)
     (each_among (IsIndexKey i.fields) (index_keys i.fields e) ls (keys_spellable i.fields e (document_is_key e stored_e)) al)
     (id_is_key d stored_d) (id_is_key e stored_e)
-    ∙ ap (λ (o : Ordering). ordering_then o (compare (key_of d) (key_of e))) (keys_sort sort i.fields d e ks ls (and_second (not i.is_multi) (sorts_as sort i.fields) sorted) single_d single_e ak al)
+    ∙ ap (λ (o : Ordering). ordering_then o (compare (key_of d) (key_of e)))
+    (keys_sort sort i.fields d e ks ls (and_second (not i.is_multi) (sorts_as sort i.fields) sorted) single_d single_e ak al)

@@ -1,5 +1,6 @@
 -- What is put where no field or no value is left.
-use Rattle.std.proofs.Common.{◌≡◌, ℕ, zero, suc, ◌≤◌, List, [], ◌∷◌, ◌++◌, length, drop, Option, Some, None, Result, Ok, Err, refl, sym, ap, ◌∙◌, arith, append-nil}
+use Rattle.std.proofs.Common.{◌≡◌, ℕ, zero, suc, ◌≤◌, List, [], ◌∷◌, ◌++◌, length, drop, Option, Some, None, Result, Ok, Err, refl, sym, ap, ◌∙◌, arith}
+use Rattle.std.proofs.Common.{append-nil}
 use Rattle.std.specs.Prelude.{OnOk, slice_get}
 use Rattle.std.specs.Borrow.{Bor}
 use Rattle.bson.specs.declared.value.Value.{Value}
@@ -24,7 +25,8 @@ least_nowhere low high (f ∷ fs) (suc i) e = least_nowhere low high fs i e
 pub nothing_put : (low high : Option Bound) (fs : List Field) (i : ℕ) (out : List ℕ) → None ≡ slice_get fs i → out ≡ out ++ least_text low high (drop i fs)
 nothing_put low high fs i out e = sym (append-nil out) ∙ ap (λ (t : List ℕ). out ++ t) (least_nowhere low high fs i e)
 
-pub least_here : (low high : Option Bound) (fs : List Field) (i : ℕ) (f : Field) → Some f ≡ slice_get fs i → least_end f.direction low high ≡ least_text low high (drop i fs)
+pub least_here : (low high : Option Bound) (fs : List Field) (i : ℕ) (f : Field) → Some f ≡ slice_get fs i
+    → least_end f.direction low high ≡ least_text low high (drop i fs)
 least_here low high [] zero f e = absurd cc
 least_here low high [] (suc i) f e = absurd cc
 least_here low high (g ∷ fs) zero f e = let same : f ≡ g = cc in ap (λ (h : Field). least_end h.direction low high) same
@@ -42,6 +44,7 @@ no_values_left [] (suc i) past = refl
 no_values_left (o ∷ os) zero past = absurd (omega (arith, past))
 no_values_left (o ∷ os) (suc i) past = no_values_left os i (omega (arith, past))
 
-pub all_put : (os : List (Option (Bor Value))) (i : ℕ) (fs : List Field) (out whole : List ℕ) → length os ≤ i → out ++ front_text fs (values_of (drop i os)) ≡ whole → out ≡ whole
+pub all_put : (os : List (Option (Bor Value))) (i : ℕ) (fs : List Field) (out whole : List ℕ) → length os ≤ i
+    → out ++ front_text fs (values_of (drop i os)) ≡ whole → out ≡ whole
 all_put os i fs out whole past e =
     sym (append-nil out) ∙ ap (λ (p : List ℕ). out ++ p) (sym (ap (front_text fs) (no_values_left os i past) ∙ front_of_none fs)) ∙ e

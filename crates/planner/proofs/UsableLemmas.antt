@@ -6,11 +6,13 @@ use Rattle.std.specs.List.{list_any, flat_map}
 use Rattle.std.specs.Str.{bytes_eq}
 use Rattle.std.proofs.lemmas.List.Folds.{list_any-append}
 use Rattle.std.proofs.lemmas.Slice.Eq.{bytes_eq-Decides}
-use Rattle.bson.specs.Tree.{Tree, scalar, text, binary, object_id, boolean, date, null, int32, timestamp, int64, min_key, max_key, document, array, Pairs, Items, no_items, item}
+use Rattle.bson.specs.Tree.{Tree, scalar, text, binary, object_id, boolean, date, null, int32, timestamp, int64, min_key, max_key, document, array, Pairs}
+use Rattle.bson.specs.Tree.{Items, no_items, item}
 use Rattle.path.specs.Parts.{is_front}
 use Rattle.path.specs.Reach.{Reached, reach, items_list, candidates}
 use Rattle.value_order.specs.Order.{Key, empty_array, value, class, compare}
-use Rattle.filter.specs.Condition.{equal, ordered, there, of_kinds, size, Condition, all, any, not_all, not_any, at, is, element, element_document, Conditions, no_conditions, condition}
+use Rattle.filter.specs.Condition.{equal, ordered, there, of_kinds, size, Condition, all, any, not_all, not_any, at, is, element, element_document, Conditions}
+use Rattle.filter.specs.Condition.{no_conditions, condition}
 use Rattle.filter.specs.Matches.{is_equal, allows, is_null, candidate_passes, passes, whole, along, holds, all_hold, matches}
 use Rattle.filter.specs.declared.condition.Comparison.{Comparison}
 use Rattle.filter.specs.declared.condition.Comparison.TheVariants.{Below, AtMost, Above, AtLeast}
@@ -63,12 +65,14 @@ on_keys : (p : Tree → Bool) (ts : List Tree) → list_any p ts ≡ true → li
 on_keys p [] e = e
 on_keys p (t ∷ ts) e = by (p t) (on_keys p ts) e
   where
-    by : (b : Bool) → (list_any p ts ≡ true → list_any (on_key p) (map value ts) ≡ true) → (b || list_any p ts) ≡ true → (b || list_any (on_key p) (map value ts)) ≡ true
+    by : (b : Bool) → (list_any p ts ≡ true → list_any (on_key p) (map value ts) ≡ true) → (b || list_any p ts) ≡ true
+        → (b || list_any (on_key p) (map value ts)) ≡ true
     by true later f = refl
     by false later f = later f
 
 -- what one of the candidates passes, and no array, one of the keys passes
-key_of_candidate : (p : Tree → Bool) → ((ts : Items) → p (array ts) ≡ false) → (r : Reached) → list_any p (candidates r) ≡ true → list_any (on_key p) (keys_of r) ≡ true
+key_of_candidate : (p : Tree → Bool) → ((ts : Items) → p (array ts) ≡ false) → (r : Reached) → list_any p (candidates r) ≡ true
+    → list_any (on_key p) (keys_of r) ≡ true
 key_of_candidate p none None e = absurd cc
 key_of_candidate p none (Some (array no_items)) e = absurd (let f = or_second (p (array no_items)) false (none no_items) e in cc)
 key_of_candidate p none (Some (array (item t ts))) e =
@@ -82,15 +86,18 @@ any_append p xs ys e = list_any-append p xs ys ∙ ap (λ (b : Bool). b || list_
 pub append_any : {X : Type 0} (p : X → Bool) (xs ys : List X) → list_any p ys ≡ true → list_any p (xs ++ ys) ≡ true
 append_any p xs ys e = list_any-append p xs ys ∙ or_last (list_any p xs) (list_any p ys) e
 
-each_reached : (q : Reached → Bool) (p : Key → Bool) → ((r : Reached) → q r ≡ true → list_any p (keys_of r) ≡ true) → (rs : List Reached) → list_any q rs ≡ true → list_any p (flat_map keys_of rs) ≡ true
+each_reached : (q : Reached → Bool) (p : Key → Bool) → ((r : Reached) → q r ≡ true → list_any p (keys_of r) ≡ true) → (rs : List Reached)
+    → list_any q rs ≡ true → list_any p (flat_map keys_of rs) ≡ true
 each_reached q p h [] e = absurd cc
 each_reached q p h (r ∷ rs) e = by (q r) refl (each_reached q p h rs) e
   where
-    by : (b : Bool) → q r ≡ b → (list_any q rs ≡ true → list_any p (flat_map keys_of rs) ≡ true) → (b || list_any q rs) ≡ true → list_any p (keys_of r ++ flat_map keys_of rs) ≡ true
+    by : (b : Bool) → q r ≡ b → (list_any q rs ≡ true → list_any p (flat_map keys_of rs) ≡ true) → (b || list_any q rs) ≡ true
+        → list_any p (keys_of r ++ flat_map keys_of rs) ≡ true
     by true so later f = any_append p (keys_of r) (flat_map keys_of rs) (h r so)
     by false not_so later f = append_any p (keys_of r) (flat_map keys_of rs) (later f)
 
-any_key : (q : Reached → Bool) (p : Key → Bool) → ((r : Reached) → q r ≡ true → list_any p (keys_of r) ≡ true) → (rs : List Reached) → list_any q rs ≡ true → list_any p (flat_map keys_of (or_missing rs)) ≡ true
+any_key : (q : Reached → Bool) (p : Key → Bool) → ((r : Reached) → q r ≡ true → list_any p (keys_of r) ≡ true) → (rs : List Reached) → list_any q rs ≡ true
+    → list_any p (flat_map keys_of (or_missing rs)) ≡ true
 any_key q p h [] e = absurd cc
 any_key q p h (r ∷ rs) e = each_reached q p h (r ∷ rs) e
 
@@ -166,7 +173,8 @@ equal_key v t e (Some u) h = any_more (on_key (λ x. is_equal (compare x v))) (i
     same empty_array f = absurd cc
     same (value x) f = f
 
-ordered_key : (c : Comparison) (v t : Tree) → no_array v ≡ Some t → (r : Reached) → passes (ordered c v) false r ≡ true → list_any (lies_by (record { comparison = c; operand = v })) (keys_of r) ≡ true
+ordered_key : (c : Comparison) (v t : Tree) → no_array v ≡ Some t → (r : Reached) → passes (ordered c v) false r ≡ true
+    → list_any (lies_by (record { comparison = c; operand = v })) (keys_of r) ≡ true
 ordered_key c v t e r h = any_more (on_key (candidate_passes (ordered c v))) (lies_by (record { comparison = c; operand = v })) same (keys_of r) keyed
   where
     no_array_passes : (ts : Items) → candidate_passes (ordered c v) (array ts) ≡ false
@@ -203,7 +211,8 @@ meets_or keys u v f g = record {
 abbrev pub keys_in : List Reached → List Key
 keys_in reached = flat_map keys_of (or_missing reached)
 
-meets_equal : (v : Tree) (reached : List Reached) → list_any (passes (equal v) false) reached ≡ true → IfSome (no_array v) (λ t. list_any (is_equal_to t) (keys_in reached) ≡ true)
+meets_equal : (v : Tree) (reached : List Reached) → list_any (passes (equal v) false) reached ≡ true
+    → IfSome (no_array v) (λ t. list_any (is_equal_to t) (keys_in reached) ≡ true)
 meets_equal v reached h = by (no_array v) refl
   where
     by : (o : Option Tree) → no_array v ≡ o → IfSome o (λ t. list_any (is_equal_to t) (keys_in reached) ≡ true)
@@ -212,12 +221,17 @@ meets_equal v reached h = by (no_array v) refl
         subst (λ (x : Tree). list_any (is_equal_to x) (keys_in reached) ≡ true) (as_it_is v t e)
         (any_key (passes (equal v) false) (is_equal_to v) (equal_key v t e) reached h)
 
-meets_bound : (c : Comparison) (v : Tree) (reached : List Reached) → list_any (passes (ordered c v) false) reached ≡ true → IfSome (bound_at c v) (λ b. list_any (lies_by b) (keys_in reached) ≡ true)
+meets_bound : (c : Comparison) (v : Tree) (reached : List Reached) → list_any (passes (ordered c v) false) reached ≡ true
+    → IfSome (bound_at c v) (λ b. list_any (lies_by b) (keys_in reached) ≡ true)
 meets_bound c (array us) reached h = tt
-meets_bound c (scalar s) reached h = any_key (passes (ordered c (scalar s)) false) (lies_by (record { comparison = c; operand = scalar s })) (ordered_key c (scalar s) (scalar s) refl) reached h
-meets_bound c (document ps) reached h = any_key (passes (ordered c (document ps)) false) (lies_by (record { comparison = c; operand = document ps })) (ordered_key c (document ps) (document ps) refl) reached h
+meets_bound c (scalar s) reached h =
+    any_key (passes (ordered c (scalar s)) false) (lies_by (record { comparison = c; operand = scalar s })) (ordered_key c (scalar s) (scalar s) refl) reached h
+meets_bound c (document ps) reached h =
+    any_key (passes (ordered c (document ps)) false) (lies_by (record { comparison = c; operand = document ps }))
+    (ordered_key c (document ps) (document ps) refl) reached h
 
-meets_range : (c : Comparison) (v : Tree) (reached : List Reached) → list_any (passes (ordered c v) false) reached ≡ true → Meets (keys_in reached) (range_of c v)
+meets_range : (c : Comparison) (v : Tree) (reached : List Reached) → list_any (passes (ordered c v) false) reached ≡ true
+    → Meets (keys_in reached) (range_of c v)
 meets_range Above v reached h = record { equal_met = tt; low_met = meets_bound Above v reached h; high_met = tt }
 meets_range AtLeast v reached h = record { equal_met = tt; low_met = meets_bound AtLeast v reached h; high_met = tt }
 meets_range Below v reached h = record { equal_met = tt; low_met = tt; high_met = meets_bound Below v reached h }

@@ -1,5 +1,6 @@
 -- Documents that are looked up by `_id` where a filter asks for one: they are those that a walk finds.
-use Rattle.std.proofs.Common.{◌≡◌, inl, inr, ℕ, zero, suc, ◌<◌, Bool, true, false, List, [], ◌∷◌, length, get_or, Option, Some, None, Ok, Err, refl, sym, ap, subst, ◌∙◌, arith}
+use Rattle.std.proofs.Common.{◌≡◌, inl, inr, ℕ, zero, suc, ◌<◌, Bool, true, false, List, [], ◌∷◌, length, get_or, Option, Some, None, Ok, Err, refl, sym, ap}
+use Rattle.std.proofs.Common.{subst, ◌∙◌, arith}
 use Rattle.std.specs.Prelude.{IfSome, ◌&&◌, ◌||◌, not, is_some, option_and_then, option_map}
 use Rattle.std.specs.List.{list_any}
 use Rattle.std.specs.Ordering.{is_eq}
@@ -76,7 +77,8 @@ or_none false e = absurd cc
 
 pub never_missing : (v : Tree) (t : Tree) → passes (equal v) false (Some t) ≡ true → candidates (Some t) ≡ t ∷ [] → is_equal (compare t v) ≡ true
 never_missing v t e alone =
-    let one : (list_any (candidate_passes (equal v)) (t ∷ []) || (is_null v && false)) ≡ true = ap (λ (ts : List Tree). list_any (candidate_passes (equal v)) ts || (is_null v && false)) (sym alone) ∙ e in
+    let one : (list_any (candidate_passes (equal v)) (t ∷ []) || (is_null v && false)) ≡ true =
+    ap (λ (ts : List Tree). list_any (candidate_passes (equal v)) ts || (is_null v && false)) (sym alone) ∙ e in
     either (is_equal (compare t v)) (is_null v) one
   where
     either : (b n : Bool) → ((b || false) || (n && false)) ≡ true → b ≡ true
@@ -90,7 +92,8 @@ if_some_on (Some x) on h = on x h
 
 -- ---- one condition among others
 
-pub holds_at : (rs : List Made) (i : ℕ) (r : Made) (s : Subject) → i < length rs → all_hold (conditions_of rs) s ≡ true → holds (condition_of (get_or rs i r)) s ≡ true
+pub holds_at : (rs : List Made) (i : ℕ) (r : Made) (s : Subject) → i < length rs → all_hold (conditions_of rs) s ≡ true
+    → holds (condition_of (get_or rs i r)) s ≡ true
 holds_at [] i r s within all = absurd (omega (arith, within))
 holds_at (x ∷ rs) zero r s within all = and_first (holds (condition_of x) s) (all_hold (conditions_of rs) s) all
 holds_at (x ∷ rs) (suc i) r s within all =
@@ -104,7 +107,8 @@ equal_eq orders.Greater e = absurd cc
 -- ---- pipelines
 
 -- what a pipeline takes, the filter in front matches
-pub leading_matches : {X : Type 0} (seen : X → Conditions) (stages : List Stage) (o : Option X) → option_map seen o ≡ leading_match stages → IfSome o (λ f. AsksMatching (takes stages) (seen f))
+pub leading_matches : {X : Type 0} (seen : X → Conditions) (stages : List Stage) (o : Option X) → option_map seen o ≡ leading_match stages
+    → IfSome o (λ f. AsksMatching (takes stages) (seen f))
 leading_matches seen stages None same = tt
 leading_matches seen [] (Some f) same = absurd cc
 leading_matches seen (match_stage rules ∷ stages) (Some f) same = λ d passes.
@@ -123,7 +127,8 @@ module _ {D : Type 0} (history : D → History) (old new : State D) (number : �
       let stored = (found_document c.documents place.id d kept.storable (sym found)).0 in
       record { size = stored.size; depth = stored.depth }
 
-  pub over_refused : is_some (limits_fault 65535 d) ≡ true → {X : Type 0} (Q : List Collection → Place → X → Type 0) → ReadsOf history (IsPlaceOf number text) Q (Err refusals.StorageFailed) old new
+  pub over_refused : is_some (limits_fault 65535 d) ≡ true → {X : Type 0} (Q : List Collection → Place → X → Type 0)
+      → ReadsOf history (IsPlaceOf number text) Q (Err refusals.StorageFailed) old new
   over_refused over Q = record {
     on = reads.on;
     unchanged = reads.unchanged;
@@ -131,7 +136,8 @@ module _ {D : Type 0} (history : D → History) (old new : State D) (number : �
     answers = λ k start now has place there. at (is_stopped old) refl k start now has place there;
   }
     where
-      at : (b : Bool) → is_stopped old ≡ b → KeepsWord (disk_history history new) → (start now : List Collection) → HasState history old start now → (place : Place) → IsPlaceOf number text now place → HasCause history old new refusals.StorageFailed
+      at : (b : Bool) → is_stopped old ≡ b → KeepsWord (disk_history history new) → (start now : List Collection) → HasState history old start now
+          → (place : Place) → IsPlaceOf number text now place → HasCause history old new refusals.StorageFailed
       at true stopped k start now has place there = inr (inl (refl, inl stopped))
       at false running k start now has place there =
           let t : IsTurnOf history old start now = has running (word_before history old new reads.on k) in
@@ -144,7 +150,8 @@ module _ {D : Type 0} (history : D → History) (old new : State D) (number : �
 
 -- what leads to all that a filter matches leads to all that pass, where the filter matches each of these
 pub narrowed_where_some : (number : ℕ) (p : Pairs → Bool) (rs : Conditions) (now : List Collection) (c : Collection) → AsksMatching p rs
-    → (o : Option (Vec (Vec ℕ))) → IfSome o (λ ids. AreIdsOf number (matches rs) (texts_of ids.items) now c) → IfSome o (λ ids. AreIdsOf number p (texts_of ids.items) now c)
+    → (o : Option (Vec (Vec ℕ))) → IfSome o (λ ids. AreIdsOf number (matches rs) (texts_of ids.items) now c)
+    → IfSome o (λ ids. AreIdsOf number p (texts_of ids.items) now c)
 narrowed_where_some number p rs now c asks None h = tt
 narrowed_where_some number p rs now c asks (Some ids) h = record {
   numbered = h.numbered;

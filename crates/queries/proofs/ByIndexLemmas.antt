@@ -57,25 +57,31 @@ rise (k ∷ ks) h = (below_all k ks h.0, rise ks h.1)
 
 -- ---- the documents to which they lead
 
-pub told : (ds es : List Pairs) → All IsStorable ds → AllByRecursion (λ d. find_document ds (key_of d) ≡ Some d) es → AreIdTexts (map (λ d. tree_text (key_of d)) es) (map key_of es)
+pub told : (ds es : List Pairs) → All IsStorable ds → AllByRecursion (λ d. find_document ds (key_of d) ≡ Some d) es
+    → AreIdTexts (map (λ d. tree_text (key_of d)) es) (map key_of es)
 told ds [] all h = tt
 told ds (e ∷ es) all h = (refl, id_is_key e (of_all IsStorable ds e all (document_some ds (key_of e) e h.0).0), told ds es all h.1)
 
-pub ids_leading : (rs : Conditions) (number : ℕ) (now : List Collection) (c : Collection) (ids : List (List ℕ)) → IsNumbered now c number → IsKept c → AllPairs (λ s t. bytes_cmp s t ≡ Less) ids → LeadToMatching rs c.documents ids → AreIdsOf number (matches rs) ids now c
+pub ids_leading : (rs : Conditions) (number : ℕ) (now : List Collection) (c : Collection) (ids : List (List ℕ)) → IsNumbered now c number → IsKept c
+    → AllPairs (λ s t. bytes_cmp s t ≡ Less) ids → LeadToMatching rs c.documents ids → AreIdsOf number (matches rs) ids now c
 ids_leading rs number now c ids numbered kept up lead = record {
   numbered = numbered;
   ids = map key_of lead.documents;
-  told = subst (λ (ts : List (List ℕ)). AreIdTexts ts (map key_of lead.documents)) (sym lead.spelled) (told c.documents lead.documents kept.storable lead.found);
+  told = subst (λ (ts : List (List ℕ)). AreIdTexts ts (map key_of lead.documents)) (sym lead.spelled)
+      (told c.documents lead.documents kept.storable lead.found);
   ascending = up;
   all = λ d there passes.
-      let g : Among d (filter (matches rs) lead.documents) = subst (Among d) (sym lead.selects) (among_filter (matches rs) d c.documents (among_of c.documents d there) passes) in
+      let g : Among d (filter (matches rs) lead.documents) =
+      subst (Among d) (sym lead.selects) (among_filter (matches rs) d c.documents (among_of c.documents d there) passes) in
       let h : Among d lead.documents = (filter_among (matches rs) d lead.documents g).0 in
-      contains_of ids (tree_text (key_of d)) (subst (Among (tree_text (key_of d))) (sym lead.spelled) (among_image (λ (e : Pairs). tree_text (key_of e)) d lead.documents h));
+      contains_of ids (tree_text (key_of d))
+      (subst (Among (tree_text (key_of d))) (sym lead.spelled) (among_image (λ (e : Pairs). tree_text (key_of e)) d lead.documents h));
 }
 
 -- ---- the range of a filter in an index of the collection that is asked
 
-module _ (rs : Conditions) (home : Catalogued) (r : Range) (is : IsRangeOf rs [] home.indexes.items r) (now : List Collection) (state : IsLawfulState now) (c : Collection) (asked : IsAsked home now c) where
+module _ (rs : Conditions) (home : Catalogued) (r : Range) (is : IsRangeOf rs [] home.indexes.items r) (now : List Collection) (state : IsLawfulState now)
+    (c : Collection) (asked : IsAsked home now c) where
   kept : IsKept c
   kept = (found_collection now c.name c state asked.numbered.found).0
 
@@ -88,10 +94,14 @@ module _ (rs : Conditions) (home : Catalogued) (r : Range) (is : IsRangeOf rs []
   found_in_range : (ids : List (List ℕ)) → AreIdsInRange r index_at ids → AreIdsOf home.number (matches rs) ids now c
   found_in_range ids h =
       let i = is.definition in
-      let read : AreReadFrom i (range_in rs [] (Some i)) c.documents h.texts = subst (λ (x : Range). AreReadFrom i x c.documents h.texts) is.given (record { given = h.between.given; all = h.between.all }) in
-      let lead : LeadToMatching rs c.documents (ids_in i.fields h.texts) = ids_lead_to_matching rs [] i c.documents h.texts (kept_are_noted c i kept listed) (subst IsSpellable is.given is.spellable) kept.storable kept.rising read in
+      let read : AreReadFrom i (range_in rs [] (Some i)) c.documents h.texts =
+      subst (λ (x : Range). AreReadFrom i x c.documents h.texts) is.given (record { given = h.between.given; all = h.between.all }) in
+      let lead : LeadToMatching rs c.documents (ids_in i.fields h.texts) =
+      ids_lead_to_matching rs [] i c.documents h.texts (kept_are_noted c i kept listed)
+      (subst IsSpellable is.given is.spellable) kept.storable kept.rising read in
       subst (λ (ts : List (List ℕ)). AreIdsOf home.number (matches rs) ts now c) (sym h.found)
-      (ids_leading rs home.number now c (ids_in i.fields h.texts) asked.numbered kept (pairs_of bytes_cmp (ids_in i.fields h.texts) (rise (ids_in i.fields h.texts) (set_sorted (ids_of i.fields h.texts)))) lead)
+      (ids_leading rs home.number now c (ids_in i.fields h.texts) asked.numbered kept
+      (pairs_of bytes_cmp (ids_in i.fields h.texts) (rise (ids_in i.fields h.texts) (set_sorted (ids_of i.fields h.texts)))) lead)
 
   pub asked_in_index : (index : Definition) → r.index ≡ Some index → IsOther (IsNumberedIndex home.number index.number)
       (λ now at (found : Option (Vec (Vec ℕ))). at.definition ≡ index → IfSome found (λ ids. AreIdsInRange r at (texts_of ids.items)))
@@ -105,13 +115,15 @@ module _ (rs : Conditions) (home : Catalogued) (r : Range) (is : IsRangeOf rs []
       same : is.definition ≡ index
       same = ap (λ (o : Option Definition). unwrap_or o is.definition) (sym is.index ∙ named)
 
-      by_found : (found : Option (Vec (Vec ℕ))) → (is.definition ≡ index → IfSome found (λ ids. AreIdsInRange r index_at (texts_of ids.items))) → IfSome found (λ ids. AreIdsOf home.number (matches rs) (texts_of ids.items) now c)
+      by_found : (found : Option (Vec (Vec ℕ))) → (is.definition ≡ index → IfSome found (λ ids. AreIdsInRange r index_at (texts_of ids.items)))
+          → IfSome found (λ ids. AreIdsOf home.number (matches rs) (texts_of ids.items) now c)
       by_found None h = tt
       by_found (Some ids) h = found_in_range (texts_of ids.items) (h same)
 
 -- ---- the range that the planner chose
 
-pub range_chosen : (rs : Conditions) (sort : List SortField) (indexes : List Definition) (plan : Chosen) (range : IndexRange) → plan_of plan ≡ choose rs sort indexes → plan ≡ plans.Index range → is_some range.index ≡ true → IsSpellable (range_of range)
+pub range_chosen : (rs : Conditions) (sort : List SortField) (indexes : List Definition) (plan : Chosen) (range : IndexRange)
+    → plan_of plan ≡ choose rs sort indexes → plan ≡ plans.Index range → is_some range.index ≡ true → IsSpellable (range_of range)
     → IsRangeOf rs sort indexes (range_of range)
 range_chosen rs sort indexes plan range chosen is named spelled = at range.index refl named
   where
@@ -127,13 +139,15 @@ range_chosen rs sort indexes plan range chosen is named spelled = at range.index
 
 -- the entries that were read between the ends of the range
 pub in_range : (r : Range) (index : Definition) (at : Indexed) (first last : List ℕ) (texts ids : List (List ℕ)) → r.index ≡ Some index → at.definition ≡ index
-    → first ≡ first_key (fields_of r.index) r → last ≡ last_key (fields_of r.index) r → AreTextsBetween first last at texts → ids ≡ ids_in index.fields texts → AreIdsInRange r at ids
+    → first ≡ first_key (fields_of r.index) r → last ≡ last_key (fields_of r.index) r → AreTextsBetween first last at texts → ids ≡ ids_in index.fields texts
+    → AreIdsInRange r at ids
 in_range r index at first last texts ids named same begins ends between found = record {
   texts = texts;
   between =
       let fields : fields_of r.index ≡ at.definition.fields = ap fields_of named ∙ ap (λ (d : Definition). d.fields) (sym same) in
       let from : first ≡ first_key at.definition.fields r = begins ∙ ap (λ fs. first_key fs r) fields in
       let to : last ≡ last_key at.definition.fields r = ends ∙ ap (λ fs. last_key fs r) fields in
-      subst (λ (f : List ℕ). AreTextsBetween f (last_key at.definition.fields r) at texts) from (subst (λ (l : List ℕ). AreTextsBetween first l at texts) to between);
+      subst (λ (f : List ℕ). AreTextsBetween f (last_key at.definition.fields r) at texts) from
+      (subst (λ (l : List ℕ). AreTextsBetween first l at texts) to between);
   found = found ∙ ap (λ (d : Definition). ids_in d.fields texts) (sym same);
 }

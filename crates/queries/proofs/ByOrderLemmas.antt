@@ -1,5 +1,6 @@
 -- Documents that an index gives in the order of a sort are the first ones in that order.
-use Rattle.std.proofs.Common.{◌≡◌, ℕ, zero, suc, ◌+◌, ◌<◌, ◌≤◌, Bool, true, List, [], ◌∷◌, ◌++◌, length, map, take, Option, Some, None, refl, sym, ap, subst, ◌∙◌, arith, append_assoc, length-append}
+use Rattle.std.proofs.Common.{◌≡◌, ℕ, zero, suc, ◌+◌, ◌<◌, ◌≤◌, Bool, true, List, [], ◌∷◌, ◌++◌, length, map, take, Option, Some, None, refl, sym, ap, subst}
+use Rattle.std.proofs.Common.{◌∙◌, arith, append_assoc, length-append}
 use Rattle.std.specs.Prelude.{All, Contains, unwrap_or}
 use Rattle.std.specs.List.{AllByRecursion, filter}
 use Rattle.std.specs.declared.cmp.Ordering.TheVariants.{Less}
@@ -73,8 +74,10 @@ module _ (rs : Conditions) (sort : List SortField) (home : Catalogued) (r : Rang
   leads_so are_all ids h = record {
     numbered = asked.numbered;
     ids = map key_of lead.documents;
-    told = subst (λ (ts : List (List ℕ)). AreIdTexts ts (map key_of lead.documents)) (sym (h.found ∙ lead.spelled)) (told c.documents lead.documents kept.storable lead.found);
-    first = subst (λ (xs : List Pairs). filter (matches rs) xs ≡ take (length (filter (matches rs) xs)) (order sort (filter (matches rs) c.documents))) (sym back) lead.first;
+    told = subst (λ (ts : List (List ℕ)). AreIdTexts ts (map key_of lead.documents)) (sym (h.found ∙ lead.spelled))
+        (told c.documents lead.documents kept.storable lead.found);
+    first = subst (λ (xs : List Pairs). filter (matches rs) xs ≡ take (length (filter (matches rs) xs)) (order sort (filter (matches rs) c.documents)))
+        (sym back) lead.first;
     all = λ e.
         let whole : filter (matches rs) lead.documents ≡ order sort (filter (matches rs) c.documents) = lead.whole (all_read (h.first.all e)) in
         omega (arith, ap length whole, order-length sort (filter (matches rs) c.documents), ap (λ (xs : List Pairs). length (filter (matches rs) xs)) back);
@@ -91,7 +94,8 @@ module _ (rs : Conditions) (sort : List SortField) (home : Catalogued) (r : Rang
       all_read all = subst (λ (x : Range). AreAllOf i x c.documents h.texts) is.given all
 
       lead : LeadToFirst rs sort c.documents (AreAllOf i (range_in rs sort (Some i)) c.documents h.texts) (ids_of i.fields h.texts)
-      lead = first_ids_lead rs sort i c.documents h.texts (subst (λ (x : Range). x.is_sorted ≡ true) is.given sorted) (kept_are_noted c i kept listed) (subst IsSpellable is.given is.spellable) kept.storable kept.rising read
+      lead = first_ids_lead rs sort i c.documents h.texts (subst (λ (x : Range). x.is_sorted ≡ true) is.given sorted) (kept_are_noted c i kept listed)
+          (subst IsSpellable is.given is.spellable) kept.storable kept.rising read
 
       back : found_by c.documents (map key_of lead.documents) ≡ lead.documents
       back = found_back c.documents lead.documents lead.found
@@ -109,21 +113,25 @@ module _ (rs : Conditions) (sort : List SortField) (home : Catalogued) (r : Rang
       same = ap (λ (o : Option Definition). unwrap_or o is.definition) (sym is.index ∙ named)
 
 -- the entries that were read between the ends of the range
-pub first_in_span : (r : Range) (index : Definition) (at : Indexed) (first last : List ℕ) (are_all : Bool) (texts ids : List (List ℕ)) → r.index ≡ Some index → at.definition ≡ index
-    → first ≡ first_key (fields_of r.index) r → last ≡ last_key (fields_of r.index) r → AreFirstTexts first last at are_all texts → ids ≡ ids_of index.fields texts → AreFirstIds r at are_all ids
+pub first_in_span : (r : Range) (index : Definition) (at : Indexed) (first last : List ℕ) (are_all : Bool) (texts ids : List (List ℕ)) → r.index ≡ Some index
+    → at.definition ≡ index
+    → first ≡ first_key (fields_of r.index) r → last ≡ last_key (fields_of r.index) r → AreFirstTexts first last at are_all texts
+    → ids ≡ ids_of index.fields texts → AreFirstIds r at are_all ids
 first_in_span r index at first last are_all texts ids named same begins ends between found = record {
   texts = texts;
   first =
       let fields : fields_of r.index ≡ at.definition.fields = ap fields_of named ∙ ap (λ (d : Definition). d.fields) (sym same) in
       let from : first ≡ first_key at.definition.fields r = begins ∙ ap (λ fs. first_key fs r) fields in
       let to : last ≡ last_key at.definition.fields r = ends ∙ ap (λ fs. last_key fs r) fields in
-      subst (λ (f : List ℕ). AreFirstTexts f (last_key at.definition.fields r) at are_all texts) from (subst (λ (l : List ℕ). AreFirstTexts first l at are_all texts) to between);
+      subst (λ (f : List ℕ). AreFirstTexts f (last_key at.definition.fields r) at are_all texts) from
+      (subst (λ (l : List ℕ). AreFirstTexts first l at are_all texts) to between);
   found = found ∙ ap (λ (d : Definition). ids_of d.fields texts) (sym same);
 }
 
 -- ---- documents that are looked up in that order
 
-abbrev pub told_in_order : (number : ℕ) (rs : Conditions) (sort : List SortField) (are_all : Bool) (texts : List (List ℕ)) (now : List Collection) (c : Collection) → LeadInOrder number rs sort are_all texts now c → IsTold number texts now c
+abbrev pub told_in_order : (number : ℕ) (rs : Conditions) (sort : List SortField) (are_all : Bool) (texts : List (List ℕ)) (now : List Collection)
+    (c : Collection) → LeadInOrder number rs sort are_all texts now c → IsTold number texts now c
 told_in_order number rs sort are_all texts now c asked = record { numbered = asked.numbered; ids = asked.ids; told = asked.told }
 
 take_less : {X : Type 0} (m n : ℕ) (xs : List X) → m ≤ n → take m (take n xs) ≡ take m xs
@@ -141,10 +149,13 @@ module _ (rs : Conditions) (sort : List SortField) (are_all : Bool) (most : ℕ)
     pub few : length now ≤ most
     pub same : take most (now ++ filter (matches rs) left) ≡ take most front
 
-  pub none_in_front : (number : ℕ) (texts : List (List ℕ)) (now : List Collection) (c : Collection) (asked : LeadInOrder number rs sort are_all texts now c) → AreInFront [] c.documents (found_by c.documents asked.ids)
-  none_in_front number texts now c asked = record { front = filter (matches rs) (found_by c.documents asked.ids); is = asked.first; all = asked.all; few = omega arith; same = refl }
+  pub none_in_front : (number : ℕ) (texts : List (List ℕ)) (now : List Collection) (c : Collection) (asked : LeadInOrder number rs sort are_all texts now c)
+      → AreInFront [] c.documents (found_by c.documents asked.ids)
+  none_in_front number texts now c asked = record
+      { front = filter (matches rs) (found_by c.documents asked.ids); is = asked.first; all = asked.all; few = omega arith; same = refl }
 
-  pub one_in_front : (now next : List Pairs) → length now < most → (ds more : List Pairs) (o : Option Pairs) → next ≡ now ++ filter (matches rs) (with_found o []) → AreInFront now ds (with_found o more) → AreInFront next ds more
+  pub one_in_front : (now next : List Pairs) → length now < most → (ds more : List Pairs) (o : Option Pairs)
+      → next ≡ now ++ filter (matches rs) (with_found o []) → AreInFront now ds (with_found o more) → AreInFront next ds more
   one_in_front now next room ds more o made h =
       let p = matches rs in
       let one = filter p (with_found o []) in
@@ -171,5 +182,6 @@ module _ (rs : Conditions) (sort : List SortField) (are_all : Bool) (most : ℕ)
   pub whole_front : (now ds : List Pairs) → are_all ≡ true → AreInFront now ds [] → now ≡ take most (order sort (filter (matches rs) ds))
   whole_front now ds whole h =
       let p = matches rs in
-      let all : h.front ≡ order sort (filter p ds) = h.is ∙ take_all (length h.front) (order sort (filter p ds)) (omega (arith, h.all whole, order-length sort (filter p ds))) in
+      let all : h.front ≡ order sort (filter p ds) =
+      h.is ∙ take_all (length h.front) (order sort (filter p ds)) (omega (arith, h.all whole, order-length sort (filter p ds))) in
       sym (take_all most now h.few) ∙ ap (take most) (sym (append-nil now)) ∙ h.same ∙ ap (take most) all

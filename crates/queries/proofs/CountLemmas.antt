@@ -1,5 +1,6 @@
 -- Documents that are counted as they come.
-use Rattle.std.proofs.Common.{◌≡◌, ℕ, min, ◌+◌, ◌-◌, ◌^◌, ◌≤◌, ◌<◌, Bool, true, false, List, [], ◌∷◌, ◌++◌, length, Option, drop, get_or, refl, sym, ap, ◌∙◌, add-one, drop-cons, arith, length-append}
+use Rattle.std.proofs.Common.{◌≡◌, ℕ, min, ◌+◌, ◌-◌, ◌^◌, ◌≤◌, ◌<◌, Bool, true, false, List, [], ◌∷◌, ◌++◌, length, Option, drop, get_or, refl, sym, ap, ◌∙◌}
+use Rattle.std.proofs.Common.{add-one, drop-cons, arith, length-append}
 use Rattle.std.proofs.lemmas.List.{drop_all}
 use Rattle.std.specs.List.{filter}
 use Rattle.std.proofs.lemmas.List.Elements.{filter-append}
@@ -37,12 +38,14 @@ pub record IsCountedTo (rules : Conditions) (documents : List Pairs) (count inde
   pub sum : count + length (matching rules (drop index documents)) ≡ length (matching rules documents)
 
 module _ (rules : Conditions) (documents : List Pairs) where
-  pub counted_on : (count more next index : ℕ) (d : Pairs) → index < length documents → d ≡ get_or documents index d → more ≡ length (matching rules (d ∷ [])) → next ≡ count + more → IsCountedTo rules documents count index → IsCountedTo rules documents next (index + 1)
+  pub counted_on : (count more next index : ℕ) (d : Pairs) → index < length documents → d ≡ get_or documents index d → more ≡ length (matching rules (d ∷ []))
+      → next ≡ count + more → IsCountedTo rules documents count index → IsCountedTo rules documents next (index + 1)
   counted_on count more next index d lt is one sum h =
       let step : drop index documents ≡ d ∷ drop (index + 1) documents = drop_step documents index d lt is in
       let parts : length (matching rules (drop index documents)) ≡ more + length (matching rules (drop (index + 1) documents)) =
       ap (λ (ds : List Pairs). length (matching rules ds)) step ∙ ap length (filter-append (matches rules) (d ∷ []) (drop (index + 1) documents))
-      ∙ length-append (matching rules (d ∷ [])) (matching rules (drop (index + 1) documents)) ∙ ap (λ (n : ℕ). n + length (matching rules (drop (index + 1) documents))) (sym one) in
+      ∙ length-append (matching rules (d ∷ [])) (matching rules (drop (index + 1) documents))
+      ∙ ap (λ (n : ℕ). n + length (matching rules (drop (index + 1) documents))) (sym one) in
       record {
         few = omega (arith, h.few, one, sum, filter_fewer (matches rules) (d ∷ []));
         sum = omega (arith, h.sum, parts, sum);
@@ -60,7 +63,8 @@ module _ (rules : Conditions) where
   pub none_counted : (all : List Pairs) → length all < 2 ^ 64 → AreCounted rules 0 all all
   none_counted all few = record { few = few; small = omega arith; sum = omega arith }
 
-  pub batch_counted : (count more next : ℕ) (batch all left : List Pairs) → more ≡ length (matching rules batch) → next ≡ min (count + more) (2 ^ 64 - 1) → AreCounted rules count all (batch ++ left) → AreCounted rules next all left
+  pub batch_counted : (count more next : ℕ) (batch all left : List Pairs) → more ≡ length (matching rules batch) → next ≡ min (count + more) (2 ^ 64 - 1)
+      → AreCounted rules count all (batch ++ left) → AreCounted rules next all left
   batch_counted count more next batch all left counted made h = record {
     few = h.few;
     small = omega (arith, made);
@@ -83,7 +87,8 @@ module _ (rules : Conditions) where
   pub none_counted_of : (all found : List Pairs) → filter (matches rules) found ≡ filter (matches rules) all → AreCountedOf rules 0 all found
   none_counted_of all found same = omega (arith, ap length same)
 
-  pub one_counted_of : (count more next : ℕ) → next ≡ count + more → (all left : List Pairs) (o : Option Pairs) → more ≡ length (matching rules (with_found o [])) → AreCountedOf rules count all (with_found o left) → AreCountedOf rules next all left
+  pub one_counted_of : (count more next : ℕ) → next ≡ count + more → (all left : List Pairs) (o : Option Pairs)
+      → more ≡ length (matching rules (with_found o [])) → AreCountedOf rules count all (with_found o left) → AreCountedOf rules next all left
   one_counted_of count more next sum all left o is so =
       let parts : length (matching rules (with_found o left)) ≡ length (matching rules (with_found o [])) + length (matching rules left) =
       ap length (found_first (matches rules) o left) ∙ length-append (matching rules (with_found o [])) (matching rules left) in

@@ -89,15 +89,19 @@ module _ {X : Type 0} (Is : X → Type 0) (text_of : X → List ℕ) (all : X �
   pub left_all : (texts : List (List ℕ)) → AreLeft Is text_of all all texts
   left_all texts x has e = or_true (is_among texts (text_of x)) (all x) e
 
-  pub left_next : (one rest : X → Bool) (texts next : List (List ℕ)) → ArePut texts next → Tell Is text_of one next → AreLeft Is text_of all (λ x. one x || rest x) texts → AreLeft Is text_of all rest next
-  left_next one rest texts next put tells left x has e = or_next (is_among texts (text_of x)) (is_among next (text_of x)) (one x) (rest x) (put.kept (text_of x)) (tells x has) (left x has e)
+  pub left_next : (one rest : X → Bool) (texts next : List (List ℕ)) → ArePut texts next → Tell Is text_of one next
+      → AreLeft Is text_of all (λ x. one x || rest x) texts → AreLeft Is text_of all rest next
+  left_next one rest texts next put tells left x has e =
+      or_next (is_among texts (text_of x)) (is_among next (text_of x)) (one x) (rest x) (put.kept (text_of x)) (tells x has) (left x has e)
 
   pub left_none : (texts : List (List ℕ)) → AreLeft Is text_of all (λ x. false) texts → Tell Is text_of all texts
   left_none texts left x has e = or_none (is_among texts (text_of x)) (left x has e)
 
 -- those that pass one test, and those that pass another
-pub both_tell : {X : Type 0} (Is : X → Type 0) (text_of : X → List ℕ) (p q : X → Bool) (mid new : List (List ℕ)) → ArePut mid new → Tell Is text_of p mid → Tell Is text_of q new → Tell Is text_of (λ x. p x || q x) new
-both_tell Is text_of p q mid new put first second x has e = either (p x) (q x) (is_among new (text_of x)) (λ is_p. put.kept (text_of x) (first x has is_p)) (second x has) e
+pub both_tell : {X : Type 0} (Is : X → Type 0) (text_of : X → List ℕ) (p q : X → Bool) (mid new : List (List ℕ)) → ArePut mid new → Tell Is text_of p mid
+    → Tell Is text_of q new → Tell Is text_of (λ x. p x || q x) new
+both_tell Is text_of p q mid new put first second x has e =
+    either (p x) (q x) (is_among new (text_of x)) (λ is_p. put.kept (text_of x) (first x has is_p)) (second x has) e
   where
     either : (a b now : Bool) → (a ≡ true → now ≡ true) → (b ≡ true → now ≡ true) → (a || b) ≡ true → now ≡ true
     either true b now from_a from_b e = from_a refl
@@ -107,7 +111,8 @@ pub if_put : {X E : Type 0} (r : Result X E) (a b c : List (List ℕ)) → ArePu
 if_put (Ok x) a b c first h = put_on a b c first h
 if_put (Err e) a b c first h = tt
 
-pub if_both : {X E : Type 0} (Is : X → Type 0) (text_of : X → List ℕ) (p q : X → Bool) (mid new : List (List ℕ)) (r : Result Bool E) → Tell Is text_of p mid → OnOk r (ArePut mid new) → IfOk r (λ told. told ≡ true → Tell Is text_of q new)
+pub if_both : {X E : Type 0} (Is : X → Type 0) (text_of : X → List ℕ) (p q : X → Bool) (mid new : List (List ℕ)) (r : Result Bool E) → Tell Is text_of p mid
+    → OnOk r (ArePut mid new) → IfOk r (λ told. told ≡ true → Tell Is text_of q new)
     → IfOk r (λ told. told ≡ true → Tell Is text_of (λ x. p x || q x) new)
 if_both Is text_of p q mid new (Ok told) first put second = λ e. both_tell Is text_of p q mid new put first (second e)
 if_both Is text_of p q mid new (Err e) first put second = tt
@@ -119,23 +124,29 @@ same_test orders.Less e = absurd cc
 same_test orders.Equal e = refl
 same_test orders.Greater e = absurd cc
 
-pub equal_tells : (v : Tree) (texts : List (List ℕ)) → TellValues (λ t. is_eq (compare t v)) texts → TellValues (λ t. holds (is (equal v)) (along (Some t ∷ []))) texts
-equal_tells v texts tells t plain holding = tells t plain (same_test (compare t v) (never_missing v t (or_none (passes (equal v) false (Some t)) holding) plain.1))
+pub equal_tells : (v : Tree) (texts : List (List ℕ)) → TellValues (λ t. is_eq (compare t v)) texts
+    → TellValues (λ t. holds (is (equal v)) (along (Some t ∷ []))) texts
+equal_tells v texts tells t plain holding =
+    tells t plain (same_test (compare t v) (never_missing v t (or_none (passes (equal v) false (Some t)) holding) plain.1))
 
 -- the first of the conditions on the path of the `_id`
-pub first_tells : (path : List (List ℕ)) (rs : List Made) (r : Made) (asked : Conditions) (texts : List (List ℕ)) → is_id path ≡ true → 1 ≤ length rs → r ≡ get_or rs 0 r → conditions_of rs ≡ asked
+pub first_tells : (path : List (List ℕ)) (rs : List Made) (r : Made) (asked : Conditions) (texts : List (List ℕ)) → is_id path ≡ true → 1 ≤ length rs
+    → r ≡ get_or rs 0 r → conditions_of rs ≡ asked
     → TellValues (λ t. holds (condition_of r) (along (Some t ∷ []))) texts → TellIds (λ d. holds (at path asked) (whole d)) texts
 first_tells path [] r asked texts named some first same tells = absurd (omega (arith, some))
-first_tells path (x ∷ rs) r asked texts named some first same tells = subst (λ (a : Conditions). TellIds (λ d. holds (at path a) (whole d)) texts) same (λ d has holding.
+first_tells path (x ∷ rs) r asked texts named some first same tells =
+    subst (λ (a : Conditions). TellIds (λ d. holds (at path a) (whole d)) texts) same (λ d has holding.
     let key : Subject = along (Some (key_of d) ∷ []) in
     let reached = reached_id path d named has.0 in
     let there : (holds (condition_of x) key && all_hold (conditions_of rs) key) ≡ true =
     ap (λ (reach : List Reached). holds (condition_of x) (along reach) && all_hold (conditions_of rs) (along reach)) (sym reached) ∙ holding in
     let plain : IsPlain (key_of d) = (has.1, (lookup_of (lookup d id_name) (key_of d) has.0.key).1) in
-    tells (key_of d) plain (ap (λ (q : Made). holds (condition_of q) key) first ∙ and_first (holds (condition_of x) key) (all_hold (conditions_of rs) key) there))
+    tells (key_of d) plain
+    (ap (λ (q : Made). holds (condition_of q) key) first ∙ and_first (holds (condition_of x) key) (all_hold (conditions_of rs) key) there))
 
 -- one condition among others
-pub filter_tells : (rs : List Made) (i : ℕ) (r : Made) (texts : List (List ℕ)) → i < length rs → r ≡ get_or rs i r → TellIds (λ d. holds (condition_of r) (whole d)) texts → TellIds (λ d. all_hold (conditions_of rs) (whole d)) texts
+pub filter_tells : (rs : List Made) (i : ℕ) (r : Made) (texts : List (List ℕ)) → i < length rs → r ≡ get_or rs i r
+    → TellIds (λ d. holds (condition_of r) (whole d)) texts → TellIds (λ d. all_hold (conditions_of rs) (whole d)) texts
 filter_tells rs i r texts within there tells d has all =
     tells d has (ap (λ (x : Made). holds (condition_of x) (whole d)) there ∙ holds_at rs i r (whole d) within all)
 
@@ -150,7 +161,8 @@ turned a b e = by (compare a b) refl e
     by orders.Greater same f = absurd cc
 
 -- those that have the `_id` of a document
-pub made_tells : (m : Pairs) (v : Tree) (texts : List (List ℕ)) → v ≡ key_of m → TellValues (λ t. is_eq (compare t v)) texts → TellIds (λ x. is_eq (compare (key_of m) (key_of x))) texts
+pub made_tells : (m : Pairs) (v : Tree) (texts : List (List ℕ)) → v ≡ key_of m → TellValues (λ t. is_eq (compare t v)) texts
+    → TellIds (λ x. is_eq (compare (key_of m) (key_of x))) texts
 made_tells m v texts same tells x has e =
     let plain : IsPlain (key_of x) = (has.1, (lookup_of (lookup x id_name) (key_of x) has.0.key).1) in
     tells (key_of x) plain (ap (λ (w : Tree). is_eq (compare (key_of x) w)) same ∙ turned (key_of m) (key_of x) e)
@@ -175,7 +187,8 @@ ids_of [] h = ([], tt)
 ids_of (k ∷ ks) h = let rest = ids_of ks h.1 in (h.0.id ∷ rest.0, (h.0.spelled, h.0.key, rest.1))
 
 -- the documents of a collection that pass are among those of the texts
-pub ids_told : (home : Catalogued) (p : Pairs → Bool) (texts told : List (List ℕ)) (now : List Collection) (c : Collection) → AllByRecursion IsIdText texts → TellIds p texts → told ≡ ascending_set texts → IsLawfulState now → IsAsked home now c → AreIdsOf home.number p told now c
+pub ids_told : (home : Catalogued) (p : Pairs → Bool) (texts told : List (List ℕ)) (now : List Collection) (c : Collection) → AllByRecursion IsIdText texts
+    → TellIds p texts → told ≡ ascending_set texts → IsLawfulState now → IsAsked home now c → AreIdsOf home.number p told now c
 ids_told home p texts told now c each tells made state asked =
     let kept = (found_collection now c.name c state asked.numbered.found).0 in
     let set = ascending_set texts in
@@ -194,5 +207,6 @@ ids_told home p texts told now c each tells made state asked =
 -- ---- pipelines
 
 -- what a pipeline takes, the filter in front matches
-pub taken_tells : (p : Pairs → Bool) (rs : Conditions) (texts : List (List ℕ)) → AsksMatching p rs → TellIds (λ d. all_hold rs (whole d)) texts → TellIds p texts
+pub taken_tells : (p : Pairs → Bool) (rs : Conditions) (texts : List (List ℕ)) → AsksMatching p rs → TellIds (λ d. all_hold rs (whole d)) texts
+    → TellIds p texts
 taken_tells p rs texts narrow tells d has passes = tells d has (narrow d passes)

@@ -1,5 +1,6 @@
 -- Documents that are looked up one after the other, whatever is made of them.
-use Rattle.std.proofs.Common.{◌≡◌, inl, ℕ, ◌+◌, ◌<◌, ◌≤◌, Bool, true, false, List, [], ◌∷◌, ◌++◌, length, drop, take, Option, Some, None, Ok, Err, refl, sym, ap, subst, ◌∙◌, arith, append_assoc, length-append}
+use Rattle.std.proofs.Common.{◌≡◌, inl, ℕ, ◌+◌, ◌<◌, ◌≤◌, Bool, true, false, List, [], ◌∷◌, ◌++◌, length, drop, take, Option, Some, None, Ok, Err, refl, sym}
+use Rattle.std.proofs.Common.{ap, subst, ◌∙◌, arith, append_assoc, length-append}
 use Rattle.std.specs.Prelude.{slice_index_or}
 use Rattle.std.specs.Global.{Vec}
 use Rattle.std.specs.List.{filter}
@@ -28,7 +29,8 @@ use Rattle.queries.proofs.ReadingLemmas.{goes_itself, goes_on, widen_before, wor
 use Rattle.queries.proofs.SelectLemmas.{AreSelected}
 
 -- the next text, and those behind it
-pub next_text : (ids : List (Vec ℕ)) (i : ℕ) (id : Vec ℕ) (text : List ℕ) → i < length ids → id ≡ slice_index_or ids i id → text ≡ id.items → texts_of (drop i ids) ≡ text ∷ texts_of (drop (i + 1) ids)
+pub next_text : (ids : List (Vec ℕ)) (i : ℕ) (id : Vec ℕ) (text : List ℕ) → i < length ids → id ≡ slice_index_or ids i id → text ≡ id.items
+    → texts_of (drop i ids) ≡ text ∷ texts_of (drop (i + 1) ids)
 next_text ids i id text within is same = ap texts_of (drop_step ids i id within is) ∙ ap (λ (t : List ℕ). t ∷ texts_of (drop (i + 1) ids)) (sym same)
 
 -- what is known of a collection of that number, of which documents are looked up: these texts tell `_id`s
@@ -37,7 +39,8 @@ pub record IsTold (number : ℕ) (texts : List (List ℕ)) (now : List Collectio
   pub ids : List Tree
   pub told : AreIdTexts texts ids
 
-module _ {D : Type 0} (history : D → History) (number : ℕ) (Asks : List Collection → Collection → Type 0) (texts : List (List ℕ)) (told_by : (now : List Collection) (c : Collection) → Asks now c → IsTold number texts now c) where
+module _ {D : Type 0} (history : D → History) (number : ℕ) (Asks : List Collection → Collection → Type 0) (texts : List (List ℕ))
+    (told_by : (now : List Collection) (c : Collection) → Asks now c → IsTold number texts now c) where
   -- the documents that are still to be looked up, by the texts that are left, and what is so of them
   pub record IsLeft (R : List Pairs → Type 0) (ds : List Pairs) (left : List (List ℕ)) : Type 0 where
     pub ids : List Tree
@@ -49,11 +52,13 @@ module _ {D : Type 0} (history : D → History) (number : ℕ) (Asks : List Coll
     pub on : GoesFrom history old new
     pub unchanged : is_changed new ≡ is_changed old
     pub same : (start now : List Collection) → HasState history old start now → HasState history new start now
-    pub there : KeepsWord (disk_history history new) → (start now : List Collection) → HasState history old start now → (c : Collection) → Asks now c → IsLeft (R c.documents) c.documents left
+    pub there : KeepsWord (disk_history history new) → (start now : List Collection) → HasState history old start now → (c : Collection) → Asks now c
+        → IsLeft (R c.documents) c.documents left
 
   -- before one is looked up
   pub begins_so : (R : List Pairs → List Pairs → Type 0) (old : State D) (left : List (List ℕ)) → is_stopped old ≡ false → left ≡ texts
-      → ((now : List Collection) → IsLawfulState now → (c : Collection) (asked : Asks now c) → R c.documents (found_by c.documents (told_by now c asked).ids)) → HasLookedUp R old old left
+      → ((now : List Collection) → IsLawfulState now → (c : Collection) (asked : Asks now c) → R c.documents (found_by c.documents (told_by now c asked).ids))
+      → HasLookedUp R old old left
   begins_so R old left running whole all = record {
     on = goes_itself history old;
     unchanged = refl;
@@ -66,11 +71,14 @@ module _ {D : Type 0} (history : D → History) (number : ℕ) (Asks : List Coll
 
   module _ (R : List Pairs → List Pairs → Type 0) (old mid : State D) (left : List (List ℕ)) (come : HasLookedUp R old mid left) where
     -- the place of the next one
-    next_place : (text : List ℕ) (rest : List (List ℕ)) (now : List Collection) (c : Collection) → Asks now c → (ids : List Tree) → AreIdTexts (text ∷ rest) ids → (place : Place) × IsPlaceOf number text now place
+    next_place : (text : List ℕ) (rest : List (List ℕ)) (now : List Collection) (c : Collection) → Asks now c → (ids : List Tree)
+        → AreIdTexts (text ∷ rest) ids → (place : Place) × IsPlaceOf number text now place
     next_place text rest now c asked [] told = absurd told
-    next_place text rest now c asked (id ∷ ids) told = (record { collection = c; id = id }, record { numbered = (told_by now c asked).numbered; key = told.1; spelled = told.0 })
+    next_place text rest now c asked (id ∷ ids) told =
+        (record { collection = c; id = id }, record { numbered = (told_by now c asked).numbered; key = told.1; spelled = told.0 })
 
-    pub looks_one : {X : Type 0} (P : Option Pairs → X → Type 0) (S : List Pairs → List Pairs → Type 0) (new : State D) (text : List ℕ) (rest : List (List ℕ)) (x : X) → left ≡ text ∷ rest
+    pub looks_one : {X : Type 0} (P : Option Pairs → X → Type 0) (S : List Pairs → List Pairs → Type 0) (new : State D) (text : List ℕ) (rest : List (List ℕ))
+        (x : X) → left ≡ text ∷ rest
         → ReadsOf history (IsPlaceOf number text) (λ now place (y : X). P (stored_at place) y) (Ok x) mid new
         → ((ds more : List Pairs) (o : Option Pairs) → P o x → R ds (with_found o more) → S ds more) → HasLookedUp S old new rest
     looks_one P S new text rest x is reads on = record {
@@ -78,9 +86,11 @@ module _ {D : Type 0} (history : D → History) (number : ℕ) (Asks : List Coll
       unchanged = reads.unchanged ∙ come.unchanged;
       same = λ start now has. reads.same start now (come.same start now has);
       there = λ k start now has c asked.
-          let at : IsLeft (R c.documents) c.documents (text ∷ rest) = subst (IsLeft (R c.documents) c.documents) is (come.there (word_before history mid new reads.on k) start now has c asked) in
+          let at : IsLeft (R c.documents) c.documents (text ∷ rest) =
+          subst (IsLeft (R c.documents) c.documents) is (come.there (word_before history mid new reads.on k) start now has c asked) in
           step c.documents at.ids at.told at.so
-          (λ id key spelled. reads.answers k start now (come.same start now has) (record { collection = c; id = id }) (record { numbered = (told_by now c asked).numbered; key = key; spelled = spelled }));
+          (λ id key spelled. reads.answers k start now (come.same start now has) (record { collection = c; id = id })
+          (record { numbered = (told_by now c asked).numbered; key = key; spelled = spelled }));
     }
       where
         step : (ds : List Pairs) (ids : List Tree) → AreIdTexts (text ∷ rest) ids → R ds (found_by ds ids)
@@ -88,20 +98,23 @@ module _ {D : Type 0} (history : D → History) (number : ℕ) (Asks : List Coll
         step ds [] told so answer = absurd told
         step ds (id ∷ ids) told so answer = record { ids = ids; told = told.2; so = on ds (found_by ds ids) (find_document ds id) (answer id told.1 told.0) so }
 
-    pub fails : {X Y : Type 0} (P : List Collection → Place → Y → Type 0) (Q : List Collection → Collection → X → Type 0) (new : State D) (e : Refusal) (text : List ℕ) (rest : List (List ℕ)) → left ≡ text ∷ rest
+    pub fails : {X Y : Type 0} (P : List Collection → Place → Y → Type 0) (Q : List Collection → Collection → X → Type 0) (new : State D) (e : Refusal)
+        (text : List ℕ) (rest : List (List ℕ)) → left ≡ text ∷ rest
         → ReadsOf history (IsPlaceOf number text) P (Err e) mid new → ReadsOf history Asks Q (Err e) old new
     fails P Q new e text rest is reads = record {
       on = goes_on history old mid new come.on reads.on;
       unchanged = reads.unchanged ∙ come.unchanged;
       same = λ start now has. reads.same start now (come.same start now has);
       answers = λ k start now has c asked.
-          let at : IsLeft (R c.documents) c.documents (text ∷ rest) = subst (IsLeft (R c.documents) c.documents) is (come.there (word_before history mid new reads.on k) start now has c asked) in
+          let at : IsLeft (R c.documents) c.documents (text ∷ rest) =
+          subst (IsLeft (R c.documents) c.documents) is (come.there (word_before history mid new reads.on k) start now has c asked) in
           let place = next_place text rest now c asked at.ids at.told in
           widen_before history old mid new come.on reads.on k e (reads.answers k start now (come.same start now has) place.0 place.1);
     }
 
     -- enough has come
-    pub answered : {X : Type 0} (Q : List Pairs → X → Type 0) (x : X) → ((ds found : List Pairs) → R ds found → Q ds x) → ReadsOf history Asks (λ now c (y : X). Q c.documents y) (Ok x) old mid
+    pub answered : {X : Type 0} (Q : List Pairs → X → Type 0) (x : X) → ((ds found : List Pairs) → R ds found → Q ds x)
+        → ReadsOf history Asks (λ now c (y : X). Q c.documents y) (Ok x) old mid
     answered Q x on = record {
       on = come.on;
       unchanged = come.unchanged;
@@ -112,7 +125,8 @@ module _ {D : Type 0} (history : D → History) (number : ℕ) (Asks : List Coll
     }
 
     -- none is left
-    pub ends : {X : Type 0} (Q : List Pairs → X → Type 0) (x : X) → left ≡ [] → ((ds : List Pairs) → R ds [] → Q ds x) → ReadsOf history Asks (λ now c (y : X). Q c.documents y) (Ok x) old mid
+    pub ends : {X : Type 0} (Q : List Pairs → X → Type 0) (x : X) → left ≡ [] → ((ds : List Pairs) → R ds [] → Q ds x)
+        → ReadsOf history Asks (λ now c (y : X). Q c.documents y) (Ok x) old mid
     ends Q x none on = record {
       on = come.on;
       unchanged = come.unchanged;
@@ -132,16 +146,20 @@ module _ {D : Type 0} (history : D → History) (number : ℕ) (Asks : List Coll
 
 -- ---- those that are told have among them all that are looked for
 
-abbrev pub told_by_ids : (number : ℕ) (p : Pairs → Bool) (texts : List (List ℕ)) (now : List Collection) (c : Collection) → AreIdsOf number p texts now c → IsTold number texts now c
+abbrev pub told_by_ids : (number : ℕ) (p : Pairs → Bool) (texts : List (List ℕ)) (now : List Collection) (c : Collection) → AreIdsOf number p texts now c
+    → IsTold number texts now c
 told_by_ids number p texts now c asked = record { numbered = asked.numbered; ids = asked.ids; told = asked.told }
 
-pub begins : {D : Type 0} (history : D → History) (number : ℕ) (p : Pairs → Bool) (texts : List (List ℕ)) (R : List Pairs → List Pairs → Type 0) (old : State D) (left : List (List ℕ)) → is_stopped old ≡ false → left ≡ texts
-    → ((ds found : List Pairs) → filter p found ≡ filter p ds → R ds found) → HasLookedUp history number (AreIdsOf number p texts) texts (told_by_ids number p texts) R old old left
+pub begins : {D : Type 0} (history : D → History) (number : ℕ) (p : Pairs → Bool) (texts : List (List ℕ)) (R : List Pairs → List Pairs → Type 0)
+    (old : State D) (left : List (List ℕ)) → is_stopped old ≡ false → left ≡ texts
+    → ((ds found : List Pairs) → filter p found ≡ filter p ds → R ds found)
+    → HasLookedUp history number (AreIdsOf number p texts) texts (told_by_ids number p texts) R old old left
 begins history number p texts R old left running whole all =
     begins_so history number (AreIdsOf number p texts) texts (told_by_ids number p texts) R old left running whole
     (λ now state c asked.
     let kept = (found_collection now c.name c state asked.numbered.found).0 in
-    all c.documents (found_by c.documents asked.ids) (finds_by_ids p c.documents asked.ids texts kept.storable kept.rising asked.ascending asked.told asked.all))
+    all c.documents (found_by c.documents asked.ids)
+    (finds_by_ids p c.documents asked.ids texts kept.storable kept.rising asked.ascending asked.told asked.all))
 
 -- ---- what is looked for among those that were found
 
@@ -168,7 +186,8 @@ module _ (p : Pairs → Bool) (most : ℕ) where
   pub none_found : (ds found : List Pairs) → filter p found ≡ filter p ds → AreSelected p most [] ds found
   none_found ds found all = record { few = omega arith; same = ap (take most) all }
 
-  pub one_found : (now next : List Pairs) → length now < most → (ds more : List Pairs) (o : Option Pairs) → next ≡ now ++ filter p (with_found o []) → AreSelected p most now ds (with_found o more) → AreSelected p most next ds more
+  pub one_found : (now next : List Pairs) → length now < most → (ds more : List Pairs) (o : Option Pairs) → next ≡ now ++ filter p (with_found o [])
+      → AreSelected p most now ds (with_found o more) → AreSelected p most next ds more
   one_found now next room ds more o made so =
       let one = filter p (with_found o []) in
       record {

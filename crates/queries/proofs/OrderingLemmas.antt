@@ -78,16 +78,19 @@ module _ (fields : List SortField) (most : ℕ) where
     pub none_first : (all : List Pairs) → AreFirst [] all all
     none_first all = record { front = []; split = refl; first = λ others. refl }
 
-    pub batch_first : (greatest : ℕ) (few found next batch all left : List Pairs) → found ≡ take greatest (few ++ filter p batch) → length found < greatest → TellFirst next found → AreFirst few all (batch ++ left) → AreFirst next all left
+    pub batch_first : (greatest : ℕ) (few found next batch all left : List Pairs) → found ≡ take greatest (few ++ filter p batch) → length found < greatest
+        → TellFirst next found → AreFirst few all (batch ++ left) → AreFirst next all left
     batch_first greatest few found next batch all left puts small kept h =
         let whole : found ≡ few ++ filter p batch = puts ∙ take_whole greatest (few ++ filter p batch) (omega (arith, small, ap length puts)) in
         record {
           front = h.front ++ batch;
           split = h.split ∙ sym (append_assoc h.front batch left);
           first = λ others.
-              kept others ∙ ap (λ (ys : List Pairs). take most (order fields (ys ++ others))) whole ∙ ap (λ (ys : List Pairs). take most (order fields ys)) (append_assoc few (filter p batch) others)
+              kept others ∙ ap (λ (ys : List Pairs). take most (order fields (ys ++ others))) whole
+              ∙ ap (λ (ys : List Pairs). take most (order fields ys)) (append_assoc few (filter p batch) others)
               ∙ h.first (filter p batch ++ others)
-              ∙ ap (λ (ys : List Pairs). take most (order fields ys)) (sym (append_assoc (filter p h.front) (filter p batch) others) ∙ ap (λ (ys : List Pairs). ys ++ others) (sym (filter-append p h.front batch)));
+              ∙ ap (λ (ys : List Pairs). take most (order fields ys))
+              (sym (append_assoc (filter p h.front) (filter p batch) others) ∙ ap (λ (ys : List Pairs). ys ++ others) (sym (filter-append p h.front batch)));
         }
 
     pub all_first : (few all found : List Pairs) → found ≡ take most (order fields few) → AreFirst few all [] → found ≡ take most (order fields (filter p all))

@@ -25,10 +25,12 @@ pub goes_on : {D : Type 0} (history : D → History) (a b c : State D) → GoesF
 goes_on history a b c = grows_trans (pages_of history a) (pages_of history b) (pages_of history c)
 
 -- the word that the disk keeps now it kept before
-pub word_before : {D : Type 0} (history : D → History) (a b : State D) → GoesFrom history a b → KeepsWord (disk_history history b) → KeepsWord (disk_history history a)
+pub word_before : {D : Type 0} (history : D → History) (a b : State D) → GoesFrom history a b → KeepsWord (disk_history history b)
+    → KeepsWord (disk_history history a)
 word_before history a b goes k = (goes.frame k).word
 
-module _ {D : Type 0} (history : D → History) (a b c d : State D) (early : GoesFrom history a b) (within : GoesFrom history b c) (late : GoesFrom history c d) (k : KeepsWord (disk_history history d)) where
+module _ {D : Type 0} (history : D → History) (a b c d : State D) (early : GoesFrom history a b) (within : GoesFrom history b c) (late : GoesFrom history c d)
+    (k : KeepsWord (disk_history history d)) where
   third : Frame (pages_of history c) (pages_of history d)
   third = late.frame k
 
@@ -56,7 +58,8 @@ module _ {D : Type 0} (history : D → History) (a b c d : State D) (early : Goe
   widen_write after e (inr large) = inr large
 
 -- only what came before is added, or only what came after
-module _ {D : Type 0} (history : D → History) (a b c : State D) (early : GoesFrom history a b) (late : GoesFrom history b c) (k : KeepsWord (disk_history history c)) where
+module _ {D : Type 0} (history : D → History) (a b c : State D) (early : GoesFrom history a b) (late : GoesFrom history b c)
+    (k : KeepsWord (disk_history history c)) where
   pub widen_before : (e : Refusal) → HasCause history b c e → HasCause history a c e
   widen_before = widen history a b c c early late (goes_itself history c) k
 
@@ -72,13 +75,16 @@ of_file history a b e (inr (inr x)) = inr (inr x.0)
 -- ---- what was read, of something else that is asked for
 
 -- while the collections are lawful, this is so of the other, and what is right of that is right of what is asked for
-pub record IsOther {A B X : Type 0} (Was : List Collection → B → Type 0) (P : List Collection → B → X → Type 0) (R : List Collection → A → X → Type 0) (now : List Collection) (asked : A) : Type 0 where
+pub record IsOther {A B X : Type 0} (Was : List Collection → B → Type 0) (P : List Collection → B → X → Type 0) (R : List Collection → A → X → Type 0)
+    (now : List Collection) (asked : A) : Type 0 where
   pub other : B
   pub was : Was now other
   pub right : (x : X) → P now other x → R now asked x
 
-module _ {D A B X : Type 0} (history : D → History) (Is : List Collection → A → Type 0) (Was : List Collection → B → Type 0) (P : List Collection → B → X → Type 0) (R : List Collection → A → X → Type 0) where
-  either_read : (old new : State D) (r : Result X Refusal) (now : List Collection) (asked : A) (o : IsOther Was P R now asked) → MatchResult r (P now o.other) (HasCause history old new) → MatchResult r (R now asked) (HasCause history old new)
+module _ {D A B X : Type 0} (history : D → History) (Is : List Collection → A → Type 0) (Was : List Collection → B → Type 0) (P : List Collection → B → X
+    → Type 0) (R : List Collection → A → X → Type 0) where
+  either_read : (old new : State D) (r : Result X Refusal) (now : List Collection) (asked : A) (o : IsOther Was P R now asked)
+      → MatchResult r (P now o.other) (HasCause history old new) → MatchResult r (R now asked) (HasCause history old new)
   either_read old new (Ok x) now asked o right = o.right x right
   either_read old new (Err e) now asked o cause = cause
 
@@ -95,8 +101,10 @@ module _ {D A B X : Type 0} (history : D → History) (Is : List Collection → 
   }
 
 -- what was read before tells what is asked for next
-module _ {D A B X Y : Type 0} (history : D → History) (Is : List Collection → A → Type 0) (P : List Collection → A → X → Type 0) (Was : List Collection → B → Type 0) (Q : List Collection → B → Y → Type 0) (R : List Collection → A → Y → Type 0) where
-  either_behind : (a b c : State D) → GoesFrom history a b → GoesFrom history b c → KeepsWord (disk_history history c) → (r : Result Y Refusal) (now : List Collection) (asked : A) (o : IsOther Was Q R now asked)
+module _ {D A B X Y : Type 0} (history : D → History) (Is : List Collection → A → Type 0) (P : List Collection → A → X → Type 0) (Was : List Collection → B
+    → Type 0) (Q : List Collection → B → Y → Type 0) (R : List Collection → A → Y → Type 0) where
+  either_behind : (a b c : State D) → GoesFrom history a b → GoesFrom history b c → KeepsWord (disk_history history c)
+      → (r : Result Y Refusal) (now : List Collection) (asked : A) (o : IsOther Was Q R now asked)
       → MatchResult r (Q now o.other) (HasCause history b c) → MatchResult r (R now asked) (HasCause history a c)
   either_behind a b c early late k (Ok y) now asked o right = o.right y right
   either_behind a b c early late k (Err e) now asked o cause = widen_before history a b c early late k e cause
@@ -113,11 +121,13 @@ module _ {D A B X Y : Type 0} (history : D → History) (Is : List Collection �
   }
 
 -- a refusal is one whatever was to be read
-pub reads_refused : {D A X Y : Type 0} (history : D → History) (Is : List Collection → A → Type 0) (P : List Collection → A → X → Type 0) (R : List Collection → A → Y → Type 0) (old new : State D) (e : Refusal) → ReadsOf history Is P (Err e) old new → ReadsOf history Is R (Err e) old new
+pub reads_refused : {D A X Y : Type 0} (history : D → History) (Is : List Collection → A → Type 0) (P : List Collection → A → X → Type 0) (R : List Collection
+    → A → Y → Type 0) (old new : State D) (e : Refusal) → ReadsOf history Is P (Err e) old new → ReadsOf history Is R (Err e) old new
 reads_refused history Is P R old new e reads = record { on = reads.on; unchanged = reads.unchanged; same = reads.same; answers = reads.answers }
 
 -- what is made of what was read, unless memory runs out
-pub reads_made : {D A X Y : Type 0} (history : D → History) (Is : List Collection → A → Type 0) (P : List Collection → A → X → Type 0) (R : List Collection → A → Y → Type 0) (old new : State D) (x : X) (y : Y) → ReadsOf history Is P (Ok x) old new
+pub reads_made : {D A X Y : Type 0} (history : D → History) (Is : List Collection → A → Type 0) (P : List Collection → A → X → Type 0) (R : List Collection → A
+    → Y → Type 0) (old new : State D) (x : X) (y : Y) → ReadsOf history Is P (Ok x) old new
     → ((now : List Collection) (asked : A) → Is now asked → P now asked x → R now asked y) → ReadsOf history Is R (Ok y) old new
 reads_made history Is P R old new x y reads on = record {
   on = reads.on;
@@ -126,11 +136,15 @@ reads_made history Is P R old new x y reads on = record {
   answers = λ k start now has asked is. on now asked is (reads.answers k start now has asked is);
 }
 
-pub reads_memory : {D A X Y : Type 0} (history : D → History) (Is : List Collection → A → Type 0) (P : List Collection → A → X → Type 0) (R : List Collection → A → Y → Type 0) (r : Result X Refusal) (old new : State D) (e : Refusal) → e ≡ refusals.OutOfMemory → ReadsOf history Is P r old new → ReadsOf history Is R (Err e) old new
-reads_memory history Is P R r old new e is reads = record { on = reads.on; unchanged = reads.unchanged; same = reads.same; answers = λ k start now has asked so. inl is }
+pub reads_memory : {D A X Y : Type 0} (history : D → History) (Is : List Collection → A → Type 0) (P : List Collection → A → X → Type 0) (R : List Collection
+    → A → Y → Type 0) (r : Result X Refusal) (old new : State D) (e : Refusal) → e ≡ refusals.OutOfMemory → ReadsOf history Is P r old new
+    → ReadsOf history Is R (Err e) old new
+reads_memory history Is P R r old new e is reads = record
+    { on = reads.on; unchanged = reads.unchanged; same = reads.same; answers = λ k start now has asked so. inl is }
 
 -- nothing was read
-pub reads_none : {D A X : Type 0} (history : D → History) (Is : List Collection → A → Type 0) (R : List Collection → A → X → Type 0) (old : State D) (x : X) → is_stopped old ≡ false
+pub reads_none : {D A X : Type 0} (history : D → History) (Is : List Collection → A → Type 0) (R : List Collection → A → X → Type 0) (old : State D) (x : X)
+    → is_stopped old ≡ false
     → ((now : List Collection) → IsLawfulState now → (asked : A) → Is now asked → R now asked x) → ReadsOf history Is R (Ok x) old old
 reads_none history Is R old x running right = record {
   on = goes_itself history old;

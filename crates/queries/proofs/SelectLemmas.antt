@@ -1,5 +1,6 @@
 -- Documents that are selected as they come, up to so many.
-use Rattle.std.proofs.Common.{◌≡◌, ℕ, zero, suc, ◌≤◌, ◌<◌, Bool, true, false, List, [], ◌∷◌, ◌++◌, length, take, refl, sym, ap, ◌∙◌, arith, inl, inr, append_assoc, length-append}
+use Rattle.std.proofs.Common.{◌≡◌, ℕ, zero, suc, ◌≤◌, ◌<◌, Bool, true, false, List, [], ◌∷◌, ◌++◌, length, take, refl, sym, ap, ◌∙◌, arith, inl, inr}
+use Rattle.std.proofs.Common.{append_assoc, length-append}
 use Rattle.std.specs.List.{filter, list_all}
 use Rattle.std.proofs.lemmas.List.{take_all, append-nil, length-take}
 use Rattle.std.proofs.lemmas.List.Elements.{filter-append}
@@ -43,17 +44,20 @@ module _ {X : Type 0} (p : X → Bool) (most : ℕ) (before all : List X) where
   starts few = record { few = few; same = refl }
 
   -- one that is selected was put behind them where there was room
-  pub takes_one : (x : X) (now left next : List X) → next ≡ take most (now ++ filter p (x ∷ [])) → IsSelecting p most before all now (x ∷ left) → IsSelecting p most before all next left
+  pub takes_one : (x : X) (now left next : List X) → next ≡ take most (now ++ filter p (x ∷ [])) → IsSelecting p most before all now (x ∷ left)
+      → IsSelecting p most before all next left
   takes_one x now left next made h = record {
     few = omega (arith, ap length made, length-take most (now ++ filter p (x ∷ [])));
     same =
         ap (λ (ys : List X). take most (ys ++ filter p left)) made ∙ take_twice most (now ++ filter p (x ∷ [])) (filter p left)
-        ∙ ap (take most) (append_assoc now (filter p (x ∷ [])) (filter p left) ∙ ap (λ (ys : List X). now ++ ys) (sym (filter-append p (x ∷ []) left))) ∙ h.same;
+        ∙ ap (take most) (append_assoc now (filter p (x ∷ [])) (filter p left) ∙ ap (λ (ys : List X). now ++ ys) (sym (filter-append p (x ∷ []) left)))
+        ∙ h.same;
   }
 
   pub ends : (now left : List X) → left ≡ [] → IsSelecting p most before all now left → now ≡ take most (before ++ filter p all)
   ends now left none h =
-      sym (take_all most now (omega (arith, h.few))) ∙ ap (take most) (sym (append-nil now)) ∙ ap (λ (ys : List X). take most (now ++ filter p ys)) (sym none) ∙ h.same
+      sym (take_all most now (omega (arith, h.few))) ∙ ap (take most) (sym (append-nil now)) ∙ ap (λ (ys : List X). take most (now ++ filter p ys)) (sym none)
+      ∙ h.same
 
 -- ---- a batch behind another
 
@@ -66,7 +70,8 @@ module _ {X : Type 0} (p : X → Bool) (most : ℕ) where
   pub none_selected : (all : List X) → AreSelected p most [] all all
   none_selected all = record { few = omega arith; same = refl }
 
-  pub batch_selected : (now next batch all left : List X) → next ≡ take most (now ++ filter p batch) → AreSelected p most now all (batch ++ left) → AreSelected p most next all left
+  pub batch_selected : (now next batch all left : List X) → next ≡ take most (now ++ filter p batch) → AreSelected p most now all (batch ++ left)
+      → AreSelected p most next all left
   batch_selected now next batch all left made h = record {
     few = omega (arith, ap length made, length-take most (now ++ filter p batch));
     same =
@@ -99,6 +104,7 @@ over_later p d left over = at (p d) refl
     at false e = grind (arith, e)
 
 -- why one of them is refused is why all are
-pub cause_of_all : (d : Pairs) (left all : List Pairs) (e : Refusal) → (list_all is_within (d ∷ left) ≡ false → list_all is_within all ≡ false) → HasReadCause (d ∷ []) e → HasReadCause all e
+pub cause_of_all : (d : Pairs) (left all : List Pairs) (e : Refusal) → (list_all is_within (d ∷ left) ≡ false → list_all is_within all ≡ false)
+    → HasReadCause (d ∷ []) e → HasReadCause all e
 cause_of_all d left all e on (inl is) = inl is
 cause_of_all d left all e on (inr (is, over)) = inr (is, on (over_first is_within d left over))

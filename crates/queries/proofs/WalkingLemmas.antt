@@ -33,15 +33,20 @@ batch_first : (limit : ℕ) (rest batch : List Pairs) → AreNext limit rest bat
 batch_first limit rest batch next = sym (take-append-drop (length batch) rest) ∙ ap (λ (xs : List Pairs). xs ++ drop (length batch) rest) (sym next.first)
 
 -- what comes of a lawful collection is within the limits
-next_are_within : (now : List Collection) (walk : Walk) (rest batch : List Pairs) (limit : ℕ) → IsLawfulState now → IsWalk now walk rest → AreNext limit rest batch → All IsWithin batch
+next_are_within : (now : List Collection) (walk : Walk) (rest batch : List Pairs) (limit : ℕ) → IsLawfulState now → IsWalk now walk rest
+    → AreNext limit rest batch → All IsWithin batch
 next_are_within now walk rest batch limit state w next =
     let kept = (found_collection now w.collection.name w.collection state w.numbered.found).0 in
-    let rest_all : All IsStorable rest = subst (All IsStorable) (ap (drop (length w.done)) w.all ∙ drop-append_seam w.done rest) (All-drop IsStorable (length w.done) w.collection.documents kept.storable) in
+    let rest_all : All IsStorable rest =
+    subst (All IsStorable) (ap (drop (length w.done)) w.all ∙ drop-append_seam w.done rest)
+    (All-drop IsStorable (length w.done) w.collection.documents kept.storable) in
     subst (All IsWithin) (sym next.first) (storable_within (take (length batch) rest) (All-take IsStorable (length batch) rest rest_all))
 
-module _ {D : Type 0} (history : D → History) (old new : State D) (walk after : Walk) (limit : ℕ) (batch : Vec Pairs) (reads : ReadsOf history (λ now rest. IsWalk now walk rest) (λ now rest (x : Vec Pairs). StepsOn limit after now rest x.items) (Ok batch) old new) where
+module _ {D : Type 0} (history : D → History) (old new : State D) (walk after : Walk) (limit : ℕ) (batch : Vec Pairs)
+    (reads : ReadsOf history (λ now rest. IsWalk now walk rest) (λ now rest (x : Vec Pairs). StepsOn limit after now rest x.items) (Ok batch) old new) where
   -- so a batch that isn't within them comes of a device that failed
-  pub judged : list_all is_within batch.items ≡ false → {X : Type 0} (Q : List Collection → List Pairs → X → Type 0) → ReadsOf history (λ now rest. IsWalk now walk rest) Q (Err refusals.StorageFailed) old new
+  pub judged : list_all is_within batch.items ≡ false → {X : Type 0} (Q : List Collection → List Pairs → X → Type 0)
+      → ReadsOf history (λ now rest. IsWalk now walk rest) Q (Err refusals.StorageFailed) old new
   judged over Q = record {
     on = reads.on;
     unchanged = reads.unchanged;
@@ -49,7 +54,8 @@ module _ {D : Type 0} (history : D → History) (old new : State D) (walk after 
     answers = λ k start now has rest w. at (is_stopped old) refl k start now has rest w;
   }
     where
-      at : (b : Bool) → is_stopped old ≡ b → KeepsWord (disk_history history new) → (start now : List Collection) → HasState history old start now → (rest : List Pairs) → IsWalk now walk rest → HasCause history old new refusals.StorageFailed
+      at : (b : Bool) → is_stopped old ≡ b → KeepsWord (disk_history history new) → (start now : List Collection) → HasState history old start now
+          → (rest : List Pairs) → IsWalk now walk rest → HasCause history old new refusals.StorageFailed
       at true stopped k start now has rest w = inr (inl (refl, inl stopped))
       at false running k start now has rest w =
           let t : IsTurnOf history old start now = has running (word_before history old new reads.on k) in
@@ -58,9 +64,11 @@ module _ {D : Type 0} (history : D → History) (old new : State D) (walk after 
           absurd cc
 
   -- and so does what is refused of one of its documents, unless memory ran out
-  pub read_refused : (e : Refusal) → HasReadCause batch.items e → {X : Type 0} (Q : List Collection → List Pairs → X → Type 0) → ReadsOf history (λ now rest. IsWalk now walk rest) Q (Err e) old new
+  pub read_refused : (e : Refusal) → HasReadCause batch.items e → {X : Type 0} (Q : List Collection → List Pairs → X → Type 0)
+      → ReadsOf history (λ now rest. IsWalk now walk rest) Q (Err e) old new
   read_refused e (inl is) Q = record { on = reads.on; unchanged = reads.unchanged; same = reads.same; answers = λ k start now has rest w. inl is }
-  read_refused e (inr (is, over)) {X} Q = subst (λ (e : Refusal). ReadsOf {X = X} history (λ now rest. IsWalk now walk rest) Q (Err e) old new) (sym is) (judged over Q)
+  read_refused e (inr (is, over)) {X} Q =
+      subst (λ (e : Refusal). ReadsOf {X = X} history (λ now rest. IsWalk now walk rest) Q (Err e) old new) (sym is) (judged over Q)
 
 -- ---- a walk so far
 
@@ -76,9 +84,11 @@ module _ {D : Type 0} (history : D → History) (number : ℕ) where
     pub on : GoesFrom history old new
     pub unchanged : is_changed new ≡ is_changed old
     pub same : (start now : List Collection) → HasState history old start now → HasState history new start now
-    pub there : KeepsWord (disk_history history new) → (start now : List Collection) → HasState history old start now → (c : Collection) → IsNumbered now c number → IsAt (R c.documents) now walk
+    pub there : KeepsWord (disk_history history new) → (start now : List Collection) → HasState history old start now → (c : Collection)
+        → IsNumbered now c number → IsAt (R c.documents) now walk
 
-  pub begins : (R : List Pairs → List Pairs → Type 0) (old : State D) (walk : Walk) → is_stopped old ≡ false → BeginsWalk history old number walk → ((ds : List Pairs) → length ds ≤ walk.left → R ds ds) → HasCome R old old walk
+  pub begins : (R : List Pairs → List Pairs → Type 0) (old : State D) (walk : Walk) → is_stopped old ≡ false → BeginsWalk history old number walk
+      → ((ds : List Pairs) → length ds ≤ walk.left → R ds ds) → HasCome R old old walk
   begins R old walk running begin all = record {
     on = goes_itself history old;
     unchanged = refl;
@@ -89,7 +99,8 @@ module _ {D : Type 0} (history : D → History) (number : ℕ) where
   }
 
   module _ (R : List Pairs → List Pairs → Type 0) (old mid : State D) (walk : Walk) (come : HasCome R old mid walk) where
-    module _ (new : State D) (after : Walk) (limit : ℕ) (batch : Vec Pairs) (reads : ReadsOf history (λ now rest. IsWalk now walk rest) (λ now rest (x : Vec Pairs). StepsOn limit after now rest x.items) (Ok batch) mid new) where
+    module _ (new : State D) (after : Walk) (limit : ℕ) (batch : Vec Pairs)
+        (reads : ReadsOf history (λ now rest. IsWalk now walk rest) (λ now rest (x : Vec Pairs). StepsOn limit after now rest x.items) (Ok batch) mid new) where
       pub steps : (S : List Pairs → List Pairs → Type 0) → ((ds rest : List Pairs) → R ds (batch.items ++ rest) → S ds rest) → HasCome S old new after
       steps S on = record {
         on = goes_on history old mid new come.on reads.on;
@@ -106,7 +117,8 @@ module _ {D : Type 0} (history : D → History) (number : ℕ) where
       }
 
       -- there were none any more
-      pub ends : {X : Type 0} (Q : List Pairs → X → Type 0) (x : X) → batch.items ≡ [] → ((ds : List Pairs) → R ds [] → Q ds x) → ReadsOf history (λ now c. IsNumbered now c number) (λ now c (y : X). Q c.documents y) (Ok x) old new
+      pub ends : {X : Type 0} (Q : List Pairs → X → Type 0) (x : X) → batch.items ≡ [] → ((ds : List Pairs) → R ds [] → Q ds x)
+          → ReadsOf history (λ now c. IsNumbered now c number) (λ now c (y : X). Q c.documents y) (Ok x) old new
       ends Q x none on = record {
         on = goes_on history old mid new come.on reads.on;
         unchanged = reads.unchanged ∙ come.unchanged;
@@ -118,7 +130,8 @@ module _ {D : Type 0} (history : D → History) (number : ℕ) where
       }
 
     -- enough has come
-    pub answered : {X : Type 0} (Q : List Pairs → X → Type 0) (x : X) → ((ds rest : List Pairs) → R ds rest → Q ds x) → ReadsOf history (λ now c. IsNumbered now c number) (λ now c (y : X). Q c.documents y) (Ok x) old mid
+    pub answered : {X : Type 0} (Q : List Pairs → X → Type 0) (x : X) → ((ds rest : List Pairs) → R ds rest → Q ds x)
+        → ReadsOf history (λ now c. IsNumbered now c number) (λ now c (y : X). Q c.documents y) (Ok x) old mid
     answered Q x on = record {
       on = come.on;
       unchanged = come.unchanged;
@@ -128,7 +141,8 @@ module _ {D : Type 0} (history : D → History) (number : ℕ) where
           on c.documents at.rest at.so;
     }
 
-    pub fails : {X Y : Type 0} (P : List Collection → List Pairs → X → Type 0) (Q : List Collection → Collection → Y → Type 0) (new : State D) (e : Refusal) → ReadsOf history (λ now rest. IsWalk now walk rest) P (Err e) mid new
+    pub fails : {X Y : Type 0} (P : List Collection → List Pairs → X → Type 0) (Q : List Collection → Collection → Y → Type 0) (new : State D) (e : Refusal)
+        → ReadsOf history (λ now rest. IsWalk now walk rest) P (Err e) mid new
         → ReadsOf history (λ now c. IsNumbered now c number) Q (Err e) old new
     fails P Q new e reads = record {
       on = goes_on history old mid new come.on reads.on;
@@ -139,13 +153,15 @@ module _ {D : Type 0} (history : D → History) (number : ℕ) where
           widen_before history old mid new come.on reads.on k e (reads.answers k start now (come.same start now has) at.rest at.walk);
     }
 
-    pub forgets : {Y : Type 0} (Q : List Collection → Collection → Y → Type 0) (e : Refusal) → e ≡ refusals.OutOfMemory → ReadsOf history (λ now c. IsNumbered now c number) Q (Err e) old mid
+    pub forgets : {Y : Type 0} (Q : List Collection → Collection → Y → Type 0) (e : Refusal) → e ≡ refusals.OutOfMemory
+        → ReadsOf history (λ now c. IsNumbered now c number) Q (Err e) old mid
     forgets Q e is = record { on = come.on; unchanged = come.unchanged; same = come.same; answers = λ k start now has c numbered. inl is }
 
 -- before anything is read
 module _ {D A X : Type 0} (history : D → History) (Is : List Collection → A → Type 0) (Q : List Collection → A → X → Type 0) (old : State D) where
   pub asks_stopped : is_stopped old ≡ true → ReadsOf history Is Q (Err refusals.StorageFailed) old old
-  asks_stopped stopped = record { on = goes_itself history old; unchanged = refl; same = λ start now has. has; answers = λ k start now has asked is. inr (inl (refl, inl stopped)) }
+  asks_stopped stopped = record
+      { on = goes_itself history old; unchanged = refl; same = λ start now has. has; answers = λ k start now has asked is. inr (inl (refl, inl stopped)) }
 
   pub asks_memory : (e : Refusal) → e ≡ refusals.OutOfMemory → ReadsOf history Is Q (Err e) old old
   asks_memory e is = record { on = goes_itself history old; unchanged = refl; same = λ start now has. has; answers = λ k start now has asked so. inl is }

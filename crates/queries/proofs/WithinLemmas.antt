@@ -75,6 +75,7 @@ pub faultless_within : (ds : List Pairs) → first_fault 65535 ds ≡ None → A
 faultless_within [] e = λ k x below. absurd (omega (arith, below))
 faultless_within (d ∷ ds) e = at (limit_fault 65535 d) refl (λ f. faultless_within ds f) e
   where
-    at : (o : Option Refusal) → limit_fault 65535 d ≡ o → (first_fault 65535 ds ≡ None → All IsWithin ds) → else_fault o (first_fault 65535 ds) ≡ None → All IsWithin (d ∷ ds)
+    at : (o : Option Refusal) → limit_fault 65535 d ≡ o → (first_fault 65535 ds ≡ None → All IsWithin ds) → else_fault o (first_fault 65535 ds) ≡ None
+        → All IsWithin (d ∷ ds)
     at None is later f = All-cons IsWithin d ds (faultless_is_within d is) (later f)
     at (Some r) is later f = absurd cc

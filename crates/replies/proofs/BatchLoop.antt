@@ -1,5 +1,6 @@
 -- The loop that spells a batch, document by document.
-use Rattle.std.proofs.Common.{◌≡◌, ◌≢◌, ℕ, zero, suc, ◌+◌, ◌-◌, ◌<◌, ◌≤◌, Bool, true, false, List, [], ◌∷◌, ◌++◌, length, take, drop, get_or, map, refl, sym, ap, subst, ◌∙◌, append_assoc, arith}
+use Rattle.std.proofs.Common.{◌≡◌, ◌≢◌, ℕ, zero, suc, ◌+◌, ◌-◌, ◌<◌, ◌≤◌, Bool, true, false, List, [], ◌∷◌, ◌++◌, length, take, drop, get_or, map, refl, sym}
+use Rattle.std.proofs.Common.{ap, subst, ◌∙◌, append_assoc, arith}
 use Rattle.std.specs.Prelude.{◌==◌, ◌||◌, if◌then◌else◌, nat_le, All}
 use Rattle.std.specs.Fmt.{decimal}
 use Rattle.std.proofs.lemmas.List.{append-nil, drop-map, drop_all}
@@ -15,10 +16,14 @@ use Rattle.replies.specs.View.{projected}
 use Rattle.replies.proofs.Steps.{drop_step}
 
 -- what a projection leaves of the documents from an index on
-pub projected_step : {X : Type 0} (lent : X → Pairs) (p : Projection) (ds : List X) (i : ℕ) (d : X) (seen : Pairs) → i < length ds → d ≡ get_or ds i d → seen ≡ lent d
+pub projected_step : {X : Type 0} (lent : X → Pairs) (p : Projection) (ds : List X) (i : ℕ) (d : X) (seen : Pairs) → i < length ds → d ≡ get_or ds i d
+    → seen ≡ lent d
     → drop i (projected p (map lent ds)) ≡ project p seen ∷ drop (i + 1) (projected p (map lent ds))
 projected_step {X} lent p ds i d seen within is same =
-    drop-map (project p) i (map lent ds) ∙ ap (λ (xs : List Pairs). map (project p) xs) (drop-map lent i ds ∙ ap (λ (xs : List X). map lent xs) (drop_step ds i d within is) ∙ ap (λ (xs : List Pairs). lent d ∷ xs) (sym (drop-map lent (i + 1) ds)))
+    drop-map (project p) i (map lent ds)
+    ∙ ap (λ (xs : List Pairs). map (project p) xs)
+    (drop-map lent i ds ∙ ap (λ (xs : List X). map lent xs) (drop_step ds i d within is)
+    ∙ ap (λ (xs : List Pairs). lent d ∷ xs) (sym (drop-map lent (i + 1) ds)))
     ∙ (λ j. project p (sym same j) ∷ sym (drop-map (project p) (i + 1) (map lent ds)) j)
 
 take_suc : {X : Type 0} (xs : List X) (i : ℕ) (x : X) (rest : List X) → drop i xs ≡ x ∷ rest → take (suc i) xs ≡ take i xs ++ x ∷ []
@@ -38,7 +43,9 @@ take_len [] (suc i) x rest e = absurd cc
 take_len (y ∷ ys) zero x rest e = refl
 take_len (y ∷ ys) (suc i) x rest e = omega (arith, take_len ys i x rest e)
 
-items_more : (k : ℕ) (ds : List Pairs) (d : Pairs) → items_bytes k (items_of_documents (ds ++ d ∷ [])) ≡ items_bytes k (items_of_documents ds) ++ element 3 (decimal (k + length ds)) (frame_of (pairs_bytes d))
+items_more : (k : ℕ) (ds : List Pairs) (d : Pairs)
+    → items_bytes k (items_of_documents (ds ++ d ∷ [])) ≡ items_bytes k (items_of_documents ds)
+    ++ element 3 (decimal (k + length ds)) (frame_of (pairs_bytes d))
 unfolding tree_bytes items_bytes
 items_more k [] d =
     let at : k ≡ k + 0 = omega arith in
@@ -46,7 +53,8 @@ items_more k [] d =
 items_more k (e ∷ ds) d =
     let at : (k + 1) + length ds ≡ k + suc (length ds) = omega arith in
     let first = element 3 (decimal k) (frame_of (pairs_bytes e)) in
-    ap (λ (x : List ℕ). first ++ x) (items_more (k + 1) ds d) ∙ sym (append_assoc first (items_bytes (k + 1) (items_of_documents ds)) (element 3 (decimal ((k + 1) + length ds)) (frame_of (pairs_bytes d))))
+    ap (λ (x : List ℕ). first ++ x) (items_more (k + 1) ds d)
+    ∙ sym (append_assoc first (items_bytes (k + 1) (items_of_documents ds)) (element 3 (decimal ((k + 1) + length ds)) (frame_of (pairs_bytes d))))
     ∙ ap (λ (n : ℕ). (first ++ items_bytes (k + 1) (items_of_documents ds)) ++ element 3 (decimal n) (frame_of (pairs_bytes d))) at
 
 -- What the loop keeps: how many documents the batch has in all, what was spelled, and that it can be read.
@@ -70,36 +78,45 @@ no_batch gs most base = record {
   readable = λ k d below. absurd (omega (arith, below));
 }
 
-module _ (gs : List Pairs) (most i room : ℕ) (base out : List ℕ) (g : Pairs) (rest : List Pairs) (at : drop i gs ≡ g ∷ rest) (so_far : IsBatchSoFar gs most i room base out) where
-  item_put : (next : List ℕ) → next ≡ out ++ element 3 (decimal i) (frame_of (pairs_bytes g)) → next ≡ base ++ items_bytes 0 (items_of_documents (take (i + 1) gs))
+module _ (gs : List Pairs) (most i room : ℕ) (base out : List ℕ) (g : Pairs) (rest : List Pairs) (at : drop i gs ≡ g ∷ rest)
+    (so_far : IsBatchSoFar gs most i room base out) where
+  item_put : (next : List ℕ) → next ≡ out ++ element 3 (decimal i) (frame_of (pairs_bytes g))
+      → next ≡ base ++ items_bytes 0 (items_of_documents (take (i + 1) gs))
   item_put next e =
       let counted : 0 + length (take i gs) ≡ i = omega (arith, take_len gs i g rest at) in
-      let more : items_bytes 0 (items_of_documents (take (i + 1) gs)) ≡ items_bytes 0 (items_of_documents (take i gs)) ++ element 3 (decimal i) (frame_of (pairs_bytes g)) =
+      let more : items_bytes 0 (items_of_documents (take (i + 1) gs)) ≡ items_bytes 0 (items_of_documents (take i gs))
+      ++ element 3 (decimal i) (frame_of (pairs_bytes g)) =
       ap (λ (ds : List Pairs). items_bytes 0 (items_of_documents ds)) (take_next gs i g rest at) ∙ items_more 0 (take i gs) g
       ∙ ap (λ (n : ℕ). items_bytes 0 (items_of_documents (take i gs)) ++ element 3 (decimal n) (frame_of (pairs_bytes g))) counted in
-      e ∙ ap (λ (x : List ℕ). x ++ element 3 (decimal i) (frame_of (pairs_bytes g))) so_far.bytes ∙ append_assoc base (items_bytes 0 (items_of_documents (take i gs))) (element 3 (decimal i) (frame_of (pairs_bytes g)))
+      e ∙ ap (λ (x : List ℕ). x ++ element 3 (decimal i) (frame_of (pairs_bytes g))) so_far.bytes
+      ∙ append_assoc base (items_bytes 0 (items_of_documents (take i gs))) (element 3 (decimal i) (frame_of (pairs_bytes g)))
       ∙ ap (λ (x : List ℕ). base ++ x) (sym more)
 
   still_read : IsDocument g → All IsDocument (take (i + 1) gs)
-  still_read d = subst (λ (ds : List Pairs). All IsDocument ds) (sym (take_next gs i g rest at)) (All-append IsDocument (take i gs) (g ∷ []) so_far.readable one)
+  still_read d =
+      subst (λ (ds : List Pairs). All IsDocument ds) (sym (take_next gs i g rest at)) (All-append IsDocument (take i gs) (g ∷ []) so_far.readable one)
     where
       one : All IsDocument (g ∷ [])
       one zero x below = d
       one (suc k) x below = absurd (omega (arith, below))
 
   -- the length of the batch, one document further
-  step : i ≢ most → batch_of most gs ≡ i + (if i == 0 || nat_le (item_size i g) room then suc (batch_len (i + 1) (most - (i + 1)) (room - item_size i g) rest) else 0)
+  step : i ≢ most
+      → batch_of most gs ≡ i + (if i == 0 || nat_le (item_size i g) room then suc (batch_len (i + 1) (most - (i + 1)) (room - item_size i g) rest) else 0)
   step other =
       let less : most - i ≡ suc (most - (i + 1)) = omega (arith, so_far.within, other) in
       so_far.count ∙ (λ k. i + batch_len i (less k) room (at k))
 
-  pub goes_on : (next : List ℕ) (left : ℕ) → i ≢ most → next ≡ out ++ element 3 (decimal i) (frame_of (pairs_bytes g)) → IsDocument g → (i == 0 || nat_le (item_size i g) room) ≡ true → left ≡ room - item_size i g → rest ≡ drop (i + 1) gs → IsBatchSoFar gs most (i + 1) left base next
+  pub goes_on : (next : List ℕ) (left : ℕ) → i ≢ most → next ≡ out ++ element 3 (decimal i) (frame_of (pairs_bytes g)) → IsDocument g
+      → (i == 0 || nat_le (item_size i g) room) ≡ true → left ≡ room - item_size i g → rest ≡ drop (i + 1) gs → IsBatchSoFar gs most (i + 1) left base next
   goes_on next left other e d fits is after = record {
     within = omega (arith, so_far.within, other);
     room = omega (arith, so_far.room, is);
     count =
-        let counted : batch_of most gs ≡ i + suc (batch_len (i + 1) (most - (i + 1)) (room - item_size i g) rest) = step other ∙ ap (λ (b : Bool). i + (if b then suc (batch_len (i + 1) (most - (i + 1)) (room - item_size i g) rest) else 0)) fits in
-        let same : batch_len (i + 1) (most - (i + 1)) (room - item_size i g) rest ≡ batch_len (i + 1) (most - (i + 1)) left (drop (i + 1) gs) = λ k. batch_len (i + 1) (most - (i + 1)) (sym is k) (after k) in
+        let counted : batch_of most gs ≡ i + suc (batch_len (i + 1) (most - (i + 1)) (room - item_size i g) rest) =
+        step other ∙ ap (λ (b : Bool). i + (if b then suc (batch_len (i + 1) (most - (i + 1)) (room - item_size i g) rest) else 0)) fits in
+        let same : batch_len (i + 1) (most - (i + 1)) (room - item_size i g) rest ≡ batch_len (i + 1) (most - (i + 1)) left (drop (i + 1) gs) =
+        λ k. batch_len (i + 1) (most - (i + 1)) (sym is k) (after k) in
         omega (arith, counted, same);
     bytes = item_put next e;
     readable = still_read d;
@@ -107,7 +124,8 @@ module _ (gs : List Pairs) (most i room : ℕ) (base out : List ℕ) (g : Pairs)
 
   pub stops : i ≢ most → (i == 0 || nat_le (item_size i g) room) ≡ false → i ≡ batch_of most gs
   stops other fits =
-      let counted : batch_of most gs ≡ i + 0 = step other ∙ ap (λ (b : Bool). i + (if b then suc (batch_len (i + 1) (most - (i + 1)) (room - item_size i g) rest) else 0)) fits in
+      let counted : batch_of most gs ≡ i + 0 =
+      step other ∙ ap (λ (b : Bool). i + (if b then suc (batch_len (i + 1) (most - (i + 1)) (room - item_size i g) rest) else 0)) fits in
       omega (arith, counted)
 
 pub full : (gs : List Pairs) (most i room : ℕ) (base out : List ℕ) → IsBatchSoFar gs most i room base out → i ≡ most → i ≡ batch_of most gs
@@ -122,7 +140,8 @@ full gs most i room base out so_far e =
 
 pub whole : (gs : List Pairs) (most i room : ℕ) (base out : List ℕ) → IsBatchSoFar gs most i room base out → length gs ≡ i → i ≡ batch_of most gs
 whole gs most i room base out so_far e =
-    let counted : batch_of most gs ≡ i + batch_len i (most - i) room [] = so_far.count ∙ ap (λ (ds : List Pairs). i + batch_len i (most - i) room ds) (drop_all i gs (omega (arith, e))) in
+    let counted : batch_of most gs ≡ i + batch_len i (most - i) room [] =
+    so_far.count ∙ ap (λ (ds : List Pairs). i + batch_len i (most - i) room ds) (drop_all i gs (omega (arith, e))) in
     omega (arith, counted)
 
 pub one_within : (gs : List Pairs) (i : ℕ) (g : Pairs) (rest : List Pairs) → drop i gs ≡ g ∷ rest → All IsWithin gs → IsWithin g

@@ -1,5 +1,6 @@
 -- The reply with a batch, as its pieces are put one behind the other.
-use Rattle.std.proofs.Common.{◌≡◌, ◌≢◌, ℕ, zero, suc, max, ◌+◌, ◌-◌, ◌<◌, ◌≤◌, Bool, true, false, List, [], ◌∷◌, ◌++◌, length, take, drop, map, refl, sym, ap, ◌∙◌, append_assoc, length-append, arith, lit≤, lit<}
+use Rattle.std.proofs.Common.{◌≡◌, ◌≢◌, ℕ, zero, suc, max, ◌+◌, ◌-◌, ◌<◌, ◌≤◌, Bool, true, false, List, [], ◌∷◌, ◌++◌, length, take, drop, map, refl, sym, ap}
+use Rattle.std.proofs.Common.{◌∙◌, append_assoc, length-append, arith, lit≤, lit<}
 use Rattle.std.specs.Prelude.{◌&&◌, ◌^◌, nat_lt, nat_le, if◌then◌else◌, codes, slice_index, All, IsUtf8}
 use Rattle.std.proofs.lemmas.List.{append-nil, take_at, drop_at, length-map}
 use Rattle.std.proofs.lemmas.List.Elements.{All-head, All-tail}
@@ -25,10 +26,12 @@ abbrev pub zeros : List ℕ
 zeros = 0 ∷ 0 ∷ 0 ∷ 0 ∷ []
 
 -- what stands behind the room for a length becomes the content
-pub framed : (old content now : List ℕ) (start : ℕ) → start ≡ length old → now ≡ (old ++ zeros) ++ content → take start now ++ frame_of (drop (start + 4) now) ≡ old ++ frame_of content
+pub framed : (old content now : List ℕ) (start : ℕ) → start ≡ length old → now ≡ (old ++ zeros) ++ content
+    → take start now ++ frame_of (drop (start + 4) now) ≡ old ++ frame_of content
 framed old content now start s e =
     let front : take start now ≡ old = ap (take start) (e ∙ append_assoc old zeros content) ∙ take_at old (zeros ++ content) start (sym s) in
-    let back : drop (start + 4) now ≡ content = ap (drop (start + 4)) e ∙ drop_at (old ++ zeros) content (start + 4) (omega (arith, s, length-append old zeros)) in
+    let back : drop (start + 4) now ≡ content =
+    ap (drop (start + 4)) e ∙ drop_at (old ++ zeros) content (start + 4) (omega (arith, s, length-append old zeros)) in
     λ k. front k ++ frame_of (back k)
 
 pub batch_short : (gs : List Pairs) (most n : ℕ) → All IsWithin gs → n ≡ batch_of most gs → length (items_bytes 0 (items_of_documents (take n gs))) ≤ 899995
@@ -40,7 +43,8 @@ are_ascii : (bs : List ℕ) → list_all (λ b. nat_lt b 128) bs ≡ true → (i
 are_ascii [] e i = omega arith
 are_ascii (b ∷ bs) e i = at (nat_lt b 128) refl e (λ f j. are_ascii bs f j) i
   where
-    at : (low : Bool) → nat_lt b 128 ≡ low → (low && list_all (λ b. nat_lt b 128) bs) ≡ true → (list_all (λ b. nat_lt b 128) bs ≡ true → (j : ℕ) → slice_index bs j < 128) → (i : ℕ) → slice_index (b ∷ bs) i < 128
+    at : (low : Bool) → nat_lt b 128 ≡ low → (low && list_all (λ b. nat_lt b 128) bs) ≡ true
+        → (list_all (λ b. nat_lt b 128) bs ≡ true → (j : ℕ) → slice_index bs j < 128) → (i : ℕ) → slice_index (b ∷ bs) i < 128
     at false is all later i = absurd cc
     at true is all later zero = grind (arith, nat_tests)
     at true is all later (suc i) = later all i
@@ -82,8 +86,10 @@ module _ (name : List ℕ) (gs : List Pairs) (number : ℕ) (ns : List ℕ) wher
   abbrev pub reply : Pairs
   reply = ok_reply (cursor_reply name gs number ns)
 
-  pub cursor_bytes : (o0 o1 o2 o3 o4 o5 : List ℕ) → o1 ≡ o0 ++ zeros → o2 ≡ o1 ++ 4 ∷ (name ++ 0 ∷ []) → o3 ≡ o2 ++ frame_of (items_bytes 0 (items_of_documents gs))
-      → o4 ≡ o3 ++ element 18 (codes "id") (tree_bytes (long number)) → o5 ≡ o4 ++ element 2 (codes "ns") (tree_bytes (words ns)) → o5 ≡ (o0 ++ zeros) ++ content
+  pub cursor_bytes : (o0 o1 o2 o3 o4 o5 : List ℕ) → o1 ≡ o0 ++ zeros → o2 ≡ o1 ++ 4 ∷ (name ++ 0 ∷ [])
+      → o3 ≡ o2 ++ frame_of (items_bytes 0 (items_of_documents gs))
+      → o4 ≡ o3 ++ element 18 (codes "id") (tree_bytes (long number)) → o5 ≡ o4 ++ element 2 (codes "ns") (tree_bytes (words ns))
+      → o5 ≡ (o0 ++ zeros) ++ content
   unfolding tree_bytes pairs_bytes
   cursor_bytes o0 o1 o2 o3 o4 o5 e1 e2 e3 e4 e5 =
       let head = 4 ∷ (name ++ 0 ∷ []) in
@@ -91,19 +97,23 @@ module _ (name : List ℕ) (gs : List Pairs) (number : ℕ) (ns : List ℕ) wher
       let id = element 18 (codes "id") (tree_bytes (long number)) in
       let last = element 2 (codes "ns") (tree_bytes (words ns)) in
       let base = o0 ++ zeros in
-      let all : o5 ≡ (((base ++ head) ++ batch) ++ id) ++ last = e5 ∙ ap (λ (x : List ℕ). x ++ last) (e4 ∙ ap (λ (x : List ℕ). x ++ id) (e3 ∙ ap (λ (x : List ℕ). x ++ batch) (e2 ∙ ap (λ (x : List ℕ). x ++ head) e1))) in
+      let all : o5 ≡ (((base ++ head) ++ batch) ++ id) ++ last =
+      e5 ∙ ap (λ (x : List ℕ). x ++ last) (e4 ∙ ap (λ (x : List ℕ). x ++ id) (e3 ∙ ap (λ (x : List ℕ). x ++ batch) (e2 ∙ ap (λ (x : List ℕ). x ++ head) e1))) in
       let rest = id ++ (last ++ []) in
-      let put : head ++ (batch ++ rest) ≡ element 4 name batch ++ rest = ap (λ (x : List ℕ). 4 ∷ x) (append_assoc name (0 ∷ []) (batch ++ rest) ∙ sym (append_assoc name (0 ∷ batch) rest)) in
+      let put : head ++ (batch ++ rest) ≡ element 4 name batch ++ rest =
+      ap (λ (x : List ℕ). 4 ∷ x) (append_assoc name (0 ∷ []) (batch ++ rest) ∙ sym (append_assoc name (0 ∷ batch) rest)) in
       all ∙ append_assoc ((base ++ head) ++ batch) id last ∙ append_assoc (base ++ head) batch (id ++ last) ∙ append_assoc base head (batch ++ (id ++ last))
       ∙ ap (λ (x : List ℕ). base ++ x) (ap (λ (x : List ℕ). head ++ (batch ++ (id ++ x))) (sym (append-nil last)) ∙ put)
 
-  pub reply_bytes : (o0 o1 o2 o3 o4 : List ℕ) → o1 ≡ o0 ++ zeros → o2 ≡ o1 ++ 3 ∷ (codes "cursor" ++ 0 ∷ []) → o3 ≡ o2 ++ frame_of content → o4 ≡ o3 ++ element 16 (codes "ok") (tree_bytes (int 1)) → o4 ≡ (o0 ++ zeros) ++ pairs_bytes reply
+  pub reply_bytes : (o0 o1 o2 o3 o4 : List ℕ) → o1 ≡ o0 ++ zeros → o2 ≡ o1 ++ 3 ∷ (codes "cursor" ++ 0 ∷ []) → o3 ≡ o2 ++ frame_of content
+      → o4 ≡ o3 ++ element 16 (codes "ok") (tree_bytes (int 1)) → o4 ≡ (o0 ++ zeros) ++ pairs_bytes reply
   unfolding tree_bytes pairs_bytes
   reply_bytes o0 o1 o2 o3 o4 e1 e2 e3 e4 =
       let head = 3 ∷ (codes "cursor" ++ 0 ∷ []) in
       let ok = element 16 (codes "ok") (tree_bytes (int 1)) in
       let base = o0 ++ zeros in
-      let all : o4 ≡ ((base ++ head) ++ frame_of content) ++ ok = e4 ∙ ap (λ (x : List ℕ). x ++ ok) (e3 ∙ ap (λ (x : List ℕ). x ++ frame_of content) (e2 ∙ ap (λ (x : List ℕ). x ++ head) e1)) in
+      let all : o4 ≡ ((base ++ head) ++ frame_of content) ++ ok =
+      e4 ∙ ap (λ (x : List ℕ). x ++ ok) (e3 ∙ ap (λ (x : List ℕ). x ++ frame_of content) (e2 ∙ ap (λ (x : List ℕ). x ++ head) e1)) in
       all ∙ append_assoc (base ++ head) (frame_of content) ok ∙ append_assoc base head (frame_of content ++ ok)
 
   pub int_short : length (tree_bytes (int 1)) ≤ 1048576
@@ -165,13 +175,24 @@ module _ (name : List ℕ) (gs : List Pairs) (number : ℕ) (ns : List ℕ) wher
       let inner = element 3 (codes "cursor") (frame_of content) in
       let ok = element 16 (codes "ok") (tree_bytes (int 1)) ++ [] in
       let all : length (pairs_bytes reply) ≡ length inner + length ok = length-append inner ok in
-      omega (arith, s, ap length e, length-append (o0 ++ zeros) content, length-append o0 zeros, frame_of-length (pairs_bytes reply), frame_of-length content, sendable, all)
+      omega (
+        arith,
+        s,
+        ap length e,
+        length-append (o0 ++ zeros) content,
+        length-append o0 zeros,
+        frame_of-length (pairs_bytes reply),
+        frame_of-length content,
+        sendable,
+        all,
+      )
 
 pub projected_len : {X : Type 0} (lent : X → Pairs) (p : Projection) (ds : List X) → length (projected p (map lent ds)) ≡ length ds
 projected_len lent p ds = length-map (map lent ds) (project p) ∙ length-map ds lent
 
 -- the number that a reply says, by the documents that are lent
-pub said_number : {X : Type 0} (lent : X → Pairs) (p : Projection) (ds : List X) (n number : ℕ) → (if nat_le (length ds) n then 0 else number) ≡ number_after n (projected p (map lent ds)) number
+pub said_number : {X : Type 0} (lent : X → Pairs) (p : Projection) (ds : List X) (n number : ℕ)
+    → (if nat_le (length ds) n then 0 else number) ≡ number_after n (projected p (map lent ds)) number
 said_number lent p ds n number = ap (λ (k : ℕ). if nat_le k n then 0 else number) (sym (projected_len lent p ds))
 
 pub below : (b : Bool) (number : ℕ) → number < 2 ^ 63 → (if b then 0 else number) < 2 ^ 63

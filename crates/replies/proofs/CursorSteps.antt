@@ -20,7 +20,8 @@ pub filter_untouched : (p : Cursor → Bool) (cs : List Cursor) → are_untouche
 filter_untouched p [] e = refl
 filter_untouched p (c ∷ cs) e = at (not c.touched) (p c) refl refl e (λ f. filter_untouched p cs f)
   where
-    at : (rests kept : Bool) → not c.touched ≡ rests → p c ≡ kept → (rests && are_untouched cs) ≡ true → (are_untouched cs ≡ true → are_untouched (filter p cs) ≡ true) → are_untouched (filter p (c ∷ cs)) ≡ true
+    at : (rests kept : Bool) → not c.touched ≡ rests → p c ≡ kept → (rests && are_untouched cs) ≡ true
+        → (are_untouched cs ≡ true → are_untouched (filter p cs) ≡ true) → are_untouched (filter p (c ∷ cs)) ≡ true
     at true true r k e later = rw k (rw r (later e))
     at true false r k e later = rw k (later e)
     at false kept r k e later = absurd cc

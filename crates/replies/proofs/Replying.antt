@@ -23,7 +23,8 @@ pub lacks : (ps : Pairs) (name : List ℕ) → lookup ps name ≡ None → Lacks
 lacks no_pairs name e = tt
 lacks (pair other t ps) name e = at (bytes_eq name other) refl e (λ f. lacks ps name f)
   where
-    at : (b : Bool) → bytes_eq name other ≡ b → (if b then Some t else lookup ps name) ≡ None → (lookup ps name ≡ None → Lacks ps name) → Lacks (pair other t ps) name
+    at : (b : Bool) → bytes_eq name other ≡ b → (if b then Some t else lookup ps name) ≡ None → (lookup ps name ≡ None → Lacks ps name)
+        → Lacks (pair other t ps) name
     at true is e rest = absurd cc
     at false is e rest = (bytes_differ name other is, rest e)
 

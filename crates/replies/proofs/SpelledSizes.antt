@@ -1,5 +1,6 @@
 -- How many bytes a value's spelling has, and how many a reply's.
-use Rattle.std.proofs.Common.{◌≡◌, ℕ, ℤ, zero, suc, max, ◌+◌, ◌-◌, ◌*◌, ◌<◌, ◌≤◌, Bool, true, false, List, [], ◌∷◌, ◌++◌, length, take, refl, arith, lit≤, length-append, ap}
+use Rattle.std.proofs.Common.{◌≡◌, ℕ, ℤ, zero, suc, max, ◌+◌, ◌-◌, ◌*◌, ◌<◌, ◌≤◌, Bool, true, false, List, [], ◌∷◌, ◌++◌, length, take, refl, arith, lit≤}
+use Rattle.std.proofs.Common.{length-append, ap}
 use Rattle.std.specs.Prelude.{◌||◌, ◌&&◌, not, ◌==◌, nat_le, if◌then◌else◌, codes, All}
 use Rattle.std.specs.Fmt.{decimal}
 use Rattle.std.proofs.lemmas.Bool.Decides.{nat_tests}
@@ -118,7 +119,8 @@ later_items i zero room (d ∷ ds) h = omega (arith, ap length (items_bytes-none
 later_items i (suc most) room (d ∷ ds) h =
     at (i == 0) (nat_le (item_size i d) room) refl refl (later_items (i + 1) most (room - item_size i d) ds (omega arith))
   where
-    at : (first fits : Bool) → (i == 0) ≡ first → nat_le (item_size i d) room ≡ fits → taken (i + 1) ds (batch_len (i + 1) most (room - item_size i d) ds) ≤ room - item_size i d
+    at : (first fits : Bool) → (i == 0) ≡ first → nat_le (item_size i d) room ≡ fits
+        → taken (i + 1) ds (batch_len (i + 1) most (room - item_size i d) ds) ≤ room - item_size i d
         → taken i (d ∷ ds) (if first || fits then suc (batch_len (i + 1) most (room - item_size i d) ds) else 0) ≤ room
     at true fits e f later = absurd (grind (arith, nat_tests))
     at false true e f later =
@@ -131,12 +133,18 @@ pub batch_items : (most room : ℕ) (ds : List Pairs) → All IsWithin ds → ta
 batch_items most room [] h = omega (arith, ap length (items_bytes-none 0))
 batch_items zero room (d ∷ ds) h = omega (arith, ap length (items_bytes-none 0))
 batch_items (suc most) room (d ∷ ds) h =
-    let first : item_size 0 d ≤ 65535 + 3 = omega (arith, (h 0 d (omega arith)).size, length-append (decimal 0) (0 ∷ frame_of (pairs_bytes d)), length-decimal-le_succ 0 (omega arith)) in
-    omega (arith, length-item 0 d (items_of_documents (take (batch_len 1 most (room - item_size 0 d) ds) ds)), later_items 1 most (room - item_size 0 d) ds (omega arith))
+    let first : item_size 0 d ≤ 65535 + 3 =
+    omega (arith, (h 0 d (omega arith)).size, length-append (decimal 0) (0 ∷ frame_of (pairs_bytes d)), length-decimal-le_succ 0 (omega arith)) in
+    omega (
+      arith,
+      length-item 0 d (items_of_documents (take (batch_len 1 most (room - item_size 0 d) ds) ds)),
+      later_items 1 most (room - item_size 0 d) ds (omega arith),
+    )
 
 -- ---- replies with documents
 
-pub cursor-sendable : (name : List ℕ) (batch : List Pairs) (number : ℕ) (namespace : List ℕ) → length name ≤ 10 → length (items_bytes 0 (items_of_documents batch)) ≤ max (900000 - 5) (65535 + 3) → length namespace ≤ 255
+pub cursor-sendable : (name : List ℕ) (batch : List Pairs) (number : ℕ) (namespace : List ℕ) → length name ≤ 10
+    → length (items_bytes 0 (items_of_documents batch)) ≤ max (900000 - 5) (65535 + 3) → length namespace ≤ 255
     → IsSendable (ok_reply (cursor_reply name batch number namespace))
 cursor-sendable name batch number namespace brief small short =
     let ns = pair (codes "ns") (words namespace) no_pairs in
@@ -204,8 +212,12 @@ told_few is_open so_far (id ∷ ids) most few =
     (λ h. told_few is_open (with_id true id so_far) ids most h) (λ h. told_few is_open (with_id false id so_far) ids most h)
   where
     at : (b : Bool)
-        → (length (with_id true id so_far).killed + length (with_id true id so_far).not_found + length ids ≤ most → (length (told_apart is_open (with_id true id so_far) ids).killed ≤ most) × (length (told_apart is_open (with_id true id so_far) ids).not_found ≤ most))
-        → (length (with_id false id so_far).killed + length (with_id false id so_far).not_found + length ids ≤ most → (length (told_apart is_open (with_id false id so_far) ids).killed ≤ most) × (length (told_apart is_open (with_id false id so_far) ids).not_found ≤ most))
+        → (length (with_id true id so_far).killed + length (with_id true id so_far).not_found + length ids ≤ most
+        → (length (told_apart is_open (with_id true id so_far) ids).killed ≤ most)
+        × (length (told_apart is_open (with_id true id so_far) ids).not_found ≤ most))
+        → (length (with_id false id so_far).killed + length (with_id false id so_far).not_found + length ids ≤ most
+        → (length (told_apart is_open (with_id false id so_far) ids).killed ≤ most)
+        × (length (told_apart is_open (with_id false id so_far) ids).not_found ≤ most))
         → (length (told_apart is_open (with_id b id so_far) ids).killed ≤ most) × (length (told_apart is_open (with_id b id so_far) ids).not_found ≤ most)
     at true of_killed of_others = of_killed (omega (arith, few, length-append so_far.killed (id ∷ [])))
     at false of_killed of_others = of_others (omega (arith, few, length-append so_far.not_found (id ∷ [])))

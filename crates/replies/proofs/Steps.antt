@@ -23,8 +23,10 @@ count_item (w ∷ ws) (suc i) v h = omega (arith, count_item ws i v (omega arith
 
 -- ---- measures of a recursion that a loop makes
 
-pub pair_smaller : (t : ℕ) (ps : List Pair) (i : ℕ) (p : Pair) → i < length ps → p ≡ get_or ps i p → 2 * count_pairs (pairs_of ps) + 1 ≡ t → 2 * count (tree p.value) < t
+pub pair_smaller : (t : ℕ) (ps : List Pair) (i : ℕ) (p : Pair) → i < length ps → p ≡ get_or ps i p → 2 * count_pairs (pairs_of ps) + 1 ≡ t
+    → 2 * count (tree p.value) < t
 pair_smaller t ps i p within is e = omega (arith, count_pair ps i p within, ap (λ (q : Pair). count (tree q.value)) is)
 
-pub item_smaller : (t : ℕ) (vs : List Value) (i : ℕ) (v : Value) → i < length vs → v ≡ get_or vs i v → 2 * count_items (items_of vs) + 1 ≡ t → 2 * count (tree v) < t
+pub item_smaller : (t : ℕ) (vs : List Value) (i : ℕ) (v : Value) → i < length vs → v ≡ get_or vs i v → 2 * count_items (items_of vs) + 1 ≡ t
+    → 2 * count (tree v) < t
 item_smaller t vs i v within is e = omega (arith, count_item vs i v within, ap (λ (w : Value). count (tree w)) is)

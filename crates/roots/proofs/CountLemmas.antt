@@ -35,9 +35,11 @@ sheet_inside : (image : ℕ → List ℕ) (root : Root) (n : ℕ) → is_ok (she
 sheet_inside image root n there = elim (cases_lt 0 n) [
   | inl some ↦ elim (cases_lt n root.pages) [
     | inl below ↦ (some, below)
-    | inr past ↦ let test : nat_lt n root.pages ≡ false = grind (arith, nat_tests, past) in absurd (none (nat_lt 0 n) (nat_lt n root.pages) (sheet_in n root.generation (page_at image n)) (inr test) there)
+    | inr past ↦ let test : nat_lt n root.pages ≡ false = grind (arith, nat_tests, past) in
+        absurd (none (nat_lt 0 n) (nat_lt n root.pages) (sheet_in n root.generation (page_at image n)) (inr test) there)
   ]
-  | inr zero_is ↦ let test : nat_lt 0 n ≡ false = grind (arith, nat_tests, zero_is) in absurd (none (nat_lt 0 n) (nat_lt n root.pages) (sheet_in n root.generation (page_at image n)) (inl test) there)
+  | inr zero_is ↦ let test : nat_lt 0 n ≡ false = grind (arith, nat_tests, zero_is) in
+      absurd (none (nat_lt 0 n) (nat_lt n root.pages) (sheet_in n root.generation (page_at image n)) (inl test) there)
 ]
   where
     none : (a b : Bool) (found : Result Sheet PageFault) → (a ≡ false) ⊎ (b ≡ false) → is_ok (if a && b then found else Err page_faults.Number) ≡ true → ⊥
@@ -59,22 +61,27 @@ once_with_zero most pages all once n = elim (cases_eq n 0) [
   | inr ne ↦ let test : (n == 0) ≡ false = grind (arith, nat_tests, ne) in omega (arith, ap one_if test, once n)
 ]
 
-pub tree_fits : (image : ℕ → List ℕ) (root : Root) (live : List ℕ) (entries : List Entry) → HoldsMap (sheet_at image root) root live entries → length live < max root.pages 1
+pub tree_fits : (image : ℕ → List ℕ) (root : Root) (live : List ℕ) (entries : List Entry) → HoldsMap (sheet_at image root) root live entries
+    → length live < max root.pages 1
 tree_fits image root live entries holds =
     let all : Each (IsInside root.pages) live =
-    each_map (λ n. is_ok (sheet_at image root n) ≡ true) (IsInside root.pages) (λ n there. sheet_inside image root n there) live (map_live (store_of (sheet_at image root)) root.tree live entries holds.map) in
-    let below : Each (λ n. n < max root.pages 1) live = each_map (IsInside root.pages) (λ n. n < max root.pages 1) (λ n inside. omega (arith, inside.1)) live all in
+    each_map (λ n. is_ok (sheet_at image root n) ≡ true) (IsInside root.pages) (λ n there. sheet_inside image root n there) live
+    (map_live (store_of (sheet_at image root)) root.tree live entries holds.map) in
+    let below : Each (λ n. n < max root.pages 1) live =
+    each_map (IsInside root.pages) (λ n. n < max root.pages 1) (λ n inside. omega (arith, inside.1)) live all in
     omega (arith, pages_are_few (max root.pages 1) (0 ∷ live) (once_with_zero root.pages live all holds.once) (omega arith, below))
 
 -- what is counted by the number of the tree's pages
-pub counts_are : (image : ℕ → List ℕ) (root : Root) (live : List ℕ) (entries : List Entry) (counts : PageCounts) (reached : ℕ) → HoldsMap (sheet_at image root) root live entries → reached ≡ length live
+pub counts_are : (image : ℕ → List ℕ) (root : Root) (live : List ℕ) (entries : List Entry) (counts : PageCounts) (reached : ℕ)
+    → HoldsMap (sheet_at image root) root live entries → reached ≡ length live
     → counts.pages ≡ max root.pages 1 → (reached < max root.pages 1 → 1 + reached + counts.free ≡ counts.pages) → AreCounts root live counts
 counts_are image root live entries counts reached holds is pages all = record {
   pages = pages;
   all = omega (arith, is, all (omega (arith, is, tree_fits image root live entries holds)));
 }
 
-pub counts_so : {D : Type 0} (history : D → History) (result : Result PageCounts OpenFault) (old : Store D) (disk : D) → ReadsOnly (history old.disk) (history disk)
+pub counts_so : {D : Type 0} (history : D → History) (result : Result PageCounts OpenFault) (old : Store D) (disk : D)
+    → ReadsOnly (history old.disk) (history disk)
     → (KeepsWord (history disk) → IfOk result (CountsTree (reads (now (history old.disk))) old.root))
     → (KeepsWord (history disk) → (live : List ℕ) (entries : List Entry) → HoldsMap (sheet_at (reads (now (history old.disk))) old.root) old.root live entries
     → MatchResult result (AreCounts old.root live) (λ fault. fault ≢ faults.Damaged))
@@ -82,7 +89,8 @@ pub counts_so : {D : Type 0} (history : D → History) (result : Result PageCoun
 counts_so history result old disk only stands found = record {
   root = refl;
   stopped = refl;
-  committed = λ live entries committed. record { running = committed.running; keeps = still_kept (history old.disk) (history disk) old.root live entries only committed.keeps };
+  committed = λ live entries committed. record
+      { running = committed.running; keeps = still_kept (history old.disk) (history disk) old.root live entries only committed.keeps };
   stands = stands;
   counts = λ k live entries committed. found k live entries (committed.keeps.holds (only.on.kept k));
 }

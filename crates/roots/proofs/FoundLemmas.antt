@@ -1,5 +1,6 @@
 -- What a walk has found so far, and with one page more.
-use Rattle.std.proofs.Common.{◌≡◌, ◌≢◌, ◌⊎◌, ℕ, zero, suc, ◌+◌, ◌-◌, ◌<◌, ◌≤◌, Bool, true, false, List, [], ◌∷◌, ◌++◌, length, take, drop, min, map, get_or, length-take, refl, sym, ◌∙◌, ap, subst, arith, inl, inr, append_assoc, append-nil, length-append, Some, None}
+use Rattle.std.proofs.Common.{◌≡◌, ◌≢◌, ◌⊎◌, ℕ, zero, suc, ◌+◌, ◌-◌, ◌<◌, ◌≤◌, Bool, true, false, List, [], ◌∷◌, ◌++◌, length, take, drop, min, map, get_or}
+use Rattle.std.proofs.Common.{length-take, refl, sym, ◌∙◌, ap, subst, arith, inl, inr, append_assoc, append-nil, length-append, Some, None}
 use Rattle.std.specs.Prelude.{◌&&◌, nat_lt, if◌then◌else◌, is_ok, Option, Result, Ok, Err, OnOk, slice_get}
 use Rattle.std.specs.List.{AllByRecursion}
 use Rattle.std.specs.Ordering.{is_lt, nat_cmp}
@@ -20,7 +21,8 @@ use Rattle.btree.specs.Calls.{IsPart}
 use Rattle.btree.specs.Keys.{Each, IsBetween, IsPast, IsUnder, IsWithin, Pair, Rises}
 use Rattle.btree.specs.Search.{AreBounds}
 use Rattle.btree.specs.Store.{IsAt, Store}
-use Rattle.btree.specs.Tree.{Body, HasChain, HasLinks, IsFan, IsSound, IsWhole, Shows, Twig, arm_of, content_of, item_of, next_of, pages_of, pair_keys, place_of, twig_keys, with_low}
+use Rattle.btree.specs.Tree.{Body, HasChain, HasLinks, IsFan, IsSound, IsWhole, Shows, Twig, arm_of, content_of, item_of, next_of, pages_of, pair_keys}
+use Rattle.btree.specs.Tree.{place_of, twig_keys, with_low}
 use Rattle.btree.proofs.FanLemmas.{fan_append}
 use Rattle.btree.proofs.GetLemmas.{child_part}
 use Rattle.btree.proofs.KeyLemmas.{under_trans, up_to_then_under, within_wider}
@@ -42,9 +44,11 @@ first_test : (a b : Bool) (found other : Result Sheet PageFault) (sheet : Sheet)
 first_test true b found other sheet is = refl
 first_test false b found other sheet is = absurd cc
 
-pub page_there : (image : ℕ → List ℕ) (root : Root) (page : ℕ) (sheet : Sheet) → sheet_at image root page ≡ Ok sheet → IsAt (store_of (sheet_at image root)) page sheet.content
+pub page_there : (image : ℕ → List ℕ) (root : Root) (page : ℕ) (sheet : Sheet) → sheet_at image root page ≡ Ok sheet
+    → IsAt (store_of (sheet_at image root)) page sheet.content
 page_there image root page sheet is = record {
-  number = grind (arith, nat_tests, first_test (nat_lt 0 page) (nat_lt page root.pages) (sheet_in page root.generation (page_at image page)) (Ok sheet) sheet is);
+  number = grind
+      (arith, nat_tests, first_test (nat_lt 0 page) (nat_lt page root.pages) (sheet_in page root.generation (page_at image page)) (Ok sheet) sheet is);
   live = ap is_ok is;
   holds = ap content_in is;
 }
@@ -80,23 +84,29 @@ last_taken part few =
     let all : length (part ++ []) ≤ 4076 = omega (arith, ap length (append-nil part), few) in
     (take_all 4076 (part ++ []) all ∙ append-nil part, drop_all 4076 (part ++ []) all)
 
-link_there : (s : Store) (page next left : ℕ) (part back rest : List ℕ) → 0 < left → length part ≡ min left 4076 → IsAt s page (chain next part) → HasLinks s back rest → next_of back ≡ next → length rest ≡ left - length part
+link_there : (s : Store) (page next left : ℕ) (part back rest : List ℕ) → 0 < left → length part ≡ min left 4076 → IsAt s page (chain next part)
+    → HasLinks s back rest → next_of back ≡ next → length rest ≡ left - length part
     → HasLinks s (page ∷ back) (part ++ rest)
 link_there s page next left part back rest some long at has is size = elim (cases_lt left 4076) [
   | inr full ↦
-      let t = part_taken part rest (omega (arith, full, long)) in
-      (omega (arith, length-append part rest, long, some), subst (λ (c : List ℕ). IsAt s page (chain (next_of back) c)) (sym t.0) (subst (λ (n : ℕ). IsAt s page (chain n part)) (sym is) at), subst (HasLinks s back) (sym t.1) has)
+      let t = part_taken part rest (omega (arith, full, long)) in (
+        omega (arith, length-append part rest, long, some),
+        subst (λ (c : List ℕ). IsAt s page (chain (next_of back) c)) (sym t.0) (subst (λ (n : ℕ). IsAt s page (chain n part)) (sym is) at),
+        subst (HasLinks s back) (sym t.1) has,
+      )
   | inl few ↦
       let none : rest ≡ [] = nil_from_length rest (omega (arith, size, long, few)) in
       let t = last_taken part (omega (arith, long)) in
       let same : part ++ rest ≡ part ++ [] = ap (λ (r : List ℕ). part ++ r) none in (
         omega (arith, length-append part rest, long, some),
-        subst (λ (c : List ℕ). IsAt s page (chain (next_of back) c)) (sym (ap (take 4076) same ∙ t.0)) (subst (λ (n : ℕ). IsAt s page (chain n part)) (sym is) at),
+        subst (λ (c : List ℕ). IsAt s page (chain (next_of back) c)) (sym (ap (take 4076) same ∙ t.0))
+            (subst (λ (n : ℕ). IsAt s page (chain n part)) (sym is) at),
         subst (HasLinks s back) (none ∙ sym (ap (drop 4076) same ∙ t.1)) has,
       )
 ]
 
-pub chain_more : (s : Store) (first len left left' page next : ℕ) (part before so_far so_far' : List ℕ) → ChainSoFar s first len left page before so_far → 0 < left → length part ≡ min left 4076 → left' ≡ left - length part
+pub chain_more : (s : Store) (first len left left' page next : ℕ) (part before so_far so_far' : List ℕ) → ChainSoFar s first len left page before so_far
+    → 0 < left → length part ≡ min left 4076 → left' ≡ left - length part
     → IsAt s page (chain next part) → so_far' ≡ so_far ++ page ∷ [] → ChainSoFar s first len left' next before so_far'
 chain_more s first len left left' page next part before so_far so_far' c some long less at more = record {
   front = c.front ++ page ∷ [];
@@ -105,12 +115,15 @@ chain_more s first len left left' page next part before so_far so_far' c some lo
   reached = more ∙ ap (λ (l : List ℕ). l ++ page ∷ []) c.reached ∙ append_assoc before c.front (page ∷ []);
   joins = λ back rest has is size.
       let joined : HasLinks s (c.front ++ page ∷ back) (c.bytes ++ (part ++ rest)) =
-      c.joins (page ∷ back) (part ++ rest) (link_there s page next left part back rest some long at has is (size ∙ less)) refl (omega (arith, length-append part rest, size, less, long)) in
-      subst (λ (l : List ℕ). HasLinks s l ((c.bytes ++ part) ++ rest)) (sym (append_assoc c.front (page ∷ []) back)) (subst (HasLinks s (c.front ++ page ∷ back)) (sym (append_assoc c.bytes part rest)) joined);
+      c.joins (page ∷ back) (part ++ rest) (link_there s page next left part back rest some long at has is (size ∙ less)) refl
+      (omega (arith, length-append part rest, size, less, long)) in
+      subst (λ (l : List ℕ). HasLinks s l ((c.bytes ++ part) ++ rest)) (sym (append_assoc c.front (page ∷ []) back))
+      (subst (HasLinks s (c.front ++ page ∷ back)) (sym (append_assoc c.bytes part rest)) joined);
   first_is = λ back is. ap next_of (append_assoc c.front (page ∷ []) back) ∙ c.first_is (page ∷ back) refl;
 }
 
-pub chain_found : (s : Store) (first len left page : ℕ) (before so_far : List ℕ) → ChainSoFar s first len left page before so_far → left ≡ 0 → page ≡ 0 → HasFoundChain s first len before so_far
+pub chain_found : (s : Store) (first len left page : ℕ) (before so_far : List ℕ) → ChainSoFar s first len left page before so_far → left ≡ 0 → page ≡ 0
+    → HasFoundChain s first len before so_far
 chain_found s first len left page before so_far c none end = record {
   links = c.front ++ [];
   value = c.bytes ++ [];
@@ -131,7 +144,8 @@ inline_found s place bytes before is = record {
   reached = sym (append-nil before);
 }
 
-pub spilled_found : (s : Store) (place : Place) (len first : ℕ) (before after : List ℕ) → place ≡ spilled len first → IsPlace place → HasFoundChain s first len before after → HasFoundValue s place before after
+pub spilled_found : (s : Store) (place : Place) (len first : ℕ) (before after : List ℕ) → place ≡ spilled len first → IsPlace place
+    → HasFoundChain s first len before after → HasFoundValue s place before after
 spilled_found s place len first before after is lawful found = record {
   links = found.links;
   value = found.value;
@@ -141,17 +155,20 @@ spilled_found s place len first before after is lawful found = record {
 }
   where
     named : (links : List ℕ) → HasLinks s links found.value → next_of links ≡ first → spilled len first ≡ place_of links found.value
-    named [] has next = let long : (330 < len) × (len < 4294967296) × (first < 4294967296) = subst IsPlace is lawful in absurd (omega (arith, long.0, found.long, ap length has))
+    named [] has next = let long : (330 < len) × (len < 4294967296) × (first < 4294967296) = subst IsPlace is lawful in
+        absurd (omega (arith, long.0, found.long, ap length has))
     named (p ∷ ps) has next = λ i. spilled (sym found.long i) (sym next i)
 
-pub value_found : {X E : Type 0} (s : Store) (place : Place) (len first : ℕ) (before after : List ℕ) (result : Result X E) → place ≡ spilled len first → IsPlace place → OnOk result (HasFoundChain s first len before after)
+pub value_found : {X E : Type 0} (s : Store) (place : Place) (len first : ℕ) (before after : List ℕ) (result : Result X E) → place ≡ spilled len first
+    → IsPlace place → OnOk result (HasFoundChain s first len before after)
     → OnOk result (HasFoundValue s place before after)
 value_found s place len first before after (Ok done) is lawful found = spilled_found s place len first before after is lawful found
 value_found s place len first before after (Err e) is lawful none = tt
 
 -- ---- the cells of a leaf
 
-pub no_pairs_found : (s : Store) (low : List ℕ) (high : Option (List ℕ)) (items : List Item) (before : List ℕ) → HasFoundPairs s low high (take 0 items) before before
+pub no_pairs_found : (s : Store) (low : List ℕ) (high : Option (List ℕ)) (items : List Item) (before : List ℕ)
+    → HasFoundPairs s low high (take 0 items) before before
 no_pairs_found s low high items before = record { pairs = []; is = refl; shown = tt; between = tt; reached = sym (append-nil before) }
 
 next_taken : {X : Type 0} (xs : List X) (i : ℕ) (x : X) → slice_get xs i ≡ Some x → take (i + 1) xs ≡ take i xs ++ x ∷ []
@@ -162,7 +179,8 @@ item_place [] i item each got = absurd cc
 item_place (x ∷ xs) zero item each got = subst (λ (y : Item). IsPlace y.place) (let same : x ≡ item = cc in same) each.0.place
 item_place (x ∷ xs) (suc i) item each got = item_place xs i item each.1 got
 
-pub pairs_more : (s : Store) (low : List ℕ) (high : Option (List ℕ)) (items : List Item) (i : ℕ) (item : Item) (before so_far so_far' : List ℕ) → slice_get items i ≡ Some item → HasFoundPairs s low high (take i items) before so_far
+pub pairs_more : (s : Store) (low : List ℕ) (high : Option (List ℕ)) (items : List Item) (i : ℕ) (item : Item) (before so_far so_far' : List ℕ)
+    → slice_get items i ≡ Some item → HasFoundPairs s low high (take i items) before so_far
     → IsBetween low high item.key → HasFoundValue s item.place so_far so_far' → HasFoundPairs s low high (take (i + 1) items) before so_far'
 pairs_more s low high items i item before so_far so_far' got f between v =
     let x : Pair = record { key = item.key; value = v.value; links = v.links } in
@@ -170,13 +188,16 @@ pairs_more s low high items i item before so_far so_far' got f between v =
       pairs = f.pairs ++ x ∷ [];
       is = next_taken items i item got ∙ (λ j. f.is j ++ record { key = item.key; place = v.is j } ∷ []) ∙ sym (map_append item_of f.pairs (x ∷ []));
       shown = each_append (HasChain s) f.pairs (x ∷ []) f.shown (v.has, tt);
-      between = subst (Each (IsBetween low high)) (sym (map_append (λ (y : Pair). y.key) f.pairs (x ∷ []))) (each_append (IsBetween low high) (pair_keys f.pairs) (item.key ∷ []) f.between (between, tt));
+      between = subst (Each (IsBetween low high)) (sym (map_append (λ (y : Pair). y.key) f.pairs (x ∷ [])))
+          (each_append (IsBetween low high) (pair_keys f.pairs) (item.key ∷ []) f.between (between, tt));
       reached =
           v.reached ∙ ap (λ (l : List ℕ). l ++ v.links) f.reached ∙ append_assoc before (pages_of zero f.pairs) v.links
-          ∙ ap (λ (l : List ℕ). before ++ (pages_of zero f.pairs ++ l)) (sym (append-nil v.links)) ∙ ap (λ (l : List ℕ). before ++ l) (sym (flat_append (λ (y : Pair). y.links) f.pairs (x ∷ [])));
+          ∙ ap (λ (l : List ℕ). before ++ (pages_of zero f.pairs ++ l)) (sym (append-nil v.links))
+          ∙ ap (λ (l : List ℕ). before ++ l) (sym (flat_append (λ (y : Pair). y.links) f.pairs (x ∷ [])));
     }
 
-pub all_pairs_found : (s : Store) (low : List ℕ) (high : Option (List ℕ)) (items : List Item) (i : ℕ) (before after : List ℕ) → length items ≤ i → HasFoundPairs s low high (take i items) before after → HasFoundPairs s low high items before after
+pub all_pairs_found : (s : Store) (low : List ℕ) (high : Option (List ℕ)) (items : List Item) (i : ℕ) (before after : List ℕ) → length items ≤ i
+    → HasFoundPairs s low high (take i items) before after → HasFoundPairs s low high items before after
 all_pairs_found s low high items i before after all f = subst (λ (its : List Item). HasFoundPairs s low high its before after) (take_all i items all) f
 
 -- ---- keys that rise
@@ -210,7 +231,8 @@ keys_same (x ∷ xs) = ap (λ (l : List (List ℕ)). x.key ∷ l) (keys_same xs)
 -- ---- a part
 
 -- what a part holds lies between bounds
-pub part_within : (s : Store) (page level d : ℕ) (low : List ℕ) (high : Option (List ℕ)) (body : Body d) → IsPart s page level d low high body → IsWithin high low
+pub part_within : (s : Store) (page level d : ℕ) (low : List ℕ) (high : Option (List ℕ)) (body : Body d) → IsPart s page level d low high body
+    → IsWithin high low
 part_within s page level zero low high [] part = absurd (omega (arith, part.whole.some))
 part_within s page level zero low high (x ∷ xs) part = inside high part.sound.1.0
   where
@@ -220,28 +242,35 @@ part_within s page level zero low high (x ∷ xs) part = inside high part.sound.
 part_within s page level (suc d) low high [] part = absurd (omega (arith, part.whole.some))
 part_within s page level (suc d) low high (w ∷ ws) part = part.sound.2.0
 
-pub leaf_found : (s : Store) (page : ℕ) (low : List ℕ) (high : Option (List ℕ)) (items : List Item) (before mid after : List ℕ) → IsAt s page (leaf items) → IsLeaf items → IsWithin high low → mid ≡ before ++ page ∷ []
+pub leaf_found : (s : Store) (page : ℕ) (low : List ℕ) (high : Option (List ℕ)) (items : List Item) (before mid after : List ℕ) → IsAt s page (leaf items)
+    → IsLeaf items → IsWithin high low → mid ≡ before ++ page ∷ []
     → HasFoundPairs s low high items mid after → HasFoundPart s page 0 low high before after
 leaf_found s page low high items before mid after at lawful within noted f = record {
   body = f.pairs;
   at = subst (λ (its : List Item). IsAt s page (leaf its)) f.is at;
   shown = f.shown;
   whole = subst IsLeaf f.is lawful;
-  sound = (rises_all (pair_keys f.pairs) (ap rise (sym (keys_same f.pairs)) ∙ ap (λ (its : List Item). rise (item_keys its)) (sym f.is) ∙ lawful.ascending), f.between);
+  sound = (
+    rises_all (pair_keys f.pairs) (ap rise (sym (keys_same f.pairs)) ∙ ap (λ (its : List Item). rise (item_keys its)) (sym f.is) ∙ lawful.ascending),
+    f.between,
+  );
   within = within;
   reached = f.reached ∙ ap (λ (l : List ℕ). l ++ pages_of zero f.pairs) noted ∙ append_assoc before (page ∷ []) (pages_of zero f.pairs);
 }
 
 -- ---- the children of a branch
 
-pub no_fan_found : (s : Store) (d : ℕ) (low : List ℕ) (high : Option (List ℕ)) (arms : List Arm) (before : List ℕ) → HasFoundFan s d low high arms 0 before before
+pub no_fan_found : (s : Store) (d : ℕ) (low : List ℕ) (high : Option (List ℕ)) (arms : List Arm) (before : List ℕ)
+    → HasFoundFan s d low high arms 0 before before
 no_fan_found s d low high arms before = record { twigs = []; is = refl; shown = tt; fan = tt; rise = tt; within = tt; reached = sym (append-nil before) }
 
 -- before the first child, the children may stand at any height
-pub fan_height : (s : Store) (d e : ℕ) (low : List ℕ) (high : Option (List ℕ)) (arms : List Arm) (i : ℕ) (before after : List ℕ) → (i ≡ 0) ⊎ (e ≡ d) → HasFoundFan s d low high arms i before after → HasFoundFan s e low high arms i before after
+pub fan_height : (s : Store) (d e : ℕ) (low : List ℕ) (high : Option (List ℕ)) (arms : List Arm) (i : ℕ) (before after : List ℕ) → (i ≡ 0) ⊎ (e ≡ d)
+    → HasFoundFan s d low high arms i before after → HasFoundFan s e low high arms i before after
 fan_height s d e low high arms i before after (inl none) f = go f.twigs (ap length (sym f.is) ∙ ap (λ (n : ℕ). length (take n arms)) none) f.reached
   where
-    go : (twigs : List (Twig (Body d))) → length (map arm_of twigs) ≡ 0 → after ≡ before ++ pages_of (suc d) twigs → HasFoundFan s e low high arms i before after
+    go : (twigs : List (Twig (Body d))) → length (map arm_of twigs) ≡ 0 → after ≡ before ++ pages_of (suc d) twigs
+        → HasFoundFan s e low high arms i before after
     go [] long reached = record { twigs = []; is = ap (λ (n : ℕ). take n arms) none; shown = tt; fan = tt; rise = tt; within = tt; reached = reached }
     go (w ∷ ws) long reached = absurd (omega (arith, long))
 fan_height s d e low high arms i before after (inr same) f = subst (λ (n : ℕ). HasFoundFan s n low high arms i before after) (sym same) f
@@ -251,14 +280,17 @@ bound_here high [] i arm got = absurd cc
 bound_here high (a ∷ others) zero arm got = ap (λ (x : Arm). Some x.key) (let same : a ≡ arm = cc in same)
 bound_here high (a ∷ others) (suc i) arm got = bound_here high others i arm got
 
-bound_next : (high : Option (List ℕ)) (arms : List Arm) (i : ℕ) (to : Option (List ℕ)) → (length arms ≤ i → to ≡ high) → ((d : Arm) → i < length arms → to ≡ Some (get_or arms i d).key) → bound_of high (drop i arms) ≡ to
+bound_next : (high : Option (List ℕ)) (arms : List Arm) (i : ℕ) (to : Option (List ℕ)) → (length arms ≤ i → to ≡ high)
+    → ((d : Arm) → i < length arms → to ≡ Some (get_or arms i d).key) → bound_of high (drop i arms) ≡ to
 bound_next high [] zero to last inner = sym (last (omega arith))
 bound_next high [] (suc i) to last inner = sym (last (omega arith))
 bound_next high (a ∷ others) zero to last inner = sym (inner a (omega arith))
-bound_next high (a ∷ others) (suc i) to last inner = bound_next high others i to (λ past. last (omega (arith, past))) (λ d inside. inner d (omega (arith, inside)))
+bound_next high (a ∷ others) (suc i) to last inner =
+    bound_next high others i to (λ past. last (omega (arith, past))) (λ d inside. inner d (omega (arith, inside)))
 
 -- one child more
-module _ (s : Store) (d : ℕ) (low : List ℕ) (high : Option (List ℕ)) (arms : List Arm) (i : ℕ) (child : Arm) (from : List ℕ) (to : Option (List ℕ)) (got : slice_get arms i ≡ Some child) (bounds : AreBounds low high arms i from to) where
+module _ (s : Store) (d : ℕ) (low : List ℕ) (high : Option (List ℕ)) (arms : List Arm) (i : ℕ) (child : Arm) (from : List ℕ) (to : Option (List ℕ))
+    (got : slice_get arms i ≡ Some child) (bounds : AreBounds low high arms i from to) where
   abbrev Lies : List ℕ → Option (List ℕ) → Body d → Type 0
   Lies from to body = IsWhole d body × IsSound d from to body
 
@@ -273,7 +305,8 @@ module _ (s : Store) (d : ℕ) (low : List ℕ) (high : Option (List ℕ)) (arms
     rise : Rises (twig_keys (with_low low twigs))
     within : Each (IsWithin bound) (twig_keys (with_low low twigs))
 
-  longer : (twigs : List (Twig (Body d))) (w : Twig (Body d)) → length twigs ≡ i → w.key ≡ child.key → IsRisingFan twigs (bound_of high (drop i arms)) → Lies from to w.body → IsWithin to from → IsRisingFan (twigs ++ w ∷ []) to
+  longer : (twigs : List (Twig (Body d))) (w : Twig (Body d)) → length twigs ≡ i → w.key ≡ child.key → IsRisingFan twigs (bound_of high (drop i arms))
+      → Lies from to w.body → IsWithin to from → IsRisingFan (twigs ++ w ∷ []) to
   longer [] w long named f lies within =
       let same : from ≡ low = bounds.first (sym long) in
       record {
@@ -289,16 +322,24 @@ module _ (s : Store) (d : ℕ) (low : List ℕ) (high : Option (List ℕ)) (arms
       let under : Each (λ (k : List ℕ). IsUnder k w.key) (twig_keys ws) = subst (λ (b : Option (List ℕ)). Each (IsWithin b) (twig_keys ws)) bound f.within in
       let above : IsWithin to w.key = subst (IsWithin to) key_is within in
       record {
-        fan = fan_append Lies to ws (w ∷ []) (subst (λ (b : Option (List ℕ)). IsFan Lies b ws) bound f.fan) (subst (λ (k : List ℕ). Lies k to w.body) key_is lies, tt);
-        rise = subst Rises (sym keys) (rises_append (twig_keys ws) (w.key ∷ []) f.rise (tt, tt) (each_map (λ k. IsUnder k w.key) (λ k. Each (IsUnder k) (w.key ∷ [])) (λ k u. (u, tt)) (twig_keys ws) under));
-        within = subst (Each (IsWithin to)) (sym keys) (each_append (IsWithin to) (twig_keys ws) (w.key ∷ []) (each_map (λ k. IsUnder k w.key) (IsWithin to) (λ k u. within_wider to w.key k above u) (twig_keys ws) under) (above, tt));
+        fan = fan_append Lies to ws (w ∷ []) (subst (λ (b : Option (List ℕ)). IsFan Lies b ws) bound f.fan)
+            (subst (λ (k : List ℕ). Lies k to w.body) key_is lies, tt);
+        rise = subst Rises (sym keys)
+            (rises_append (twig_keys ws) (w.key ∷ []) f.rise (tt, tt)
+            (each_map (λ k. IsUnder k w.key) (λ k. Each (IsUnder k) (w.key ∷ [])) (λ k u. (u, tt)) (twig_keys ws) under));
+        within = subst (Each (IsWithin to)) (sym keys)
+            (each_append (IsWithin to) (twig_keys ws) (w.key ∷ [])
+            (each_map (λ k. IsUnder k w.key) (IsWithin to) (λ k u. within_wider to w.key k above u) (twig_keys ws) under) (above, tt));
       }
 
-  pub fan_more : (before so_far so_far' : List ℕ) → HasFoundFan s d low high arms i before so_far → HasFoundPart s child.child d from to so_far so_far' → HasFoundFan s d low high arms (i + 1) before so_far'
+  pub fan_more : (before so_far so_far' : List ℕ) → HasFoundFan s d low high arms i before so_far → HasFoundPart s child.child d from to so_far so_far'
+      → HasFoundFan s d low high arms (i + 1) before so_far'
   fan_more before so_far so_far' f p =
       let w : Twig (Body d) = record { key = child.key; page = child.child; body = p.body } in
-      let long : length f.twigs ≡ i = omega (arith, long_map (arm_of {B = Body d}) f.twigs, ap length f.is, length-take i arms, slice_get_within arms i child got) in
-      let r : IsRisingFan (f.twigs ++ w ∷ []) to = longer f.twigs w long refl (record { fan = f.fan; rise = f.rise; within = f.within }) (p.whole, p.sound) p.within in
+      let long : length f.twigs ≡ i =
+      omega (arith, long_map (arm_of {B = Body d}) f.twigs, ap length f.is, length-take i arms, slice_get_within arms i child got) in
+      let r : IsRisingFan (f.twigs ++ w ∷ []) to =
+      longer f.twigs w long refl (record { fan = f.fan; rise = f.rise; within = f.within }) (p.whole, p.sound) p.within in
       record {
         twigs = f.twigs ++ w ∷ [];
         is = next_taken arms i child got ∙ (λ j. f.is j ++ child ∷ []) ∙ sym (map_append arm_of f.twigs (w ∷ []));
@@ -307,12 +348,14 @@ module _ (s : Store) (d : ℕ) (low : List ℕ) (high : Option (List ℕ)) (arms
         rise = r.rise;
         within = subst (λ (b : Option (List ℕ)). Each (IsWithin b) (twig_keys (with_low low (f.twigs ++ w ∷ [])))) (sym to_is) r.within;
         reached =
-            p.reached ∙ ap (λ (l : List ℕ). l ++ child.child ∷ pages_of d p.body) f.reached ∙ append_assoc before (pages_of (suc d) f.twigs) (child.child ∷ pages_of d p.body)
+            p.reached ∙ ap (λ (l : List ℕ). l ++ child.child ∷ pages_of d p.body) f.reached
+            ∙ append_assoc before (pages_of (suc d) f.twigs) (child.child ∷ pages_of d p.body)
             ∙ ap (λ (l : List ℕ). before ++ (pages_of (suc d) f.twigs ++ l)) (sym (append-nil (child.child ∷ pages_of d p.body)))
             ∙ ap (λ (l : List ℕ). before ++ l) (sym (flat_append (λ (t : Twig (Body d)). t.page ∷ pages_of d t.body) f.twigs (w ∷ [])));
       }
 
-pub branch_found : (s : Store) (page d depth : ℕ) (low : List ℕ) (high : Option (List ℕ)) (arms : List Arm) (i : ℕ) (before mid after : List ℕ) → IsAt s page (branch arms) → IsBranch arms → IsWithin high low → length arms ≤ i → depth ≡ suc d
+pub branch_found : (s : Store) (page d depth : ℕ) (low : List ℕ) (high : Option (List ℕ)) (arms : List Arm) (i : ℕ) (before mid after : List ℕ)
+    → IsAt s page (branch arms) → IsBranch arms → IsWithin high low → length arms ≤ i → depth ≡ suc d
     → mid ≡ before ++ page ∷ [] → HasFoundFan s d low high arms i mid after → HasFoundPart s page depth low high before after
 branch_found s page d depth low high arms i before mid after at lawful within all is noted f =
     let arms_are : arms ≡ map arm_of f.twigs = sym (take_all i arms all) ∙ f.is in
@@ -333,37 +376,50 @@ branch_found s page d depth low high arms i before mid after at lawful within al
 
 -- ---- what has to be found
 
-pub depth_failed : (d : ℕ) (pages before after : List ℕ) (result : Result ℕ OpenFault) (e : OpenFault) → result ≡ Err e → e ≢ faults.Damaged → ReachesDepth d pages before after result
+pub depth_failed : (d : ℕ) (pages before after : List ℕ) (result : Result ℕ OpenFault) (e : OpenFault) → result ≡ Err e → e ≢ faults.Damaged
+    → ReachesDepth d pages before after result
 depth_failed d pages before after (Ok n) e is ne = absurd cc
 depth_failed d pages before after (Err f) e is ne = λ damaged. ne (let same : e ≡ f = cc in same ∙ damaged)
 
 -- a child that is part of a tree
-pub child_there : (h1 h2 : History) (root : Root) → now h2 ≡ now h1 → (page level d : ℕ) (low : List ℕ) (high : Option (List ℕ)) (twigs : List (Twig (Body d))) (arms : List Arm) (i : ℕ) (a : At twigs i) (child : Arm) (from : List ℕ) (to : Option (List ℕ)) → arms ≡ map arm_of twigs
-    → slice_get arms i ≡ Some child → AreBounds low high arms i from to → IsPart (pages_in h1 root) page level (suc d) low high twigs → IsPart (pages_in h2 root) child.child (level + 1) d from to a.mid.body
+pub child_there : (h1 h2 : History) (root : Root) → now h2 ≡ now h1
+    → (page level d : ℕ) (low : List ℕ) (high : Option (List ℕ)) (twigs : List (Twig (Body d))) (arms : List Arm) (i : ℕ) (a : At twigs i) (child : Arm)
+    (from : List ℕ) (to : Option (List ℕ)) → arms ≡ map arm_of twigs
+    → slice_get arms i ≡ Some child → AreBounds low high arms i from to → IsPart (pages_in h1 root) page level (suc d) low high twigs
+    → IsPart (pages_in h2 root) child.child (level + 1) d from to a.mid.body
 child_there h1 h2 root same page level d low high twigs arms i a child from to e got bounds part =
     let twigs_are : twigs ≡ a.front ++ a.mid ∷ a.back = a.is in
     let arms_are : arms ≡ map arm_of (a.front ++ a.mid ∷ a.back) = e ∙ ap (map arm_of) twigs_are in
-    let part' : IsPart (pages_in h1 root) page level (suc d) low high (a.front ++ a.mid ∷ a.back) = subst (λ (ts : List (Twig (Body d))). IsPart (pages_in h1 root) page level (suc d) low high ts) twigs_are part in
+    let part' : IsPart (pages_in h1 root) page level (suc d) low high (a.front ++ a.mid ∷ a.back) =
+    subst (λ (ts : List (Twig (Body d))). IsPart (pages_in h1 root) page level (suc d) low high ts) twigs_are part in
     let bounds' : AreBounds low high (map arm_of (a.front ++ a.mid ∷ a.back)) (length a.front) from to =
-    subst (λ (n : ℕ). AreBounds low high (map arm_of (a.front ++ a.mid ∷ a.back)) n from to) (sym a.place) (subst (λ (those : List Arm). AreBounds low high those i from to) arms_are bounds) in
+    subst (λ (n : ℕ). AreBounds low high (map arm_of (a.front ++ a.mid ∷ a.back)) n from to) (sym a.place)
+    (subst (λ (those : List Arm). AreBounds low high those i from to) arms_are bounds) in
     let page_is : a.mid.page ≡ child.child = ap (λ (x : Arm). x.child) (got_there twigs i a arm_of arms child e got) in
     subst (λ (s : Store). IsPart s child.child (level + 1) d from to a.mid.body) (sym (same_pages h1 h2 root same))
-    (subst (λ (n : ℕ). IsPart (pages_in h1 root) n (level + 1) d from to a.mid.body) page_is (child_part (pages_in h1 root) page level d low high a.front a.mid a.back from to part' bounds'))
+    (subst (λ (n : ℕ). IsPart (pages_in h1 root) n (level + 1) d from to a.mid.body) page_is
+    (child_part (pages_in h1 root) page level d low high a.front a.mid a.back from to part' bounds'))
 
 -- the pages below it
-pub child_can : (root : Root) (d : ℕ) (twigs : List (Twig (Body d))) (arms : List Arm) (i : ℕ) (a : At twigs i) (child : Arm) → arms ≡ map arm_of twigs → slice_get arms i ≡ Some child → (limit : ℕ) (start mid : Reached) → CanReach limit start (pages_of (suc d) twigs)
-    → ((limit : ℕ) → IsMarked limit start → IsMarked limit mid) → pages_so_far mid ≡ pages_so_far start ++ pages_of (suc d) (take i twigs) → CanReach limit mid (child.child ∷ pages_of d a.mid.body)
+pub child_can : (root : Root) (d : ℕ) (twigs : List (Twig (Body d))) (arms : List Arm) (i : ℕ) (a : At twigs i) (child : Arm) → arms ≡ map arm_of twigs
+    → slice_get arms i ≡ Some child → (limit : ℕ) (start mid : Reached) → CanReach limit start (pages_of (suc d) twigs)
+    → ((limit : ℕ) → IsMarked limit start → IsMarked limit mid) → pages_so_far mid ≡ pages_so_far start ++ pages_of (suc d) (take i twigs)
+    → CanReach limit mid (child.child ∷ pages_of d a.mid.body)
 child_can root d twigs arms i a child e got limit start mid can marks so_far =
     let page_is : a.mid.page ≡ child.child = ap (λ (x : Arm). x.child) (got_there twigs i a arm_of arms child e got) in
-    subst (λ (p : ℕ). CanReach limit mid (p ∷ pages_of d a.mid.body)) page_is (can_reach_there twigs i a (λ (w : Twig (Body d)). w.page ∷ pages_of d w.body) limit start mid can marks so_far)
+    subst (λ (p : ℕ). CanReach limit mid (p ∷ pages_of d a.mid.body)) page_is
+    (can_reach_there twigs i a (λ (w : Twig (Body d)). w.page ∷ pages_of d w.body) limit start mid can marks so_far)
 
-pub child_reached : (d : ℕ) (twigs : List (Twig (Body d))) (arms : List Arm) (i : ℕ) (a : At twigs i) (child : Arm) → arms ≡ map arm_of twigs → slice_get arms i ≡ Some child → (before so_far new : List ℕ) → so_far ≡ before ++ pages_of (suc d) (take i twigs)
+pub child_reached : (d : ℕ) (twigs : List (Twig (Body d))) (arms : List Arm) (i : ℕ) (a : At twigs i) (child : Arm) → arms ≡ map arm_of twigs
+    → slice_get arms i ≡ Some child → (before so_far new : List ℕ) → so_far ≡ before ++ pages_of (suc d) (take i twigs)
     → new ≡ so_far ++ child.child ∷ pages_of d a.mid.body → new ≡ before ++ pages_of (suc d) (take (i + 1) twigs)
 child_reached d twigs arms i a child e got before so_far new is add =
     let page_is : a.mid.page ≡ child.child = ap (λ (x : Arm). x.child) (got_there twigs i a arm_of arms child e got) in
-    reached_there twigs i a (λ (w : Twig (Body d)). w.page ∷ pages_of d w.body) before so_far new is (add ∙ ap (λ (p : ℕ). so_far ++ p ∷ pages_of d a.mid.body) (sym page_is))
+    reached_there twigs i a (λ (w : Twig (Body d)). w.page ∷ pages_of d w.body) before so_far new is
+    (add ∙ ap (λ (p : ℕ). so_far ++ p ∷ pages_of d a.mid.body) (sym page_is))
 
-pub part_moved : (h0 h1 : History) (root : Root) → now h1 ≡ now h0 → (page level d : ℕ) (low : List ℕ) (high : Option (List ℕ)) (body : Body d) → IsPart (pages_in h0 root) page level d low high body → IsPart (pages_in h1 root) page level d low high body
+pub part_moved : (h0 h1 : History) (root : Root) → now h1 ≡ now h0 → (page level d : ℕ) (low : List ℕ) (high : Option (List ℕ)) (body : Body d)
+    → IsPart (pages_in h0 root) page level d low high body → IsPart (pages_in h1 root) page level d low high body
 part_moved h0 h1 root same page level d low high body part = subst (λ (s : Store). IsPart s page level d low high body) (sym (same_pages h0 h1 root same)) part
 
 pub not_past : (high : Option (List ℕ)) (key : List ℕ) → IsWithin high key → IsPast high key → ⊥

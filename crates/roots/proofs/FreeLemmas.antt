@@ -25,22 +25,28 @@ use Rattle.roots.proofs.OpeningRules.{known}
 
 -- from the root on
 pub reached_all : (h : History) (root : Root) (old new : Reached) (result : Result ℕ OpenFault)
-    → ((d : ℕ) (body : Body d) → IsPart (pages_in h root) root.tree 0 d [] None body → CanReach root.pages old (root.tree ∷ pages_of d body) → ReachesDepth d (root.tree ∷ pages_of d body) (pages_so_far old) (pages_so_far new) result)
-    → IsMarked root.pages old → pages_so_far old ≡ [] → root.tree ≢ 0 → (pages : List ℕ) (entries : List Entry) → HoldsMap (sheet_at (reads (now h)) root) root pages entries → Reaches pages old new result
+    → ((d : ℕ) (body : Body d) → IsPart (pages_in h root) root.tree 0 d [] None body → CanReach root.pages old (root.tree ∷ pages_of d body)
+    → ReachesDepth d (root.tree ∷ pages_of d body) (pages_so_far old) (pages_so_far new) result)
+    → IsMarked root.pages old → pages_so_far old ≡ [] → root.tree ≢ 0 → (pages : List ℕ) (entries : List Entry)
+    → HoldsMap (sheet_at (reads (now h)) root) root pages entries → Reaches pages old new result
 reached_all h root old new result walks marked none some pages entries holds = elim holds.map [
   | inl (zero_is, _) ↦ absurd (some zero_is)
   | inr has ↦
       let once : AreOnce (root.tree ∷ pages_of has.d has.body) = subst AreOnce has.pages_are holds.once in
-      let can : CanReach root.pages old (root.tree ∷ pages_of has.d has.body) = record { marked = marked; apart = λ n. omega (arith, once n, ap (times n) none) } in
-      subst (λ (l : List ℕ). Reaches l old new result) (sym has.pages_are) (reached has.d (root.tree ∷ pages_of has.d has.body) result (walks has.d has.body (root_part (pages_in h root) root.tree has.d has.body has.tree) can))
+      let can : CanReach root.pages old
+      (root.tree ∷ pages_of has.d has.body) = record { marked = marked; apart = λ n. omega (arith, once n, ap (times n) none) } in
+      subst (λ (l : List ℕ). Reaches l old new result) (sym has.pages_are)
+      (reached has.d (root.tree ∷ pages_of has.d has.body) result (walks has.d has.body (root_part (pages_in h root) root.tree has.d has.body has.tree) can))
 ]
   where
-    reached : (d : ℕ) (pages : List ℕ) (result : Result ℕ OpenFault) → ReachesDepth d pages (pages_so_far old) (pages_so_far new) result → Reaches pages old new result
+    reached : (d : ℕ) (pages : List ℕ) (result : Result ℕ OpenFault) → ReachesDepth d pages (pages_so_far old) (pages_so_far new) result
+        → Reaches pages old new result
     reached d pages (Ok n) there = there.1
     reached d pages (Err e) ne = ne
 
 -- and what was found is the root's tree
-pub found_all : (h : History) (root : Root) (d : ℕ) (pages before : List ℕ) → before ≡ [] → d ≤ 31 - 0 → AreOnce pages → HasFoundPart (pages_in h root) root.tree d [] None before pages
+pub found_all : (h : History) (root : Root) (d : ℕ) (pages before : List ℕ) → before ≡ [] → d ≤ 31 - 0 → AreOnce pages
+    → HasFoundPart (pages_in h root) root.tree d [] None before pages
     → (entries : List Entry) × HoldsMap (sheet_at (reads (now h)) root) root pages entries
 found_all h root d pages before none depth once f = (
   entries_of d f.body,
@@ -56,25 +62,29 @@ found_all h root d pages before none depth once f = (
   },
 )
 
-pub none_found : (root : Root) (pages : List ℕ) (image : ℕ → List ℕ) → root.tree ≡ 0 → pages ≡ [] → (entries : List Entry) × HoldsMap (sheet_at image root) root pages entries
+pub none_found : (root : Root) (pages : List ℕ) (image : ℕ → List ℕ) → root.tree ≡ 0 → pages ≡ []
+    → (entries : List Entry) × HoldsMap (sheet_at image root) root pages entries
 none_found root pages image none is = ([], record { map = inl (none, (is, refl)); once = λ n. omega (arith, ap (times n) is) })
 
 pub reached_from_none : (old new : Reached) (pages : List ℕ) → pages_so_far old ≡ [] → pages_so_far new ≡ pages_so_far old ++ pages → pages_so_far new ≡ pages
 reached_from_none old new pages none is = is ∙ ap (λ (l : List ℕ). l ++ pages) none
 
-pub no_pages : (root : Root) (found pages : List ℕ) (entries : List Entry) (image : ℕ → List ℕ) → root.tree ≡ 0 → found ≡ [] → HoldsMap (sheet_at image root) root pages entries → found ≡ pages
+pub no_pages : (root : Root) (found pages : List ℕ) (entries : List Entry) (image : ℕ → List ℕ) → root.tree ≡ 0 → found ≡ []
+    → HoldsMap (sheet_at image root) root pages entries → found ≡ pages
 no_pages root found pages entries image none is holds = elim holds.map [
   | inl (_, (empty, _)) ↦ is ∙ sym empty
   | inr has ↦ absurd (omega (arith, none, has.tree.at.number))
 ]
 
 -- a fault that isn't one of the pages
-pub match_failed : {X : Type 0} (P : X → Type 0) (result : Result X OpenFault) (e : OpenFault) → result ≡ Err e → e ≢ faults.Damaged → MatchResult result P (λ fault. fault ≢ faults.Damaged)
+pub match_failed : {X : Type 0} (P : X → Type 0) (result : Result X OpenFault) (e : OpenFault) → result ≡ Err e → e ≢ faults.Damaged
+    → MatchResult result P (λ fault. fault ≢ faults.Damaged)
 match_failed P result e is ne = subst (λ r. MatchResult r P (λ fault. fault ≢ faults.Damaged)) (sym is) ne
 
 -- ---- the book
 
-pub still_kept : (h0 h1 : History) (root : Root) (live : List ℕ) (entries : List Entry) → ReadsOnly h0 h1 → Keeps h0 root live entries → Keeps h1 root live entries
+pub still_kept : (h0 h1 : History) (root : Root) (live : List ℕ) (entries : List Entry) → ReadsOnly h0 h1 → Keeps h0 root live entries
+    → Keeps h1 root live entries
 still_kept h0 h1 root live entries only keeps = record {
   opens = λ k. subst (λ (s : ℕ → Sector). OpensAs (reads s) root) (sym (only.same k)) (keeps.opens (only.on.kept k));
   holds = λ k. subst (λ (s : ℕ → Sector). HoldsMap (sheet_at (reads s) root) root live entries) (sym (only.same k)) (keeps.holds (only.on.kept k));
@@ -82,15 +92,18 @@ still_kept h0 h1 root live entries only keeps = record {
 }
 
 -- what is found is the committed tree's
-pub finds : {D : Type 0} (history : D → History) (limit : ℕ) (result : Result Book OpenFault) (old : Store D) (disk : D) → ReadsOnly (history old.disk) (history disk)
+pub finds : {D : Type 0} (history : D → History) (limit : ℕ) (result : Result Book OpenFault) (old : Store D) (disk : D)
+    → ReadsOnly (history old.disk) (history disk)
     → IfOk result (IsBookOf limit old.root) → (KeepsWord (history disk) → IfOk result (λ book. HasMapThere (reads (now (history old.disk))) old.root))
-    → (KeepsWord (history disk) → (live : List ℕ) (entries : List Entry) → HoldsMap (sheet_at (reads (now (history old.disk))) old.root) old.root live entries → 1 ≤ old.root.pages
+    → (KeepsWord (history disk) → (live : List ℕ) (entries : List Entry) → HoldsMap (sheet_at (reads (now (history old.disk))) old.root) old.root live entries
+    → 1 ≤ old.root.pages
     → MatchResult result (λ book. book ≡ opened live (max limit old.root.pages) old.root.generation) (λ fault. fault ≢ faults.Damaged))
     → FindsFree history limit result old (record old { disk = disk })
 finds history limit result old disk only some stands found = record {
   root = refl;
   stopped = refl;
-  committed = λ live entries committed. record { running = committed.running; keeps = still_kept (history old.disk) (history disk) old.root live entries only committed.keeps };
+  committed = λ live entries committed. record
+      { running = committed.running; keeps = still_kept (history old.disk) (history disk) old.root live entries only committed.keeps };
   some = some;
   stands = stands;
   book = λ k live entries committed.
@@ -99,13 +112,15 @@ finds history limit result old disk only some stands found = record {
       found k live entries (committed.keeps.holds (only.on.kept k)) (omega (arith, inside.tree));
 }
 
-pub book_is : (book : Book) (limit found pages generation : ℕ) (given in_use live : List ℕ) → book ≡ opened given (max found 1) generation → found ≡ max limit pages → 1 ≤ pages → given ≡ in_use → in_use ≡ live
+pub book_is : (book : Book) (limit found pages generation : ℕ) (given in_use live : List ℕ) → book ≡ opened given (max found 1) generation
+    → found ≡ max limit pages → 1 ≤ pages → given ≡ in_use → in_use ≡ live
     → book ≡ opened live (max limit pages) generation
 book_is book limit found pages generation given in_use live is most some same named =
     let count : max found 1 ≡ max limit pages = omega (arith, most, some) in
     is ∙ (λ i. opened ((same ∙ named) i) (count i) generation)
 
-pub book_some : (book : Book) (limit found : ℕ) (root : Root) (given in_use : List ℕ) → book ≡ opened given (max found 1) root.generation → found ≡ max limit root.pages → given ≡ in_use → IsBookOf limit root book
+pub book_some : (book : Book) (limit found : ℕ) (root : Root) (given in_use : List ℕ) → book ≡ opened given (max found 1) root.generation
+    → found ≡ max limit root.pages → given ≡ in_use → IsBookOf limit root book
 book_some book limit found root given in_use is most same = record {
   in_use = in_use;
   is = is ∙ (λ i. opened (same i) (max (most i) 1) root.generation);
@@ -115,13 +130,15 @@ pub none_so : {X E : Type 0} (result : Result X E) (P : X → Type 0) (e : E) �
 none_so result P e is = subst (λ r. IfOk r P) (sym is) tt
 
 -- a page was read
-pub page_read : {D : Type 0} (history : D → History) (page : ℕ) (result : Result PageImage OpenFault) (old : Store D) (disk : D) → ReadsOnly (history old.disk) (history disk)
+pub page_read : {D : Type 0} (history : D → History) (page : ℕ) (result : Result PageImage OpenFault) (old : Store D) (disk : D)
+    → ReadsOnly (history old.disk) (history disk)
     → (KeepsWord (history disk) → MatchResult result (λ image. sheet_at (reads (now (history old.disk))) old.root page ≡ Ok (sheet_of image))
     (λ fault. fault ≡ faults.Damaged → (found : Sheet) → sheet_at (reads (now (history old.disk))) old.root page ≡ Ok found → ⊥))
     → ReadsSheet history page result old (record old { disk = disk })
 page_read history page result old disk only sheet = record {
   root = refl;
   stopped = refl;
-  committed = λ live entries committed. record { running = committed.running; keeps = still_kept (history old.disk) (history disk) old.root live entries only committed.keeps };
+  committed = λ live entries committed. record
+      { running = committed.running; keeps = still_kept (history old.disk) (history disk) old.root live entries only committed.keeps };
   sheet = sheet;
 }

@@ -20,7 +20,8 @@ sheet_same a b root page same =
     ap (λ (bytes : List ℕ). if nat_lt 0 page && nat_lt page root.pages then sheet_in page root.generation bytes else Err faults.Number)
     (bytes_from_same a b (8 * page) 8 (λ k le lt. same k (le, lt)))
 
-pub moves_by : (a b : ℕ → List ℕ) (root : Root) (pages : List ℕ) → ((k : ℕ) → IsOnPages pages k → b k ≡ a k) → Each (Moves (store_of (sheet_at a root)) (store_of (sheet_at b root))) pages
+pub moves_by : (a b : ℕ → List ℕ) (root : Root) (pages : List ℕ) → ((k : ℕ) → IsOnPages pages k → b k ≡ a k)
+    → Each (Moves (store_of (sheet_at a root)) (store_of (sheet_at b root))) pages
 moves_by a b root [] same = tt
 moves_by a b root (page ∷ pages) same =
     let here : sheet_at b root page ≡ sheet_at a root page = sheet_same a b root page (λ k is. same k (inl is)) in (
@@ -39,7 +40,8 @@ holds_same a b root pages entries same holds = record {
 pub opens_same : (a b : ℕ → List ℕ) (root : Root) → b 0 ≡ a 0 → b 1 ≡ a 1 → OpensAs a root → OpensAs b root
 opens_same a b root even odd opens = (λ i. root_of (even i) (odd i)) ∙ opens
 
-pub stands_by_kept : (a image : ℕ → List ℕ) (root : Root) (pages : List ℕ) (entries : List Entry) → OpensAs a root → HoldsMap (sheet_at a root) root pages entries
+pub stands_by_kept : (a image : ℕ → List ℕ) (root : Root) (pages : List ℕ) (entries : List Entry) → OpensAs a root
+    → HoldsMap (sheet_at a root) root pages entries
     → ((k : ℕ) → IsKept pages k → image k ≡ a k) → StandsFor image entries
 stands_by_kept a image root pages entries opens holds same = record {
   root = root;
@@ -48,7 +50,8 @@ stands_by_kept a image root pages entries opens holds same = record {
   holds = holds_same a image root pages entries (λ k on. same k (inr on)) holds;
 }
 
-pub secures : (sectors : ℕ → Sector) (root : Root) (pages : List ℕ) (entries : List Entry) → OpensAs (reads sectors) root → HoldsMap (sheet_at (reads sectors) root) root pages entries
+pub secures : (sectors : ℕ → Sector) (root : Root) (pages : List ℕ) (entries : List Entry) → OpensAs (reads sectors) root
+    → HoldsMap (sheet_at (reads sectors) root) root pages entries
     → ((k : ℕ) → IsKept pages k → IsDurable (sectors k)) → Secures sectors (IsKept pages) (λ image. StandsFor image entries)
 secures sectors root pages entries opens holds durable = record {
   durable = durable;
@@ -59,7 +62,8 @@ secures sectors root pages entries opens holds durable = record {
 pub live_below : (image : ℕ → List ℕ) (root : Root) (n : ℕ) → is_ok (sheet_at image root n) ≡ true → n < root.pages
 live_below image root n is = by_tests (nat_lt 0 n) (nat_lt n root.pages) refl is
   where
-    by_tests : (some inside : Bool) → nat_lt n root.pages ≡ inside → is_ok (if some && inside then sheet_in n root.generation (page_at image n) else Err faults.Number) ≡ true → n < root.pages
+    by_tests : (some inside : Bool) → nat_lt n root.pages ≡ inside
+        → is_ok (if some && inside then sheet_in n root.generation (page_at image n) else Err faults.Number) ≡ true → n < root.pages
     by_tests true true test is = grind (arith, nat_tests, test)
     by_tests true false test is = absurd cc
     by_tests false inside test is = absurd cc

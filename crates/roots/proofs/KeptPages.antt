@@ -22,7 +22,8 @@ use Rattle.roots.proofs.WalkLemmas.{IsFound, found_at}
 
 -- ---- a page under a later root
 
-tested : (k p q r r' : Bool) (rest : Result ℕ PageFault) (x : ℕ) → (r ≡ false → r' ≡ false) → unless k faults.Kind (unless (p || q || r) faults.Number rest) ≡ Ok x
+tested : (k p q r r' : Bool) (rest : Result ℕ PageFault) (x : ℕ) → (r ≡ false → r' ≡ false)
+    → unless k faults.Kind (unless (p || q || r) faults.Number rest) ≡ Ok x
     → unless k faults.Kind (unless (p || q || r') faults.Number rest) ≡ Ok x
 tested true p q r r' rest x weaker is = absurd cc
 tested false true q r r' rest x weaker is = absurd cc
@@ -33,7 +34,8 @@ tested false false false false r' rest x weaker is = ap (λ (b : Bool). unless b
 generation_later : (page old new : ℕ) (bytes : List ℕ) (x : ℕ) → old ≤ new → generation_in page old bytes ≡ Ok x → generation_in page new bytes ≡ Ok x
 generation_later page old new bytes x le is =
     let born = little_number 8 (drop 8 bytes) in
-    tested (slice_index bytes 0 == 0 || nat_lt 4 (slice_index bytes 0) || not (slice_index bytes 1 == 0)) (not (little_number 4 (drop 4 bytes) == page)) (born == 0) (nat_lt old born) (nat_lt new born) (Ok born) x
+    tested (slice_index bytes 0 == 0 || nat_lt 4 (slice_index bytes 0) || not (slice_index bytes 1 == 0)) (not (little_number 4 (drop 4 bytes) == page))
+    (born == 0) (nat_lt old born) (nat_lt new born) (Ok born) x
     (λ test. grind (arith, nat_tests, test, le)) is
 
 abbrev with_content : ℕ → List ℕ → Result ℕ PageFault → Result Sheet PageFault
@@ -49,14 +51,17 @@ sheet_later page old new bytes sheet le is = go (generation_in page old bytes) r
     go (Ok born) at there = ap (with_content page bytes) (generation_later page old new bytes born le at) ∙ there
     go (Err e) at there = absurd cc
 
-pub still_read : (image : ℕ → List ℕ) (old new : Root) (n : ℕ) (sheet : Sheet) → old.generation ≤ new.generation → old.pages ≤ new.pages → sheet_at image old n ≡ Ok sheet → sheet_at image new n ≡ Ok sheet
+pub still_read : (image : ℕ → List ℕ) (old new : Root) (n : ℕ) (sheet : Sheet) → old.generation ≤ new.generation → old.pages ≤ new.pages
+    → sheet_at image old n ≡ Ok sheet → sheet_at image new n ≡ Ok sheet
 still_read image old new n sheet le more is = by_tests (nat_lt 0 n) (nat_lt n old.pages) refl is
   where
-    by_tests : (some inside : Bool) → nat_lt n old.pages ≡ inside → (if some && inside then sheet_in n old.generation (page_at image n) else Err faults.Number) ≡ Ok sheet
+    by_tests : (some inside : Bool) → nat_lt n old.pages ≡ inside
+        → (if some && inside then sheet_in n old.generation (page_at image n) else Err faults.Number) ≡ Ok sheet
         → (if some && nat_lt n new.pages then sheet_in n new.generation (page_at image n) else Err faults.Number) ≡ Ok sheet
     by_tests true true test there =
         let inside : nat_lt n new.pages ≡ true = grind (arith, nat_tests, test, more) in
-        ap (λ (b : Bool). if b then sheet_in n new.generation (page_at image n) else Err faults.Number) inside ∙ sheet_later n old.generation new.generation (page_at image n) sheet le there
+        ap (λ (b : Bool). if b then sheet_in n new.generation (page_at image n) else Err faults.Number) inside
+        ∙ sheet_later n old.generation new.generation (page_at image n) sheet le there
     by_tests true false test there = absurd cc
     by_tests false inside test there = absurd cc
 
@@ -69,12 +74,14 @@ made_other (m ∷ ms) n other ne =
     ap (λ (b : Bool). if b then Ok m else made_or ms n other) test ∙ made_other ms n other ne.1
 
 -- a page that isn't made stays,
-pub kept_there : (image : ℕ → List ℕ) (old : Root) (made : List Sheet) (tree n : ℕ) (content : Content) → AllByRecursion (λ (m : Sheet). m.page ≢ n) made → IsAt (store_of (sheet_at image old)) n content
+pub kept_there : (image : ℕ → List ℕ) (old : Root) (made : List Sheet) (tree n : ℕ) (content : Content) → AllByRecursion (λ (m : Sheet). m.page ≢ n) made
+    → IsAt (store_of (sheet_at image old)) n content
     → IsAt (store_of (λ k. made_or made k (sheet_at image (next_root old made tree) k))) n content
 kept_there image old made tree n content ne at =
     let found : IsFound (sheet_at image old n) content = found_at (sheet_at image old) n content at.live at.holds in
     let there : made_or made n (sheet_at image (next_root old made tree) n) ≡ Ok found.sheet =
-    made_other made n (sheet_at image (next_root old made tree) n) ne ∙ still_read image old (next_root old made tree) n found.sheet (omega arith) (omega arith) found.is in
+    made_other made n (sheet_at image (next_root old made tree) n) ne
+    ∙ still_read image old (next_root old made tree) n found.sheet (omega arith) (omega arith) found.is in
     record { number = at.number; live = ap is_ok there; holds = ap content_of there ∙ found.holds }
 
 all_behind : (last : ℕ) (made : List Sheet) → LieBehind last made → AllByRecursion (λ (m : Sheet). last < m.page) made
@@ -85,7 +92,8 @@ all_behind last (m ∷ ms) lie = (lie.0, weaker m.page ms (all_behind m.page ms 
     weaker from [] all = tt
     weaker from (x ∷ xs) all = (omega (arith, lie.0, all.0), weaker from xs all.1)
 
-behind_another : (others : ℕ → Result Sheet PageFault) (m : Sheet) (ms xs : List Sheet) → AllByRecursion (λ (x : Sheet). made_or ms x.page (others x.page) ≡ Ok x) xs → AllByRecursion (λ (x : Sheet). m.page < x.page) xs
+behind_another : (others : ℕ → Result Sheet PageFault) (m : Sheet) (ms xs : List Sheet)
+    → AllByRecursion (λ (x : Sheet). made_or ms x.page (others x.page) ≡ Ok x) xs → AllByRecursion (λ (x : Sheet). m.page < x.page) xs
     → AllByRecursion (λ (x : Sheet). made_or (m ∷ ms) x.page (others x.page) ≡ Ok x) xs
 behind_another others m ms [] all above = tt
 behind_another others m ms (x ∷ xs) all above =
@@ -94,15 +102,19 @@ behind_another others m ms (x ∷ xs) all above =
     (ap (λ (b : Bool). if b then Ok m else made_or ms x.page (others x.page)) test ∙ all.0, behind_another others m ms xs all.1 above.1)
 
 -- and one that is made is there.
-pub made_there : (others : ℕ → Result Sheet PageFault) (last : ℕ) (made : List Sheet) → LieBehind last made → AllByRecursion (λ (m : Sheet). made_or made m.page (others m.page) ≡ Ok m) made
+pub made_there : (others : ℕ → Result Sheet PageFault) (last : ℕ) (made : List Sheet) → LieBehind last made
+    → AllByRecursion (λ (m : Sheet). made_or made m.page (others m.page) ≡ Ok m) made
 made_there others last [] lie = tt
 made_there others last (m ∷ ms) lie =
-    let test : (m.page == m.page) ≡ true = grind (arith, nat_tests) in
-    (ap (λ (b : Bool). if b then Ok m else made_or ms m.page (others m.page)) test, behind_another others m ms ms (made_there others m.page ms lie.1) (all_behind m.page ms lie.1))
+    let test : (m.page == m.page) ≡ true = grind (arith, nat_tests) in (
+      ap (λ (b : Bool). if b then Ok m else made_or ms m.page (others m.page)) test,
+      behind_another others m ms ms (made_there others m.page ms lie.1) (all_behind m.page ms lie.1),
+    )
 
 -- ---- the premises can be met: what is committed may be committed again
 
-all_kept : (image : ℕ → List ℕ) (root : Root) (pages : List ℕ) → Each (Moves (store_of (sheet_at image root)) (store_of (λ k. made_or [] k (sheet_at image (next_root root [] root.tree) k)))) pages
+all_kept : (image : ℕ → List ℕ) (root : Root) (pages : List ℕ)
+    → Each (Moves (store_of (sheet_at image root)) (store_of (λ k. made_or [] k (sheet_at image (next_root root [] root.tree) k)))) pages
 all_kept image root [] = tt
 all_kept image root (page ∷ pages) = ((λ content at. kept_there image root [] root.tree page content tt at), all_kept image root pages)
 
@@ -113,7 +125,8 @@ same_turn h root live entries keeps = record {
   sheets = tt;
   free = tt;
   holds = λ k. record {
-    map = map_moved (store_of (sheet_at (reads (now h)) root)) (store_of (λ n. made_or [] n (sheet_at (reads (now h)) (next_root root [] root.tree) n))) root.tree live entries
+    map = map_moved (store_of (sheet_at (reads (now h)) root))
+        (store_of (λ n. made_or [] n (sheet_at (reads (now h)) (next_root root [] root.tree) n))) root.tree live entries
         (all_kept (reads (now h)) root live) (keeps.holds k).map;
     once = (keeps.holds k).once;
   };

@@ -1,5 +1,6 @@
 -- Pages that were made and written.
-use Rattle.std.proofs.Common.{◌≡◌, ◌≢◌, ℕ, zero, suc, ◌+◌, ◌*◌, ◌^◌, ◌≤◌, ◌<◌, inl, inr, Bool, true, false, List, [], ◌∷◌, ◌++◌, length, take, get_or, refl, sym, ◌∙◌, ap, subst, arith}
+use Rattle.std.proofs.Common.{◌≡◌, ◌≢◌, ℕ, zero, suc, ◌+◌, ◌*◌, ◌^◌, ◌≤◌, ◌<◌, inl, inr, Bool, true, false, List, [], ◌∷◌, ◌++◌, length, take, get_or, refl}
+use Rattle.std.proofs.Common.{sym, ◌∙◌, ap, subst, arith}
 use Rattle.std.specs.Prelude.{◌-◌, ◌&&◌, ◌==◌, nat_lt, min, if◌then◌else◌, Some, slice_get, Result, Ok, Err, OnOk}
 use Rattle.std.specs.List.{AllByRecursion}
 use Rattle.std.proofs.lemmas.Bool.{cases_eq}
@@ -28,7 +29,8 @@ behind_at last [] i d lie lt = absurd (omega arith)
 behind_at last (m ∷ ms) zero d lie lt = lie.0
 behind_at last (m ∷ ms) (suc i) d lie lt = omega (arith, lie.0, behind_at m.page ms i d lie.1 (omega arith))
 
-before_at : (last : ℕ) (made : List Sheet) (i : ℕ) (d : Sheet) → LieBehind last made → i < length made → AllByRecursion (λ (m : Sheet). m.page < (get_or made i d).page) (take i made)
+before_at : (last : ℕ) (made : List Sheet) (i : ℕ) (d : Sheet) → LieBehind last made → i < length made
+    → AllByRecursion (λ (m : Sheet). m.page < (get_or made i d).page) (take i made)
 before_at last [] i d lie lt = absurd (omega arith)
 before_at last (m ∷ ms) zero d lie lt = tt
 before_at last (m ∷ ms) (suc i) d lie lt = (behind_at m.page ms i d lie.1 (omega arith), before_at m.page ms i d lie.1 (omega arith))
@@ -75,13 +77,15 @@ above_all [] last k lie on = absurd on
 above_all (m ∷ ms) last k lie (inl (low, high)) = omega (arith, lie.0, low)
 above_all (m ∷ ms) last k lie (inr on) = above_all ms m.page k lie.1 on
 
-off_live : (live : List ℕ) (made : List Sheet) (k : ℕ) → AllByRecursion (λ (m : Sheet). times m.page live ≡ 0) made → IsOnPages live k → IsOnPages (numbers_of made) k → ⊥
+off_live : (live : List ℕ) (made : List Sheet) (k : ℕ) → AllByRecursion (λ (m : Sheet). times m.page live ≡ 0) made → IsOnPages live k
+    → IsOnPages (numbers_of made) k → ⊥
 off_live live [] k free on at = at
 off_live live (m ∷ ms) k free on (inl here) = omega (arith, free.0, on_page live m.page k on here)
 off_live live (m ∷ ms) k free on (inr at) = off_live live ms k free.1 on at
 
 -- what the root reaches isn't written
-pub apart : (live : List ℕ) (made : List Sheet) (k : ℕ) → LieBehind 0 made → AllByRecursion (λ (m : Sheet). times m.page live ≡ 0) made → IsKept live k → IsOnPages (numbers_of made) k → ⊥
+pub apart : (live : List ℕ) (made : List Sheet) (k : ℕ) → LieBehind 0 made → AllByRecursion (λ (m : Sheet). times m.page live ≡ 0) made → IsKept live k
+    → IsOnPages (numbers_of made) k → ⊥
 apart live made k lie free (inl small) on = omega (arith, small, above_all made 0 k lie on)
 apart live made k lie free (inr at) on = off_live live made k free at on
 
@@ -91,7 +95,8 @@ all_more : {X : Type 0} (P : X → Type 0) (xs : List X) (x : X) → AllByRecurs
 all_more P [] x all here = (here, tt)
 all_more P (y ∷ ys) x all here = (all.0, all_more P ys x all.1 here)
 
-still_written : (a b : ℕ → List ℕ) (page : ℕ) (made : List Sheet) → ((k : ℕ) → (IsSectorOf page k → ⊥) → b k ≡ a k) → AllByRecursion (λ (m : Sheet). m.page < page) made → AreWritten a made → AreWritten b made
+still_written : (a b : ℕ → List ℕ) (page : ℕ) (made : List Sheet) → ((k : ℕ) → (IsSectorOf page k → ⊥) → b k ≡ a k)
+    → AllByRecursion (λ (m : Sheet). m.page < page) made → AreWritten a made → AreWritten b made
 still_written a b page [] others below written = tt
 still_written a b page (m ∷ ms) others below written = (
   bytes_from_same a b (8 * m.page) 8 (λ k le lt. others k (λ here. omega (arith, below.0, le, lt, here.0))) ∙ written.0,
@@ -99,16 +104,19 @@ still_written a b page (m ∷ ms) others below written = (
 )
 
 -- one more
-pub written_step : (a b : ℕ → List ℕ) (made : List Sheet) (i : ℕ) (x : Sheet) → x ≡ get_or made i x → LieBehind 0 made → i < length made → ((k : ℕ) → (IsSectorOf x.page k → ⊥) → b k ≡ a k)
+pub written_step : (a b : ℕ → List ℕ) (made : List Sheet) (i : ℕ) (x : Sheet) → x ≡ get_or made i x → LieBehind 0 made → i < length made
+    → ((k : ℕ) → (IsSectorOf x.page k → ⊥) → b k ≡ a k)
     → AreWritten a (take i made) → page_at b x.page ≡ page_bytes x → AreWritten b (take (i + 1) made)
 written_step a b made i x is lie lt others before here =
     let same : get_or made i x ≡ x = sym is in
-    let below : AllByRecursion (λ (m : Sheet). m.page < x.page) (take i made) = subst (λ (y : Sheet). AllByRecursion (λ (m : Sheet). m.page < y.page) (take i made)) same (before_at 0 made i x lie lt) in
+    let below : AllByRecursion (λ (m : Sheet). m.page < x.page) (take i made) =
+    subst (λ (y : Sheet). AllByRecursion (λ (m : Sheet). m.page < y.page) (take i made)) same (before_at 0 made i x lie lt) in
     subst (AreWritten b) (sym (take_more made i x lt ∙ ap (λ (y : Sheet). take i made ++ y ∷ []) same))
     (all_more (λ (m : Sheet). page_at b m.page ≡ page_bytes m) (take i made) x (still_written a b x.page (take i made) others below before) here)
 
 -- a root is no page
-pub written_apart : (a b : ℕ → List ℕ) (last : ℕ) (made : List Sheet) → ((k : ℕ) → 2 ≤ k → b k ≡ a k) → LieBehind last made → AreWritten a made → AreWritten b made
+pub written_apart : (a b : ℕ → List ℕ) (last : ℕ) (made : List Sheet) → ((k : ℕ) → 2 ≤ k → b k ≡ a k) → LieBehind last made → AreWritten a made
+    → AreWritten b made
 written_apart a b last [] others lie written = tt
 written_apart a b last (m ∷ ms) others lie written =
     (bytes_from_same a b (8 * m.page) 8 (λ k le lt. others k (omega (arith, lie.0, le))) ∙ written.0, written_apart a b m.page ms others lie.1 written.1)
@@ -134,7 +142,8 @@ made_case (m ∷ ms) n x other here none = elim (cases_eq m.page n) [
       made_case ms n x other here.1 (λ rest. none (ne, rest)) ∙ sym (ap (λ (b : Bool). if b then Ok m else made_or ms n other) test)
 ]
 
-read_made : (b : ℕ → List ℕ) (root : Root) (m : Sheet) → 0 < m.page → m.page < root.pages → IsSheet root.generation m → page_at b m.page ≡ page_bytes m → sheet_at b root m.page ≡ Ok m
+read_made : (b : ℕ → List ℕ) (root : Root) (m : Sheet) → 0 < m.page → m.page < root.pages → IsSheet root.generation m → page_at b m.page ≡ page_bytes m
+    → sheet_at b root m.page ≡ Ok m
 read_made b root m some inside sheet written =
     let low : nat_lt 0 m.page ≡ true = grind (arith, nat_tests, some) in
     let high : nat_lt m.page root.pages ≡ true = grind (arith, nat_tests, inside) in
@@ -170,11 +179,13 @@ module _ (start mid new : History) (made : List Sheet) (page : ℕ) (inside : (k
   pub others_more : KeepsWord new → (k : ℕ) → (IsOnPages (numbers_of made) k → ⊥) → now new k ≡ now start k
   others_more keeps k outside = others keeps k (λ here. outside (inside k here)) ∙ before (goes.kept keeps) k outside
 
-  pub moments_more : LeavesOnly start mid (IsImageOutside (now start) (IsOnPages (numbers_of made))) → LeavesOnly mid new (IsImageOutside (now mid) (IsSectorOf page))
+  pub moments_more : LeavesOnly start mid (IsImageOutside (now start) (IsOnPages (numbers_of made)))
+      → LeavesOnly mid new (IsImageOutside (now mid) (IsSectorOf page))
       → LeavesOnly start new (IsImageOutside (now start) (IsOnPages (numbers_of made)))
   moments_more so_far during =
       leaves_further start mid new (IsImageOutside (now start) (IsOnPages (numbers_of made))) goes so_far
-      (λ keeps image left k outside. subst (λ (x : Sector). MayHold x (image k)) (before (goes.kept keeps) k outside) (during keeps image left k (λ here. outside (inside k here))))
+      (λ keeps image left k outside. subst (λ (x : Sector). MayHold x (image k)) (before (goes.kept keeps) k outside)
+      (during keeps image left k (λ here. outside (inside k here))))
 
 -- ---- the end of pages, by the last of them
 
@@ -188,5 +199,7 @@ end_last (m ∷ n ∷ ms) end x is =
     let place : length (m ∷ n ∷ ms) - 1 ≡ suc (length (n ∷ ms) - 1) = omega arith in
     end_last (n ∷ ms) (m.page + 1) x (is ∙ ap (slice_get (m ∷ n ∷ ms)) place)
 
-pub end_saturated : (made : List Sheet) (x : Sheet) (n : ℕ) → Some x ≡ slice_get made (length made - 1) → n ≡ min (x.page + 1) (2 ^ 32 - 1) → AllByRecursion (λ (m : Sheet). m.page < 1048576) made → n ≡ end_behind 1 made
-end_saturated made x n is at inside = let e : end_behind 1 made ≡ x.page + 1 = end_last made 1 x is in omega (arith, at, e, end_most made 1 (omega arith) inside)
+pub end_saturated : (made : List Sheet) (x : Sheet) (n : ℕ) → Some x ≡ slice_get made (length made - 1) → n ≡ min (x.page + 1) (2 ^ 32 - 1)
+    → AllByRecursion (λ (m : Sheet). m.page < 1048576) made → n ≡ end_behind 1 made
+end_saturated made x n is at inside = let e : end_behind 1 made ≡ x.page + 1 = end_last made 1 x is in
+    omega (arith, at, e, end_most made 1 (omega arith) inside)

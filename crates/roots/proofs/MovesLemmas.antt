@@ -30,8 +30,10 @@ module _ (h0 h1 : History) (old : Root) (live pages : List ℕ) (made : List She
   }
 
   -- all pages were written, and the root was or wasn't
-  module _ (h2 : History) (next : Root) (is : next ≡ next_root old made tree) (few : next.generation < 2 ^ 64) (written : KeepsWord h1 → AreWritten (reads (now h1)) made)
-      (sector : List ℕ) (sector_is : sector ≡ root_bytes next) (on : GoesOn h1 h2) (root_during : LeavesOnly h1 h2 (IsOldOrPut (now h1) (next.generation % 2) sector)) where
+  module _ (h2 : History) (next : Root) (is : next ≡ next_root old made tree) (few : next.generation < 2 ^ 64) (written : KeepsWord h1
+      → AreWritten (reads (now h1)) made)
+      (sector : List ℕ) (sector_is : sector ≡ root_bytes next) (on : GoesOn h1 h2)
+      (root_during : LeavesOnly h1 h2 (IsOldOrPut (now h1) (next.generation % 2) sector)) where
     short : old.generation < 2 ^ 64 - 1
     short = omega (arith, few, ap (λ (r : Root). r.generation) is)
 
@@ -41,14 +43,16 @@ module _ (h0 h1 : History) (old : Root) (live pages : List ℕ) (made : List She
     next_during : LeavesOnly h1 h2 (IsOldOrPut (now h1) ((next_root old made tree).generation % 2) sector)
     next_during = subst (λ (r : Root). LeavesOnly h1 h2 (IsOldOrPut (now h1) (r.generation % 2) sector)) is root_during
 
-    kept_after : {E : Type 0} (r : Result (Unit {0}) E) → (KeepsWord h2 → OnOk r (AreDurable (now h2))) → (KeepsWord h2 → OnOk r (reads (now h2) ≡ put (reads (now h1)) (next.generation % 2) sector)) → OnOk r (Keeps h2 next pages after)
+    kept_after : {E : Type 0} (r : Result (Unit {0}) E) → (KeepsWord h2 → OnOk r (AreDurable (now h2)))
+        → (KeepsWord h2 → OnOk r (reads (now h2) ≡ put (reads (now h1)) (next.generation % 2) sector)) → OnOk r (Keeps h2 next pages after)
     kept_after (Ok u) synced there =
         subst (λ (r : Root). Keeps h2 r pages after) (sym is)
         (now_kept h0 h1 old live pages made tree before after keeps turn goes others short written h2 sector sector_next on next_during synced
         (subst (λ (r : Root). KeepsWord h2 → reads (now h2) ≡ put (reads (now h1)) (r.generation % 2) sector) is there))
     kept_after (Err e) synced there = tt
 
-    pub moved : {E : Type 0} (r : Result (Unit {0}) E) → (KeepsWord h2 → OnOk r (AreDurable (now h2))) → (KeepsWord h2 → OnOk r (reads (now h2) ≡ put (reads (now h1)) (next.generation % 2) sector))
+    pub moved : {E : Type 0} (r : Result (Unit {0}) E) → (KeepsWord h2 → OnOk r (AreDurable (now h2)))
+        → (KeepsWord h2 → OnOk r (reads (now h2) ≡ put (reads (now h1)) (next.generation % 2) sector))
         → MovesRoot next pages before after r h0 h2
     moved r synced there = record {
       any_moment = all_moments h0 h1 old live pages made tree before after keeps turn goes others short written h2 sector sector_next on next_during during;
@@ -58,7 +62,8 @@ module _ (h0 h1 : History) (old : Root) (live pages : List ℕ) (made : List She
 -- ---- what the store says
 
 -- no greater generation is left
-pub is_last : {D : Type 0} (history : D → History) (store : Store D) (next : Root) (live pages : List ℕ) (before after : List Entry) → IsCommitted history store live before
+pub is_last : {D : Type 0} (history : D → History) (store : Store D) (next : Root) (live pages : List ℕ) (before after : List Entry)
+    → IsCommitted history store live before
     → MovesMap history next pages before after (Err faults.Full) store store
 is_last history store next live pages before after committed = record {
   any_moment = started (history store.disk) _ (λ k image is. inl (stands_now (history store.disk) store.root live before committed.keeps k image is));
@@ -80,7 +85,8 @@ failed history old new root next pages before after e moves = record {
 }
 
 -- it is done
-pub done : {D : Type 0} (history : D → History) (old : Store D) (disk : D) (root next : Root) (pages : List ℕ) (before after : List Entry) (live : List ℕ) {E : Type 0}
+pub done : {D : Type 0} (history : D → History) (old : Store D) (disk : D) (root next : Root) (pages : List ℕ) (before after : List Entry)
+    (live : List ℕ) {E : Type 0}
     → IsCommitted history old live before → root ≡ next → MovesRoot root pages before after {E = E} (Ok tt) (history old.disk) (history disk)
     → MovesMap history next pages before after (Ok tt) old (record old { disk = disk; root = root })
 done history old disk root next pages before after live committed is moves = record {

@@ -26,20 +26,23 @@ module _ (s : Store) where
   no_zero : (content : Content) → IsAt s 0 content → ⊥
   no_zero content at = omega (arith, at.number)
 
-  one_chain : (links links' value value' : List ℕ) → next_of links ≡ next_of links' → HasLinks s links value → HasLinks s links' value' → Same links links' value value'
+  one_chain : (links links' value value' : List ℕ) → next_of links ≡ next_of links' → HasLinks s links value → HasLinks s links' value'
+      → Same links links' value value'
   one_chain [] [] value value' e h g = record { links_are = refl; value_is = h ∙ sym g }
   one_chain [] (q ∷ qs) value value' e h g = absurd (no_zero _ (subst (λ (n : ℕ). IsAt s n (chain (next_of qs) (take 4076 value'))) (sym e) g.1))
   one_chain (p ∷ ps) [] value value' e h g = absurd (no_zero _ (subst (λ (n : ℕ). IsAt s n (chain (next_of ps) (take 4076 value))) e h.1))
   one_chain (p ∷ ps) (q ∷ qs) value value' e h g =
       let same : chain (next_of ps) (take 4076 value) ≡ chain (next_of qs) (take 4076 value') = sym h.1.holds ∙ ap s.page e ∙ g.1.holds in
-      let rest = one_chain ps qs (drop 4076 value) (drop 4076 value') (chain_next (next_of ps) (next_of qs) (take 4076 value) (take 4076 value') same) h.2 g.2 in
+      let rest = one_chain ps qs (drop 4076 value) (drop 4076 value')
+      (chain_next (next_of ps) (next_of qs) (take 4076 value) (take 4076 value') same) h.2 g.2 in
       let front : take 4076 value ≡ take 4076 value' = chain_part (next_of ps) (next_of qs) (take 4076 value) (take 4076 value') same in
       record {
         links_are = (λ i. e i ∷ rest.links_are i);
         value_is = sym (take-append-drop 4076 value) ∙ (λ i. front i ++ rest.value_is i) ∙ take-append-drop 4076 value';
       }
 
-  one_value : (links links' value value' : List ℕ) → place_of links value ≡ place_of links' value' → (0 < length links → HasLinks s links value) → (0 < length links' → HasLinks s links' value') → Same links links' value value'
+  one_value : (links links' value value' : List ℕ) → place_of links value ≡ place_of links' value' → (0 < length links → HasLinks s links value)
+      → (0 < length links' → HasLinks s links' value') → Same links links' value value'
   one_value [] [] value value' e h g = record { links_are = refl; value_is = cc }
   one_value [] (q ∷ qs) value value' e h g = absurd cc
   one_value (p ∷ ps) [] value value' e h g = absurd cc
@@ -51,7 +54,8 @@ module _ (s : Store) where
     pub entries_are : entries ≡ entries'
     pub pages_are : pages ≡ pages'
 
-  one_leaf : (xs ys : List Pair) → map item_of xs ≡ map item_of ys → Each (HasChain s) xs → Each (HasChain s) ys → SameMap (entries_of zero xs) (entries_of zero ys) (pages_of zero xs) (pages_of zero ys)
+  one_leaf : (xs ys : List Pair) → map item_of xs ≡ map item_of ys → Each (HasChain s) xs → Each (HasChain s) ys
+      → SameMap (entries_of zero xs) (entries_of zero ys) (pages_of zero xs) (pages_of zero ys)
   one_leaf [] [] e h g = record { entries_are = refl; pages_are = refl }
   one_leaf [] (y ∷ ys) e h g = absurd cc
   one_leaf (x ∷ xs) [] e h g = absurd cc
@@ -66,7 +70,8 @@ module _ (s : Store) where
         pages_are = (λ i. same.links_are i ++ rest.pages_are i);
       }
 
-  module _ (d d' : ℕ) (one : (b : Body d) (c : Body d') → content_of d b ≡ content_of d' c → Shows s d b → Shows s d' c → SameMap (entries_of d b) (entries_of d' c) (pages_of d b) (pages_of d' c)) where
+  module _ (d d' : ℕ) (one : (b : Body d) (c : Body d') → content_of d b ≡ content_of d' c → Shows s d b → Shows s d' c
+      → SameMap (entries_of d b) (entries_of d' c) (pages_of d b) (pages_of d' c)) where
     one_fan : (ws : List (Twig (Body d))) (vs : List (Twig (Body d'))) → map arm_of ws ≡ map arm_of vs → Shows s (suc d) ws → Shows s (suc d') vs
         → SameMap (entries_of (suc d) ws) (entries_of (suc d') vs) (pages_of (suc d) ws) (pages_of (suc d') vs)
     one_fan [] [] e h g = record { entries_are = refl; pages_are = refl }
@@ -85,13 +90,15 @@ module _ (s : Store) where
           pages_are = (λ i. page i ∷ (child.pages_are i ++ rest.pages_are i));
         }
 
-  one_body : (d d' : ℕ) (b : Body d) (c : Body d') → content_of d b ≡ content_of d' c → Shows s d b → Shows s d' c → SameMap (entries_of d b) (entries_of d' c) (pages_of d b) (pages_of d' c)
+  one_body : (d d' : ℕ) (b : Body d) (c : Body d') → content_of d b ≡ content_of d' c → Shows s d b → Shows s d' c
+      → SameMap (entries_of d b) (entries_of d' c) (pages_of d b) (pages_of d' c)
   one_body zero zero b c e h g = one_leaf b c (let items : map item_of b ≡ map item_of c = cc in items) h g
   one_body zero (suc d') b c e h g = absurd cc
   one_body (suc d) zero b c e h g = absurd cc
   one_body (suc d) (suc d') b c e h g = one_fan d d' (one_body d d') b c (let arms : map arm_of b ≡ map arm_of c = cc in arms) h g
 
-  pub one_map : (root : ℕ) (pages pages' : List ℕ) (entries entries' : List Entry) → HasMap s root pages entries → HasMap s root pages' entries' → SameMap entries entries' pages pages'
+  pub one_map : (root : ℕ) (pages pages' : List ℕ) (entries entries' : List Entry) → HasMap s root pages entries → HasMap s root pages' entries'
+      → SameMap entries entries' pages pages'
   one_map root pages pages' entries entries' (inl (_, (p, e))) (inl (_, (q, f))) = record { entries_are = e ∙ sym f; pages_are = p ∙ sym q }
   one_map root pages pages' entries entries' (inl (zero_is, _)) (inr has) = absurd (omega (arith, zero_is, has.tree.at.number))
   one_map root pages pages' entries entries' (inr has) (inl (zero_is, _)) = absurd (omega (arith, zero_is, has.tree.at.number))

@@ -11,7 +11,8 @@ use Rattle.roots.specs.Opening.{IsOpened}
 
 pub opened : {D : Type 0} (history : D → History) (before disk : D) (root : Root) (h1 : History) (ok : Bool) → ReadsOnly (history before) h1
     → (KeepsWord h1 → OpensAs (reads (now (history before))) root) → Ticks h1 (history disk) ok
-    → (KeepsWord (history disk) → (k : ℕ) → Syncs (now h1 k) (now (history disk) k)) → IsKnown root → IsOpened history before (record { disk = disk; root = root; stopped = false })
+    → (KeepsWord (history disk) → (k : ℕ) → Syncs (now h1 k) (now (history disk) k)) → IsKnown root
+    → IsOpened history before (record { disk = disk; root = root; stopped = false })
 opened history before disk root h1 ok only opens tick syncs known =
     let h0 = history before in
     let h2 = history disk in
@@ -34,5 +35,7 @@ opened history before disk root h1 ok only opens tick syncs known =
         };
       };
       alone = λ entries stands k image is. subst (λ (f : ℕ → List ℕ). StandsFor f entries) (sym (synced k image is)) stands;
-      any_moment = λ readable. leaves_call h0 h1 h2 ok (IsImage (now h0)) tick (reads_moments h0 h1 only) (λ k image is. subst (IsImage (now h0)) (sym (synced k image is)) readable);
+      any_moment =
+          λ readable. leaves_call h0 h1 h2 ok (IsImage (now h0)) tick (reads_moments h0 h1 only)
+          (λ k image is. subst (IsImage (now h0)) (sym (synced k image is)) readable);
     }

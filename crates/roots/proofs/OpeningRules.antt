@@ -57,7 +57,8 @@ both_gives (Err e) (Err f) root is = absurd (grind (arith, is))
 
 -- a root that is read is known
 known_by : (blank right late sound : Bool) (bytes : List ℕ) (root : Root)
-    → (if blank then Ok no_root else if not right then Err faults.NotADatabase else if late then Err faults.NewerFormat else if sound then Ok (fields_in bytes) else Err faults.Damaged) ≡ Ok root
+    → (if blank then Ok no_root else if not right then Err faults.NotADatabase else if late then Err faults.NewerFormat else if sound then Ok (fields_in bytes)
+    else Err faults.Damaged) ≡ Ok root
     → (root ≡ no_root) ⊎ ((sound ≡ true) × (root ≡ fields_in bytes))
 known_by true right late sound bytes root is = inl (grind (arith, is))
 known_by false false late sound bytes root is = absurd (grind (arith, is))
@@ -65,7 +66,8 @@ known_by false true true sound bytes root is = absurd (grind (arith, is))
 known_by false true false true bytes root is = inr (refl, grind (arith, is))
 known_by false true false false bytes root is = absurd (grind (arith, is))
 
-sound_by : (first second possible rest : Bool) → (if not first then false else if not second then false else if not possible then false else rest) ≡ true → possible ≡ true
+sound_by : (first second possible rest : Bool) → (if not first then false else if not second then false else if not possible then false else rest) ≡ true
+    → possible ≡ true
 sound_by true true true rest is = refl
 sound_by true true false rest is = is
 sound_by true false possible rest is = absurd (grind (arith, is))
@@ -73,7 +75,8 @@ sound_by false second possible rest is = absurd (grind (arith, is))
 
 sound_possible : (bytes : List ℕ) → is_sound bytes ≡ true → is_possible (fields_in bytes) ≡ true
 unfolding is_sound
-sound_possible bytes is = sound_by (little_number 4 (drop 8 bytes) == 1) (little_number 4 (drop 12 bytes) == 4096) (is_possible (fields_in bytes)) (are_zeros (drop 32 bytes)) is
+sound_possible bytes is =
+    sound_by (little_number 4 (drop 8 bytes) == 1) (little_number 4 (drop 12 bytes) == 4096) (is_possible (fields_in bytes)) (are_zeros (drop 32 bytes)) is
 
 possible_known : (root : Root) → is_possible root ≡ true → IsKnown root
 possible_known root is = record { tree = grind (arith, nat_tests, is); pages = grind (arith, nat_tests, is) }
@@ -118,7 +121,8 @@ sound_back root possible =
 -- What a commit writes is read as its root.
 pub read_back : (root : Root) → IsPossible root → root_in (root_bytes root) ≡ Ok root
 read_back root possible =
-    ap (λ (b : Bool). if not b then Err faults.NotADatabase else if is_sound (root_bytes root) then Ok (fields_in (root_bytes root)) else Err faults.Damaged) (right_back root)
+    ap (λ (b : Bool). if not b then Err faults.NotADatabase else if is_sound (root_bytes root) then Ok (fields_in (root_bytes root)) else Err faults.Damaged)
+    (right_back root)
     ∙ ap (λ (b : Bool). if b then Ok (fields_in (root_bytes root)) else Err faults.Damaged) (sound_back root possible)
     ∙ ap (λ (r : Root). Ok r) (fields_back root possible)
 
@@ -126,20 +130,26 @@ pub known_both : (even odd : List ℕ) (found : Result Root OpenFault) → found
 known_both even odd (Ok root) is = known even odd root (sym is)
 known_both even odd (Err e) is = tt
 
-pub known_newer : (even odd : List ℕ) (first second : Root) (found : Result Root OpenFault) → Ok first ≡ root_in even → Ok second ≡ root_in odd → found ≡ newer_root first second → IfOk found IsKnown
+pub known_newer : (even odd : List ℕ) (first second : Root) (found : Result Root OpenFault) → Ok first ≡ root_in even → Ok second ≡ root_in odd
+    → found ≡ newer_root first second → IfOk found IsKnown
 known_newer even odd first second found one two is = known_both even odd found (is ∙ (λ i. both (one i) (two i)))
 
 -- ---- what the code reads
 
-pub fields_is : (bytes : List ℕ) (root : Root) → root.generation ≡ little_number 8 (drop 16 bytes) → root.tree ≡ little_number 4 (drop 24 bytes) → root.pages ≡ little_number 4 (drop 28 bytes) → root ≡ fields_in bytes
+pub fields_is : (bytes : List ℕ) (root : Root) → root.generation ≡ little_number 8 (drop 16 bytes) → root.tree ≡ little_number 4 (drop 24 bytes)
+    → root.pages ≡ little_number 4 (drop 28 bytes) → root ≡ fields_in bytes
 unfolding fields_in
 fields_is bytes root g t p = (λ i. record { generation = g i; tree = t i; pages = p i })
 
-pub sound_is : (bytes : List ℕ) (rest : Bool) → little_number 4 (drop 8 bytes) ≡ 1 → little_number 4 (drop 12 bytes) ≡ 4096 → is_possible (fields_in bytes) ≡ true → rest ≡ are_zeros (drop 32 bytes) → rest ≡ is_sound bytes
+pub sound_is : (bytes : List ℕ) (rest : Bool) → little_number 4 (drop 8 bytes) ≡ 1 → little_number 4 (drop 12 bytes) ≡ 4096
+    → is_possible (fields_in bytes) ≡ true → rest ≡ are_zeros (drop 32 bytes) → rest ≡ is_sound bytes
 unfolding is_sound
 sound_is bytes rest format size possible is =
-    let pass : (first second third : Bool) → first ≡ true → second ≡ true → third ≡ true → (if not first then false else if not second then false else if not third then false else are_zeros (drop 32 bytes)) ≡ are_zeros (drop 32 bytes) = λ first second third a b c. rw (a, b, c) refl in
-    is ∙ sym (pass (little_number 4 (drop 8 bytes) == 1) (little_number 4 (drop 12 bytes) == 4096) (is_possible (fields_in bytes)) (grind (arith, nat_tests, format)) (grind (arith, nat_tests, size)) possible)
+    let pass : (first second third : Bool) → first ≡ true → second ≡ true → third ≡ true
+    → (if not first then false else if not second then false else if not third then false else are_zeros (drop 32 bytes)) ≡ are_zeros (drop 32 bytes) =
+    λ first second third a b c. rw (a, b, c) refl in
+    is ∙ sym (pass (little_number 4 (drop 8 bytes) == 1) (little_number 4 (drop 12 bytes) == 4096) (is_possible (fields_in bytes))
+    (grind (arith, nat_tests, format)) (grind (arith, nat_tests, size)) possible)
 
 -- what lies behind a place
 pub behind : (n : ℕ) (bytes : List ℕ) → take (length bytes - n) (drop n bytes) ≡ drop n bytes

@@ -34,7 +34,8 @@ put_at : (image : ℕ → List ℕ) (sector : ℕ) (bytes : List ℕ) (k n : ℕ
 put_at image sector bytes k n is ne = put_other image sector bytes k (λ same. ne (same ∙ is))
 
 -- pages lie behind the roots
-pub sheet_beside : (image : ℕ → List ℕ) (sector : ℕ) (bytes : List ℕ) (root : Root) → sector < 2 → (n : ℕ) → sheet_at (put image sector bytes) root n ≡ sheet_at image root n
+pub sheet_beside : (image : ℕ → List ℕ) (sector : ℕ) (bytes : List ℕ) (root : Root) → sector < 2 → (n : ℕ)
+    → sheet_at (put image sector bytes) root n ≡ sheet_at image root n
 sheet_beside image sector bytes root small zero = refl
 sheet_beside image sector bytes root small (suc n) =
     sheet_same image (put image sector bytes) root (suc n) (λ k here. put_other image sector bytes k (λ same. omega (arith, same, small, here.0)))
@@ -47,20 +48,25 @@ module _ (image : ℕ → List ℕ) (old new : Root) (opens : OpensAs image old)
   from_even found parity =
       let sector : new.generation % 2 ≡ 1 = omega (arith, next, parity) in
       let here : root_in (with_root 1) ≡ Ok new = ap root_in (put_same image (new.generation % 2) (root_bytes new) 1 (sym sector)) ∙ read_back new possible in
-      let there : root_in (with_root 0) ≡ Ok old = ap root_in (put_at image (new.generation % 2) (root_bytes new) 0 1 sector (λ same. omega (arith, same))) ∙ found in
+      let there : root_in (with_root 0) ≡ Ok old =
+      ap root_in (put_at image (new.generation % 2) (root_bytes new) 0 1 sector (λ same. omega (arith, same))) ∙ found in
       (λ i. both (there i) (here i)) ∙ newer_odd old new parity next
 
   from_odd : root_in (image 1) ≡ Ok old → old.generation % 2 ≡ 1 → OpensAs with_root new
   from_odd found parity =
       let sector : new.generation % 2 ≡ 0 = omega (arith, next, parity) in
       let here : root_in (with_root 0) ≡ Ok new = ap root_in (put_same image (new.generation % 2) (root_bytes new) 0 (sym sector)) ∙ read_back new possible in
-      let there : root_in (with_root 1) ≡ Ok old = ap root_in (put_at image (new.generation % 2) (root_bytes new) 1 0 sector (λ same. omega (arith, same))) ∙ found in
+      let there : root_in (with_root 1) ≡ Ok old =
+      ap root_in (put_at image (new.generation % 2) (root_bytes new) 1 0 sector (λ same. omega (arith, same))) ∙ found in
       (λ i. both (here i) (there i)) ∙ newer_even new old sector parity next
 
   pub put_opens : OpensAs with_root new
-  put_opens = elim (both_gives (root_in (image 0)) (root_in (image 1)) old opens) [ inl (found, parity) ↦ from_even found parity | inr (found, parity) ↦ from_odd found parity ]
+  put_opens = elim
+      (both_gives (root_in (image 0)) (root_in (image 1)) old opens)
+      [ inl (found, parity) ↦ from_even found parity | inr (found, parity) ↦ from_odd found parity ]
 
-  pub put_holds : (pages : List ℕ) (entries : List Entry) → HoldsMap (sheet_at image new) new pages entries → HoldsMap (sheet_at with_root new) new pages entries
+  pub put_holds : (pages : List ℕ) (entries : List Entry) → HoldsMap (sheet_at image new) new pages entries
+      → HoldsMap (sheet_at with_root new) new pages entries
   put_holds pages entries holds =
       let small : new.generation % 2 < 2 = omega arith in
       subst (λ sheets. HoldsMap sheets new pages entries) (sym (λ i n. sheet_beside image (new.generation % 2) (root_bytes new) new small n i)) holds
@@ -68,13 +74,17 @@ module _ (image : ℕ → List ℕ) (old new : Root) (opens : OpensAs image old)
   pub put_stands : (pages : List ℕ) (entries : List Entry) → HoldsMap (sheet_at image new) new pages entries → StandsFor with_root entries
   put_stands pages entries holds = record { root = new; pages = pages; opens = put_opens; holds = put_holds pages entries holds }
 
-module _ (sectors : ℕ → Sector) (old new : Root) (live pages : List ℕ) (before after : List Entry) (opens : OpensAs (reads sectors) old) (had : HoldsMap (sheet_at (reads sectors) old) old live before)
-    (durable : (k : ℕ) → IsKept live k → IsDurable (sectors k)) (possible : IsPossible new) (next : new.generation ≡ old.generation + 1) (has : HoldsMap (sheet_at (reads sectors) new) new pages after) where
+module _ (sectors : ℕ → Sector) (old new : Root) (live pages : List ℕ) (before after : List Entry) (opens : OpensAs (reads sectors) old)
+    (had : HoldsMap (sheet_at (reads sectors) old) old live before)
+    (durable : (k : ℕ) → IsKept live k → IsDurable (sectors k)) (possible : IsPossible new) (next : new.generation ≡ old.generation + 1)
+    (has : HoldsMap (sheet_at (reads sectors) new) new pages after) where
   image_stands : StandsFor (reads sectors) before
   image_stands = record { root = old; pages = live; opens = opens; holds = had }
 
   -- an image while the root is written
   pub stands_during : (image : ℕ → List ℕ) → IsOldOrPut sectors (new.generation % 2) (root_bytes new) image → StandsFor image before ⊎ StandsFor image after
-  stands_during image (inl is) = inl (secured sectors (IsKept live) (λ image. StandsFor image before) (secures sectors old live before opens had durable) image is)
+  stands_during image (inl is) =
+      inl (secured sectors (IsKept live) (λ image. StandsFor image before) (secures sectors old live before opens had durable) image is)
   stands_during image (inr (inl same)) = inl (subst (λ (f : ℕ → List ℕ). StandsFor f before) (sym same) image_stands)
-  stands_during image (inr (inr other)) = inr (subst (λ (f : ℕ → List ℕ). StandsFor f after) (sym other) (put_stands (reads sectors) old new opens possible next pages after has))
+  stands_during image (inr (inr other)) =
+      inr (subst (λ (f : ℕ → List ℕ). StandsFor f after) (sym other) (put_stands (reads sectors) old new opens possible next pages after has))

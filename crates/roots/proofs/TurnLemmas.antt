@@ -22,15 +22,18 @@ use Rattle.roots.proofs.RootLemmas.{put_opens, put_holds, stands_during}
 -- what is kept is what a crash leaves
 pub stands_now : (h : History) (root : Root) (live : List ℕ) (entries : List Entry) → Keeps h root live entries → LeavesNow h (λ image. StandsFor image entries)
 stands_now h root live entries keeps k image is =
-    secured (now h) (IsKept live) (λ image. StandsFor image entries) (secures (now h) root live entries (keeps.opens k) (keeps.holds k) (keeps.durable k)) image is
+    secured (now h) (IsKept live) (λ image. StandsFor image entries)
+    (secures (now h) root live entries (keeps.opens k) (keeps.holds k) (keeps.durable k)) image is
 
-pub tree_below : (image : ℕ → List ℕ) (root : Root) (pages : List ℕ) (entries : List Entry) → 0 < root.pages → HoldsMap (sheet_at image root) root pages entries → root.tree < root.pages
+pub tree_below : (image : ℕ → List ℕ) (root : Root) (pages : List ℕ) (entries : List Entry) → 0 < root.pages
+    → HoldsMap (sheet_at image root) root pages entries → root.tree < root.pages
 tree_below image root pages entries some holds = elim holds.map [
   | inl (none, _) ↦ omega (arith, none, some)
   | inr has ↦ live_below image root root.tree has.tree.at.live
 ]
 
-below_weaker : (end more : ℕ) → end ≤ more → (made : List Sheet) → AllByRecursion (λ (m : Sheet). m.page < end) made → AllByRecursion (λ (m : Sheet). m.page < more) made
+below_weaker : (end more : ℕ) → end ≤ more → (made : List Sheet) → AllByRecursion (λ (m : Sheet). m.page < end) made
+    → AllByRecursion (λ (m : Sheet). m.page < more) made
 below_weaker end more le [] all = tt
 below_weaker end more le (m ∷ ms) all = (omega (arith, all.0, le), below_weaker end more le ms all.1)
 
@@ -45,7 +48,8 @@ module _ (h0 h1 : History) (old : Root) (live pages : List ℕ) (made : List She
   writing during k1 image left =
       let k0 = goes.kept k1 in
       secured_outside (now h0) (IsKept live) (IsOnPages (numbers_of made)) (λ image. StandsFor image before)
-      (secures (now h0) old live before (keeps.opens k0) (keeps.holds k0) (keeps.durable k0)) (λ k kept. apart live made k turn.ascending turn.free kept) image (during k1 image left)
+      (secures (now h0) old live before (keeps.opens k0) (keeps.holds k0) (keeps.durable k0)) (λ k kept. apart live made k turn.ascending turn.free kept) image
+      (during k1 image left)
 
   kept_same : KeepsWord h1 → (k : ℕ) → IsKept live k → now h1 k ≡ now h0 k
   kept_same k1 k kept = others k1 k (apart live made k turn.ascending turn.free kept)
@@ -56,7 +60,8 @@ module _ (h0 h1 : History) (old : Root) (live pages : List ℕ) (made : List She
   -- once they are written
   pub still_kept : Keeps h1 old live before
   still_kept = record {
-    opens = λ k1. opens_same (reads (now h0)) (reads (now h1)) old (reads_same k1 0 (inl (omega arith))) (reads_same k1 1 (inl (omega arith))) (keeps.opens (goes.kept k1));
+    opens = λ k1. opens_same (reads (now h0)) (reads (now h1)) old (reads_same k1 0 (inl (omega arith))) (reads_same k1 1 (inl (omega arith)))
+        (keeps.opens (goes.kept k1));
     holds = λ k1. holds_same (reads (now h0)) (reads (now h1)) old live before (λ k on. reads_same k1 k (inr on)) (keeps.holds (goes.kept k1));
     durable = λ k1 k kept. subst IsDurable (sym (kept_same k1 k kept)) (keeps.durable (goes.kept k1) k kept);
   }
@@ -68,7 +73,8 @@ module _ (h0 h1 : History) (old : Root) (live pages : List ℕ) (made : List She
     pub has : KeepsWord h1 → HoldsMap (sheet_at (reads (now h1)) next) next pages after
     has k1 =
         subst (λ sheets. HoldsMap sheets next pages after)
-        (sym (λ i n. sheets_after (reads (now h0)) (reads (now h1)) next made turn.ascending (below_weaker (end_behind 1 made) next.pages ended made (inside_end made 0 1 turn.ascending)) turn.sheets (written k1)
+        (sym (λ i n. sheets_after (reads (now h0)) (reads (now h1)) next made turn.ascending
+        (below_weaker (end_behind 1 made) next.pages ended made (inside_end made 0 1 turn.ascending)) turn.sheets (written k1)
         (λ k off. ap (λ (x : Sector). x.read) (others k1 k off)) n i))
         (turn.holds (goes.kept k1))
 
@@ -89,23 +95,29 @@ module _ (h0 h1 : History) (old : Root) (live pages : List ℕ) (made : List She
       root_moments : LeavesOnly h1 h2 (λ image. StandsFor image before ⊎ StandsFor image after)
       root_moments k2 image left =
           let k1 = on.kept k2 in
-          stands_during (now h1) old next live pages before after (still_kept.opens k1) (still_kept.holds k1) (still_kept.durable k1) (possible k1) refl (has k1) image
+          stands_during (now h1) old next live pages before after (still_kept.opens k1) (still_kept.holds k1) (still_kept.durable k1) (possible k1) refl
+          (has k1) image
           (subst (λ (b : List ℕ). IsOldOrPut (now h1) (next.generation % 2) b image) sector_is (root_during k2 image left))
 
       -- a crash at any moment
-      pub all_moments : LeavesOnly h0 h1 (IsImageOutside (now h0) (IsOnPages (numbers_of made))) → LeavesOnly h0 h2 (λ image. StandsFor image before ⊎ StandsFor image after)
+      pub all_moments : LeavesOnly h0 h1 (IsImageOutside (now h0) (IsOnPages (numbers_of made)))
+          → LeavesOnly h0 h2 (λ image. StandsFor image before ⊎ StandsFor image after)
       all_moments during =
           leaves_further h0 h1 h2 (λ image. StandsFor image before ⊎ StandsFor image after) on
-          (leaves_weaker h0 h1 (λ image. StandsFor image before) (λ image. StandsFor image before ⊎ StandsFor image after) (λ image is. inl is) (writing during)) root_moments
+          (leaves_weaker h0 h1 (λ image. StandsFor image before) (λ image. StandsFor image before ⊎ StandsFor image after) (λ image is. inl is)
+          (writing during)) root_moments
 
-      module _ (synced : KeepsWord h2 → AreDurable (now h2)) (reads_put : KeepsWord h2 → reads (now h2) ≡ put (reads (now h1)) (next.generation % 2) sector) where
+      module _ (synced : KeepsWord h2 → AreDurable (now h2)) (reads_put : KeepsWord h2
+          → reads (now h2) ≡ put (reads (now h1)) (next.generation % 2) sector) where
         reads_new : KeepsWord h2 → reads (now h2) ≡ put (reads (now h1)) (next.generation % 2) (root_bytes next)
         reads_new k2 = reads_put k2 ∙ ap (λ (b : List ℕ). put (reads (now h1)) (next.generation % 2) b) sector_is
 
         -- and at the end
         pub now_kept : Keeps h2 next pages after
         now_kept = record {
-          opens = λ k2. subst (λ (f : ℕ → List ℕ). OpensAs f next) (sym (reads_new k2)) (put_opens (reads (now h1)) old next (still_kept.opens (on.kept k2)) (possible (on.kept k2)) refl);
-          holds = λ k2. subst (λ (f : ℕ → List ℕ). HoldsMap (sheet_at f next) next pages after) (sym (reads_new k2)) (put_holds (reads (now h1)) old next (still_kept.opens (on.kept k2)) (possible (on.kept k2)) refl pages after (has (on.kept k2)));
+          opens = λ k2. subst (λ (f : ℕ → List ℕ). OpensAs f next) (sym (reads_new k2))
+              (put_opens (reads (now h1)) old next (still_kept.opens (on.kept k2)) (possible (on.kept k2)) refl);
+          holds = λ k2. subst (λ (f : ℕ → List ℕ). HoldsMap (sheet_at f next) next pages after) (sym (reads_new k2))
+              (put_holds (reads (now h1)) old next (still_kept.opens (on.kept k2)) (possible (on.kept k2)) refl pages after (has (on.kept k2)));
           durable = λ k2 k _. synced k2 k;
         }

@@ -1,5 +1,6 @@
 -- A walk over pages, one page after the other.
-use Rattle.std.proofs.Common.{◌≡◌, ◌≢◌, ℕ, zero, suc, ◌+◌, ◌-◌, ◌<◌, ◌≤◌, true, List, [], ◌∷◌, ◌++◌, length, take, drop, min, refl, sym, ◌∙◌, ap, subst, arith, append_assoc, append-nil, length-append, length-take, length-drop, map}
+use Rattle.std.proofs.Common.{◌≡◌, ◌≢◌, ℕ, zero, suc, ◌+◌, ◌-◌, ◌<◌, ◌≤◌, true, List, [], ◌∷◌, ◌++◌, length, take, drop, min, refl, sym, ◌∙◌, ap, subst, arith}
+use Rattle.std.proofs.Common.{append_assoc, append-nil, length-append, length-take, length-drop, map}
 use Rattle.std.specs.Prelude.{is_ok, Some, slice_get, Result, Ok, Err, IfErr}
 use Rattle.std.specs.List.{flat_map}
 use Rattle.std.proofs.lemmas.List.{take_all}
@@ -34,7 +35,8 @@ cause_later a b c faults.Damaged first second cause = tt
 cause_later a b c faults.NotADatabase first second cause = cause
 cause_later a b c faults.NewerFormat first second cause = cause
 
-if_err_later : {X : Type 0} (a b c : History) (result : Result X OpenFault) → ReadsOnly a b → ReadsOnly b c → IfErr result (HasCause b c) → IfErr result (HasCause a c)
+if_err_later : {X : Type 0} (a b c : History) (result : Result X OpenFault) → ReadsOnly a b → ReadsOnly b c → IfErr result (HasCause b c)
+    → IfErr result (HasCause a c)
 if_err_later a b c (Ok x) first second cause = cause
 if_err_later a b c (Err e) first second cause = cause_later a b c e first second cause
 
@@ -54,7 +56,8 @@ pub record ChainRest (s : Store) (links : List ℕ) (left page : ℕ) (before so
   pub long : length rest ≡ left
   pub reached : so_far ≡ before ++ front
 
-pub begun : (s : Store) (links value : List ℕ) (left page : ℕ) (before : List ℕ) → HasLinks s links value → next_of links ≡ page → length value ≡ left → ChainRest s links left page before before
+pub begun : (s : Store) (links value : List ℕ) (left page : ℕ) (before : List ℕ) → HasLinks s links value → next_of links ≡ page → length value ≡ left
+    → ChainRest s links left page before before
 begun s links value left page before has next long = record {
   front = [];
   back = links;
@@ -77,7 +80,8 @@ pub record IsNext (s : Store) (links : List ℕ) (left page : ℕ) (before so_fa
   pub long : length rest ≡ left
   pub reached : so_far ≡ before ++ front
 
-pub next_link : (s : Store) (links : List ℕ) (left page : ℕ) (before so_far : List ℕ) → 0 < left → ChainRest s links left page before so_far → IsNext s links left page before so_far
+pub next_link : (s : Store) (links : List ℕ) (left page : ℕ) (before so_far : List ℕ) → 0 < left → ChainRest s links left page before so_far
+    → IsNext s links left page before so_far
 next_link s links left page before so_far some r = go r.back r.is r.next r.has
   where
     go : (back : List ℕ) → links ≡ r.front ++ back → next_of back ≡ page → HasLinks s back r.rest → IsNext s links left page before so_far
@@ -96,18 +100,21 @@ next_link s links left page before so_far some r = go r.back r.is r.next r.has
 -- ---- pages that can be reached
 
 -- of pages that can be reached, those behind the first ones
-pub can_go_on : (limit : ℕ) (old mid : Reached) (front pages back : List ℕ) → CanReach limit old (front ++ (pages ++ back)) → ((limit : ℕ) → IsMarked limit old → IsMarked limit mid)
+pub can_go_on : (limit : ℕ) (old mid : Reached) (front pages back : List ℕ) → CanReach limit old (front ++ (pages ++ back))
+    → ((limit : ℕ) → IsMarked limit old → IsMarked limit mid)
     → pages_so_far mid ≡ pages_so_far old ++ front → CanReach limit mid pages
 can_go_on limit old mid front pages back can marks reached = record {
   marked = marks limit can.marked;
-  apart = λ n. omega (arith, can.apart n, ap (times n) reached, times_append n (pages_so_far old) front, times_append n front (pages ++ back), times_append n pages back);
+  apart = λ n. omega
+      (arith, can.apart n, ap (times n) reached, times_append n (pages_so_far old) front, times_append n front (pages ++ back), times_append n pages back);
 }
 
 pub can_reach_same : (limit : ℕ) (old : Reached) (xs ys : List ℕ) → xs ≡ ys → CanReach limit old xs → CanReach limit old ys
 can_reach_same limit old xs ys is can = subst (CanReach limit old) is can
 
 -- a fault that isn't one of the pages goes through
-pub reaches_failed : {X : Type 0} (pages : List ℕ) (old new : Reached) (result : Result X OpenFault) (e : OpenFault) → result ≡ Err e → e ≢ faults.Damaged → Reaches pages old new result
+pub reaches_failed : {X : Type 0} (pages : List ℕ) (old new : Reached) (result : Result X OpenFault) (e : OpenFault) → result ≡ Err e → e ≢ faults.Damaged
+    → Reaches pages old new result
 reaches_failed pages old new (Ok x) e is ne = absurd cc
 reaches_failed pages old new (Err f) e is ne = λ damaged. ne (let same : e ≡ f = cc in same ∙ damaged)
 
@@ -118,7 +125,8 @@ pub record IsFound (found : Result Sheet PageFault) (content : Content) : Type 0
   pub is : found ≡ Ok sheet
   pub holds : sheet.content ≡ content
 
-pub found_at : (sheets : ℕ → Result Sheet PageFault) (n : ℕ) (content : Content) → is_ok (sheets n) ≡ true → content_in (sheets n) ≡ content → IsFound (sheets n) content
+pub found_at : (sheets : ℕ → Result Sheet PageFault) (n : ℕ) (content : Content) → is_ok (sheets n) ≡ true → content_in (sheets n) ≡ content
+    → IsFound (sheets n) content
 found_at sheets n content live holds = go (sheets n) live holds
   where
     go : (found : Result Sheet PageFault) → is_ok found ≡ true → content_in found ≡ content → IsFound found content
@@ -126,11 +134,13 @@ found_at sheets n content live holds = go (sheets n) live holds
     go (Err e) live holds = absurd cc
 
 -- what was read there is its content
-pub read_content : (sheets : ℕ → Result Sheet PageFault) (n : ℕ) (content : Content) (sheet : Sheet) → is_ok (sheets n) ≡ true → content_in (sheets n) ≡ content → sheets n ≡ Ok sheet → sheet.content ≡ content
+pub read_content : (sheets : ℕ → Result Sheet PageFault) (n : ℕ) (content : Content) (sheet : Sheet) → is_ok (sheets n) ≡ true
+    → content_in (sheets n) ≡ content → sheets n ≡ Ok sheet → sheet.content ≡ content
 read_content sheets n content sheet live holds is = ap content_in (sym is) ∙ holds
 
 -- and it can be read
-pub not_damaged : (sheets others : ℕ → Result Sheet PageFault) (n : ℕ) (content : Content) (e : OpenFault) → is_ok (sheets n) ≡ true → content_in (sheets n) ≡ content → others n ≡ sheets n
+pub not_damaged : (sheets others : ℕ → Result Sheet PageFault) (n : ℕ) (content : Content) (e : OpenFault) → is_ok (sheets n) ≡ true
+    → content_in (sheets n) ≡ content → others n ≡ sheets n
     → (e ≡ faults.Damaged → (found : Sheet) → others n ≡ Ok found → ⊥) → e ≢ faults.Damaged
 not_damaged sheets others n content e live holds same none damaged = let f = found_at sheets n content live holds in none damaged f.sheet (same ∙ f.is)
 
@@ -142,11 +152,13 @@ chain_next next other bytes others e = cc
 chain_part : (next other : ℕ) (bytes others : List ℕ) → chain next bytes ≡ chain other others → bytes ≡ others
 chain_part next other bytes others e = cc
 
-pub part_long : (next other left : ℕ) (bytes rest : List ℕ) → chain next bytes ≡ chain other (take 4076 rest) → length rest ≡ left → length bytes ≡ min left 4076
+pub part_long : (next other left : ℕ) (bytes rest : List ℕ) → chain next bytes ≡ chain other (take 4076 rest) → length rest ≡ left
+    → length bytes ≡ min left 4076
 part_long next other left bytes rest e long = omega (arith, ap length (chain_part next other bytes (take 4076 rest) e), length-take 4076 rest, long)
 
 pub link_more : (s : Store) (links : List ℕ) (left left' page next : ℕ) (bytes before so_far so_far' : List ℕ) (n : IsNext s links left page before so_far)
-    → chain next bytes ≡ chain (next_of n.back) (take 4076 n.rest) → left' ≡ left - length bytes → so_far' ≡ so_far ++ page ∷ [] → ChainRest s links left' next before so_far'
+    → chain next bytes ≡ chain (next_of n.back) (take 4076 n.rest) → left' ≡ left - length bytes → so_far' ≡ so_far ++ page ∷ []
+    → ChainRest s links left' next before so_far'
 link_more s links left left' page next bytes before so_far so_far' n e less more = record {
   front = n.front ++ page ∷ [];
   back = n.back;
@@ -159,14 +171,16 @@ link_more s links left left' page next bytes before so_far so_far' n e less more
 }
 
 -- at the end all were reached
-pub all_links : (s : Store) (links : List ℕ) (left page : ℕ) (before so_far : List ℕ) → left ≡ 0 → ChainRest s links left page before so_far → (so_far ≡ before ++ links) × (page ≡ 0)
+pub all_links : (s : Store) (links : List ℕ) (left page : ℕ) (before so_far : List ℕ) → left ≡ 0 → ChainRest s links left page before so_far
+    → (so_far ≡ before ++ links) × (page ≡ 0)
 all_links s links left page before so_far none r = go r.back r.is r.next r.has
   where
     go : (back : List ℕ) → links ≡ r.front ++ back → next_of back ≡ page → HasLinks s back r.rest → (so_far ≡ before ++ links) × (page ≡ 0)
     go [] is next has = (r.reached ∙ ap (λ l. before ++ l) (sym (is ∙ append-nil r.front)), sym next)
     go (p ∷ ps) is next has = absurd (omega (arith, has.0, r.long, none))
 
-pub no_chain : (content : PageContent) → ((next : ℕ) (bytes : Vec ℕ Global) → content ≡ contents.Chain next bytes → ⊥) → (next : ℕ) (bytes : List ℕ) → content_of content ≡ chain next bytes → ⊥
+pub no_chain : (content : PageContent) → ((next : ℕ) (bytes : Vec ℕ Global) → content ≡ contents.Chain next bytes → ⊥) → (next : ℕ) (bytes : List ℕ)
+    → content_of content ≡ chain next bytes → ⊥
 no_chain (contents.Leaf l) differs next bytes is = absurd cc
 no_chain (contents.Branch b) differs next bytes is = absurd cc
 no_chain (contents.Chain n b) differs next bytes is = differs n b refl
@@ -203,15 +217,18 @@ module _ {X : Type 0} (xs : List X) (i : ℕ) (a : At xs i) where
     pub can_reach_there : (limit : ℕ) (old mid : Reached) → CanReach limit old (flat_map f xs) → ((limit : ℕ) → IsMarked limit old → IsMarked limit mid)
         → pages_so_far mid ≡ pages_so_far old ++ flat_map f (take i xs) → CanReach limit mid (f a.mid)
     can_reach_there limit old mid can marks so_far =
-        can_go_on limit old mid (flat_map f (take i xs)) (f a.mid) (flat_map f a.back) (can_reach_same limit old (flat_map f xs) (flat_map f (take i xs) ++ (f a.mid ++ flat_map f a.back)) whole can) marks so_far
+        can_go_on limit old mid (flat_map f (take i xs)) (f a.mid) (flat_map f a.back)
+        (can_reach_same limit old (flat_map f xs) (flat_map f (take i xs) ++ (f a.mid ++ flat_map f a.back)) whole can) marks so_far
 
-    pub reached_there : (before so_far new : List ℕ) → so_far ≡ before ++ flat_map f (take i xs) → new ≡ so_far ++ f a.mid → new ≡ before ++ flat_map f (take (i + 1) xs)
+    pub reached_there : (before so_far new : List ℕ) → so_far ≡ before ++ flat_map f (take i xs) → new ≡ so_far ++ f a.mid
+        → new ≡ before ++ flat_map f (take (i + 1) xs)
     reached_there before so_far new is add =
         add ∙ ap (λ l. l ++ f a.mid) is ∙ append_assoc before (flat_map f (take i xs)) (f a.mid) ∙ ap (λ l. before ++ l) (sym more)
 
   pub got_there : {Y : Type 0} (g : X → Y) (ys : List Y) (y : Y) → ys ≡ map g xs → slice_get ys i ≡ Some y → g a.mid ≡ y
   got_there g ys y e found =
-      let here : slice_get ys i ≡ Some (g a.mid) = (λ j. slice_get (e j) (sym a.place j)) ∙ ap (λ l. slice_get (map g l) (length a.front)) a.is ∙ got_here g a.front a.mid a.back in
+      let here : slice_get ys i ≡ Some (g a.mid) =
+      (λ j. slice_get (e j) (sym a.place j)) ∙ ap (λ l. slice_get (map g l) (length a.front)) a.is ∙ got_here g a.front a.mid a.back in
       let same : Some (g a.mid) ≡ Some y = sym here ∙ found in cc
 
   pub each_there : (P : X → Type 0) → Each P xs → P a.mid
@@ -241,21 +258,26 @@ pub can_first : (limit : ℕ) (old : Reached) (page : ℕ) (pages : List ℕ) �
 can_first limit old page pages can = record { marked = can.marked; apart = λ n. omega (arith, can.apart n) }
 
 -- what is left behind the first page
-pub can_rest : (limit : ℕ) (old mid : Reached) (page : ℕ) (pages : List ℕ) → CanReach limit old (page ∷ pages) → ((limit : ℕ) → IsMarked limit old → IsMarked limit mid)
+pub can_rest : (limit : ℕ) (old mid : Reached) (page : ℕ) (pages : List ℕ) → CanReach limit old (page ∷ pages)
+    → ((limit : ℕ) → IsMarked limit old → IsMarked limit mid)
     → pages_so_far mid ≡ pages_so_far old ++ page ∷ [] → CanReach limit mid pages
 can_rest limit old mid page pages can marks noted =
-    can_go_on limit old mid (page ∷ []) pages [] (can_reach_same limit old (page ∷ pages) (page ∷ (pages ++ [])) (ap (λ l. page ∷ l) (sym (append-nil pages))) can) marks noted
+    can_go_on limit old mid (page ∷ []) pages []
+    (can_reach_same limit old (page ∷ pages) (page ∷ (pages ++ [])) (ap (λ l. page ∷ l) (sym (append-nil pages))) can) marks noted
 
-pub reaches_behind : {X : Type 0} (page : ℕ) (pages : List ℕ) (old mid new : Reached) (result : Result X OpenFault) → pages_so_far mid ≡ pages_so_far old ++ page ∷ [] → Reaches pages mid new result → Reaches (page ∷ pages) old new result
+pub reaches_behind : {X : Type 0} (page : ℕ) (pages : List ℕ) (old mid new : Reached) (result : Result X OpenFault)
+    → pages_so_far mid ≡ pages_so_far old ++ page ∷ [] → Reaches pages mid new result → Reaches (page ∷ pages) old new result
 reaches_behind page pages old mid new (Ok x) noted is = is ∙ ap (λ l. l ++ pages) noted ∙ append_assoc (pages_so_far old) (page ∷ []) pages
 reaches_behind page pages old mid new (Err e) noted ne = ne
 
-pub marks_behind : {X : Type 0} (old mid new : Reached) (result : Result X OpenFault) → ((limit : ℕ) → IsMarked limit old → IsMarked limit mid) → KeepsMarks mid new result → KeepsMarks old new result
+pub marks_behind : {X : Type 0} (old mid new : Reached) (result : Result X OpenFault) → ((limit : ℕ) → IsMarked limit old → IsMarked limit mid)
+    → KeepsMarks mid new result → KeepsMarks old new result
 marks_behind old mid new (Ok x) first later = λ limit marked. later limit (first limit marked)
 marks_behind old mid new (Err e) first later = tt
 
 -- a fault goes through
-pub looks_failed : {X Y : Type 0} (a b c : History) (result : Result X OpenFault) (e : OpenFault) → result ≡ Err e → ReadsOnly a b → Looks {X = Y} (Err e) b c → Looks result a c
+pub looks_failed : {X Y : Type 0} (a b c : History) (result : Result X OpenFault) (e : OpenFault) → result ≡ Err e → ReadsOnly a b → Looks {X = Y} (Err e) b c
+    → Looks result a c
 looks_failed a b c result e is first looks = record {
   reads = reads_further a b c first looks.reads;
   cause = subst (λ r. IfErr r (HasCause a c)) (sym is) (cause_later a b c e first looks.reads looks.cause);
@@ -264,11 +286,13 @@ looks_failed a b c result e is first looks = record {
 pub same_pages : (a b : History) (root : Root) → now b ≡ now a → pages_in b root ≡ pages_in a root
 same_pages a b root same = ap (λ (s : ℕ → Sector). store_of (sheet_at (reads s) root)) same
 
-pub at_leaf : (items : List Item) (P : (d : ℕ) → Body d → Type 0) → ((pairs : Body zero) → items ≡ map item_of pairs → P zero pairs) → (d : ℕ) (body : Body d) → leaf items ≡ content_by d body → P d body
+pub at_leaf : (items : List Item) (P : (d : ℕ) → Body d → Type 0) → ((pairs : Body zero) → items ≡ map item_of pairs → P zero pairs) → (d : ℕ) (body : Body d)
+    → leaf items ≡ content_by d body → P d body
 at_leaf items P f zero pairs e = f pairs (let same : items ≡ map item_of pairs = cc in same)
 at_leaf items P f (suc d) twigs e = absurd cc
 
-pub at_branch : (arms : List Arm) (P : (d : ℕ) → Body d → Type 0) → ((d : ℕ) (twigs : Body (suc d)) → arms ≡ map arm_of twigs → P (suc d) twigs) → (d : ℕ) (body : Body d) → branch arms ≡ content_by d body → P d body
+pub at_branch : (arms : List Arm) (P : (d : ℕ) → Body d → Type 0) → ((d : ℕ) (twigs : Body (suc d)) → arms ≡ map arm_of twigs → P (suc d) twigs)
+    → (d : ℕ) (body : Body d) → branch arms ≡ content_by d body → P d body
 at_branch arms P f zero pairs e = absurd cc
 at_branch arms P f (suc d) twigs e = f d twigs (let same : arms ≡ map arm_of twigs = cc in same)
 
@@ -278,25 +302,32 @@ pub record IsThere (s : Store) (limit : ℕ) (mid : Reached) (d : ℕ) (page : �
   pub shown : Shows s d body
   pub can : CanReach limit mid (page ∷ pages_of d body)
 
-module _ (h1 h2 : History) (root : Root) (same : now h2 ≡ now h1) (d : ℕ) (twigs : List (Twig (Body d))) (arms : List Arm) (e : arms ≡ map arm_of twigs) (i : ℕ) (a : At twigs i) (child : Arm)
+module _ (h1 h2 : History) (root : Root) (same : now h2 ≡ now h1) (d : ℕ) (twigs : List (Twig (Body d))) (arms : List Arm) (e : arms ≡ map arm_of twigs)
+    (i : ℕ) (a : At twigs i) (child : Arm)
     (found : slice_get arms i ≡ Some child) where
   pub page_is : a.mid.page ≡ child.child
   page_is = ap (λ (x : Arm). x.child) (got_there twigs i a arm_of arms child e found)
 
-  pub child_there : (limit : ℕ) (start mid : Reached) → Shows (pages_in h1 root) (suc d) twigs → CanReach limit start (pages_of (suc d) twigs) → ((limit : ℕ) → IsMarked limit start → IsMarked limit mid)
+  pub child_there : (limit : ℕ) (start mid : Reached) → Shows (pages_in h1 root) (suc d) twigs → CanReach limit start (pages_of (suc d) twigs)
+      → ((limit : ℕ) → IsMarked limit start → IsMarked limit mid)
       → pages_so_far mid ≡ pages_so_far start ++ pages_of (suc d) (take i twigs) → IsThere (pages_in h2 root) limit mid d child.child a.mid.body
   child_there limit start mid shown can marks so_far =
       let moved : pages_in h1 root ≡ pages_in h2 root = sym (same_pages h1 h2 root same) in
-      let there = each_there twigs i a (λ (w : Twig (Body d)). IsAt (pages_in h1 root) w.page (content_by d w.body) × Shows (pages_in h1 root) d w.body) shown in
+      let there = each_there twigs i a
+      (λ (w : Twig (Body d)). IsAt (pages_in h1 root) w.page (content_by d w.body) × Shows (pages_in h1 root) d w.body) shown in
       record {
-        at = subst (λ (p : ℕ). IsAt (pages_in h2 root) p (content_by d a.mid.body)) page_is (subst (λ (s : Store). IsAt s a.mid.page (content_by d a.mid.body)) moved there.0);
+        at = subst (λ (p : ℕ). IsAt (pages_in h2 root) p (content_by d a.mid.body)) page_is
+            (subst (λ (s : Store). IsAt s a.mid.page (content_by d a.mid.body)) moved there.0);
         shown = subst (λ (s : Store). Shows s d a.mid.body) moved there.1;
-        can = subst (λ (p : ℕ). CanReach limit mid (p ∷ pages_of d a.mid.body)) page_is (can_reach_there twigs i a (λ (w : Twig (Body d)). w.page ∷ pages_of d w.body) limit start mid can marks so_far);
+        can = subst (λ (p : ℕ). CanReach limit mid (p ∷ pages_of d a.mid.body)) page_is
+            (can_reach_there twigs i a (λ (w : Twig (Body d)). w.page ∷ pages_of d w.body) limit start mid can marks so_far);
       }
 
-  pub child_reached : (before so_far new : List ℕ) → so_far ≡ before ++ pages_of (suc d) (take i twigs) → new ≡ so_far ++ child.child ∷ pages_of d a.mid.body → new ≡ before ++ pages_of (suc d) (take (i + 1) twigs)
+  pub child_reached : (before so_far new : List ℕ) → so_far ≡ before ++ pages_of (suc d) (take i twigs) → new ≡ so_far ++ child.child ∷ pages_of d a.mid.body
+      → new ≡ before ++ pages_of (suc d) (take (i + 1) twigs)
   child_reached before so_far new is add =
-      reached_there twigs i a (λ (w : Twig (Body d)). w.page ∷ pages_of d w.body) before so_far new is (add ∙ ap (λ (p : ℕ). so_far ++ p ∷ pages_of d a.mid.body) (sym page_is))
+      reached_there twigs i a (λ (w : Twig (Body d)). w.page ∷ pages_of d w.body) before so_far new is
+      (add ∙ ap (λ (p : ℕ). so_far ++ p ∷ pages_of d a.mid.body) (sym page_is))
 
 pub behind_first : (page : ℕ) (pages before mid new : List ℕ) → mid ≡ before ++ page ∷ [] → new ≡ mid ++ pages → new ≡ before ++ page ∷ pages
 behind_first page pages before mid new noted is = is ∙ ap (λ l. l ++ pages) noted ∙ append_assoc before (page ∷ []) pages

@@ -30,7 +30,8 @@ added_id : (l : Connection) (fault : Option FrameFault) (bytes : List ℕ) → (
 added_id l None bytes = refl
 added_id l (Some fault) bytes = refl
 
-feed_above : (low : ℕ) (ls : List Connection) (id : ℕ) (bytes : List ℕ) → nat_lt low id ≡ true → are_above low ls ≡ true → are_above low (feed_connections ls id bytes) ≡ true
+feed_above : (low : ℕ) (ls : List Connection) (id : ℕ) (bytes : List ℕ) → nat_lt low id ≡ true → are_above low ls ≡ true
+    → are_above low (feed_connections ls id bytes) ≡ true
 feed_above low [] id bytes below h = join (nat_lt low id) true below refl
 feed_above low (l ∷ ls) id bytes below h = at (nat_cmp id l.id) refl (λ more. feed_above l.id ls id bytes more (both (nat_lt low l.id) (are_above l.id ls) h).1)
   where
@@ -51,7 +52,8 @@ pub feed_ascends : (ls : List Connection) (id : ℕ) (bytes : List ℕ) → are_
 feed_ascends [] id bytes h = refl
 feed_ascends (l ∷ ls) id bytes h = at (nat_cmp id l.id) refl
   where
-    at : (o : Ordering) → nat_cmp id l.id ≡ o → are_ascending (by_order o (new_connection id bytes ∷ l ∷ ls) (add_bytes l l.fault bytes ∷ ls) (l ∷ feed_connections ls id bytes)) ≡ true
+    at : (o : Ordering) → nat_cmp id l.id ≡ o
+        → are_ascending (by_order o (new_connection id bytes ∷ l ∷ ls) (add_bytes l l.fault bytes ∷ ls) (l ∷ feed_connections ls id bytes)) ≡ true
     at orders.Less e =
         let less : nat_lt id l.id ≡ true = grind (arith, nat_tests) in
         join (nat_lt id l.id) (are_above l.id ls) less h

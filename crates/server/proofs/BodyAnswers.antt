@@ -11,7 +11,8 @@ use Rattle.database_model.specs.Step.{Answers}
 use Rattle.path.specs.declared.refusal.Refusal.{Refusal}
 use Rattle.path.specs.declared.refusal.Refusal.TheVariants as refusals
 
-module _ (beside : World → Refusal → Type 0) (memory_may : (planned : World) → beside planned refusals.OutOfMemory) (w : World) (id : ℕ) (fault : BsonFault) (refusal : Refusal) (read : Result Pairs BsonFault) where
+module _ (beside : World → Refusal → Type 0) (memory_may : (planned : World) → beside planned refusals.OutOfMemory) (w : World) (id : ℕ) (fault : BsonFault)
+    (refusal : Refusal) (read : Result Pairs BsonFault) where
   no_memory : refusal ≡ refusals.OutOfMemory → Answers beside w id read w (refusal_reply refusal)
   no_memory is = inr (record { refusal = refusal; cause = subst (beside _) (sym is) (memory_may _); same = refl; says = refl })
 
@@ -19,17 +20,29 @@ module _ (beside : World → Refusal → Type 0) (memory_may : (planned : World)
   no_document e is =
       subst (λ (r : Result Pairs BsonFault). Answers beside w id r w (refusal_reply refusal)) (sym e) (inl (λ i. (w, refusal_reply (is i))))
 
-pub refused_body : (beside : World → Refusal → Type 0) (memory_may : (planned : World) → beside planned refusals.OutOfMemory) (w : World) (id : ℕ) (fault : BsonFault) (refusal : Refusal) (read : Result Pairs BsonFault) → (fault ≡ faults.Memory → refusal ≡ refusals.OutOfMemory)
+pub refused_body : (beside : World → Refusal → Type 0) (memory_may : (planned : World) → beside planned refusals.OutOfMemory) (w : World) (id : ℕ)
+    (fault : BsonFault) (refusal : Refusal) (read : Result Pairs BsonFault) → (fault ≡ faults.Memory → refusal ≡ refusals.OutOfMemory)
     → (fault ≢ faults.Memory → refusal ≡ refusals.InvalidBSON) → Fails faults.Memory fault read → Answers beside w id read w (refusal_reply refusal)
 refused_body beside memory_may w id faults.Memory refusal read memory other fails = no_memory beside memory_may w id faults.Memory refusal read (memory refl)
-refused_body beside memory_may w id faults.Truncated refusal read memory other fails = no_document beside memory_may w id faults.Truncated refusal read (fails (λ e. absurd cc)) (other (λ e. absurd cc))
-refused_body beside memory_may w id faults.Length refusal read memory other fails = no_document beside memory_may w id faults.Length refusal read (fails (λ e. absurd cc)) (other (λ e. absurd cc))
-refused_body beside memory_may w id faults.TypeByte refusal read memory other fails = no_document beside memory_may w id faults.TypeByte refusal read (fails (λ e. absurd cc)) (other (λ e. absurd cc))
-refused_body beside memory_may w id faults.Text refusal read memory other fails = no_document beside memory_may w id faults.Text refusal read (fails (λ e. absurd cc)) (other (λ e. absurd cc))
-refused_body beside memory_may w id faults.Name refusal read memory other fails = no_document beside memory_may w id faults.Name refusal read (fails (λ e. absurd cc)) (other (λ e. absurd cc))
-refused_body beside memory_may w id faults.Repeated refusal read memory other fails = no_document beside memory_may w id faults.Repeated refusal read (fails (λ e. absurd cc)) (other (λ e. absurd cc))
-refused_body beside memory_may w id faults.ArrayName refusal read memory other fails = no_document beside memory_may w id faults.ArrayName refusal read (fails (λ e. absurd cc)) (other (λ e. absurd cc))
-refused_body beside memory_may w id faults.Bool refusal read memory other fails = no_document beside memory_may w id faults.Bool refusal read (fails (λ e. absurd cc)) (other (λ e. absurd cc))
-refused_body beside memory_may w id faults.Subtype refusal read memory other fails = no_document beside memory_may w id faults.Subtype refusal read (fails (λ e. absurd cc)) (other (λ e. absurd cc))
-refused_body beside memory_may w id faults.Deep refusal read memory other fails = no_document beside memory_may w id faults.Deep refusal read (fails (λ e. absurd cc)) (other (λ e. absurd cc))
-refused_body beside memory_may w id faults.TooLarge refusal read memory other fails = no_document beside memory_may w id faults.TooLarge refusal read (fails (λ e. absurd cc)) (other (λ e. absurd cc))
+refused_body beside memory_may w id faults.Truncated refusal read memory other fails =
+    no_document beside memory_may w id faults.Truncated refusal read (fails (λ e. absurd cc)) (other (λ e. absurd cc))
+refused_body beside memory_may w id faults.Length refusal read memory other fails =
+    no_document beside memory_may w id faults.Length refusal read (fails (λ e. absurd cc)) (other (λ e. absurd cc))
+refused_body beside memory_may w id faults.TypeByte refusal read memory other fails =
+    no_document beside memory_may w id faults.TypeByte refusal read (fails (λ e. absurd cc)) (other (λ e. absurd cc))
+refused_body beside memory_may w id faults.Text refusal read memory other fails =
+    no_document beside memory_may w id faults.Text refusal read (fails (λ e. absurd cc)) (other (λ e. absurd cc))
+refused_body beside memory_may w id faults.Name refusal read memory other fails =
+    no_document beside memory_may w id faults.Name refusal read (fails (λ e. absurd cc)) (other (λ e. absurd cc))
+refused_body beside memory_may w id faults.Repeated refusal read memory other fails =
+    no_document beside memory_may w id faults.Repeated refusal read (fails (λ e. absurd cc)) (other (λ e. absurd cc))
+refused_body beside memory_may w id faults.ArrayName refusal read memory other fails =
+    no_document beside memory_may w id faults.ArrayName refusal read (fails (λ e. absurd cc)) (other (λ e. absurd cc))
+refused_body beside memory_may w id faults.Bool refusal read memory other fails =
+    no_document beside memory_may w id faults.Bool refusal read (fails (λ e. absurd cc)) (other (λ e. absurd cc))
+refused_body beside memory_may w id faults.Subtype refusal read memory other fails =
+    no_document beside memory_may w id faults.Subtype refusal read (fails (λ e. absurd cc)) (other (λ e. absurd cc))
+refused_body beside memory_may w id faults.Deep refusal read memory other fails =
+    no_document beside memory_may w id faults.Deep refusal read (fails (λ e. absurd cc)) (other (λ e. absurd cc))
+refused_body beside memory_may w id faults.TooLarge refusal read memory other fails =
+    no_document beside memory_may w id faults.TooLarge refusal read (fails (λ e. absurd cc)) (other (λ e. absurd cc))

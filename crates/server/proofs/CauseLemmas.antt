@@ -100,7 +100,8 @@ any_cause a b planned r (inr (inr full)) = inr (inr full.0)
 -- ---- weaker causes
 
 module _ (beside other : World → Refusal → Type 0) (weaker : (planned : World) (r : Refusal) → beside planned r → other planned r) where
-  pub answers_weaker : (w : World) (id : ℕ) (body : Result Pairs BsonFault) (new : World) (reply : Pairs) → Answers beside w id body new reply → Answers other w id body new reply
+  pub answers_weaker : (w : World) (id : ℕ) (body : Result Pairs BsonFault) (new : World) (reply : Pairs) → Answers beside w id body new reply
+      → Answers other w id body new reply
   answers_weaker w id body new reply (inl is) = inl is
   answers_weaker w id body new reply (inr r) = inr (record {
     refusal = r.refusal;
@@ -115,7 +116,8 @@ module _ (beside other : World → Refusal → Type 0) (weaker : (planned : Worl
   runs_weaker (c ∷ cs) w [] new h = absurd h
   runs_weaker (c ∷ cs) w (r ∷ rs) new h = (h.0, answers_weaker w _ _ h.0 r h.1, runs_weaker cs h.0 rs new h.2)
 
-  pub serves_weaker : (word before : Type 0) → (word → before) → (cs : List Call) (old new : World) (ok : Bool) (given now : List (ℕ × List ℕ)) → Serves before beside cs old new ok given now → Serves word other cs old new ok given now
+  pub serves_weaker : (word before : Type 0) → (word → before) → (cs : List Call) (old new : World) (ok : Bool) (given now : List (ℕ × List ℕ))
+      → Serves before beside cs old new ok given now → Serves word other cs old new ok given now
   serves_weaker word before kept cs old new ok given now s = record {
     replies = s.replies;
     one_each = s.one_each;
@@ -147,7 +149,8 @@ module _ {D : Type 0} (history : D → History) (old new : Engine D) where
   }
 
   -- the end of a turn asks for no page
-  pub commit_follows : (result : Result (Unit {0}) CommitFault) → Commits history result old new → FollowsInTurn (engine_moment history old) (engine_moment history new)
+  pub commit_follows : (result : Result (Unit {0}) CommitFault) → Commits history result old new
+      → FollowsInTurn (engine_moment history old) (engine_moment history new)
   commit_follows result commits =
       let once = one_more _ (generation old) (generation new) commits.version in (
         record {
@@ -160,7 +163,8 @@ module _ {D : Type 0} (history : D → History) (old new : Engine D) where
         once.1,
       )
 
-  pub undo_follows : GoesOn (disk_history history old) (disk_history history new) → full_takes_of history new ≡ full_takes_of history old → generation new ≡ generation old
+  pub undo_follows : GoesOn (disk_history history old) (disk_history history new) → full_takes_of history new ≡ full_takes_of history old
+      → generation new ≡ generation old
       → Follows (engine_moment history old) (engine_moment history new)
   undo_follows on takes same = record {
     word = on.kept;
@@ -172,27 +176,33 @@ module _ {D : Type 0} (history : D → History) (old new : Engine D) where
 
   -- a refusal of a command of an engine that runs
   module _ (running : IsRunning old) (planned : World) where
-    failed_so : HasWriteCause history planned.collections (file_of old) (file_of new) refusals.StorageFailed → (disk_history history old).failures < (disk_history history new).failures
+    failed_so : HasWriteCause history planned.collections (file_of old) (file_of new) refusals.StorageFailed
+        → (disk_history history old).failures < (disk_history history new).failures
     failed_so (inl (inl e)) = absurd cc
     failed_so (inl (inr (inl (e, inl stopped)))) = absurd cc
     failed_so (inl (inr (inl (e, inr failed)))) = failed
     failed_so (inl (inr (inr (e, x)))) = absurd cc
     failed_so (inr (e, x)) = absurd cc
 
-    full_so : HasWriteCause history planned.collections (file_of old) (file_of new) refusals.Full → FoundNoPage (engine_moment history old) (engine_moment history new) ⊎ IsTooLarge planned.collections
+    full_so : HasWriteCause history planned.collections (file_of old) (file_of new) refusals.Full
+        → FoundNoPage (engine_moment history old) (engine_moment history new) ⊎ IsTooLarge planned.collections
     full_so (inl (inl e)) = absurd cc
     full_so (inl (inr (inl (e, x)))) = absurd cc
     full_so (inl (inr (inr (e, inl more)))) = inl (inl more)
     full_so (inl (inr (inr (e, inr most)))) = inl (inr (omega (arith, most)))
     full_so (inr (e, large)) = inr large
 
-    pub file_caused : (r : Refusal) → FileCause history (file_of old) (file_of new) planned r → IsCaused (engine_moment history old) (engine_moment history new) planned r
+    pub file_caused : (r : Refusal) → FileCause history (file_of old) (file_of new) planned r
+        → IsCaused (engine_moment history old) (engine_moment history new) planned r
     file_caused r (inl is, why) = inl is
-    file_caused r (inr (inl is), why) = inr (inl (is, λ k. failed_so (subst (λ (e : Refusal). HasWriteCause history planned.collections (file_of old) (file_of new) e) is (why k))))
-    file_caused r (inr (inr is), why) = inr (inr (is, λ k. full_so (subst (λ (e : Refusal). HasWriteCause history planned.collections (file_of old) (file_of new) e) is (why k))))
+    file_caused r (inr (inl is), why) =
+        inr (inl (is, λ k. failed_so (subst (λ (e : Refusal). HasWriteCause history planned.collections (file_of old) (file_of new) e) is (why k))))
+    file_caused r (inr (inr is), why) =
+        inr (inr (is, λ k. full_so (subst (λ (e : Refusal). HasWriteCause history planned.collections (file_of old) (file_of new) e) is (why k))))
 
 -- the commands of a turn, and its end
-pub turn_follows : {D : Type 0} (history : D → History) (old mid new : Engine D) → GoesFrom history (file_of old) (file_of mid) → FollowsInTurn (engine_moment history mid) (engine_moment history new)
+pub turn_follows : {D : Type 0} (history : D → History) (old mid new : Engine D) → GoesFrom history (file_of old) (file_of mid)
+    → FollowsInTurn (engine_moment history mid) (engine_moment history new)
     → FollowsInTurn (engine_moment history old) (engine_moment history new)
 turn_follows history old mid new goes end = (
   follows_further (engine_moment history old) (engine_moment history mid) (engine_moment history new) (goes_follows history old mid goes) end.0,
@@ -200,8 +210,10 @@ turn_follows history old mid new goes end = (
 )
 
 -- what the commands of a turn changed is committed
-pub commits_changes : {D : Type 0} (history : D → History) (old mid new : Engine D) (changed : Bool) → has_changes mid ≡ changed → IsSound history mid → GoesFrom history (file_of old) (file_of mid)
-    → turn_start mid ≡ (world old).collections → world new ≡ after_commit (world mid) → generation new ≡ (if has_changes mid then generation mid + 1 else generation mid)
+pub commits_changes : {D : Type 0} (history : D → History) (old mid new : Engine D) (changed : Bool) → has_changes mid ≡ changed → IsSound history mid
+    → GoesFrom history (file_of old) (file_of mid)
+    → turn_start mid ≡ (world old).collections → world new ≡ after_commit (world mid)
+    → generation new ≡ (if has_changes mid then generation mid + 1 else generation mid)
     → ((world new).collections ≡ (world old).collections) ⊎ (generation new ≡ generation old + 1)
 commits_changes history old mid new true moved sound goes start done version =
     inr (version ∙ ap (λ (b : Bool). if b then generation mid + 1 else generation mid) moved ∙ ap (λ (n : ℕ). n + 1) (goes_generation history old mid goes))
@@ -209,21 +221,25 @@ commits_changes history old mid new false rests sound goes start done version =
     inl (ap (λ (w : World). w.collections) done ∙ sym (sound.quiet rests) ∙ start)
 
 -- a turn that took no message ends without a call of the disk
-pub idle_commit : {D : Type 0} (history : D → History) (old mid new : Engine D) (result : Result (Unit {0}) CommitFault) → has_changes old ≡ false → mid ≡ old → Commits history result mid new
+pub idle_commit : {D : Type 0} (history : D → History) (old mid new : Engine D) (result : Result (Unit {0}) CommitFault) → has_changes old ≡ false → mid ≡ old
+    → Commits history result mid new
     → disk_history history new ≡ disk_history history old
 idle_commit {D = D} history old mid new result rests same commits =
     ap (λ (f : State D). views.disk_history history f) (commits.quiet (ap has_changes same ∙ rests)).1 ∙ ap (disk_history history) same
 
 -- the messages of a turn, by the causes of the whole turn
-module _ {D : Type 0} (history : D → History) (old mid new : Engine D) (goes : GoesFrom history (file_of old) (file_of mid)) (after : Follows (engine_moment history mid) (engine_moment history new)) where
+module _ {D : Type 0} (history : D → History) (old mid new : Engine D) (goes : GoesFrom history (file_of old) (file_of mid))
+    (after : Follows (engine_moment history mid) (engine_moment history new)) where
   abbrev early : Beside
   early = IsCaused (engine_moment history old) (engine_moment history mid)
 
   abbrev whole : Beside
   whole = IsCaused (engine_moment history old) (engine_moment history new)
 
-  pub runs_over : (ls connections : List Connection) → ls ≡ connections → (replies : List Pairs) → Runs early (world old) (calls ls) replies (world mid) → Runs whole (world old) (calls connections) replies (world mid)
+  pub runs_over : (ls connections : List Connection) → ls ≡ connections → (replies : List Pairs) → Runs early (world old) (calls ls) replies (world mid)
+      → Runs whole (world old) (calls connections) replies (world mid)
   runs_over ls connections is replies runs =
       runs_weaker early whole
-      (caused_wider (engine_moment history old) (engine_moment history old) (engine_moment history mid) (engine_moment history new) (follows_itself (engine_moment history old)) (goes_follows history old mid goes) after)
+      (caused_wider (engine_moment history old) (engine_moment history old) (engine_moment history mid) (engine_moment history new)
+      (follows_itself (engine_moment history old)) (goes_follows history old mid goes) after)
       (calls connections) (world old) replies (world mid) (subst (λ (ks : List Connection). Runs early (world old) (calls ks) replies (world mid)) is runs)

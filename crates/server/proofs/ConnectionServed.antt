@@ -37,14 +37,17 @@ is_called old new (Err e) n r h none = absurd h
 is_called old new (Ok (Some x)) n r h none = absurd cc
 
 module _ (word : Type 0) (beside : World → Refusal → Type 0) (old new : Connection) where
-  pub nothing_served : (front : Front) (t : Taken) (w : World) (given : List (ℕ × List ℕ)) → IsTaken old front t new → ((n : ℕ) (r : Request) → t ≡ takes.Call n r → ⊥) → Serves word beside (call_at old front) w w true given given
+  pub nothing_served : (front : Front) (t : Taken) (w : World) (given : List (ℕ × List ℕ)) → IsTaken old front t new
+      → ((n : ℕ) (r : Request) → t ≡ takes.Call n r → ⊥) → Serves word beside (call_at old front) w w true given given
   nothing_served (Ok None) t w given h none = record { replies = []; one_each = refl; runs = λ k. refl; frames = λ e. sym (append-nil given) }
   nothing_served (Err e) t w given h none = record { replies = []; one_each = refl; runs = λ k. refl; frames = λ e. sym (append-nil given) }
   nothing_served (Ok (Some x)) takes.Nothing w given h none = absurd h
   nothing_served (Ok (Some x)) (takes.Call n r) w given h none = absurd (none n r refl)
 
-  pub one_served : (front : Front) (n : ℕ) (r : Request) (w w' : World) (reply : Pairs) (ok : Bool) (given now : List (ℕ × List ℕ)) → IsTaken old front (takes.Call n r) new
-      → (word → IsAnswer beside w old.id r w' reply) → (ok ≡ true → now ≡ given ++ frame_unless r.more_to_come old.id n r.request_id reply) → Serves word beside (call_at old front) w w' ok given now
+  pub one_served : (front : Front) (n : ℕ) (r : Request) (w w' : World) (reply : Pairs) (ok : Bool) (given now : List (ℕ × List ℕ))
+      → IsTaken old front (takes.Call n r) new
+      → (word → IsAnswer beside w old.id r w' reply) → (ok ≡ true → now ≡ given ++ frame_unless r.more_to_come old.id n r.request_id reply)
+      → Serves word beside (call_at old front) w w' ok given now
   one_served (Ok None) n r w w' reply ok given now h a f = absurd h
   one_served (Err e) n r w w' reply ok given now h a f = absurd h
   one_served (Ok (Some x)) n r w w' reply ok given now h a f = record {
@@ -58,8 +61,12 @@ module _ (word : Type 0) (beside : World → Refusal → Type 0) (old new : Conn
       same = λ i. frame_unless (h.1.more i) old.id (h.0 i) (h.1.number i) reply
 
 -- a message that changes nothing wrote nothing
-pub one_quiet : (P : Type 0) (beside other : World → Refusal → Type 0) (weaker : (planned : World) (r : Refusal) → beside planned r → other planned r) (old new : Connection) (front : Front) (n : ℕ) (r : Request) (w w' : World) (reply : Pairs) → IsTaken old front (takes.Call n r) new → IsAnswer beside w old.id r w' reply
-    → ((read : Result Pairs BsonFault) → Gives bson_faults.Memory (λ d. d) r.body read → WroteNothing w read w' → P) → ChangeNothing other w (call_at old front) → P
+pub one_quiet : (P : Type 0) (beside other : World → Refusal → Type 0) (weaker : (planned : World) (r : Refusal) → beside planned r → other planned r)
+    (old new : Connection) (front : Front) (n : ℕ) (r : Request) (w w' : World) (reply : Pairs) → IsTaken old front (takes.Call n r) new
+    → IsAnswer beside w old.id r w' reply
+    → ((read : Result Pairs BsonFault) → Gives bson_faults.Memory (λ d. d) r.body read → WroteNothing w read w' → P)
+    → ChangeNothing other w (call_at old front) → P
 one_quiet P beside other weaker old new (Ok None) n r w w' reply h a use_it quiet = absurd h
 one_quiet P beside other weaker old new (Err e) n r w w' reply h a use_it quiet = absurd h
-one_quiet P beside other weaker old new (Ok (Some x)) n r w w' reply h a use_it quiet = use_it (body_of x.0) h.1.body (quiet w' reply (answers_weaker beside other weaker w _ _ w' reply (a (body_of x.0) h.1.body))).0
+one_quiet P beside other weaker old new (Ok (Some x)) n r w w' reply h a use_it quiet =
+    use_it (body_of x.0) h.1.body (quiet w' reply (answers_weaker beside other weaker w _ _ w' reply (a (body_of x.0) h.1.body))).0

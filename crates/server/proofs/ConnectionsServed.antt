@@ -1,5 +1,6 @@
 -- How the links are served, one after the other.
-use Rattle.std.proofs.Common.{◌≡◌, ℕ, zero, suc, ◌+◌, ◌<◌, List, [], ◌∷◌, ◌++◌, length, take, drop, get_or, set, refl, sym, ◌∙◌, ap, subst, arith, append_assoc, append-nil}
+use Rattle.std.proofs.Common.{◌≡◌, ℕ, zero, suc, ◌+◌, ◌<◌, List, [], ◌∷◌, ◌++◌, length, take, drop, get_or, set, refl, sym, ◌∙◌, ap, subst, arith, append_assoc}
+use Rattle.std.proofs.Common.{append-nil}
 use Rattle.std.proofs.lemmas.List.{length-append, take_more, take-append-drop}
 use Rattle.std.specs.Prelude.{Bool, true, false, ◌&&◌, Option, Result, Ok, Err}
 use Rattle.bson.specs.Tree.{Pairs}
@@ -8,11 +9,13 @@ use Rattle.database_model.specs.Refusals.{refusal_reply}
 use Rattle.path.specs.declared.refusal.Refusal.{Refusal}
 use Rattle.op_msg.specs.Frame.{Frame}
 use Rattle.op_msg.specs.declared.fault.FrameFault.{FrameFault}
-use Rattle.server.specs.Turn.{Call, Runs, ChangeNothing, frames_of, frame_for, calls, call_at, front_of, connection_at, connections_after, taken_at, connections_taken, forget_all, refused_calls, refused_frames, faults, fault_at}
+use Rattle.server.specs.Turn.{Call, Runs, ChangeNothing, frames_of, frame_for, calls, call_at, front_of, connection_at, connections_after, taken_at}
+use Rattle.server.specs.Turn.{connections_taken, forget_all, refused_calls, refused_frames, faults, fault_at}
 use Rattle.server.specs.Taking.{Serves, refused_at, fault_in, faults_in, closed_by, closed_connections, fault_beside}
 use Rattle.server.specs.declared.connection.Connection.{Connection}
 
-runs_on : (beside : World → Refusal → Type 0) (cs ds : List Call) (a b c : World) (rs ss : List Pairs) → Runs beside a cs rs b → Runs beside b ds ss c → Runs beside a (cs ++ ds) (rs ++ ss) c
+runs_on : (beside : World → Refusal → Type 0) (cs ds : List Call) (a b c : World) (rs ss : List Pairs) → Runs beside a cs rs b → Runs beside b ds ss c
+    → Runs beside a (cs ++ ds) (rs ++ ss) c
 runs_on beside [] ds a b c [] ss h k = subst (λ (w : World). Runs beside w ds ss c) h k
 runs_on beside [] ds a b c (r ∷ rs) ss h k = absurd h
 runs_on beside (x ∷ cs) ds a b c [] ss h k = absurd h
@@ -27,7 +30,8 @@ frames_on (x ∷ cs) ds (r ∷ rs) ss e =
     ∙ sym (append_assoc (frame_for x r) (frames_of cs rs) (frames_of ds ss))
 
 -- calls that change nothing leave the collections as they are, and so do those after them
-pub quiet_runs : (beside : World → Refusal → Type 0) (cs ds : List Call) (a b : World) (rs : List Pairs) → Runs beside a cs rs b → ChangeNothing beside a (cs ++ ds) → (b.collections ≡ a.collections) × ChangeNothing beside b ds
+pub quiet_runs : (beside : World → Refusal → Type 0) (cs ds : List Call) (a b : World) (rs : List Pairs) → Runs beside a cs rs b
+    → ChangeNothing beside a (cs ++ ds) → (b.collections ≡ a.collections) × ChangeNothing beside b ds
 quiet_runs beside [] ds a b [] h quiet = (ap (λ (w : World). w.collections) h, subst (λ (w : World). ChangeNothing beside w ds) (sym h) quiet)
 quiet_runs beside [] ds a b (r ∷ rs) h quiet = absurd h
 quiet_runs beside (x ∷ cs) ds a b [] h quiet = absurd h
@@ -47,7 +51,8 @@ both : (p q : Bool) → (p && q) ≡ true → (p ≡ true) × (q ≡ true)
 both true q e = (refl, e)
 both false q e = absurd cc
 
-pub serves_on : (word : Type 0) (beside : World → Refusal → Type 0) (cs ds : List Call) (a b c : World) (p q : Bool) (f g h : List (ℕ × List ℕ)) → Serves word beside cs a b p f g → Serves word beside ds b c q g h → Serves word beside (cs ++ ds) a c (p && q) f h
+pub serves_on : (word : Type 0) (beside : World → Refusal → Type 0) (cs ds : List Call) (a b c : World) (p q : Bool) (f g h : List (ℕ × List ℕ))
+    → Serves word beside cs a b p f g → Serves word beside ds b c q g h → Serves word beside (cs ++ ds) a c (p && q) f h
 serves_on word beside cs ds a b c p q f g h s t = record {
   replies = s.replies ++ t.replies;
   one_each = omega (arith, length-append s.replies t.replies, length-append cs ds, s.one_each, t.one_each);
@@ -66,11 +71,14 @@ refused_each r (c ∷ cs) = ap suc (refused_each r cs)
 
 calls_append : (ks ls : List Connection) → calls (ks ++ ls) ≡ calls ks ++ calls ls
 calls_append [] ls = refl
-calls_append (k ∷ ks) ls = ap (λ (cs : List Call). call_at k (front_of k) ++ cs) (calls_append ks ls) ∙ sym (append_assoc (call_at k (front_of k)) (calls ks) (calls ls))
+calls_append (k ∷ ks) ls =
+    ap (λ (cs : List Call). call_at k (front_of k) ++ cs) (calls_append ks ls) ∙ sym (append_assoc (call_at k (front_of k)) (calls ks) (calls ls))
 
-pub calls_more : (ls : List Connection) (i : ℕ) (d : Connection) → i < length ls → calls (take (i + 1) ls) ≡ calls (take i ls) ++ call_at (get_or ls i d) (front_of (get_or ls i d))
+pub calls_more : (ls : List Connection) (i : ℕ) (d : Connection) → i < length ls
+    → calls (take (i + 1) ls) ≡ calls (take i ls) ++ call_at (get_or ls i d) (front_of (get_or ls i d))
 calls_more ls i d within =
-    ap calls (take_more ls i d within) ∙ calls_append (take i ls) (get_or ls i d ∷ []) ∙ ap (λ (cs : List Call). calls (take i ls) ++ cs) (append-nil (call_at (get_or ls i d) (front_of (get_or ls i d))))
+    ap calls (take_more ls i d within) ∙ calls_append (take i ls) (get_or ls i d ∷ [])
+    ∙ ap (λ (cs : List Call). calls (take i ls) ++ cs) (append-nil (call_at (get_or ls i d) (front_of (get_or ls i d))))
 
 -- ---- where there are no calls
 
@@ -84,7 +92,8 @@ none_next (c ∷ cs) ds e = absurd cc
 
 -- the first connections have none
 none_taken : (ls : List Connection) (i : ℕ) → calls ls ≡ [] → calls (take i ls) ≡ []
-none_taken ls i none = none_before (calls (take i ls)) (calls (drop i ls)) (sym (calls_append (take i ls) (drop i ls)) ∙ ap calls (take-append-drop i ls) ∙ none)
+none_taken ls i none =
+    none_before (calls (take i ls)) (calls (drop i ls)) (sym (calls_append (take i ls) (drop i ls)) ∙ ap calls (take-append-drop i ls) ∙ none)
 
 pub none_more : (ls : List Connection) (i : ℕ) {cs : List Call} → calls ls ≡ [] → cs ≡ calls (take i ls) → cs ≡ []
 none_more ls i none is = is ∙ none_taken ls i none
@@ -105,7 +114,8 @@ head_is x y xs ys e = cc
 tail_is : (x y : Connection) (xs ys : List Connection) → x ∷ xs ≡ y ∷ ys → xs ≡ ys
 tail_is x y xs ys e = cc
 
-pub links_step : (now first : List Connection) (i : ℕ) (x new : Connection) → i < length now → take i now ≡ connections_taken (take i first) → drop i now ≡ drop i first → x ≡ get_or now i x → new ≡ taken_at x (front_of x) → Stepped (set now i new) first i x
+pub links_step : (now first : List Connection) (i : ℕ) (x new : Connection) → i < length now → take i now ≡ connections_taken (take i first)
+    → drop i now ≡ drop i first → x ≡ get_or now i x → new ≡ taken_at x (front_of x) → Stepped (set now i new) first i x
 links_step [] first i x new within t d e n = absurd (omega arith)
 links_step (m ∷ ms) [] zero x new within t d e n = absurd cc
 links_step (m ∷ ms) [] (suc i) x new within t d e n = absurd cc
@@ -130,35 +140,43 @@ forget_all_append : (w : World) (fs gs : List (ℕ × FrameFault)) → forget_al
 forget_all_append w [] gs = refl
 forget_all_append w (f ∷ fs) gs = forget_all_append (forget w f.0) fs gs
 
-pub forget_all_more : (w : World) (fs : List (ℕ × FrameFault)) (i : ℕ) (d : ℕ × FrameFault) → i < length fs → forget_all w (take (i + 1) fs) ≡ forget (forget_all w (take i fs)) (get_or fs i d).0
+pub forget_all_more : (w : World) (fs : List (ℕ × FrameFault)) (i : ℕ) (d : ℕ × FrameFault) → i < length fs
+    → forget_all w (take (i + 1) fs) ≡ forget (forget_all w (take i fs)) (get_or fs i d).0
 forget_all_more w fs i d within = ap (forget_all w) (take_more fs i d within) ∙ forget_all_append w (take i fs) (get_or fs i d ∷ [])
 
 -- ---- what a turn makes ready
 
-refused_append : (r : Refusal) (cs ds : List Call) → frames_of (cs ++ ds) (refused_calls r (cs ++ ds)) ≡ frames_of cs (refused_calls r cs) ++ frames_of ds (refused_calls r ds)
+refused_append : (r : Refusal) (cs ds : List Call)
+    → frames_of (cs ++ ds) (refused_calls r (cs ++ ds)) ≡ frames_of cs (refused_calls r cs) ++ frames_of ds (refused_calls r ds)
 refused_append r [] ds = refl
 refused_append r (c ∷ cs) ds =
     ap (λ (fs : List (ℕ × List ℕ)). frame_for c (refusal_reply r) ++ fs) (refused_append r cs ds)
     ∙ sym (append_assoc (frame_for c (refusal_reply r)) (frames_of cs (refused_calls r cs)) (frames_of ds (refused_calls r ds)))
 
-pub refused_more : (r : Refusal) (ls : List Connection) (i : ℕ) (d : Connection) → i < length ls → refused_frames r (take (i + 1) ls) ≡ refused_frames r (take i ls) ++ refused_at r (get_or ls i d) (front_of (get_or ls i d))
+pub refused_more : (r : Refusal) (ls : List Connection) (i : ℕ) (d : Connection) → i < length ls
+    → refused_frames r (take (i + 1) ls) ≡ refused_frames r (take i ls) ++ refused_at r (get_or ls i d) (front_of (get_or ls i d))
 refused_more r ls i d within =
-    ap (λ (cs : List Call). frames_of cs (refused_calls r cs)) (calls_more ls i d within) ∙ refused_append r (calls (take i ls)) (call_at (get_or ls i d) (front_of (get_or ls i d)))
+    ap (λ (cs : List Call). frames_of cs (refused_calls r cs)) (calls_more ls i d within)
+    ∙ refused_append r (calls (take i ls)) (call_at (get_or ls i d) (front_of (get_or ls i d)))
 
 faults_append : (ks ls : List Connection) → faults (ks ++ ls) ≡ faults ks ++ faults ls
 faults_append [] ls = refl
 faults_append (k ∷ ks) ls =
-    ap (λ (fs : List (ℕ × FrameFault)). fault_at k (front_of k) ++ fs) (faults_append ks ls) ∙ sym (append_assoc (fault_at k (front_of k)) (faults ks) (faults ls))
+    ap (λ (fs : List (ℕ × FrameFault)). fault_at k (front_of k) ++ fs) (faults_append ks ls)
+    ∙ sym (append_assoc (fault_at k (front_of k)) (faults ks) (faults ls))
 
-pub faults_more : (ls : List Connection) (i : ℕ) (d : Connection) → i < length ls → faults (take (i + 1) ls) ≡ faults (take i ls) ++ fault_at (get_or ls i d) (front_of (get_or ls i d))
+pub faults_more : (ls : List Connection) (i : ℕ) (d : Connection) → i < length ls
+    → faults (take (i + 1) ls) ≡ faults (take i ls) ++ fault_at (get_or ls i d) (front_of (get_or ls i d))
 faults_more ls i d within =
-    ap faults (take_more ls i d within) ∙ faults_append (take i ls) (get_or ls i d ∷ []) ∙ ap (λ (fs : List (ℕ × FrameFault)). faults (take i ls) ++ fs) (append-nil (fault_at (get_or ls i d) (front_of (get_or ls i d))))
+    ap faults (take_more ls i d within) ∙ faults_append (take i ls) (get_or ls i d ∷ [])
+    ∙ ap (λ (fs : List (ℕ × FrameFault)). faults (take i ls) ++ fs) (append-nil (fault_at (get_or ls i d) (front_of (get_or ls i d))))
 
 faults_in-append : (ks ls : List Connection) → faults_in (ks ++ ls) ≡ faults_in ks ++ faults_in ls
 faults_in-append [] ls = refl
 faults_in-append (k ∷ ks) ls = ap (λ (fs : List (Option FrameFault)). fault_in (front_of k) ∷ fs) (faults_in-append ks ls)
 
-pub faults_in-more : (ls : List Connection) (i : ℕ) (d : Connection) → i < length ls → faults_in (take (i + 1) ls) ≡ faults_in (take i ls) ++ fault_in (front_of (get_or ls i d)) ∷ []
+pub faults_in-more : (ls : List Connection) (i : ℕ) (d : Connection) → i < length ls
+    → faults_in (take (i + 1) ls) ≡ faults_in (take i ls) ++ fault_in (front_of (get_or ls i d)) ∷ []
 faults_in-more ls i d within = ap faults_in (take_more ls i d within) ∙ faults_in-append (take i ls) (get_or ls i d ∷ [])
 
 -- ---- links that a fault closes
@@ -168,7 +186,8 @@ pub record Closed (now first : List Connection) (fs : List (Option FrameFault)) 
   pub done : take (suc i) now ≡ closed_connections (take (suc i) first) fs
   pub left : drop (suc i) now ≡ drop (suc i) first
 
-pub close_step : (now first : List Connection) (fs : List (Option FrameFault)) (i : ℕ) (x new : Connection) → i < length now → take i now ≡ closed_connections (take i first) fs → drop i now ≡ drop i first → x ≡ get_or now i x
+pub close_step : (now first : List Connection) (fs : List (Option FrameFault)) (i : ℕ) (x new : Connection) → i < length now
+    → take i now ≡ closed_connections (take i first) fs → drop i now ≡ drop i first → x ≡ get_or now i x
     → new ≡ closed_by x (fault_beside fs i) → Closed (set now i new) first fs i
 close_step [] first fs i x new within t d e n = absurd (omega arith)
 close_step (m ∷ ms) [] fs zero x new within t d e n = absurd cc

@@ -20,9 +20,11 @@ use Rattle.engine.proofs.OnlyReading.{failed_from, now_same, reads_none, reads_o
 use Rattle.server.specs.Dump.{Dumps, ListsRest, dump_line, dump_of, lines_in}
 
 -- the lines of a batch and of what comes behind it
-lines_next : (limit : ℕ) (rest batch : List Pairs) → AreNext limit rest batch → map dump_line rest ≡ map dump_line batch ++ map dump_line (drop (length batch) rest)
+lines_next : (limit : ℕ) (rest batch : List Pairs) → AreNext limit rest batch
+    → map dump_line rest ≡ map dump_line batch ++ map dump_line (drop (length batch) rest)
 lines_next limit rest batch next =
-    let whole : rest ≡ batch ++ drop (length batch) rest = sym (take-append-drop (length batch) rest) ∙ ap (λ (xs : List Pairs). xs ++ drop (length batch) rest) (sym next.first) in
+    let whole : rest ≡ batch ++ drop (length batch) rest =
+    sym (take-append-drop (length batch) rest) ∙ ap (λ (xs : List Pairs). xs ++ drop (length batch) rest) (sym next.first) in
     ap (map dump_line) whole ∙ map-append dump_line batch (drop (length batch) rest)
 
 -- The lines so far, and those of what is still to come, are the lines of all.
@@ -35,7 +37,8 @@ module _ {D : Type 0} (history : D → History) where
   -- a cause after reads is one from before them
   cause_before : (IsMissing : Type 0) (a b c : Engine D) → OnlyReads history a b → OnlyReads history b c → KeepsWord (disk_history history c) → (e : CheckFault)
       → HasFaultCause history ⊥ b c e → HasFaultCause history IsMissing a c e
-  cause_before IsMissing a b c first later k faults.Device failed = failed_from history (file_of a) (file_of b) (file_of c) first.goes (word_before history (file_of b) (file_of c) later.goes k) failed
+  cause_before IsMissing a b c first later k faults.Device failed =
+      failed_from history (file_of a) (file_of b) (file_of c) first.goes (word_before history (file_of b) (file_of c) later.goes k) failed
   cause_before IsMissing a b c first later k faults.Memory cause = tt
   cause_before IsMissing a b c first later k faults.Damaged cause = absurd cause
   cause_before IsMissing a b c first later k faults.NamespaceNotFound cause = absurd cause
@@ -75,7 +78,8 @@ module _ {D : Type 0} (history : D → History) where
       }
 
       -- nothing was still to come
-      pub list_ends : (batch : Vec Pairs) → GoesOnDumping history walk after (Ok batch) mid new → batch.items ≡ [] → (all : Vec (String Global)) → lines_in all ≡ lines
+      pub list_ends : (batch : Vec Pairs) → GoesOnDumping history walk after (Ok batch) mid new → batch.items ≡ [] → (all : Vec (String Global))
+          → lines_in all ≡ lines
           → ListsRest history begun (Ok all) old new
       list_ends batch step none all is = record {
         reads = reads_on history old mid new come.reads step.reads;
@@ -93,7 +97,8 @@ module _ {D : Type 0} (history : D → History) where
         answers = λ k rest w.
             let same : (world mid).collections ≡ (world old).collections = now_same history old mid come.reads in
             let at = come.there (word_before history (file_of mid) (file_of new) step.reads.goes k) rest w in
-            cause_before ⊥ old mid new come.reads step.reads k e (step.answers k at.rest (subst (λ (cs : List Collection). IsWalk cs walk at.rest) (sym same) at.goes));
+            cause_before ⊥ old mid new come.reads step.reads k e
+            (step.answers k at.rest (subst (λ (cs : List Collection). IsWalk cs walk at.rest) (sym same) at.goes));
       }
 
   -- ---- a dump
@@ -103,26 +108,31 @@ module _ {D : Type 0} (history : D → History) where
     pub not_begun : (e : CheckFault) (new : Engine D) → BeginsDump history name (Err e) old new → Dumps history name (Err e) old new
     not_begun e new begins = record { reads = begins.reads; answers = λ k. cause e (begins.answers k) }
       where
-        cause : (f : CheckFault) → HasFaultCause history (find_collection (world old).collections name ≡ None) old new f → HasFaultCause history (dump_of (world old).collections name ≡ None) old new f
+        cause : (f : CheckFault) → HasFaultCause history (find_collection (world old).collections name ≡ None) old new f
+            → HasFaultCause history (dump_of (world old).collections name ≡ None) old new f
         cause faults.Device failed = failed
         cause faults.Memory h = tt
         cause faults.Damaged h = absurd h
         cause faults.NamespaceNotFound none = ap (λ (o : Option Collection). option_map (λ (c : Collection). map dump_line c.documents) o) none
 
     -- what it began with was listed
-    pub all_listed : (walk : Walk) (mid new : Engine D) → BeginsDump history name (Ok walk) old mid → (r : Result (Vec (String Global)) CheckFault) → ListsRest history walk r mid new → Dumps history name r old new
+    pub all_listed : (walk : Walk) (mid new : Engine D) → BeginsDump history name (Ok walk) old mid → (r : Result (Vec (String Global)) CheckFault)
+        → ListsRest history walk r mid new → Dumps history name r old new
     all_listed walk mid new begins r lists = record { reads = reads_on history old mid new begins.reads lists.reads; answers = λ k. answer r k lists.answers }
       where
         walk_on : (whole : WalksThrough (world old).collections name walk) → IsWalk (world mid).collections walk whole.collection.documents
         walk_on whole = subst (λ (cs : List Collection). IsWalk cs walk whole.collection.documents) (sym (now_same history old mid begins.reads)) whole.all
 
         answer : (x : Result (Vec (String Global)) CheckFault) → KeepsWord (disk_history history new)
-            → (KeepsWord (disk_history history new) → (rest : List Pairs) → IsWalk (world mid).collections walk rest → MatchResult x (λ lines. lines_in lines ≡ map dump_line rest) (HasFaultCause history ⊥ mid new))
-            → MatchResult x (λ lines. dump_of (world old).collections name ≡ Some (lines_in lines)) (HasFaultCause history (dump_of (world old).collections name ≡ None) old new)
+            → (KeepsWord (disk_history history new) → (rest : List Pairs) → IsWalk (world mid).collections walk rest
+            → MatchResult x (λ lines. lines_in lines ≡ map dump_line rest) (HasFaultCause history ⊥ mid new))
+            → MatchResult x (λ lines. dump_of (world old).collections name ≡ Some (lines_in lines))
+            (HasFaultCause history (dump_of (world old).collections name ≡ None) old new)
         answer (Ok all) k answers =
             let whole : WalksThrough (world old).collections name walk = begins.answers (word_before history (file_of mid) (file_of new) lists.reads.goes k) in
             let listed : lines_in all ≡ map dump_line whole.collection.documents = answers k whole.collection.documents (walk_on whole) in
             ap (λ (o : Option Collection). option_map (λ (c : Collection). map dump_line c.documents) o) whole.found ∙ ap Some (sym listed)
         answer (Err e) k answers =
             let whole : WalksThrough (world old).collections name walk = begins.answers (word_before history (file_of mid) (file_of new) lists.reads.goes k) in
-            cause_before (dump_of (world old).collections name ≡ None) old mid new begins.reads lists.reads k e (answers k whole.collection.documents (walk_on whole))
+            cause_before (dump_of (world old).collections name ≡ None) old mid new begins.reads lists.reads k e
+            (answers k whole.collection.documents (walk_on whole))

@@ -1,5 +1,6 @@
 -- How a run over a list of steps goes on, and how it ends.
-use Rattle.std.proofs.Common.{◌≡◌, inl, inr, ⊎_elim, ℕ, ◌+◌, ◌≤◌, ◌<◌, List, [], ◌∷◌, ◌++◌, length, take, get_or, slice_get, refl, sym, ◌∙◌, ap, subst, arith, append_assoc, append-nil}
+use Rattle.std.proofs.Common.{◌≡◌, inl, inr, ⊎_elim, ℕ, ◌+◌, ◌≤◌, ◌<◌, List, [], ◌∷◌, ◌++◌, length, take, get_or, slice_get, refl, sym, ◌∙◌, ap, subst, arith}
+use Rattle.std.proofs.Common.{append_assoc, append-nil}
 use Rattle.std.proofs.lemmas.List.{take_more, take_all}
 use Rattle.std.proofs.lemmas.Option.{slice_get_read}
 use Rattle.std.specs.Prelude.{◌⊎◌, ◌≢◌, Result, Option, Some, None, Err, Vec, Bool, true}
@@ -41,7 +42,8 @@ happens_on [] later at a b c given others ends more h k =
     subst (λ (fs : Frames). Happens at a later (fs ++ others) (ends ++ more) c) (sym h.0)
     (subst (λ (es : List TurnEnd). Happens (last_moment at es) b later others more c → Happens at a later others (es ++ more) c) (sym h.1)
     (λ whole. subst (λ (s : ServerState). Happens at s later others more c) h.2 whole) k)
-happens_on (steps.Bytes id chunk ∷ first) later at a b c given others ends more h k = happens_on first later at (fed a id chunk.items) b c given others ends more h k
+happens_on (steps.Bytes id chunk ∷ first) later at a b c given others ends more h k =
+    happens_on first later at (fed a id chunk.items) b c given others ends more h k
 happens_on (steps.Gone id ∷ first) later at a b c given others ends more h k = happens_on first later at (ended a id) b c given others ends more h k
 happens_on (steps.Turn ∷ first) later at a b c given others ends more h k = (
   h.0,
@@ -63,7 +65,8 @@ collections_after [] at a b given ends h = ap (λ (s : ServerState). s.world.col
 collections_after (steps.Bytes id chunk ∷ later) at a b given ends h = collections_after later at (fed a id chunk.items) b given ends h
 collections_after (steps.Gone id ∷ later) at a b given ends h = collections_after later at (ended a id) b given ends h
 collections_after (steps.Turn ∷ later) at a b given ends h =
-    collections_after later h.3.at h.0 b h.2 h.4 h.9 ∙ ap (λ (cs : List Collection). last_collections cs h.4) (sym h.6) ∙ sym (ap (last_collections a.world.collections) h.8)
+    collections_after later h.3.at h.0 b h.2 h.4 h.9 ∙ ap (λ (cs : List Collection). last_collections cs h.4) (sym h.6)
+    ∙ sym (ap (last_collections a.world.collections) h.8)
 
 turns_in-append : (first later : List Step) → turns_in (first ++ later) ≡ turns_in first + turns_in later
 turns_in-append [] later = omega arith
@@ -102,14 +105,16 @@ last_moment-append : (first : Moment) (ends more : List TurnEnd) → last_moment
 last_moment-append first [] more = refl
 last_moment-append first (e ∷ later) more = last_moment-append e.at later more
 
-pub last_collections-append : (first : List Collection) (ends more : List TurnEnd) → last_collections first (ends ++ more) ≡ last_collections (last_collections first ends) more
+pub last_collections-append : (first : List Collection) (ends more : List TurnEnd)
+    → last_collections first (ends ++ more) ≡ last_collections (last_collections first ends) more
 last_collections-append first [] more = refl
 last_collections-append first (e ∷ later) more = last_collections-append e.collections later more
 
 -- What the loop over the steps keeps: so many steps were done, and it has not stopped.
 pub record SoFar {D : Type 0} (history : D → History) (first : Core D) (all : List Step) (i : ℕ) (out : DriveOut) (now : Core D) : Type 0 where
   pub ends : List TurnEnd
-  pub happens : KeepsWord (disk_history history now) → Happens (moment_of history first) (state first) (take i all) (frames_in out.replies.items) ends (state now)
+  pub happens : KeepsWord (disk_history history now)
+      → Happens (moment_of history first) (state first) (take i all) (frames_in out.replies.items) ends (state now)
   pub moment : moment_of history now ≡ last_moment (moment_of history first) ends
   pub counted : out.turns ≡ turns_in (take i all)
   pub bound : out.turns ≤ i
@@ -122,7 +127,8 @@ pub record SoFar {D : Type 0} (history : D → History) (first : Core D) (all : 
       → LeavesInOrder (disk_history history now) (clock_of history first) (collections_of first) ends (collections_of now)
   pub idle : is_stopped first ≡ true → disk_history history now ≡ disk_history history first
 
-pub starts : {D : Type 0} (history : D → History) (first : Core D) (all : List Step) (out : DriveOut) → out.replies.items ≡ [] → out.turns ≡ 0 → out.stopped ≡ None → IsSound history first → SoFar history first all 0 out first
+pub starts : {D : Type 0} (history : D → History) (first : Core D) (all : List Step) (out : DriveOut) → out.replies.items ≡ [] → out.turns ≡ 0
+    → out.stopped ≡ None → IsSound history first → SoFar history first all 0 out first
 starts history first all out nothing none goes sound = record {
   ends = [];
   happens = λ k. (ap frames_in nothing, refl, refl);
@@ -142,15 +148,21 @@ starts history first all out nothing none goes sound = record {
   idle = λ _. refl;
 }
 
-pub ends : {D : Type 0} (history : D → History) (first : Core D) (all : List Step) (i : ℕ) (out : DriveOut) (now : Core D) → length all ≤ i → SoFar history first all i out now → Drives history first all out now
+pub ends : {D : Type 0} (history : D → History) (first : Core D) (all : List Step) (i : ℕ) (out : DriveOut) (now : Core D) → length all ≤ i
+    → SoFar history first all i out now → Drives history first all out now
 ends history first all i out now whole s =
     let every : take i all ≡ all = take_all i all whole in
-    let same : KeepsWord (disk_history history now) → collections_of now ≡ last_collections (collections_of first) s.ends = λ k. collections_after (take i all) (moment_of history first) (state first) (state now) (frames_in out.replies.items) s.ends (s.happens k) in
+    let same : KeepsWord (disk_history history now)
+    → collections_of now ≡ last_collections (collections_of first) s.ends =
+    λ k. collections_after (take i all) (moment_of history first) (state first) (state now) (frames_in out.replies.items) s.ends (s.happens k) in
     record {
       given = frames_in out.replies.items;
       ends = s.ends;
-      happens = subst (λ (stop : Option (ℕ × DriveFault)). Ends (instant_of history first) (is_stopped first) all stop (frames_in out.replies.items) s.ends (instant_of history now)) (sym s.runs)
-          (λ k. subst (λ (steps : List Step). Happens (moment_of history first) (state first) steps (frames_in out.replies.items) s.ends (state now)) every (s.happens k));
+      happens = subst
+          (λ (stop : Option (ℕ × DriveFault)). Ends (instant_of history first) (is_stopped first) all stop (frames_in out.replies.items) s.ends
+          (instant_of history now)) (sym s.runs)
+          (λ k. subst (λ (steps : List Step). Happens (moment_of history first) (state first) steps (frames_in out.replies.items) s.ends (state now)) every
+          (s.happens k));
       frames = refl;
       bytes = λ _. refl;
       turns = s.counted ∙ ap turns_in every ∙ sym (ap (λ (stop : Option (ℕ × DriveFault)). turns_done stop all) s.runs);
@@ -164,7 +176,8 @@ ends history first all i out now whole s =
       device = λ stop. absurd (subst IsStopped s.runs stop);
     }
 
-module _ {D : Type 0} (history : D → History) (first : Core D) (all : List Step) (i : ℕ) (step : Step) (old : DriveOut) (now : Core D) (within : i < length all) (is : step ≡ get_or all i step) (s : SoFar history first all i old now) where
+module _ {D : Type 0} (history : D → History) (first : Core D) (all : List Step) (i : ℕ) (step : Step) (old : DriveOut) (now : Core D)
+    (within : i < length all) (is : step ≡ get_or all i step) (s : SoFar history first all i old now) where
   taken : take (i + 1) all ≡ take i all ++ step ∷ []
   taken = take_more all i step within ∙ ap (λ (y : Step). take i all ++ y ∷ []) (sym is)
 
@@ -178,52 +191,70 @@ module _ {D : Type 0} (history : D → History) (first : Core D) (all : List Ste
   order_on : (last : Core D) → GoesSafely history now last → IsRunning first → KeepsWord (disk_history history last)
       → LeavesInOrder (disk_history history last) (clock_of history first) (collections_of first) s.ends (collections_of last)
   order_on last safe running keeps =
-      in_order_on (disk_history history now) (disk_history history last) (clock_of history first) (collections_of first) s.ends (collections_of now) (collections_of last)
+      in_order_on (disk_history history now) (disk_history history last) (clock_of history first) (collections_of first) s.ends (collections_of now)
+      (collections_of last)
       safe.on keeps (same_now (safe.on.kept keeps)) (safe.any_moment (s.running ∙ running)) (s.in_order running (safe.on.kept keeps))
 
   -- what a crash leaves up to the end of a turn that answered
-  order_turned : (last : Core D) → GoesSafely history now last → (IsRunning first → LeavesNow (disk_history history last) (λ image. Holds image (collections_of last)))
+  order_turned : (last : Core D) → GoesSafely history now last
+      → (IsRunning first → LeavesNow (disk_history history last) (λ image. Holds image (collections_of last)))
       → IsRunning first → KeepsWord (disk_history history last)
-      → LeavesInOrder (disk_history history last) (clock_of history first) (collections_of first) (s.ends ++ end_at (instant_of history last) ∷ []) (collections_of last)
+      → LeavesInOrder (disk_history history last) (clock_of history first) (collections_of first) (s.ends ++ end_at (instant_of history last) ∷ [])
+      (collections_of last)
   order_turned last safe holds running keeps =
-      in_order_turned (disk_history history now) (disk_history history last) (clock_of history first) (collections_of first) s.ends (collections_of now) (end_at (instant_of history last)) refl
+      in_order_turned (disk_history history now) (disk_history history last) (clock_of history first) (collections_of first) s.ends (collections_of now)
+      (end_at (instant_of history last)) refl
       safe.on keeps (same_now (safe.on.kept keeps)) (safe.any_moment (s.running ∙ running)) (holds running keeps) (s.in_order running (safe.on.kept keeps))
 
   -- by the step: a turn has one end more, another none
   order_by : (x : Step) (last : Core D) (new : DriveOut) → Goes (instant_of history now) x old new (instant_of history last) → GoesSafely history now last
       → (IsRunning first → LeavesNow (disk_history history last) (λ image. Holds image (collections_of last)))
       → IsRunning first → KeepsWord (disk_history history last)
-      → LeavesInOrder (disk_history history last) (clock_of history first) (collections_of first) (s.ends ++ ends_of x (instant_of history last)) (collections_of last)
+      → LeavesInOrder (disk_history history last) (clock_of history first) (collections_of first) (s.ends ++ ends_of x (instant_of history last))
+      (collections_of last)
   order_by steps.Turn last new goes safe holds running keeps = order_turned last safe holds running keeps
   order_by (steps.Bytes id chunk) last new goes safe holds running keeps =
-      subst (λ (es : List TurnEnd). LeavesInOrder (disk_history history last) (clock_of history first) (collections_of first) es (collections_of last)) (sym (append-nil s.ends)) (order_on last safe running keeps)
+      subst (λ (es : List TurnEnd). LeavesInOrder (disk_history history last) (clock_of history first) (collections_of first) es (collections_of last))
+      (sym (append-nil s.ends)) (order_on last safe running keeps)
   order_by (steps.Gone id) last new goes safe holds running keeps =
-      subst (λ (es : List TurnEnd). LeavesInOrder (disk_history history last) (clock_of history first) (collections_of first) es (collections_of last)) (sym (append-nil s.ends)) (order_on last safe running keeps)
+      subst (λ (es : List TurnEnd). LeavesInOrder (disk_history history last) (clock_of history first) (collections_of first) es (collections_of last))
+      (sym (append-nil s.ends)) (order_on last safe running keeps)
 
   -- a step after which no turn has answered
-  follow_still : (last : Core D) → FollowsInTurn (moment_of history now) (moment_of history last) → FollowInOrder (moment_of history first) s.ends (moment_of history last)
+  follow_still : (last : Core D) → FollowsInTurn (moment_of history now) (moment_of history last)
+      → FollowInOrder (moment_of history first) s.ends (moment_of history last)
   follow_still last turn = follow_on (moment_of history first) s.ends (moment_of history now) (moment_of history last) s.moment s.moments turn
 
-  follow_turned : (last : Core D) → FollowsInTurn (moment_of history now) (moment_of history last) → FollowInOrder (moment_of history first) (s.ends ++ end_at (instant_of history last) ∷ []) (moment_of history last)
+  follow_turned : (last : Core D) → FollowsInTurn (moment_of history now) (moment_of history last)
+      → FollowInOrder (moment_of history first) (s.ends ++ end_at (instant_of history last) ∷ []) (moment_of history last)
   follow_turned last turn = follow_end (moment_of history first) s.ends (moment_of history now) s.moment s.moments (end_at (instant_of history last)) turn
 
-  follow_by : (x : Step) (last : Core D) → FollowsInTurn (moment_of history now) (moment_of history last) → FollowInOrder (moment_of history first) (s.ends ++ ends_of x (instant_of history last)) (moment_of history last)
+  follow_by : (x : Step) (last : Core D) → FollowsInTurn (moment_of history now) (moment_of history last)
+      → FollowInOrder (moment_of history first) (s.ends ++ ends_of x (instant_of history last)) (moment_of history last)
   follow_by steps.Turn last turn = follow_turned last turn
-  follow_by (steps.Bytes id chunk) last turn = subst (λ (es : List TurnEnd). FollowInOrder (moment_of history first) es (moment_of history last)) (sym (append-nil s.ends)) (follow_still last turn)
-  follow_by (steps.Gone id) last turn = subst (λ (es : List TurnEnd). FollowInOrder (moment_of history first) es (moment_of history last)) (sym (append-nil s.ends)) (follow_still last turn)
+  follow_by (steps.Bytes id chunk) last turn =
+      subst (λ (es : List TurnEnd). FollowInOrder (moment_of history first) es (moment_of history last)) (sym (append-nil s.ends)) (follow_still last turn)
+  follow_by (steps.Gone id) last turn =
+      subst (λ (es : List TurnEnd). FollowInOrder (moment_of history first) es (moment_of history last)) (sym (append-nil s.ends)) (follow_still last turn)
 
-  pub step_on : (new : DriveOut) (last : Core D) → Goes (instant_of history now) step old new (instant_of history last) → IsSound history last → GoesSafely history now last
+  pub step_on : (new : DriveOut) (last : Core D) → Goes (instant_of history now) step old new (instant_of history last) → IsSound history last
+      → GoesSafely history now last
       → FollowsInTurn (moment_of history now) (moment_of history last) → is_stopped last ≡ is_stopped now → SoFar history first all (i + 1) new last
   step_on new last goes sound safe turn same =
       let more : List TurnEnd = ends_of step (instant_of history last) in
-      let next : KeepsWord (disk_history history last) → Happens (last_moment (moment_of history first) s.ends) (state now) (step ∷ []) goes.frames more (state last) =
+      let next : KeepsWord (disk_history history last)
+      → Happens (last_moment (moment_of history first) s.ends) (state now) (step ∷ []) goes.frames more (state last) =
       λ k. subst (λ (at : Moment). Happens at (state now) (step ∷ []) goes.frames more (state last)) s.moment (goes.happens k) in
-      let happens : KeepsWord (disk_history history last) → Happens (moment_of history first) (state first) (take (i + 1) all) (frames_in old.replies.items ++ goes.frames) (s.ends ++ more) (state last) =
-      λ k. subst (λ (xs : List Step). Happens (moment_of history first) (state first) xs (frames_in old.replies.items ++ goes.frames) (s.ends ++ more) (state last)) (sym taken)
-      (happens_on (take i all) (step ∷ []) (moment_of history first) (state first) (state now) (state last) (frames_in old.replies.items) goes.frames s.ends more (s.happens (safe.on.kept k)) (next k)) in
+      let happens : KeepsWord (disk_history history last)
+      → Happens (moment_of history first) (state first) (take (i + 1) all) (frames_in old.replies.items ++ goes.frames) (s.ends ++ more) (state last) =
+      λ k. subst (λ (xs : List Step). Happens (moment_of history first) (state first) xs (frames_in old.replies.items ++ goes.frames) (s.ends ++ more)
+      (state last)) (sym taken)
+      (happens_on (take i all) (step ∷ []) (moment_of history first) (state first) (state now) (state last)
+      (frames_in old.replies.items) goes.frames s.ends more (s.happens (safe.on.kept k)) (next k)) in
       record {
         ends = s.ends ++ more;
-        happens = λ k. subst (λ (fs : Frames). Happens (moment_of history first) (state first) (take (i + 1) all) fs (s.ends ++ more) (state last)) (sym goes.adds.replies) (happens k);
+        happens = λ k. subst (λ (fs : Frames). Happens (moment_of history first) (state first) (take (i + 1) all) fs (s.ends ++ more) (state last))
+            (sym goes.adds.replies) (happens k);
         moment = goes.moment ∙ ap (λ (at : Moment). last_moment at more) s.moment ∙ sym (last_moment-append (moment_of history first) s.ends more);
         counted = omega (arith, s.counted, goes.adds.counted, ap turns_in taken, turns_in-append (take i all) (step ∷ []));
         bound = omega (arith, s.bound, goes.adds.counted, one_at_most step);
@@ -247,7 +278,8 @@ module _ {D : Type 0} (history : D → History) (first : Core D) (all : List Ste
     kept : frames_in new.replies.items ≡ frames_in old.replies.items
     kept = adds.replies ∙ append-nil (frames_in old.replies.items)
 
-    before : KeepsWord (disk_history history now) → Happens (moment_of history first) (state first) (take i all) (frames_in new.replies.items) s.ends (state now)
+    before : KeepsWord (disk_history history now)
+        → Happens (moment_of history first) (state first) (take i all) (frames_in new.replies.items) s.ends (state now)
     before k = subst (λ (fs : Frames). Happens (moment_of history first) (state first) (take i all) fs s.ends (state now)) (sym kept) (s.happens k)
 
     at : (x : Step) → step ≡ x → slice_get all i ≡ Some x
@@ -257,32 +289,48 @@ module _ {D : Type 0} (history : D → History) (first : Core D) (all : List Ste
         some y = Some y
 
   -- a step that changed nothing
-  module _ (last : Core D) (sound : IsSound history last) (safe : GoesSafely history now last) (same : state last ≡ state now) (runs : is_stopped last ≡ is_stopped now) where
+  module _ (last : Core D) (sound : IsSound history last) (safe : GoesSafely history now last) (same : state last ≡ state now)
+      (runs : is_stopped last ≡ is_stopped now) where
     end_same : IsRunning first → LeavesNow (disk_history history last) (λ image. Holds image (last_collections (collections_of first) s.ends))
-    end_same running k image is = subst (Holds image) (ap (λ (x : ServerState). x.world.collections) same ∙ same_now (safe.on.kept k)) (holds_now history last sound (runs ∙ s.running ∙ running) k image is)
+    end_same running k image is =
+        subst (Holds image) (ap (λ (x : ServerState). x.world.collections) same ∙ same_now (safe.on.kept k))
+        (holds_now history last sound (runs ∙ s.running ∙ running) k image is)
 
-  stop_now : (last : Core D) → GoesSafely history now last → IsRunning first → LeavesNow (disk_history history last) (HoldsEither (last_collections (collections_of first) s.ends) (collections_of last))
+  stop_now : (last : Core D) → GoesSafely history now last → IsRunning first
+      → LeavesNow (disk_history history last) (HoldsEither (last_collections (collections_of first) s.ends) (collections_of last))
   stop_now last safe running k image here = ⊎_elim
       (λ holds. inl (subst (Holds image) (same_now (safe.on.kept k)) holds))
       (λ holds. inr holds)
-      (leaves_now (disk_history history now) (disk_history history last) (HoldsEither (collections_of now) (collections_of last)) safe.on (safe.any_moment (s.running ∙ running)) k image here)
+      (leaves_now (disk_history history now) (disk_history history last) (HoldsEither (collections_of now) (collections_of last)) safe.on
+      (safe.any_moment (s.running ∙ running)) k image here)
 
   -- a turn that handed out nothing, from the moment of the last one that answered
-  failed_turn : (fault : TurnFault) (last : Core D) → TurnFails (KeepsWord (disk_history history last)) (IsCaused (moment_of history now) (moment_of history last)) (state now) fault (is_stopped now) (state last)
-      → TurnFails (KeepsWord (disk_history history last)) (IsCaused (last_moment (moment_of history first) s.ends) (moment_of history last)) (state now) fault (is_stopped first) (state last)
+  failed_turn : (fault : TurnFault) (last : Core D)
+      → TurnFails (KeepsWord (disk_history history last)) (IsCaused (moment_of history now) (moment_of history last)) (state now) fault (is_stopped now)
+      (state last)
+      → TurnFails (KeepsWord (disk_history history last)) (IsCaused (last_moment (moment_of history first) s.ends) (moment_of history last)) (state now) fault
+      (is_stopped first) (state last)
   failed_turn fault last fails =
-      subst (λ (m : Moment). TurnFails (KeepsWord (disk_history history last)) (IsCaused m (moment_of history last)) (state now) fault (is_stopped first) (state last)) s.moment
-      (subst (λ (b : Bool). TurnFails (KeepsWord (disk_history history last)) (IsCaused (moment_of history now) (moment_of history last)) (state now) fault b (state last)) s.running fails)
+      subst (λ (m : Moment). TurnFails (KeepsWord (disk_history history last)) (IsCaused m (moment_of history last)) (state now) fault (is_stopped first)
+      (state last)) s.moment
+      (subst (λ (b : Bool). TurnFails (KeepsWord (disk_history history last)) (IsCaused (moment_of history now) (moment_of history last)) (state now) fault b
+      (state last)) s.running fails)
 
-  pub stops_at : (fault : DriveFault) (new : DriveOut) (last : Core D) → Does (instant_of history now) step old (Err fault) (is_stopped now) new (instant_of history last) → IsSound history last → GoesSafely history now last
+  pub stops_at : (fault : DriveFault) (new : DriveOut) (last : Core D)
+      → Does (instant_of history now) step old (Err fault) (is_stopped now) new (instant_of history last) → IsSound history last → GoesSafely history now last
       → FollowsInTurn (moment_of history now) (moment_of history last)
       → (failing fault ≢ failing (stops.Turn turns.Stopped) → is_stopped last ≡ is_stopped now)
-      → (failing fault ≡ failing (stops.Turn turns.Stopped) → KeepsWord (disk_history history last) → (is_stopped now ≡ true) ⊎ ((disk_history history now).failures < (disk_history history last).failures))
+      → (failing fault ≡ failing (stops.Turn turns.Stopped) → KeepsWord (disk_history history last)
+      → (is_stopped now ≡ true) ⊎ ((disk_history history now).failures < (disk_history history last).failures))
       → Drives history first all (stopped_at fault new) last
   stops_at (stops.Feed feeds.Memory) new last does sound safe turn runs cause = record {
     given = frames_in new.replies.items;
     ends = s.ends;
-    happens = ((does.0.0, does.0.1, at new 0 does.1 _ does.0.2), λ k. subst (λ (x : ServerState). Happens (moment_of history first) (state first) (take i all) (frames_in new.replies.items) s.ends x) (sym does.2) (before new 0 does.1 (safe.on.kept k)));
+    happens = (
+      (does.0.0, does.0.1, at new 0 does.1 _ does.0.2),
+      λ k. subst (λ (x : ServerState). Happens (moment_of history first) (state first) (take i all) (frames_in new.replies.items) s.ends x) (sym does.2)
+          (before new 0 does.1 (safe.on.kept k)),
+    );
     frames = refl;
     bytes = λ _. refl;
     turns = omega (arith, does.1.counted, s.counted);
@@ -299,14 +347,19 @@ module _ {D : Type 0} (history : D → History) (first : Core D) (all : List Ste
   stops_at (stops.Turn turns.Memory) new last does sound safe turn runs cause = record {
     given = frames_in new.replies.items;
     ends = s.ends;
-    happens = (at new 0 does.1 _ does.0, record { before = state now; happens = λ k. before new 0 does.1 (safe.on.kept k); turn = failed_turn turns.Memory last does.2 });
+    happens = (
+      at new 0 does.1 _ does.0,
+      record { before = state now; happens = λ k. before new 0 does.1 (safe.on.kept k); turn = failed_turn turns.Memory last does.2 },
+    );
     frames = refl;
     bytes = λ _. refl;
     turns = omega (arith, does.1.counted, s.counted);
     on = goes_further (disk_history history first) (disk_history history now) (disk_history history last) s.on safe.on;
     moments = follow_still last turn;
     in_order = order_on last safe;
-    at_end = λ running goes. end_same last sound safe (subst (λ (b : Bool). TurnFails (KeepsWord (disk_history history last)) (IsCaused (moment_of history now) (moment_of history last)) (state now) turns.Memory b (state last)) (s.running ∙ running) does.2) (runs (λ e. absurd cc)) running;
+    at_end = λ running goes. end_same last sound safe
+        (subst (λ (b : Bool). TurnFails (KeepsWord (disk_history history last)) (IsCaused (moment_of history now) (moment_of history last))
+        (state now) turns.Memory b (state last)) (s.running ∙ running) does.2) (runs (λ e. absurd cc)) running;
     at_stop = stop_now last safe;
     idle = idle_on last safe;
     running = λ _. runs (λ e. absurd cc) ∙ s.running;
@@ -315,7 +368,10 @@ module _ {D : Type 0} (history : D → History) (first : Core D) (all : List Ste
   stops_at (stops.Turn turns.Stopped) new last does sound safe turn runs cause = record {
     given = frames_in new.replies.items;
     ends = s.ends;
-    happens = (at new 0 does.1 _ does.0, record { before = state now; happens = λ k. before new 0 does.1 (safe.on.kept k); turn = failed_turn turns.Stopped last does.2 });
+    happens = (
+      at new 0 does.1 _ does.0,
+      record { before = state now; happens = λ k. before new 0 does.1 (safe.on.kept k); turn = failed_turn turns.Stopped last does.2 },
+    );
     frames = refl;
     bytes = λ _. refl;
     turns = omega (arith, does.1.counted, s.counted);
@@ -333,8 +389,10 @@ module _ {D : Type 0} (history : D → History) (first : Core D) (all : List Ste
   }
   stops_at stops.Gather new last does sound safe turn runs cause =
       let end : TurnEnd = end_at (instant_of history last) in
-      let whole : collections_of last ≡ last_collections (collections_of first) (s.ends ++ end ∷ []) = sym (last_collections-append (collections_of first) s.ends (end ∷ [])) in
-      let now_holds : IsRunning first → LeavesNow (disk_history history last) (λ image. Holds image (collections_of last)) = λ running. holds_now history last sound (runs (λ e. absurd cc) ∙ s.running ∙ running) in
+      let whole : collections_of last ≡ last_collections (collections_of first) (s.ends ++ end ∷ []) =
+      sym (last_collections-append (collections_of first) s.ends (end ∷ [])) in
+      let now_holds : IsRunning first → LeavesNow (disk_history history last) (λ image. Holds image (collections_of last)) =
+      λ running. holds_now history last sound (runs (λ e. absurd cc) ∙ s.running ∙ running) in
       record {
         given = frames_in new.replies.items;
         ends = s.ends ++ end ∷ [];
@@ -345,7 +403,9 @@ module _ {D : Type 0} (history : D → History) (first : Core D) (all : List Ste
             earlier = s.ends;
             lost = does.lost;
             happens = λ k. before new 1 does.adds (safe.on.kept k);
-            turn = λ k. subst (λ (m : Moment). Turns (IsCaused m (moment_of history last)) (RoomRanOut m (state now)) (state now) does.lost (state last)) s.moment (does.turn k);
+            turn = λ k. subst
+                (λ (m : Moment). Turns (IsCaused m (moment_of history last)) (RoomRanOut m (state now)) (state now) does.lost (state last)) s.moment
+                (does.turn k);
             counted = refl;
           },
         );

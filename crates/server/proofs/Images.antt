@@ -19,21 +19,26 @@ use Rattle.server.specs.Durable.{disk_history, IsRunning, file_of, IsSound, coll
 use Rattle.server.specs.declared.turn.Core.{Core}
 
 -- an engine that runs leaves the collections as they were at the beginning of the turn
-pub start_held : {D : Type 0} (history : D → History) (engine : Engine D) → engines.IsSound history engine → engines.IsRunning engine → LeavesNow (engines.disk_history history engine) (λ image. Holds image (turn_start engine))
+pub start_held : {D : Type 0} (history : D → History) (engine : Engine D) → engines.IsSound history engine → engines.IsRunning engine
+    → LeavesNow (engines.disk_history history engine) (λ image. Holds image (turn_start engine))
 start_held history engine sound running k image is = record {
   lawful = sound.before;
   file = leaves_start history (engines.file_of engine) (turn_start engine) (world engine).collections running sound.file k image is;
 }
 
 -- between turns every image holds the collections as they are
-pub engine_holds : {D : Type 0} (history : D → History) (engine : Engine D) → engines.IsSound history engine → turn_start engine ≡ (world engine).collections → engines.IsRunning engine → LeavesNow (engines.disk_history history engine) (λ image. Holds image (world engine).collections)
-engine_holds history engine sound idle running = subst (λ (cs : List Collection). LeavesNow (engines.disk_history history engine) (λ image. Holds image cs)) idle (start_held history engine sound running)
+pub engine_holds : {D : Type 0} (history : D → History) (engine : Engine D) → engines.IsSound history engine → turn_start engine ≡ (world engine).collections
+    → engines.IsRunning engine → LeavesNow (engines.disk_history history engine) (λ image. Holds image (world engine).collections)
+engine_holds history engine sound idle running =
+    subst (λ (cs : List Collection). LeavesNow (engines.disk_history history engine) (λ image. Holds image cs)) idle (start_held history engine sound running)
 
-pub holds_now : {D : Type 0} (history : D → History) (core : Core D) → IsSound history core → IsRunning core → LeavesNow (disk_history history core) (λ image. Holds image (collections_of core))
+pub holds_now : {D : Type 0} (history : D → History) (core : Core D) → IsSound history core → IsRunning core
+    → LeavesNow (disk_history history core) (λ image. Holds image (collections_of core))
 holds_now history core sound running = engine_holds history core.engine sound.engine sound.idle running
 
 -- as long as the disk stays as it is
-pub stays : {D : Type 0} (history : D → History) (old new : Engine D) (Q : (ℕ → List ℕ) → Type 0) → engines.IsSound history old → turn_start old ≡ (world old).collections → engines.disk_history history new ≡ engines.disk_history history old → engines.IsRunning old
+pub stays : {D : Type 0} (history : D → History) (old new : Engine D) (Q : (ℕ → List ℕ) → Type 0) → engines.IsSound history old
+    → turn_start old ≡ (world old).collections → engines.disk_history history new ≡ engines.disk_history history old → engines.IsRunning old
     → LeavesOnly (engines.disk_history history old) (engines.disk_history history new) (λ image. Holds image (world old).collections ⊎ Q image)
 stays history old new Q sound idle same running =
     subst (λ (h : History). LeavesOnly (engines.disk_history history old) h (λ image. Holds image (world old).collections ⊎ Q image)) (sym same)
@@ -44,39 +49,48 @@ abbrev Either : {D : Type 0} → Engine D → Engine D → (ℕ → List ℕ) �
 Either old new image = Holds image (world old).collections ⊎ Holds image (world new).collections
 
 -- the messages of a turn, which only read the disk, and then its end
-module _ {D : Type 0} (history : D → History) (old mid new : Engine D) (sound : engines.IsSound history old) (running : engines.IsRunning old) (idle : turn_start old ≡ (world old).collections)
+module _ {D : Type 0} (history : D → History) (old mid new : Engine D) (sound : engines.IsSound history old) (running : engines.IsRunning old)
+    (idle : turn_start old ≡ (world old).collections)
     (goes : GoesFrom history (engines.file_of old) (engines.file_of mid)) where
   while_read : LeavesOnly (engines.disk_history history old) (engines.disk_history history mid) (Either old new)
   while_read k image left =
-      inl (engine_holds history old sound idle running (goes.stays.reads.on.kept k) image (reads_moments (engines.disk_history history old) (engines.disk_history history mid) goes.stays.reads k image left))
+      inl (engine_holds history old sound idle running (goes.stays.reads.on.kept k) image
+      (reads_moments (engines.disk_history history old) (engines.disk_history history mid) goes.stays.reads k image left))
 
   -- a turn that is undone without the disk
-  pub unwritten : engines.disk_history history new ≡ engines.disk_history history mid → LeavesOnly (engines.disk_history history old) (engines.disk_history history new) (Either old new)
+  pub unwritten : engines.disk_history history new ≡ engines.disk_history history mid
+      → LeavesOnly (engines.disk_history history old) (engines.disk_history history new) (Either old new)
   unwritten same = subst (λ (h : History). LeavesOnly (engines.disk_history history old) h (Either old new)) (sym same) while_read
 
-  pub unwritten_on : engines.disk_history history new ≡ engines.disk_history history mid → GoesOn (engines.disk_history history old) (engines.disk_history history new)
+  pub unwritten_on : engines.disk_history history new ≡ engines.disk_history history mid
+      → GoesOn (engines.disk_history history old) (engines.disk_history history new)
   unwritten_on same = subst (λ (h : History). GoesOn (engines.disk_history history old) h) (sym same) goes.stays.reads.on
 
   module _ (on : GoesOn (engines.disk_history history mid) (engines.disk_history history new)) where
     pub then_on : GoesOn (engines.disk_history history old) (engines.disk_history history new)
     then_on = goes_further (engines.disk_history history old) (engines.disk_history history mid) (engines.disk_history history new) goes.stays.reads.on on
 
-    further : LeavesOnly (engines.disk_history history mid) (engines.disk_history history new) (Either old new) → LeavesOnly (engines.disk_history history old) (engines.disk_history history new) (Either old new)
-    further = leaves_further (engines.disk_history history old) (engines.disk_history history mid) (engines.disk_history history new) (Either old new) on while_read
+    further : LeavesOnly (engines.disk_history history mid) (engines.disk_history history new) (Either old new)
+        → LeavesOnly (engines.disk_history history old) (engines.disk_history history new) (Either old new)
+    further = leaves_further (engines.disk_history history old) (engines.disk_history history mid) (engines.disk_history history new)
+        (Either old new) on while_read
 
     -- a turn that is committed, or that the device cut
     pub moved : turn_start mid ≡ turn_start old → world new ≡ after_commit (world mid)
-        → LeavesOnly (engines.disk_history history mid) (engines.disk_history history new) (λ image. Holds image (turn_start mid) ⊎ Holds image (world mid).collections)
+        → LeavesOnly (engines.disk_history history mid) (engines.disk_history history new)
+        (λ image. Holds image (turn_start mid) ⊎ Holds image (world mid).collections)
         → LeavesOnly (engines.disk_history history old) (engines.disk_history history new) (Either old new)
     moved before after leaves = further
-        (leaves_weaker (engines.disk_history history mid) (engines.disk_history history new) (λ image. Holds image (turn_start mid) ⊎ Holds image (world mid).collections) (Either old new)
+        (leaves_weaker (engines.disk_history history mid) (engines.disk_history history new)
+        (λ image. Holds image (turn_start mid) ⊎ Holds image (world mid).collections) (Either old new)
         (λ image. ⊎_elim
         (λ holds. inl (subst (λ (cs : List Collection). Holds image cs) (before ∙ idle) holds))
         (λ holds. inr (subst (λ (w : World). Holds image w.collections) (sym after) holds)))
         leaves)
 
     -- a turn that is undone by its commit
-    pub moved_back : turn_start mid ≡ turn_start old → LeavesOnly (engines.disk_history history mid) (engines.disk_history history new) (λ image. Holds image (turn_start mid))
+    pub moved_back : turn_start mid ≡ turn_start old
+        → LeavesOnly (engines.disk_history history mid) (engines.disk_history history new) (λ image. Holds image (turn_start mid))
         → LeavesOnly (engines.disk_history history old) (engines.disk_history history new) (Either old new)
     moved_back before leaves = further
         (leaves_weaker (engines.disk_history history mid) (engines.disk_history history new) (λ image. Holds image (turn_start mid)) (Either old new)
@@ -102,15 +116,21 @@ forget_all_state w [] = refl
 forget_all_state w (f ∷ fs) = forget_all_state (forget w f.0) fs
 
 -- the cursors of closed connections end
-pub forgotten : {D : Type 0} (history : D → History) (old mid new : Engine D) (closed : List (ℕ × FrameFault)) → engines.disk_history history new ≡ engines.disk_history history mid → world new ≡ forget_all (world mid) closed
-    → LeavesOnly (engines.disk_history history old) (engines.disk_history history mid) (λ image. Holds image (world old).collections ⊎ Holds image (world mid).collections)
-    → LeavesOnly (engines.disk_history history old) (engines.disk_history history new) (λ image. Holds image (world old).collections ⊎ Holds image (world new).collections)
+pub forgotten : {D : Type 0} (history : D → History) (old mid new : Engine D) (closed : List (ℕ × FrameFault))
+    → engines.disk_history history new ≡ engines.disk_history history mid → world new ≡ forget_all (world mid) closed
+    → LeavesOnly (engines.disk_history history old) (engines.disk_history history mid)
+    (λ image. Holds image (world old).collections ⊎ Holds image (world mid).collections)
+    → LeavesOnly (engines.disk_history history old) (engines.disk_history history new)
+    (λ image. Holds image (world old).collections ⊎ Holds image (world new).collections)
 forgotten history old mid new closed same is leaves =
     let collections : (world new).collections ≡ (world mid).collections = ap (λ (w : World). w.collections) is ∙ forget_all_state (world mid) closed in
-    subst (λ (h : History). LeavesOnly (engines.disk_history history old) h (λ image. Holds image (world old).collections ⊎ Holds image (world new).collections)) (sym same)
-    (subst (λ (x : List Collection). LeavesOnly (engines.disk_history history old) (engines.disk_history history mid) (λ image. Holds image (world old).collections ⊎ Holds image x)) (sym collections) leaves)
+    subst (λ (h : History). LeavesOnly (engines.disk_history history old) h
+    (λ image. Holds image (world old).collections ⊎ Holds image (world new).collections)) (sym same)
+    (subst (λ (x : List Collection). LeavesOnly (engines.disk_history history old) (engines.disk_history history mid)
+    (λ image. Holds image (world old).collections ⊎ Holds image x)) (sym collections) leaves)
 
-pub unmoved : {D : Type 0} (history : D → History) (old new : Core D) → IsSound history old → disk_history history new ≡ disk_history history old → GoesSafely history old new
+pub unmoved : {D : Type 0} (history : D → History) (old new : Core D) → IsSound history old → disk_history history new ≡ disk_history history old
+    → GoesSafely history old new
 unmoved history old new sound same = record {
   on = subst (λ (h : History). GoesOn (disk_history history old) h) (sym same) (goes_nowhere (disk_history history old));
   any_moment = stays history old.engine new.engine (λ image. Holds image (collections_of new)) sound.engine sound.idle same;
@@ -118,7 +138,8 @@ unmoved history old new sound same = record {
 }
 
 -- a call that leaves the file as it is takes no time
-pub same_engine_moment : {D : Type 0} (history : D → History) (old new : Engine D) → engines.file_of new ≡ engines.file_of old → engine_moment history new ≡ engine_moment history old
+pub same_engine_moment : {D : Type 0} (history : D → History) (old new : Engine D) → engines.file_of new ≡ engines.file_of old
+    → engine_moment history new ≡ engine_moment history old
 same_engine_moment history old new file = λ i. record {
   keeps_word = (views.disk_history history (file i)).keeps_word;
   clock = (views.disk_history history (file i)).clock;

@@ -9,7 +9,8 @@ use Rattle.opening.specs.Holding.{Holds}
 use Rattle.server.specs.Moment.{TurnEnd, last_collections, LeavesBetween, HoldsEither, LeavesInOrder}
 
 -- a moment of time alone
-pub moved_between : (h : History) (P : (ℕ → List ℕ) → Type 0) → ((image : ℕ → List ℕ) → IsImage (h.moment h.clock) image → P image) → LeavesBetween h h.clock h.clock P
+pub moved_between : (h : History) (P : (ℕ → List ℕ) → Type 0) → ((image : ℕ → List ℕ) → IsImage (h.moment h.clock) image → P image)
+    → LeavesBetween h h.clock h.clock P
 moved_between h P here t after before image left =
     let same : t ≡ h.clock = omega arith in
     here image (subst (λ (n : ℕ). IsImage (h.moment n) image) same left)
@@ -33,13 +34,15 @@ module _ (h k : History) (on : GoesOn h k) (keeps : KeepsWord k) where
           more keeps image (record { at = t; after = late; before = before; left = left })
 
   module _ (now last : List Collection) (safe : LeavesOnly h k (HoldsEither now last)) where
-    tail_on : (from : ℕ) (before : List Collection) → now ≡ before → LeavesBetween h from h.clock (HoldsEither before now) → LeavesBetween k from k.clock (HoldsEither before last)
+    tail_on : (from : ℕ) (before : List Collection) → now ≡ before → LeavesBetween h from h.clock (HoldsEither before now)
+        → LeavesBetween k from k.clock (HoldsEither before last)
     tail_on from before is leaves =
         between_more from (HoldsEither before last)
         (λ t after early image left. inl (⊎_elim (λ holds. holds) (λ holds. subst (Holds image) is holds) (leaves t after early image left)))
         (λ word image left. ⊎_elim (λ holds. inl (subst (Holds image) is holds)) (λ holds. inr holds) (safe word image left))
 
-    pub in_order_further : (from : ℕ) (before : List Collection) (ends : List TurnEnd) → now ≡ last_collections before ends → LeavesInOrder h from before ends now → LeavesInOrder k from before ends last
+    pub in_order_further : (from : ℕ) (before : List Collection) (ends : List TurnEnd) → now ≡ last_collections before ends
+        → LeavesInOrder h from before ends now → LeavesInOrder k from before ends last
     in_order_further from before [] is order = (omega (arith, order.0, on.clock), tail_on from before is order.1)
     in_order_further from before (e ∷ later) is order = (
       order.0,
@@ -58,7 +61,8 @@ module _ (h k : History) (on : GoesOn h k) (keeps : KeepsWord k) where
       subst (λ (n : ℕ). LeavesBetween k from n (HoldsEither before end.collections)) (sym at_end) (tail_on now end.collections safe from before is order.1),
       (
         omega (arith, at_end),
-        subst (λ (n : ℕ). LeavesBetween k n k.clock (HoldsEither end.collections end.collections)) (sym at_end) (moved_between k (HoldsEither end.collections end.collections) (λ image here. inl (holds image here))),
+        subst (λ (n : ℕ). LeavesBetween k n k.clock (HoldsEither end.collections end.collections)) (sym at_end)
+            (moved_between k (HoldsEither end.collections end.collections) (λ image here. inl (holds image here))),
       ),
     )
     in_order_ended from before (e ∷ later) is order = (
@@ -74,8 +78,10 @@ pub in_order_on : (h k : History) (from : ℕ) (before : List Collection) (ends 
 in_order_on h k from before ends now last on keeps is safe order = in_order_further h k on keeps now last safe from before ends is order
 
 -- a turn that answered
-pub in_order_turned : (h k : History) (from : ℕ) (before : List Collection) (ends : List TurnEnd) (now : List Collection) (end : TurnEnd) → end.at.clock ≡ k.clock → GoesOn h k → KeepsWord k
+pub in_order_turned : (h k : History) (from : ℕ) (before : List Collection) (ends : List TurnEnd) (now : List Collection) (end : TurnEnd)
+    → end.at.clock ≡ k.clock → GoesOn h k → KeepsWord k
     → now ≡ last_collections before ends → LeavesOnly h k (HoldsEither now end.collections)
     → ((image : ℕ → List ℕ) → IsImage (k.moment k.clock) image → Holds image end.collections)
     → LeavesInOrder h from before ends now → LeavesInOrder k from before (ends ++ end ∷ []) end.collections
-in_order_turned h k from before ends now end at_end on keeps is safe holds order = in_order_ended h k on keeps now end at_end safe holds from before ends is order
+in_order_turned h k from before ends now end at_end on keeps is safe holds order =
+    in_order_ended h k on keeps now end at_end safe holds from before ends is order

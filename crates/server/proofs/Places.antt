@@ -1,5 +1,6 @@
 -- Where a connection's link stands among the links, and what that makes of each call.
-use Rattle.std.proofs.Common.{◌≡◌, ℕ, suc, ◌+◌, ◌≤◌, ◌<◌, List, [], ◌∷◌, length, drop, get_or, set, insert, remove, refl, sym, ◌∙◌, ap, subst, arith, drop-cons, append_assoc}
+use Rattle.std.proofs.Common.{◌≡◌, ℕ, suc, ◌+◌, ◌≤◌, ◌<◌, List, [], ◌∷◌, length, drop, get_or, set, insert, remove, refl, sym, ◌∙◌, ap, subst, arith, drop-cons}
+use Rattle.std.proofs.Common.{append_assoc}
 use Rattle.std.specs.Prelude.{Option, Some, None, Result, Ok, Err, ◌++◌}
 use Rattle.std.proofs.Math.Seq.{drop-length}
 use Rattle.std.specs.Ordering.{nat_cmp}
@@ -14,25 +15,34 @@ abbrev pub added : List Connection → ℕ → Connection → List ℕ → List 
 added ls i d bytes = set ls i (add_bytes (get_or ls i d) (get_or ls i d).fault bytes)
 
 abbrev pub IsAt : List Connection → ℕ → Connection → Result ℕ ℕ → Type 0
-IsAt ls c d (Ok i) = (i < length ls) × ((bytes : List ℕ) → feed_connections ls c bytes ≡ added ls i d bytes) × (drop_connection ls c ≡ remove ls i) × (find_connection ls c ≡ Some (get_or ls i d))
-IsAt ls c d (Err i) = (i ≤ length ls) × ((bytes : List ℕ) → feed_connections ls c bytes ≡ insert ls i (new_connection c bytes)) × (drop_connection ls c ≡ ls) × (find_connection ls c ≡ None)
+IsAt ls c d (Ok i) =
+    (i < length ls) × ((bytes : List ℕ) → feed_connections ls c bytes ≡ added ls i d bytes) × (drop_connection ls c ≡ remove ls i)
+    × (find_connection ls c ≡ Some (get_or ls i d))
+IsAt ls c d (Err i) =
+    (i ≤ length ls) × ((bytes : List ℕ) → feed_connections ls c bytes ≡ insert ls i (new_connection c bytes)) × (drop_connection ls c ≡ ls)
+    × (find_connection ls c ≡ None)
 
 module _ (l : Connection) (ls : List Connection) (c : ℕ) (d : Connection) where
   abbrev IsAtBy : Ordering → Result ℕ ℕ → Type 0
   IsAtBy o (Ok i) = (i < length (l ∷ ls))
-      × ((bytes : List ℕ) → by_order o (new_connection c bytes ∷ l ∷ ls) (add_bytes l l.fault bytes ∷ ls) (l ∷ feed_connections ls c bytes) ≡ added (l ∷ ls) i d bytes)
+      × ((bytes : List ℕ)
+      → by_order o (new_connection c bytes ∷ l ∷ ls) (add_bytes l l.fault bytes ∷ ls) (l ∷ feed_connections ls c bytes) ≡ added (l ∷ ls) i d bytes)
       × (by_order o (l ∷ ls) ls (l ∷ drop_connection ls c) ≡ remove (l ∷ ls) i)
       × (by_order o None (Some l) (find_connection ls c) ≡ Some (get_or (l ∷ ls) i d))
   IsAtBy o (Err i) = (i ≤ length (l ∷ ls))
-      × ((bytes : List ℕ) → by_order o (new_connection c bytes ∷ l ∷ ls) (add_bytes l l.fault bytes ∷ ls) (l ∷ feed_connections ls c bytes) ≡ insert (l ∷ ls) i (new_connection c bytes))
+      × ((bytes : List ℕ)
+      → by_order o (new_connection c bytes ∷ l ∷ ls) (add_bytes l l.fault bytes ∷ ls) (l ∷ feed_connections ls c bytes)
+      ≡ insert (l ∷ ls) i (new_connection c bytes))
       × (by_order o (l ∷ ls) ls (l ∷ drop_connection ls c) ≡ l ∷ ls)
       × (by_order o None (Some l) (find_connection ls c) ≡ None)
 
   at_first : (o : Ordering) (r : Result ℕ ℕ) → IsAt ls c d r → IsAtBy o (by_order o (Err 0) (Ok 0) (shifted r))
   at_first orders.Less r h = (omega arith, λ bytes. refl, refl, refl)
   at_first orders.Equal r h = (omega arith, λ bytes. refl, refl, refl)
-  at_first orders.Greater (Ok i) h = (omega (arith, h.0), λ bytes. ap (λ (ks : List Connection). l ∷ ks) (h.1 bytes), ap (λ (ks : List Connection). l ∷ ks) h.2, h.3)
-  at_first orders.Greater (Err i) h = (omega (arith, h.0), λ bytes. ap (λ (ks : List Connection). l ∷ ks) (h.1 bytes), ap (λ (ks : List Connection). l ∷ ks) h.2, h.3)
+  at_first orders.Greater (Ok i) h =
+      (omega (arith, h.0), λ bytes. ap (λ (ks : List Connection). l ∷ ks) (h.1 bytes), ap (λ (ks : List Connection). l ∷ ks) h.2, h.3)
+  at_first orders.Greater (Err i) h =
+      (omega (arith, h.0), λ bytes. ap (λ (ks : List Connection). l ∷ ks) (h.1 bytes), ap (λ (ks : List Connection). l ∷ ks) h.2, h.3)
 
 pub places : (ls : List Connection) (c : ℕ) (d : Connection) → IsAt ls c d (place_in ls c)
 places [] c d = (omega arith, λ bytes. refl, refl, refl)
@@ -93,7 +103,8 @@ kept_connection : (l : Connection) (fault : Option FrameFault) (x : List ℕ) �
 kept_connection l None x = refl
 kept_connection l (Some fault) x = refl
 
-added_twice : (l : Connection) (fault : Option FrameFault) (x y : List ℕ) → l.fault ≡ fault → add_bytes (add_bytes l fault x) (add_bytes l fault x).fault y ≡ add_bytes l fault (x ++ y)
+added_twice : (l : Connection) (fault : Option FrameFault) (x y : List ℕ) → l.fault ≡ fault
+    → add_bytes (add_bytes l fault x) (add_bytes l fault x).fault y ≡ add_bytes l fault (x ++ y)
 added_twice l None x y e =
     ap (λ (f : Option FrameFault). add_bytes (record l { frames = l.frames ++ x }) f y) e
     ∙ ap (λ (bytes : List ℕ). record l { frames = bytes }) (append_assoc l.frames x y)

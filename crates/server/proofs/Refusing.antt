@@ -36,7 +36,9 @@ one_room false id number request = λ k d within. elim_one k d within
 
 rooms : (cs : List Call) → All HasRoom (frames_of cs (refused_calls OutOfMemory cs))
 rooms [] = All-nil HasRoom
-rooms (c ∷ cs) = All-append HasRoom (frame_for c (refusal_reply OutOfMemory)) (frames_of cs (refused_calls OutOfMemory cs)) (one_room c.frame.more_to_come c.connection.id (next_number c.connection.last_reply) c.frame.number) (rooms cs)
+rooms (c ∷ cs) =
+    All-append HasRoom (frame_for c (refusal_reply OutOfMemory)) (frames_of cs (refused_calls OutOfMemory cs))
+    (one_room c.frame.more_to_come c.connection.id (next_number c.connection.last_reply) c.frame.number) (rooms cs)
 
 pub refused_room : (connections : List Connection) → HaveRoom (refused_frames OutOfMemory connections)
 refused_room connections = rooms (calls connections)
@@ -45,7 +47,8 @@ respelled-append : (fs gs : List (ℕ × List ℕ)) → respelled_frames (fs ++ 
 respelled-append [] gs = refl
 respelled-append (f ∷ fs) gs = ap (λ (hs : List (ℕ × List ℕ)). (f.0, respelled f.1 full_body) ∷ hs) (respelled-append fs gs)
 
-one_respelled : (more : Bool) (id number request : ℕ) → respelled_frames (frame_unless more id number request (refusal_reply OutOfMemory)) ≡ frame_unless more id number request (refusal_reply Full)
+one_respelled : (more : Bool) (id number request : ℕ)
+    → respelled_frames (frame_unless more id number request (refusal_reply OutOfMemory)) ≡ frame_unless more id number request (refusal_reply Full)
 unfolding reply_bytes
 one_respelled true id number request = refl
 one_respelled false id number request =
@@ -76,7 +79,8 @@ module _ {Z : Type 0} where
   tail_is x y xs ys e = cc
 
   -- the element stands where it stood, and has room
-  pub room_at : (now first : List (ℕ × Vec ℕ Z)) (i : ℕ) (x : ℕ × Vec ℕ Z) → i < length now → i < length first → drop i now ≡ drop i first → HaveRoom (frames_in first) → length full_body + 21 ≤ length (get_or now i x).1.items
+  pub room_at : (now first : List (ℕ × Vec ℕ Z)) (i : ℕ) (x : ℕ × Vec ℕ Z) → i < length now → i < length first → drop i now ≡ drop i first
+      → HaveRoom (frames_in first) → length full_body + 21 ≤ length (get_or now i x).1.items
   room_at [] first i x within also d room = absurd (omega arith)
   room_at (m ∷ ms) [] i x within also d room = absurd (omega arith)
   room_at (m ∷ ms) (f ∷ fs) zero x within also d room =
@@ -88,7 +92,8 @@ module _ {Z : Type 0} where
     pub done : frames_in (take (suc i) now) ≡ respelled_frames (frames_in (take (suc i) first))
     pub left : drop (suc i) now ≡ drop (suc i) first
 
-  pub respell_step : (now first : List (ℕ × Vec ℕ Z)) (i : ℕ) (x new : ℕ × Vec ℕ Z) → i < length now → i < length first → frames_in (take i now) ≡ respelled_frames (frames_in (take i first)) → drop i now ≡ drop i first
+  pub respell_step : (now first : List (ℕ × Vec ℕ Z)) (i : ℕ) (x new : ℕ × Vec ℕ Z) → i < length now → i < length first
+      → frames_in (take i now) ≡ respelled_frames (frames_in (take i first)) → drop i now ≡ drop i first
       → new.0 ≡ (get_or now i x).0 → new.1.items ≡ respelled (get_or now i x).1.items full_body → Respelled (set now i new) first i
   respell_step [] first i x new within also t d c e = absurd (omega arith)
   respell_step (m ∷ ms) [] i x new within also t d c e = absurd (omega arith)
@@ -101,7 +106,8 @@ module _ {Z : Type 0} where
   respell_step (m ∷ ms) (f ∷ fs) (suc i) x new within also t d c e =
       let a : ℕ × List ℕ = (m.0, m.1.items) in
       let b : ℕ × List ℕ = (f.0, respelled f.1.items full_body) in
-      let s = respell_step ms fs i x new (omega arith) (omega arith) (tail_of_frames a b (frames_in (take i ms)) (respelled_frames (frames_in (take i fs))) t) d c e in
+      let s = respell_step ms fs i x new (omega arith) (omega arith)
+      (tail_of_frames a b (frames_in (take i ms)) (respelled_frames (frames_in (take i fs))) t) d c e in
       record {
         done = λ k. head_of_frames a b (frames_in (take i ms)) (respelled_frames (frames_in (take i fs))) t k ∷ s.done k;
         left = s.left;

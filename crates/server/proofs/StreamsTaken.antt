@@ -12,7 +12,8 @@ use Rattle.op_msg.specs.Frame.{Frame, front}
 use Rattle.op_msg.specs.Stream.{Begins}
 use Rattle.op_msg.specs.declared.fault.FrameFault.{FrameFault}
 use Rattle.op_msg.proofs.Streams.{stays}
-use Rattle.server.specs.ServerState.{ServerState, add_bytes, are_above, are_ascending, drop_connection, ended, fed, feed_connections, find_connection, new_connection}
+use Rattle.server.specs.ServerState.{ServerState, add_bytes, are_above, are_ascending, drop_connection, ended, fed, feed_connections, find_connection}
+use Rattle.server.specs.ServerState.{new_connection}
 use Rattle.server.specs.Moment.{Moment, TurnEnd}
 use Rattle.server.specs.Causes.{IsCaused}
 use Rattle.server.specs.History.{Happens, RoomRanOut}
@@ -60,7 +61,8 @@ abbrev Takes : List ℕ → List Frame → Connection → Type 0
 Takes stream frames last = (rest : List ℕ) × Begins stream frames rest × IsLeft last.fault last.frames rest
 
 -- nothing is taken from a link that a fault closed
-closed_stays : (connection : Connection) (fault : FrameFault) (events : List Event) → connection.fault ≡ Some fault → (taken_over connection events ≡ []) × (connection_over connection events ≡ connection)
+closed_stays : (connection : Connection) (fault : FrameFault) (events : List Event) → connection.fault ≡ Some fault
+    → (taken_over connection events ≡ []) × (connection_over connection events ≡ connection)
 closed_stays connection fault [] e = (refl, refl)
 closed_stays connection fault (bytes chunk ∷ later) e =
     let same : add_bytes connection connection.fault chunk ≡ connection = ap (λ (f : Option FrameFault). add_bytes connection f chunk) e in
@@ -74,29 +76,43 @@ closed_stays connection fault (turn ∷ later) e =
       ap (λ (l : Connection). connection_over l later) same ∙ behind.1,
     )
 
-closed : (connection : Connection) (fault : FrameFault) (events : List Event) (stream : List ℕ) → connection.fault ≡ Some fault → front stream ≡ Err fault → Takes stream (taken_over connection events) (connection_over connection events)
+closed : (connection : Connection) (fault : FrameFault) (events : List Event) (stream : List ℕ) → connection.fault ≡ Some fault → front stream ≡ Err fault
+    → Takes stream (taken_over connection events) (connection_over connection events)
 closed connection fault events stream e f =
-    let s = closed_stays connection fault events e in
-    (stream, subst (λ (fs : List Frame). Begins stream fs stream) (sym s.0) refl, subst (λ (x : Option FrameFault). IsLeft x (connection_over connection events).frames stream) (sym (ap (λ (l : Connection). l.fault) s.1 ∙ e)) f)
+    let s = closed_stays connection fault events e in (
+      stream,
+      subst (λ (fs : List Frame). Begins stream fs stream) (sym s.0) refl,
+      subst (λ (x : Option FrameFault). IsLeft x (connection_over connection events).frames stream) (sym (ap (λ (l : Connection). l.fault) s.1 ∙ e)) f,
+    )
 
-module _ (connection : Connection) (later : List Event) (is_open : connection.fault ≡ None) (goes_on : (l : Connection) → l.fault ≡ None → Takes (l.frames ++ stream_of later) (taken_over l later) (connection_over l later)) where
-  by_front : (f : Front) → front connection.frames ≡ f → Takes (connection.frames ++ stream_of later) (message_at f ++ taken_over (connection_at connection f) later) (connection_over (connection_at connection f) later)
+module _ (connection : Connection) (later : List Event) (is_open : connection.fault ≡ None) (goes_on : (l : Connection) → l.fault ≡ None
+    → Takes (l.frames ++ stream_of later) (taken_over l later) (connection_over l later)) where
+  by_front : (f : Front) → front connection.frames ≡ f
+      → Takes (connection.frames ++ stream_of later) (message_at f ++ taken_over (connection_at connection f) later)
+      (connection_over (connection_at connection f) later)
   by_front (Ok None) e = goes_on connection is_open
   by_front (Ok (Some x)) e =
       let t = goes_on (connection_at connection (Ok (Some x))) is_open in
       (t.0, (x.1 ++ stream_of later, (stays connection.frames (stream_of later)).0 x.0 x.1 e, t.1), t.2)
-  by_front (Err fault) e = closed (connection_at connection (Err fault)) fault later (connection.frames ++ stream_of later) refl ((stays connection.frames (stream_of later)).1 fault e)
+  by_front (Err fault) e =
+      closed (connection_at connection (Err fault)) fault later (connection.frames ++ stream_of later) refl
+      ((stays connection.frames (stream_of later)).1 fault e)
 
-takes : (connection : Connection) (events : List Event) → connection.fault ≡ None → Takes (connection.frames ++ stream_of events) (taken_over connection events) (connection_over connection events)
-takes connection [] is_open = (connection.frames, sym (append-nil connection.frames), subst (λ (x : Option FrameFault). IsLeft x connection.frames connection.frames) (sym is_open) refl)
+takes : (connection : Connection) (events : List Event) → connection.fault ≡ None
+    → Takes (connection.frames ++ stream_of events) (taken_over connection events) (connection_over connection events)
+takes connection [] is_open =
+    (connection.frames, sym (append-nil connection.frames), subst (λ (x : Option FrameFault). IsLeft x connection.frames connection.frames) (sym is_open) refl)
 takes connection (bytes chunk ∷ later) is_open =
-    let fed : add_bytes connection connection.fault chunk ≡ record connection { frames = connection.frames ++ chunk } = ap (λ (f : Option FrameFault). add_bytes connection f chunk) is_open in
+    let fed : add_bytes connection connection.fault chunk ≡ record connection { frames = connection.frames ++ chunk } =
+    ap (λ (f : Option FrameFault). add_bytes connection f chunk) is_open in
     let t = takes (record connection { frames = connection.frames ++ chunk }) later is_open in
     subst (λ (l : Connection). Takes (connection.frames ++ (chunk ++ stream_of later)) (taken_over l later) (connection_over l later)) (sym fed)
-    (subst (λ (s : List ℕ). Takes s (taken_over (record connection { frames = connection.frames ++ chunk }) later) (connection_over (record connection { frames = connection.frames ++ chunk }) later)) (append_assoc connection.frames chunk (stream_of later)) t)
+    (subst (λ (s : List ℕ). Takes s (taken_over (record connection { frames = connection.frames ++ chunk }) later)
+    (connection_over (record connection { frames = connection.frames ++ chunk }) later)) (append_assoc connection.frames chunk (stream_of later)) t)
 takes connection (turn ∷ later) is_open =
     let is : front_of connection ≡ front connection.frames = ap (λ (f : Option FrameFault). front_if_open f connection.frames) is_open in
-    subst (λ (f : Front). Takes (connection.frames ++ stream_of later) (message_at f ++ taken_over (connection_at connection f) later) (connection_over (connection_at connection f) later)) (sym is)
+    subst (λ (f : Front). Takes (connection.frames ++ stream_of later) (message_at f ++ taken_over (connection_at connection f) later)
+    (connection_over (connection_at connection f) later)) (sym is)
     (by_front connection later is_open (λ l o. takes l later o) (front connection.frames) refl)
 
 -- ---- the connection of a number among connections
@@ -112,7 +128,8 @@ kept_id : (l : Connection) (fault : Option FrameFault) (chunk : List ℕ) → (a
 kept_id l None chunk = refl
 kept_id l (Some fault) chunk = refl
 
-first_fed : (id n : ℕ) (chunk : List ℕ) (q : Ordering) → nat_cmp id n ≡ q → found id (by_order q None (Some (new_connection n chunk)) None) ≡ fed_at id n chunk (new_connection id [])
+first_fed : (id n : ℕ) (chunk : List ℕ) (q : Ordering) → nat_cmp id n ≡ q
+    → found id (by_order q None (Some (new_connection n chunk)) None) ≡ fed_at id n chunk (new_connection id [])
 first_fed id n chunk orders.Less e = let other : (n == id) ≡ false = grind (arith, nat_tests) in rw other refl
 first_fed id n chunk orders.Equal e =
     let same : (n == id) ≡ true = grind (arith, nat_tests) in
@@ -146,7 +163,8 @@ module _ (id n : ℕ) (chunk : List ℕ) (l : Connection) (ls : List Connection)
   in_place orders.Equal e is = let same : (n == id) ≡ true = grind (arith, nat_tests) in rw same refl
   in_place orders.Greater e is = let other : (n == id) ≡ false = grind (arith, nat_tests) in other_than other (before_by orders.Greater)
 
-  behind : (p : Ordering) → nat_cmp n l.id ≡ orders.Greater → nat_cmp id l.id ≡ p → connection_in (feed_connections ls n chunk) id ≡ fed_at id n chunk (connection_in ls id)
+  behind : (p : Ordering) → nat_cmp n l.id ≡ orders.Greater → nat_cmp id l.id ≡ p
+      → connection_in (feed_connections ls n chunk) id ≡ fed_at id n chunk (connection_in ls id)
       → found id (by_order p None (Some l) (find_connection (feed_connections ls n chunk) id)) ≡ fed_at id n chunk (before_by p)
   behind orders.Less e is later = let other : (n == id) ≡ false = grind (arith, nat_tests) in other_than other (before_by orders.Less)
   behind orders.Equal e is later = let other : (n == id) ≡ false = grind (arith, nat_tests) in other_than other (before_by orders.Equal)
@@ -168,12 +186,14 @@ not_called id l (Ok (Some x)) cs other = rw other refl
 not_called id l (Ok None) cs other = refl
 not_called id l (Err fault) cs other = refl
 
-called : (id : ℕ) (l : Connection) (f : Front) (cs : List Call) → (l.id == id) ≡ true → messages_from id (call_at l f ++ cs) ≡ message_at f ++ messages_from id cs
+called : (id : ℕ) (l : Connection) (f : Front) (cs : List Call) → (l.id == id) ≡ true
+    → messages_from id (call_at l f ++ cs) ≡ message_at f ++ messages_from id cs
 called id l (Ok (Some x)) cs same = rw same refl
 called id l (Ok None) cs same = refl
 called id l (Err fault) cs same = refl
 
-none_above : (id low : ℕ) (ls : List Connection) → nat_lt low id ≡ false → are_above low ls ≡ true → (find_connection ls id ≡ None) × (messages_from id (calls ls) ≡ [])
+none_above : (id low : ℕ) (ls : List Connection) → nat_lt low id ≡ false → are_above low ls ≡ true
+    → (find_connection ls id ≡ None) × (messages_from id (calls ls) ≡ [])
 none_above id low [] past h = (refl, refl)
 none_above id low (l ∷ ls) past h =
     let parts = both (nat_lt low l.id) (are_above l.id ls) h in
@@ -213,7 +233,8 @@ turned_in id [] = refl
 turned_in id (l ∷ ls) = rw (turned_id l (front_of l)) (by (nat_cmp id l.id) (turned_in id ls))
   where
     by : (o : Ordering) → connection_in (connections_after ls) id ≡ connection_after (connection_in ls id)
-        → found id (by_order o None (Some (connection_after l)) (find_connection (connections_after ls) id)) ≡ connection_after (found id (by_order o None (Some l) (find_connection ls id)))
+        → found id (by_order o None (Some (connection_after l)) (find_connection (connections_after ls) id))
+        ≡ connection_after (found id (by_order o None (Some l) (find_connection ls id)))
     by orders.Less later = refl
     by orders.Equal later = refl
     by orders.Greater later = later
@@ -231,7 +252,8 @@ taken_in id (l ∷ ls) h = by (nat_cmp id l.id) refl (taken_in id ls (above_asce
         not_called id l (front_of l) (calls ls) other ∙ (none_above id l.id ls (grind (arith, nat_tests)) h).1
     by orders.Equal e later =
         let same : (l.id == id) ≡ true = grind (arith, nat_tests) in
-        called id l (front_of l) (calls ls) same ∙ ap (λ (fs : List Frame). message_at (front_of l) ++ fs) (none_above id l.id ls (grind (arith, nat_tests)) h).1
+        called id l (front_of l) (calls ls) same
+        ∙ ap (λ (fs : List Frame). message_at (front_of l) ++ fs) (none_above id l.id ls (grind (arith, nat_tests)) h).1
         ∙ append-nil (message_at (front_of l))
     by orders.Greater e later =
         let other : (l.id == id) ≡ false = grind (arith, nat_tests) in
@@ -250,7 +272,8 @@ stream_is id [] = refl
 stream_is id (steps.Bytes n chunk ∷ later) = by (n == id) (stream_is id later)
   where
     by : (b : Bool) → stream_of (events_for id later) ≡ bytes_from id later
-        → stream_of (if b then bytes chunk.items ∷ events_for id later else events_for id later) ≡ (if b then chunk.items ++ bytes_from id later else bytes_from id later)
+        → stream_of (if b then bytes chunk.items ∷ events_for id later else events_for id later)
+        ≡ (if b then chunk.items ++ bytes_from id later else bytes_from id later)
     by true later = ap (λ (s : List ℕ). chunk.items ++ s) later
     by false later = later
 stream_is id (steps.Turn ∷ later) = stream_is id later
@@ -275,7 +298,8 @@ fed_alone id n chunk later c mid taken last is h false e =
     (h.0 ∙ ap (λ (x : Connection). taken_over x (events_for id later)) is_same, h.1 ∙ ap (λ (x : Connection). connection_over x (events_for id later)) is_same)
 
 -- the connections after a turn, done or undone
-turned : (beside : World → Refusal → Type 0) (no_room : Type 0) (state new : ServerState) (out : Out) → Turns beside no_room state out new → new.connections ≡ connections_after state.connections
+turned : (beside : World → Refusal → Type 0) (no_room : Type 0) (state new : ServerState) (out : Out) → Turns beside no_room state out new
+    → new.connections ≡ connections_after state.connections
 turned beside no_room state new out (inl done) = ap (λ (s : ServerState). s.connections) done.leaves
 turned beside no_room state new out (inr (inl undone)) = ap (λ (s : ServerState). s.connections) undone.leaves
 turned beside no_room state new out (inr (inr (full, undone))) = ap (λ (s : ServerState). s.connections) undone.leaves
@@ -286,8 +310,10 @@ alone : (id : ℕ) (at : Moment) (state : ServerState) (all : List Step) (given 
 alone id at state [] given ends new h ascends unended = (refl, ap (λ (s : ServerState). connection_in s.connections id) h.2)
 alone id at state (steps.Bytes n chunk ∷ later) given ends new h ascends unended =
     let mid = fed state n chunk.items in
-    fed_alone id n chunk.items later (connection_in state.connections id) (connection_in mid.connections id) (taken_from id at mid later given ends new h) (connection_in new.connections id)
-    (fed_in id n chunk.items state.connections) (alone id at mid later given ends new h (feed_ascends state.connections n chunk.items ascends) unended) (n == id) refl
+    fed_alone id n chunk.items later (connection_in state.connections id) (connection_in mid.connections id) (taken_from id at mid later given ends new h)
+    (connection_in new.connections id)
+    (fed_in id n chunk.items state.connections) (alone id at mid later given ends new h (feed_ascends state.connections n chunk.items ascends) unended)
+    (n == id) refl
 alone id at state (steps.Gone n ∷ later) given ends new h ascends unended =
     let mid = ended state n in
     let rest = alone id at mid later given ends new h (drop_ascends state.connections n ascends) unended.1 in

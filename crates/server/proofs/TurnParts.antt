@@ -13,8 +13,10 @@ use Rattle.server.specs.View.{state}
 use Rattle.server.specs.declared.connection.Connection.{Connection}
 use Rattle.server.specs.declared.turn.Core.{Core}
 
-module _ {D : Type 0} (word : Type 0) (beside : World → Refusal → Type 0) (no_room : Type 0) (core : Core D) (given : List (ℕ × List ℕ)) (mid : World) (closed : List (ℕ × FrameFault)) (new : World) (left : List Connection)
-    (s : EndsTurn word beside no_room (world core.engine) core.connections.items given mid) (closes : closed ≡ faults core.connections.items) (forgets : new ≡ forget_all mid closed)
+module _ {D : Type 0} (word : Type 0) (beside : World → Refusal → Type 0) (no_room : Type 0) (core : Core D) (given : List (ℕ × List ℕ)) (mid : World)
+    (closed : List (ℕ × FrameFault)) (new : World) (left : List Connection)
+    (s : EndsTurn word beside no_room (world core.engine) core.connections.items given mid) (closes : closed ≡ faults core.connections.items)
+    (forgets : new ≡ forget_all mid closed)
     (go_on : left ≡ connections_after core.connections.items) where
   abbrev connections : List Connection
   connections = core.connections.items

@@ -1,5 +1,6 @@
 -- What an update makes of a document may be stored, and keeps its `_id`.
-use Rattle.std.proofs.Common.{◌≡◌, ◌≢◌, ℕ, zero, suc, Bool, ◌∷◌, ◌<◌, ◌≤◌, List, [], ◌++◌, length, get_or, set, true, false, Option, Some, None, Result, Ok, refl, sym, ap, subst, ◌∙◌, arith, inl, inr}
+use Rattle.std.proofs.Common.{◌≡◌, ◌≢◌, ℕ, zero, suc, Bool, ◌∷◌, ◌<◌, ◌≤◌, List, [], ◌++◌, length, get_or, set, true, false, Option, Some, None, Result, Ok}
+use Rattle.std.proofs.Common.{refl, sym, ap, subst, ◌∙◌, arith, inl, inr}
 use Rattle.std.specs.Prelude.{nat_lt, option_and_then, unwrap_or}
 use Rattle.std.specs.Str.{bytes_eq}
 use Rattle.std.specs.declared.cmp.Ordering.{Ordering}
@@ -86,7 +87,8 @@ lookup_of ps t e = at (lookup ps id_name) e
 
 module _ (u : Change) (ps qs : Pairs) (read : IsRead u) (stored : IsStored ps) (e : apply u 65535 ps ≡ Ok qs) where
   pub kept_key : key_of qs ≡ key_of ps
-  kept_key = ap (λ (o : Option Tree). unwrap_or o (scalar null)) (keeps_id read.source u 65535 ps qs (key_of ps) read.reads e (lookup_of ps (key_of ps) stored.key))
+  kept_key = ap (λ (o : Option Tree). unwrap_or o (scalar null))
+      (keeps_id read.source u 65535 ps qs (key_of ps) read.reads e (lookup_of ps (key_of ps) stored.key))
 
   pub kept_stored : IsStored qs
   kept_stored = may_be_stored qs (applied u ps qs e) (subst (λ (t : Tree). length (tree_text t) ≤ 500) (sym kept_key) stored.short)
@@ -96,7 +98,8 @@ module _ (u : Change) (ps qs : Pairs) (read : IsRead u) (stored : IsStored ps) (
 module _ (u : Change) (ps qs : Pairs) (size : length (spelled ps) ≤ 65535) (e : apply u 65535 ps ≡ Ok qs) (d : IsDocument ps) (f : IsDocument qs) where
   one_document : bytes_eq (spelled ps) (spelled qs) ≡ true → ps ≡ qs
   one_document same =
-      (one_spelling (spelled ps) (spelled qs) [] [] ps qs (spells ps size d) (spells qs (applied u ps qs e).size f) (ap (λ (bs : List ℕ). bs ++ []) ((bytes_eq-Decides (spelled ps) (spelled qs)).0 same))).0
+      (one_spelling (spelled ps) (spelled qs) [] [] ps qs (spells ps size d) (spells qs (applied u ps qs e).size f)
+      (ap (λ (bs : List ℕ). bs ++ []) ((bytes_eq-Decides (spelled ps) (spelled qs)).0 same))).0
 
   -- other documents have other bytes
   pub other_bytes : ps ≢ qs → bytes_eq (spelled ps) (spelled qs) ≡ false
@@ -134,7 +137,8 @@ later_pairs : Pairs → Pairs
 later_pairs no_pairs = no_pairs
 later_pairs (pair name t ps) = ps
 
-same_values : (xs ys : List Pair) (i : ℕ) (p : Pair) → pairs_of xs ≡ pairs_of ys → i < length xs → i < length ys → tree (get_or xs i p).value ≡ tree (get_or ys i p).value
+same_values : (xs ys : List Pair) (i : ℕ) (p : Pair) → pairs_of xs ≡ pairs_of ys → i < length xs → i < length ys
+    → tree (get_or xs i p).value ≡ tree (get_or ys i p).value
 unfolding first_value later_pairs
 same_values [] ys i p e within below = absurd (omega arith)
 same_values (x ∷ xs) [] i p e within below = absurd (omega arith)
@@ -147,10 +151,12 @@ equal_to_itself t orders.Less e = absurd (let f = flipped compare_total t t orde
 equal_to_itself t orders.Greater e = absurd (let f = flipped compare_total t t orders.Greater e in let no = sym e ∙ f in cc)
 
 -- values that are not equal don't stand in one document
-pub other_values : (xs ys : List Pair) (i : ℕ) (p q : Pair) → i < length xs → i < length ys → p ≡ get_or xs i p → q ≡ get_or ys i q → compare (tree p.value) (tree q.value) ≢ orders.Equal → pairs_of xs ≢ pairs_of ys
+pub other_values : (xs ys : List Pair) (i : ℕ) (p q : Pair) → i < length xs → i < length ys → p ≡ get_or xs i p → q ≡ get_or ys i q
+    → compare (tree p.value) (tree q.value) ≢ orders.Equal → pairs_of xs ≢ pairs_of ys
 other_values xs ys i p q within below is_p is_q other same =
     let alike : tree p.value ≡ tree q.value =
-    ap (λ (x : Pair). tree x.value) is_p ∙ same_values xs ys i p same within below ∙ ap (λ (x : Pair). tree x.value) (get_or_default ys i p q below ∙ sym is_q) in
+    ap (λ (x : Pair). tree x.value) is_p ∙ same_values xs ys i p same within below
+    ∙ ap (λ (x : Pair). tree x.value) (get_or_default ys i p q below ∙ sym is_q) in
     other (ap (λ (t : Tree). compare t (tree q.value)) alike ∙ equal_to_itself (tree q.value) (compare (tree q.value) (tree q.value)) refl)
 
 -- ---- a document of a collection
@@ -164,7 +170,8 @@ rising_set ds i new within same up a b d lt below =
     keyed : (k : ℕ) (d : Pairs) → k < length ds → key_of (get_or (set ds i new) k d) ≡ key_of (get_or ds k d)
     keyed k d k_in =
         elim (cases_eq k i) [
-          | inl e ↦ ap key_of (get_or-set_at ds i k new d e within) ∙ same ∙ ap key_of (get_or_default ds i no_pairs d within ∙ ap (λ (j : ℕ). get_or ds j d) (sym e))
+          | inl e ↦ ap key_of (get_or-set_at ds i k new d e within) ∙ same
+              ∙ ap key_of (get_or_default ds i no_pairs d within ∙ ap (λ (j : ℕ). get_or ds j d) (sym e))
           | inr other ↦ ap key_of (get_or-set_other ds i k new d other)
         ]
 

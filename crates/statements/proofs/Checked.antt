@@ -24,7 +24,8 @@ without-without : (ps : Pairs) (name : List ℕ) → without (without ps name) n
 without-without no_pairs name = refl
 without-without (pair n t ps) name = at (bytes_eq name n) refl (without-without ps name)
   where
-    at : (b : Bool) → bytes_eq name n ≡ b → without (without ps name) name ≡ without ps name → without (if b then without ps name else pair n t (without ps name)) name ≡ (if b then without ps name else pair n t (without ps name))
+    at : (b : Bool) → bytes_eq name n ≡ b → without (without ps name) name ≡ without ps name
+        → without (if b then without ps name else pair n t (without ps name)) name ≡ (if b then without ps name else pair n t (without ps name))
     at true e later = later
     at false e later = ap (λ (b : Bool). if b then without (without ps name) name else pair n t (without (without ps name) name)) e ∙ ap (pair n t) later
 
@@ -32,7 +33,8 @@ lookup-without : (ps : Pairs) (name : List ℕ) → lookup (without ps name) nam
 lookup-without no_pairs name = refl
 lookup-without (pair n t ps) name = at (bytes_eq name n) refl (lookup-without ps name)
   where
-    at : (b : Bool) → bytes_eq name n ≡ b → lookup (without ps name) name ≡ None → lookup (if b then without ps name else pair n t (without ps name)) name ≡ None
+    at : (b : Bool) → bytes_eq name n ≡ b → lookup (without ps name) name ≡ None
+        → lookup (if b then without ps name else pair n t (without ps name)) name ≡ None
     at true e later = later
     at false e later = ap (λ (b : Bool). if b then Some t else lookup (without ps name) name) e ∙ later
 
@@ -73,7 +75,8 @@ shorter : (ps : Pairs) (name : List ℕ) → length (pairs_bytes (without ps nam
 shorter no_pairs name = omega arith
 shorter (pair n t ps) name = at (bytes_eq name n) (shorter ps name)
   where
-    at : (b : Bool) → length (pairs_bytes (without ps name)) ≤ length (pairs_bytes ps) → length (pairs_bytes (if b then without ps name else pair n t (without ps name))) ≤ length (pairs_bytes (pair n t ps))
+    at : (b : Bool) → length (pairs_bytes (without ps name)) ≤ length (pairs_bytes ps)
+        → length (pairs_bytes (if b then without ps name else pair n t (without ps name))) ≤ length (pairs_bytes (pair n t ps))
     at true later = omega (arith, pairs_size-pair n t ps)
     at false later = omega (arith, pairs_size-pair n t ps, pairs_size-pair n t (without ps name))
 
@@ -81,13 +84,28 @@ no_longer : (ps : Pairs) (name : List ℕ) (t : Tree) → lookup ps name ≡ Som
 no_longer no_pairs name t e = absurd cc
 no_longer (pair n u ps) name t e = at (bytes_eq name n) refl e (λ found. no_longer ps name t found)
   where
-    at : (b : Bool) → bytes_eq name n ≡ b → (if b then Some u else lookup ps name) ≡ Some t → (lookup ps name ≡ Some t → length (pairs_bytes (pair name t (without ps name))) ≤ length (pairs_bytes ps))
+    at : (b : Bool) → bytes_eq name n ≡ b → (if b then Some u else lookup ps name) ≡ Some t
+        → (lookup ps name ≡ Some t → length (pairs_bytes (pair name t (without ps name))) ≤ length (pairs_bytes ps))
         → length (pairs_bytes (pair name t (if b then without ps name else pair n u (without ps name)))) ≤ length (pairs_bytes (pair n u ps))
     at true same found in_rest =
         let value : u ≡ t = cc in
-        omega (arith, pairs_size-pair n u ps, pairs_size-pair name t (without ps name), shorter ps name, ap (λ (x : Tree). length (tree_bytes x)) value, ap length ((bytes_eq-Decides name n).0 same))
+        omega (
+          arith,
+          pairs_size-pair n u ps,
+          pairs_size-pair name t (without ps name),
+          shorter ps name,
+          ap (λ (x : Tree). length (tree_bytes x)) value,
+          ap length ((bytes_eq-Decides name n).0 same),
+        )
     at false other found in_rest =
-        omega (arith, in_rest found, pairs_size-pair n u ps, pairs_size-pair name t (without ps name), pairs_size-pair n u (without ps name), pairs_size-pair name t (pair n u (without ps name)))
+        omega (
+          arith,
+          in_rest found,
+          pairs_size-pair n u ps,
+          pairs_size-pair name t (without ps name),
+          pairs_size-pair n u (without ps name),
+          pairs_size-pair name t (pair n u (without ps name)),
+        )
 
 frame_of-id_first : (ps : Pairs) → length (frame_of (pairs_bytes (id_first ps))) ≤ length (frame_of (pairs_bytes ps))
 frame_of-id_first ps =
@@ -102,7 +120,8 @@ no_deeper : (ps : Pairs) (name : List ℕ) (t : Tree) → lookup ps name ≡ Som
 no_deeper no_pairs name t e = absurd cc
 no_deeper (pair n u ps) name t e = at (bytes_eq name n) e (λ found. no_deeper ps name t found)
   where
-    at : (b : Bool) → (if b then Some u else lookup ps name) ≡ Some t → (lookup ps name ≡ Some t → levels t ≤ pairs_levels ps) → levels t ≤ max (levels u) (pairs_levels ps)
+    at : (b : Bool) → (if b then Some u else lookup ps name) ≡ Some t → (lookup ps name ≡ Some t → levels t ≤ pairs_levels ps)
+        → levels t ≤ max (levels u) (pairs_levels ps)
     at true found in_rest = let value : u ≡ t = cc in omega (arith, ap levels value)
     at false found in_rest = omega (arith, in_rest found)
 
@@ -132,7 +151,8 @@ of_key u t true e = absurd cc
 of_key u t false e = (cc, refl)
 
 passed : (large deep : Bool) (fault : Option Refusal) (id : Option Tree) (t : Tree)
-    → refused_if (or_else (fault_if large refusals.BSONObjectTooLarge) (fault_if deep refusals.BadValue)) (refused_if fault (keyed id)) ≡ Ok t → Passed large deep fault id t
+    → refused_if (or_else (fault_if large refusals.BSONObjectTooLarge) (fault_if deep refusals.BadValue)) (refused_if fault (keyed id)) ≡ Ok t
+    → Passed large deep fault id t
 passed true deep fault id t e = absurd cc
 passed false true fault id t e = absurd cc
 passed false false (Some r) id t e = absurd cc

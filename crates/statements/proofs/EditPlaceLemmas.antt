@@ -1,5 +1,6 @@
 -- Documents in rising order: what putting one and taking one away by its `_id` are at its place.
-use Rattle.std.proofs.Common.{◌≡◌, ℕ, zero, suc, ◌+◌, ◌<◌, ◌≤◌, List, [], ◌∷◌, length, get_or, set, insert, remove, Option, Some, None, refl, sym, ap, ◌∙◌, arith}
+use Rattle.std.proofs.Common.{◌≡◌, ℕ, zero, suc, ◌+◌, ◌<◌, ◌≤◌, List, [], ◌∷◌, length, get_or, set, insert, remove, Option, Some, None, refl, sym, ap, ◌∙◌}
+use Rattle.std.proofs.Common.{arith}
 use Rattle.std.specs.Prelude.{if◌then◌else◌, option_and_then, option_map}
 use Rattle.std.specs.Cmp.{IsTotalOrder}
 use Rattle.std.specs.Ordering.{is_eq}
@@ -68,8 +69,10 @@ gap_left {X} {K} {R} o key xs i e up within = record {
     after : (k : ℕ) (d : X) → i ≤ k → k < length (remove xs i) → R (key (get_or (remove xs i) k d)) (key (get_or xs i e)) ≡ orders.Greater
     after k d from below =
         let less : R (key (get_or xs i e)) (key (get_or xs (k + 1) d)) ≡ orders.Less =
-        ap (λ (x : X). R (key x) (key (get_or xs (k + 1) d))) (sym (get_or_default xs i d e within)) ∙ up i (k + 1) d (omega (arith, from)) (omega (arith, below, length-remove xs i within)) in
-        ap (λ (x : X). R (key x) (key (get_or xs i e))) (get_or-remove_above xs i d k from within) ∙ flipped o (key (get_or xs i e)) (key (get_or xs (k + 1) d)) orders.Less less
+        ap (λ (x : X). R (key x) (key (get_or xs (k + 1) d))) (sym (get_or_default xs i d e within))
+        ∙ up i (k + 1) d (omega (arith, from)) (omega (arith, below, length-remove xs i within)) in
+        ap (λ (x : X). R (key x) (key (get_or xs i e))) (get_or-remove_above xs i d k from within)
+        ∙ flipped o (key (get_or xs i e)) (key (get_or xs (k + 1) d)) orders.Less less
 
 -- ---- documents by their `_id`
 
@@ -84,14 +87,17 @@ pub put_gap : (ds : List Pairs) (i : ℕ) (new : Pairs) → IsGap (by_key (key_o
 put_gap [] zero new gap = refl
 put_gap [] (suc i) new gap = absurd (omega (arith, gap.within))
 put_gap (d ∷ ds) zero new gap =
-    ap (λ (r : Ordering). by_order r (new ∷ d ∷ ds) (new ∷ ds) (d ∷ put_document new ds)) (flipped compare_total (key_of d) (key_of new) orders.Greater (gap.after 0 d (omega arith) (omega arith)))
+    ap (λ (r : Ordering). by_order r (new ∷ d ∷ ds) (new ∷ ds) (d ∷ put_document new ds))
+    (flipped compare_total (key_of d) (key_of new) orders.Greater (gap.after 0 d (omega arith) (omega arith)))
 put_gap (d ∷ ds) (suc i) new gap =
-    ap (λ (r : Ordering). by_order r (new ∷ d ∷ ds) (new ∷ ds) (d ∷ put_document new ds)) (flipped compare_total (key_of d) (key_of new) orders.Less (gap.before 0 d (omega arith) (omega arith)))
+    ap (λ (r : Ordering). by_order r (new ∷ d ∷ ds) (new ∷ ds) (d ∷ put_document new ds))
+    (flipped compare_total (key_of d) (key_of new) orders.Less (gap.before 0 d (omega arith) (omega arith)))
     ∙ ap (λ (later : List Pairs). d ∷ later) (put_gap ds i new (gap_tail (by_key (key_of new)) d ds i gap))
 
 -- the document of a place is put back there
 pub put_back : (ds : List Pairs) (i : ℕ) → IsRising ds → i < length ds → put_document (get_or ds i no_pairs) (remove ds i) ≡ ds
-put_back ds i up within = put_gap (remove ds i) i (get_or ds i no_pairs) (gap_left compare_total key_of ds i no_pairs up within) ∙ insert-remove ds i no_pairs within
+put_back ds i up within =
+    put_gap (remove ds i) i (get_or ds i no_pairs) (gap_left compare_total key_of ds i no_pairs up within) ∙ insert-remove ds i no_pairs within
 
 -- another `_id` than the first
 pub passes_by : (id : Tree) (d : Pairs) (ds : List Pairs) → compare (key_of d) id ≡ orders.Less → without_document id (d ∷ ds) ≡ d ∷ without_document id ds
@@ -114,7 +120,8 @@ put_where_placed new [] next e = cc
 put_where_placed new (d ∷ ds) next e = by (compare (key_of new) (key_of d)) (place (key_of new) new ds) (put_where_placed new ds) e
   where
     by : (o : Ordering) (later : Option (List Pairs)) → ((xs : List Pairs) → later ≡ Some xs → put_document new ds ≡ xs)
-        → by_order o (Some (new ∷ d ∷ ds)) None (option_map (λ xs. d ∷ xs) later) ≡ Some next → by_order o (new ∷ d ∷ ds) (new ∷ ds) (d ∷ put_document new ds) ≡ next
+        → by_order o (Some (new ∷ d ∷ ds)) None (option_map (λ xs. d ∷ xs) later) ≡ Some next
+        → by_order o (new ∷ d ∷ ds) (new ∷ ds) (d ∷ put_document new ds) ≡ next
     by orders.Less later h f = cc
     by orders.Equal later h f = absurd cc
     by orders.Greater None h f = absurd cc

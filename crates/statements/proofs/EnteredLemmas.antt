@@ -29,7 +29,8 @@ rising_put d ds up = (stay_with [] ds d [] refl refl (record {
 })).rising
 
 -- where none of its `_id` is there, it is one more
-longer_put : (d : Pairs) (ds : List Pairs) → IsBetween d ds ⊎ IsInstead d ds → is_some (find_document ds (key_of d)) ≡ false → length (put_document d ds) ≡ length ds + 1
+longer_put : (d : Pairs) (ds : List Pairs) → IsBetween d ds ⊎ IsInstead d ds → is_some (find_document ds (key_of d)) ≡ false
+    → length (put_document d ds) ≡ length ds + 1
 longer_put d ds (inl b) none = omega (arith, ap length b.put, ap length b.split, length-append b.front (d ∷ b.back), length-append b.front b.back)
 longer_put d ds (inr b) none = let both : true ≡ false = sym (ap is_some (some_instead d ds b)) ∙ none in absurd cc
 
@@ -100,7 +101,8 @@ stays_one c next w good e =
     }
 
 pub stays_kept : (c next : Collection) (ws : List DocumentWrite) → All IsStored (documents_in ws) → enter_each c ws ≡ Ok next → StaysKept c next
-stays_kept c next [] stored e = let same : c ≡ next = cc in subst (StaysKept c) same (record { named = refl; numbered = refl; rising = λ up. up; stored = λ up all. all; indexes = λ h. h })
+stays_kept c next [] stored e = let same : c ≡ next = cc in
+    subst (StaysKept c) same (record { named = refl; numbered = refl; rising = λ up. up; stored = λ up all. all; indexes = λ h. h })
 stays_kept c next (w ∷ ws) stored e =
     let s = step_of (entered c w) (λ mid. enter_each mid ws) next e in
     let first = stays_one c s.0 w (All-head IsStored w.document (documents_in ws) stored) s.1 in

@@ -67,11 +67,13 @@ abbrev AreKept : List Pairs → List Pairs → Type 0
 AreKept ds from = SameKeys ds from × All IsStored ds
 
 module _ (s : UpdateStatement) (read : IsRead s.change) where
-  kept_from : (so_far : Changed) (front ds : List Pairs) (c : Changed) → AreKept so_far.documents front → All IsStored ds → update_from s so_far ds ≡ Ok c → AreKept c.documents (front ++ ds)
+  kept_from : (so_far : Changed) (front ds : List Pairs) (c : Changed) → AreKept so_far.documents front → All IsStored ds → update_from s so_far ds ≡ Ok c
+      → AreKept c.documents (front ++ ds)
   kept_from so_far front [] c h stored e =
       let same : so_far ≡ c = cc in
       subst (λ (x : Changed). AreKept x.documents (front ++ [])) same (subst (AreKept so_far.documents) (sym (append-nil front)) h)
-  kept_from so_far front (d ∷ ds) c h stored e = at (matches s.filter d) (λ next before k f. kept_from next before ds c k (λ i x below. stored (suc i) x (omega arith)) f) e
+  kept_from so_far front (d ∷ ds) c h stored e =
+      at (matches s.filter d) (λ next before k f. kept_from next before ds c k (λ i x below. stored (suc i) x (omega arith)) f) e
     where
       -- what holds of the others
       Goes : Type 0
@@ -84,28 +86,38 @@ module _ (s : UpdateStatement) (read : IsRead s.change) where
       one = stored 0 d (omega arith)
 
       grown : (new : Pairs) → key_of new ≡ key_of d → IsStored new → AreKept (so_far.documents ++ new ∷ []) (front ++ d ∷ [])
-      grown new key kept = (SameKeys-append so_far.documents (new ∷ []) front (d ∷ []) h.0 (key, tt), All-both IsStored so_far.documents (new ∷ []) h.1 (All-one IsStored new kept))
+      grown new key kept = (
+        SameKeys-append so_far.documents (new ∷ []) front (d ∷ []) h.0 (key, tt),
+        All-both IsStored so_far.documents (new ∷ []) h.1 (All-one IsStored new kept),
+      )
 
       together : (front ++ d ∷ []) ++ ds ≡ front ++ d ∷ ds
       together = append_assoc front (d ∷ []) ds
 
       by : Goes → (multi : Bool) (new : Pairs) → key_of new ≡ key_of d → IsStored new
-          → (if multi then update_from s (changed_to d new so_far) ds else (let last = changed_to d new so_far in Ok (record last { documents = last.documents ++ ds }))) ≡ Ok c → AreKept c.documents (front ++ d ∷ ds)
+          → (if multi then update_from s (changed_to d new so_far) ds
+          else (let last = changed_to d new so_far in Ok (record last { documents = last.documents ++ ds }))) ≡ Ok c → AreKept c.documents (front ++ d ∷ ds)
       by go true new key kept f = subst (AreKept c.documents) together (go (changed_to d new so_far) (front ++ d ∷ []) (grown new key kept) f)
       by go false new key kept f =
           let last = changed_to d new so_far in
           let same : record last { documents = last.documents ++ ds } ≡ c = cc in
           let g = grown new key kept in
           subst (λ (x : Changed). AreKept x.documents (front ++ d ∷ ds)) same
-          (subst (AreKept ((so_far.documents ++ new ∷ []) ++ ds)) together (SameKeys-append (so_far.documents ++ new ∷ []) ds (front ++ d ∷ []) ds g.0 (SameKeys-refl ds), All-both IsStored (so_far.documents ++ new ∷ []) ds g.1 others))
+          (subst (AreKept ((so_far.documents ++ new ∷ []) ++ ds)) together (
+            SameKeys-append (so_far.documents ++ new ∷ []) ds (front ++ d ∷ []) ds g.0 (SameKeys-refl ds),
+            All-both IsStored (so_far.documents ++ new ∷ []) ds g.1 others,
+          ))
 
       at : (b : Bool) → Goes
-          → (if not b then update_from s (passed_over d so_far) ds else (apply s.change 65535 d >>= (λ new. if s.multi then update_from s (changed_to d new so_far) ds else (let last = changed_to d new so_far in Ok (record last { documents = last.documents ++ ds }))))) ≡ Ok c
+          → (if not b then update_from s (passed_over d so_far) ds
+          else (apply s.change 65535 d >>= (λ new. if s.multi then update_from s (changed_to d new so_far) ds
+          else (let last = changed_to d new so_far in Ok (record last { documents = last.documents ++ ds }))))) ≡ Ok c
           → AreKept c.documents (front ++ d ∷ ds)
       at false go f = subst (AreKept c.documents) together (go (passed_over d so_far) (front ++ d ∷ []) (grown d refl one) f)
       at true go f =
           let n = step_of (apply s.change 65535 d) _ c f in
           by go s.multi n.0 (kept_key s.change d n.0 read one n.1) (kept_stored s.change d n.0 read one n.1) n.2
 
-pub from_kept : (s : UpdateStatement) → IsRead s.change → (so_far : Changed) (ds : List Pairs) (c : Changed) → All IsStored so_far.documents → All IsStored ds → so_far.documents ≡ [] → update_from s so_far ds ≡ Ok c → SameKeys c.documents ds × All IsStored c.documents
+pub from_kept : (s : UpdateStatement) → IsRead s.change → (so_far : Changed) (ds : List Pairs) (c : Changed) → All IsStored so_far.documents → All IsStored ds
+    → so_far.documents ≡ [] → update_from s so_far ds ≡ Ok c → SameKeys c.documents ds × All IsStored c.documents
 from_kept s read so_far ds c none stored empty e = kept_from s read so_far [] ds c (subst (λ (xs : List Pairs). SameKeys xs []) (sym empty) tt, none) stored e

@@ -15,7 +15,8 @@ pub record There {X K : Type 0} (R : K → K → Ordering) (key : X → K) (xs :
   pub within : place < length xs
   pub same : (d : X) → R (key (get_or xs place d)) x ≡ orders.Equal
 
-pub located : {X K : Type 0} {R : K → K → Ordering} (o : IsTotalOrder R) (key : X → K) (xs : List X) (x : K) → Rises R key xs → Gap R key xs x ⊎ There R key xs x
+pub located : {X K : Type 0} {R : K → K → Ordering} (o : IsTotalOrder R) (key : X → K) (xs : List X) (x : K) → Rises R key xs
+    → Gap R key xs x ⊎ There R key xs x
 located o key [] x up = inl (0, record { within = omega arith; before = λ k d low high. absurd (omega arith); after = λ k d low high. absurd (omega arith) })
 located {X} {K} {R} o key (y ∷ ys) x up = at (R (key y) x) refl (located o key ys x (rises_tail R key y ys up))
   where
@@ -43,5 +44,6 @@ located {X} {K} {R} o key (y ∷ ys) x up = at (R (key y) x) refl (located o key
         above : (k : ℕ) (d : X) → k < length (y ∷ ys) → R (key (get_or (y ∷ ys) k d)) x ≡ orders.Greater
         above zero d high = e
         above (suc k) d high =
-            let less : R x (key (get_or ys k d)) ≡ orders.Less = o.trans x (key y) (key (get_or ys k d)) (flipped o (key y) x orders.Greater e) (up 0 (suc k) d (omega arith) high) in
+            let less : R x (key (get_or ys k d)) ≡ orders.Less =
+            o.trans x (key y) (key (get_or ys k d)) (flipped o (key y) x orders.Greater e) (up 0 (suc k) d (omega arith) high) in
             flipped o x (key (get_or ys k d)) orders.Less less

@@ -1,5 +1,6 @@
 -- A delete takes the same documents of those that its statements may mean as of all of them.
-use Rattle.std.proofs.Common.{◌≡◌, ℕ, suc, ◌+◌, ◌-◌, Bool, true, false, List, [], ◌∷◌, ◌++◌, length, Option, Some, None, refl, sym, ap, subst, ◌∙◌, arith, length-append}
+use Rattle.std.proofs.Common.{◌≡◌, ℕ, suc, ◌+◌, ◌-◌, Bool, true, false, List, [], ◌∷◌, ◌++◌, length, Option, Some, None, refl, sym, ap, subst, ◌∙◌, arith}
+use Rattle.std.proofs.Common.{length-append}
 use Rattle.std.specs.Prelude.{not, ◌||◌, if◌then◌else◌, nat_lt}
 use Rattle.std.specs.List.{filter, position, position_or_len}
 use Rattle.std.proofs.lemmas.Bool.Decides.{nat_tests}
@@ -44,7 +45,8 @@ place_past : (n whole : ℕ) → place_of (1 + n) (suc whole) ≡ past (place_of
 place_past n whole = at (nat_lt n whole) refl
   where
     at : (b : Bool) → nat_lt n whole ≡ b → place_of (1 + n) (suc whole) ≡ past (if b then Some n else None)
-    at true e = let next : 1 + n ≡ suc n = omega arith in ap (λ (c : Bool). if c then Some (1 + n) else None) (one_less n whole true e) ∙ ap (λ (k : ℕ). Some k) next
+    at true e = let next : 1 + n ≡ suc n = omega arith in
+        ap (λ (c : Bool). if c then Some (1 + n) else None) (one_less n whole true e) ∙ ap (λ (k : ℕ). Some k) next
     at false e = ap (λ (c : Bool). if c then Some (1 + n) else None) (one_less n whole false e)
 
 position_here : (p : Pairs → Bool) (d : Pairs) (ds : List Pairs) → p d ≡ true → position p (d ∷ ds) ≡ Some 0
@@ -72,7 +74,8 @@ rest_is p (d ∷ ds) = at (p d) refl (rest_is p ds)
   where
     at : (b : Bool) → p d ≡ b → without_at (position p ds) ds ≡ rest_of p ds → without_at (position p (d ∷ ds)) (d ∷ ds) ≡ (if b then ds else d ∷ rest_of p ds)
     at true e later = ap (λ (o : Option ℕ). without_at o (d ∷ ds)) (position_here p d ds e)
-    at false e later = ap (λ (o : Option ℕ). without_at o (d ∷ ds)) (position_past p d ds e) ∙ without_past (position p ds) d ds ∙ ap (λ (xs : List Pairs). d ∷ xs) later
+    at false e later =
+        ap (λ (o : Option ℕ). without_at o (d ∷ ds)) (position_past p d ds e) ∙ without_past (position p ds) d ds ∙ ap (λ (xs : List Pairs). d ∷ xs) later
 
 first_is : (p : Pairs → Bool) (ds : List Pairs) → taken_at (position p ds) ds ≡ first_of p ds
 first_is p [] = refl
@@ -95,12 +98,14 @@ record HasLeft (ms : List Marked) (all among took took_meant : List Pairs) : Typ
 abbrev cons : Pairs → List Pairs → List Pairs
 cons d ds = d ∷ ds
 
-left_first : (p : Pairs → Bool) (ms : List Marked) → NoneIs p (others_of ms) → HasLeft ms (rest_of p (all_of ms)) (rest_of p (meant_of ms)) (first_of p (all_of ms)) (first_of p (meant_of ms))
+left_first : (p : Pairs → Bool) (ms : List Marked) → NoneIs p (others_of ms)
+    → HasLeft ms (rest_of p (all_of ms)) (rest_of p (meant_of ms)) (first_of p (all_of ms)) (first_of p (meant_of ms))
 left_first p [] none = record { next = []; all_is = refl; among_is = refl; took_is = refl; rest = refl }
 left_first p (meant d ∷ ms) none = at (p d) (left_first p ms none)
   where
     at : (b : Bool) → HasLeft ms (rest_of p (all_of ms)) (rest_of p (meant_of ms)) (first_of p (all_of ms)) (first_of p (meant_of ms))
-        → HasLeft (meant d ∷ ms) (if b then all_of ms else d ∷ rest_of p (all_of ms)) (if b then meant_of ms else d ∷ rest_of p (meant_of ms)) (if b then d ∷ [] else first_of p (all_of ms)) (if b then d ∷ [] else first_of p (meant_of ms))
+        → HasLeft (meant d ∷ ms) (if b then all_of ms else d ∷ rest_of p (all_of ms)) (if b then meant_of ms else d ∷ rest_of p (meant_of ms))
+        (if b then d ∷ [] else first_of p (all_of ms)) (if b then d ∷ [] else first_of p (meant_of ms))
     at true l = record { next = ms; all_is = refl; among_is = refl; took_is = refl; rest = refl }
     at false l = record { next = meant d ∷ l.next; all_is = ap (cons d) l.all_is; among_is = ap (cons d) l.among_is; took_is = l.took_is; rest = l.rest }
 left_first p (other d ∷ ms) none =
@@ -122,7 +127,8 @@ left_each p [] none = record { next = []; all_is = refl; among_is = refl; took_i
 left_each p (meant d ∷ ms) none = at (p d) (left_each p ms none)
   where
     at : (b : Bool) → HasLeft ms (filter (unless_passes p) (all_of ms)) (filter (unless_passes p) (meant_of ms)) (filter p (all_of ms)) (filter p (meant_of ms))
-        → HasLeft (meant d ∷ ms) (if not b then d ∷ filter (unless_passes p) (all_of ms) else filter (unless_passes p) (all_of ms)) (if not b then d ∷ filter (unless_passes p) (meant_of ms) else filter (unless_passes p) (meant_of ms))
+        → HasLeft (meant d ∷ ms) (if not b then d ∷ filter (unless_passes p) (all_of ms) else filter (unless_passes p) (all_of ms))
+        (if not b then d ∷ filter (unless_passes p) (meant_of ms) else filter (unless_passes p) (meant_of ms))
         (if b then d ∷ filter p (all_of ms) else filter p (all_of ms)) (if b then d ∷ filter p (meant_of ms) else filter p (meant_of ms))
     at true l = record { next = l.next; all_is = l.all_is; among_is = l.among_is; took_is = ap (cons d) l.took_is; rest = l.rest }
     at false l = record { next = meant d ∷ l.next; all_is = ap (cons d) l.all_is; among_is = ap (cons d) l.among_is; took_is = l.took_is; rest = l.rest }
@@ -130,19 +136,22 @@ left_each p (other d ∷ ms) none =
     let l = left_each p ms none.1 in
     record {
       next = other d ∷ l.next;
-      all_is = ap (cons d) l.all_is ∙ sym (ap (λ (b : Bool). if not b then d ∷ filter (unless_passes p) (all_of ms) else filter (unless_passes p) (all_of ms)) none.0);
+      all_is = ap (cons d) l.all_is
+          ∙ sym (ap (λ (b : Bool). if not b then d ∷ filter (unless_passes p) (all_of ms) else filter (unless_passes p) (all_of ms)) none.0);
       among_is = l.among_is;
       took_is = l.took_is ∙ sym (ap (λ (b : Bool). if b then d ∷ filter p (all_of ms) else filter p (all_of ms)) none.0);
       rest = ap (cons d) l.rest;
     }
 
-by_meant : (d : Deletion) (ms : List Marked) → NoneIs (matches d.filter) (others_of ms) → HasLeft ms (after_deletion d (all_of ms)) (after_deletion d (meant_of ms)) (taken d (all_of ms)) (taken d (meant_of ms))
+by_meant : (d : Deletion) (ms : List Marked) → NoneIs (matches d.filter) (others_of ms)
+    → HasLeft ms (after_deletion d (all_of ms)) (after_deletion d (meant_of ms)) (taken d (all_of ms)) (taken d (meant_of ms))
 by_meant d ms none = at d.only_first
   where
     p : Pairs → Bool
     p = matches d.filter
 
-    at : (b : Bool) → HasLeft ms (if b then without_at (position (matches d.filter) (all_of ms)) (all_of ms) else filter (λ x. not (matches d.filter x)) (all_of ms))
+    at : (b : Bool)
+        → HasLeft ms (if b then without_at (position (matches d.filter) (all_of ms)) (all_of ms) else filter (λ x. not (matches d.filter x)) (all_of ms))
         (if b then without_at (position (matches d.filter) (meant_of ms)) (meant_of ms) else filter (λ x. not (matches d.filter x)) (meant_of ms))
         (if b then taken_at (position (matches d.filter) (all_of ms)) (all_of ms) else filter (matches d.filter) (all_of ms))
         (if b then taken_at (position (matches d.filter) (meant_of ms)) (meant_of ms) else filter (matches d.filter) (meant_of ms))
@@ -157,11 +166,15 @@ by_meant d ms none = at d.only_first
         }
     at false = left_each (matches d.filter) ms none
 
-all_alike : (deletions : List Deletion) (ms : List Marked) → NoneIs (is_deleted deletions) (others_of ms) → all_taken deletions (meant_of ms) ≡ all_taken deletions (all_of ms)
+all_alike : (deletions : List Deletion) (ms : List Marked) → NoneIs (is_deleted deletions) (others_of ms)
+    → all_taken deletions (meant_of ms) ≡ all_taken deletions (all_of ms)
 all_alike [] ms none = refl
 all_alike (d ∷ rest) ms none =
-    let first = Each-map (λ x. is_deleted (d ∷ rest) x ≡ false) (λ x. matches d.filter x ≡ false) (others_of ms) (λ x e. or_first (matches d.filter x) (is_deleted rest x) e) none in
-    let second = Each-map (λ x. is_deleted (d ∷ rest) x ≡ false) (λ x. is_deleted rest x ≡ false) (others_of ms) (λ x e. or_second (matches d.filter x) (is_deleted rest x) e) none in
+    let first = Each-map (λ x. is_deleted (d ∷ rest) x ≡ false) (λ x. matches d.filter x ≡ false) (others_of ms)
+    (λ x e. or_first (matches d.filter x) (is_deleted rest x) e) none in
+    let second =
+    Each-map (λ x. is_deleted (d ∷ rest) x ≡ false) (λ x. is_deleted rest x ≡ false) (others_of ms)
+    (λ x e. or_second (matches d.filter x) (is_deleted rest x) e) none in
     let one = by_meant d ms first in
     let later = all_alike rest one.next (subst (NoneIs (is_deleted rest)) (sym one.rest) second) in
     let tail = ap (all_taken rest) (sym one.among_is) ∙ later ∙ ap (all_taken rest) one.all_is in
@@ -179,7 +192,8 @@ first_count : (p : Pairs → Bool) (ds : List Pairs) → length (first_of p ds) 
 first_count p [] = omega arith
 first_count p (d ∷ ds) = at (p d) (first_count p ds)
   where
-    at : (b : Bool) → length (first_of p ds) + length (rest_of p ds) ≡ length ds → length (if b then d ∷ [] else first_of p ds) + length (if b then ds else d ∷ rest_of p ds) ≡ length (d ∷ ds)
+    at : (b : Bool) → length (first_of p ds) + length (rest_of p ds) ≡ length ds
+        → length (if b then d ∷ [] else first_of p ds) + length (if b then ds else d ∷ rest_of p ds) ≡ length (d ∷ ds)
     at true later = omega arith
     at false later = omega (arith, later)
 
@@ -188,7 +202,8 @@ each_count p [] = omega arith
 each_count p (d ∷ ds) = at (p d) (each_count p ds)
   where
     at : (b : Bool) → length (filter p ds) + length (filter (unless_passes p) ds) ≡ length ds
-        → length (if b then d ∷ filter p ds else filter p ds) + length (if not b then d ∷ filter (unless_passes p) ds else filter (unless_passes p) ds) ≡ length (d ∷ ds)
+        → length (if b then d ∷ filter p ds else filter p ds)
+        + length (if not b then d ∷ filter (unless_passes p) ds else filter (unless_passes p) ds) ≡ length (d ∷ ds)
     at true later = omega (arith, later)
     at false later = omega (arith, later)
 

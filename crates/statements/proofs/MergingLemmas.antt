@@ -133,7 +133,8 @@ pub put_ascends : (new : Pairs) (ds : List Pairs) → Ascends ds → Ascends (pu
 put_ascends new [] h = (tt, tt)
 put_ascends new (d ∷ ds) h = at (compare (key_of new) (key_of d)) refl (put_ascends new ds h.1)
   where
-    at : (r : Ordering) → compare (key_of new) (key_of d) ≡ r → Ascends (put_document new ds) → Ascends (by_order r (new ∷ d ∷ ds) (new ∷ ds) (d ∷ put_document new ds))
+    at : (r : Ordering) → compare (key_of new) (key_of d) ≡ r → Ascends (put_document new ds)
+        → Ascends (by_order r (new ∷ d ∷ ds) (new ∷ ds) (d ∷ put_document new ds))
     at orders.Less is later = ((is, above_trans new d ds is h.0), h)
     at orders.Equal is later = (Each-map (Above d) (Above new) ds (λ y more. compare_total.congr (key_of new) (key_of d) (key_of y) is ∙ more) h.0, h.1)
     at orders.Greater is later = (put_kept (Above d) new ds (flipped compare_total (key_of new) (key_of d) orders.Greater is) h.0, later)
@@ -144,20 +145,25 @@ Untied ds k = Each (λ d. is_eq (compare k (key_of d)) ≡ false) ds
 
 untied_alike : (ds : List Pairs) (j k : Tree) → compare j k ≡ orders.Equal → Untied ds k → Untied ds j
 untied_alike ds j k same h =
-    Each-map (λ d. is_eq (compare k (key_of d)) ≡ false) (λ d. is_eq (compare j (key_of d)) ≡ false) ds (λ d is. ap is_eq (compare_total.congr j k (key_of d) same) ∙ is) h
+    Each-map (λ d. is_eq (compare k (key_of d)) ≡ false) (λ d. is_eq (compare j (key_of d)) ≡ false) ds
+    (λ d is. ap is_eq (compare_total.congr j k (key_of d) same) ∙ is) h
 
 -- what keys are untied where one was put
-untied_put : (others : List Pairs) (new : Pairs) (ds : List Pairs) → Each (λ d. Untied others (key_of d)) (put_document new ds) → Untied others (key_of new) × Each (λ d. Untied others (key_of d)) ds
+untied_put : (others : List Pairs) (new : Pairs) (ds : List Pairs) → Each (λ d. Untied others (key_of d)) (put_document new ds)
+    → Untied others (key_of new) × Each (λ d. Untied others (key_of d)) ds
 untied_put others new [] h = (h.0, tt)
 untied_put others new (d ∷ ds) h = at (compare (key_of new) (key_of d)) refl (untied_put others new ds) h
   where
-    at : (r : Ordering) → compare (key_of new) (key_of d) ≡ r → (Each (λ d. Untied others (key_of d)) (put_document new ds) → Untied others (key_of new) × Each (λ d. Untied others (key_of d)) ds)
-        → Each (λ d. Untied others (key_of d)) (by_order r (new ∷ d ∷ ds) (new ∷ ds) (d ∷ put_document new ds)) → Untied others (key_of new) × Each (λ d. Untied others (key_of d)) (d ∷ ds)
+    at : (r : Ordering) → compare (key_of new) (key_of d) ≡ r
+        → (Each (λ d. Untied others (key_of d)) (put_document new ds) → Untied others (key_of new) × Each (λ d. Untied others (key_of d)) ds)
+        → Each (λ d. Untied others (key_of d)) (by_order r (new ∷ d ∷ ds) (new ∷ ds) (d ∷ put_document new ds))
+        → Untied others (key_of new) × Each (λ d. Untied others (key_of d)) (d ∷ ds)
     at orders.Less is later k = (k.0, k.1)
     at orders.Equal is later k = (k.0, (untied_alike others (key_of d) (key_of new) (flipped compare_total (key_of new) (key_of d) orders.Equal is) k.0, k.1))
     at orders.Greater is later k = let l = later k.1 in (l.0, (k.0, l.1))
 
-untied_each : (others news ds : List Pairs) → Each (λ d. Untied others (key_of d)) (put_each news ds) → Each (λ d. Untied others (key_of d)) news × Each (λ d. Untied others (key_of d)) ds
+untied_each : (others news ds : List Pairs) → Each (λ d. Untied others (key_of d)) (put_each news ds)
+    → Each (λ d. Untied others (key_of d)) news × Each (λ d. Untied others (key_of d)) ds
 untied_each others [] ds h = (tt, h)
 untied_each others (new ∷ news) ds h =
     let later = untied_each others news (put_document new ds) h in
@@ -176,7 +182,8 @@ above_untied d ds h = Each-map (Above d) (λ x. is_eq (compare (key_of d) (key_o
 
 more_untied : (d : Pairs) (others ds : List Pairs) → Each (Above d) ds → Each (λ x. Untied others (key_of x)) ds → Each (λ x. Untied (d ∷ others) (key_of x)) ds
 more_untied d others [] up h = tt
-more_untied d others (x ∷ ds) up h = ((greater_untied (compare (key_of x) (key_of d)) (flipped compare_total (key_of d) (key_of x) orders.Less up.0), h.0), more_untied d others ds up.1 h.1)
+more_untied d others (x ∷ ds) up h =
+    ((greater_untied (compare (key_of x) (key_of d)) (flipped compare_total (key_of d) (key_of x) orders.Less up.0), h.0), more_untied d others ds up.1 h.1)
 
 pub meant_untied : (ms : List Marked) → Ascends (all_of ms) → Each (λ d. Untied (others_of ms) (key_of d)) (meant_of ms)
 meant_untied [] up = tt
@@ -194,7 +201,8 @@ marked_all new [] = refl
 marked_all new (m ∷ ms) = at (compare (key_of new) (key_of (document_of m))) (marked_all new ms)
   where
     at : (r : Ordering) → all_of (put_marked new ms) ≡ put_document new (all_of ms)
-        → all_of (by_order r (meant new ∷ m ∷ ms) (meant new ∷ ms) (m ∷ put_marked new ms)) ≡ by_order r (new ∷ document_of m ∷ all_of ms) (new ∷ all_of ms) (document_of m ∷ put_document new (all_of ms))
+        → all_of (by_order r (meant new ∷ m ∷ ms) (meant new ∷ ms) (m ∷ put_marked new ms))
+        ≡ by_order r (new ∷ document_of m ∷ all_of ms) (new ∷ all_of ms) (document_of m ∷ put_document new (all_of ms))
     at orders.Less later = refl
     at orders.Equal later = refl
     at orders.Greater later = ap (λ (xs : List Pairs). document_of m ∷ xs) later
@@ -208,12 +216,14 @@ goes_front new (d ∷ ds) h = ap (λ (r : Ordering). by_order r (new ∷ d ∷ d
 abbrev pub HasPut : List Marked → List Marked → List Pairs → Type 0
 HasPut ms after ds = (meant_of after ≡ ds) × (others_of after ≡ others_of ms)
 
-pub marked_meant : (new : Pairs) (ms : List Marked) → Ascends (all_of ms) → Untied (others_of ms) (key_of new) → HasPut ms (put_marked new ms) (put_document new (meant_of ms))
+pub marked_meant : (new : Pairs) (ms : List Marked) → Ascends (all_of ms) → Untied (others_of ms) (key_of new)
+    → HasPut ms (put_marked new ms) (put_document new (meant_of ms))
 marked_meant new [] up free = (refl, refl)
 marked_meant new (meant d ∷ ms) up free = at (compare (key_of new) (key_of d)) (marked_meant new ms up.1 free)
   where
     at : (r : Ordering) → HasPut ms (put_marked new ms) (put_document new (meant_of ms))
-        → HasPut (meant d ∷ ms) (by_order r (meant new ∷ meant d ∷ ms) (meant new ∷ ms) (meant d ∷ put_marked new ms)) (by_order r (new ∷ d ∷ meant_of ms) (new ∷ meant_of ms) (d ∷ put_document new (meant_of ms)))
+        → HasPut (meant d ∷ ms) (by_order r (meant new ∷ meant d ∷ ms) (meant new ∷ ms) (meant d ∷ put_marked new ms))
+        (by_order r (new ∷ d ∷ meant_of ms) (new ∷ meant_of ms) (d ∷ put_document new (meant_of ms)))
     at orders.Less later = (refl, refl)
     at orders.Equal later = (refl, refl)
     at orders.Greater later = (ap (λ (xs : List Pairs). d ∷ xs) later.0, later.1)
@@ -252,7 +262,8 @@ same_tail : (d e : Pairs) (ds es : List Pairs) → d ∷ ds ≡ e ∷ es → ds 
 unfolding tail_of
 same_tail d e ds es is = ap tail_of is
 
-pub merged_once : (ms ns : List Marked) → Ascends (all_of ms) → Ascends (all_of ns) → meant_of ms ≡ meant_of ns → others_of ms ≡ others_of ns → all_of ms ≡ all_of ns
+pub merged_once : (ms ns : List Marked) → Ascends (all_of ms) → Ascends (all_of ns) → meant_of ms ≡ meant_of ns → others_of ms ≡ others_of ns
+    → all_of ms ≡ all_of ns
 merged_once [] [] up un m o = refl
 merged_once [] (meant e ∷ ns) up un m o = absurd cc
 merged_once [] (other e ∷ ns) up un m o = absurd cc
@@ -264,8 +275,10 @@ merged_once (meant d ∷ ms) (meant e ∷ ns) up un m o =
 merged_once (other d ∷ ms) (other e ∷ ns) up un m o =
     let later = merged_once ms ns up.1 un.1 m (same_tail d e (others_of ms) (others_of ns) o) in
     λ i. same_head d e (others_of ms) (others_of ns) o i ∷ later i
-merged_once (meant d ∷ ms) (other e ∷ ns) up un m o = absurd (not_both d e (others_first (Above d) ms e (others_of ns) up.0 o) (meant_first (Above e) ns d (meant_of ms) un.0 (sym m)))
-merged_once (other d ∷ ms) (meant e ∷ ns) up un m o = absurd (not_both d e (meant_first (Above d) ms e (meant_of ns) up.0 m) (others_first (Above e) ns d (others_of ms) un.0 (sym o)))
+merged_once (meant d ∷ ms) (other e ∷ ns) up un m o =
+    absurd (not_both d e (others_first (Above d) ms e (others_of ns) up.0 o) (meant_first (Above e) ns d (meant_of ms) un.0 (sym m)))
+merged_once (other d ∷ ms) (meant e ∷ ns) up un m o =
+    absurd (not_both d e (meant_first (Above d) ms e (meant_of ns) up.0 m) (others_first (Above e) ns d (others_of ms) un.0 (sym o)))
 
 -- ---- several are put
 
@@ -283,7 +296,8 @@ all_put (new ∷ news) ms up free =
     let next = put_marked new ms in
     let all = marked_all new ms in
     let put = marked_meant new ms up free.0 in
-    let later = all_put news next (subst Ascends (sym all) (put_ascends new (all_of ms) up)) (subst (λ (os : List Pairs). Each (λ d. Untied os (key_of d)) news) (sym put.1) free.1) in
+    let later = all_put news next (subst Ascends (sym all) (put_ascends new (all_of ms) up))
+    (subst (λ (os : List Pairs). Each (λ d. Untied os (key_of d)) news) (sym put.1) free.1) in
     record {
       after = later.after;
       among = later.among ∙ ap (put_each news) put.0;
@@ -293,10 +307,12 @@ all_put (new ∷ news) ms up free =
     }
 
 -- What makes of those that are meant the ones that are meant then, makes of all of them all of then.
-pub puts_lead : (news : List Pairs) (ms next : List Marked) → Ascends (all_of ms) → Ascends (all_of next) → others_of next ≡ others_of ms → put_each news (meant_of ms) ≡ meant_of next
+pub puts_lead : (news : List Pairs) (ms next : List Marked) → Ascends (all_of ms) → Ascends (all_of next) → others_of next ≡ others_of ms
+    → put_each news (meant_of ms) ≡ meant_of next
     → put_each news (all_of ms) ≡ all_of next
 puts_lead news ms next up after rest are =
     let free : Each (λ d. Untied (others_of ms) (key_of d)) (put_each news (meant_of ms)) =
-    subst (λ (ds : List Pairs). Each (λ d. Untied (others_of ms) (key_of d)) ds) (sym are) (subst (λ (os : List Pairs). Each (λ d. Untied os (key_of d)) (meant_of next)) rest (meant_untied next after)) in
+    subst (λ (ds : List Pairs). Each (λ d. Untied (others_of ms) (key_of d)) ds) (sym are)
+    (subst (λ (os : List Pairs). Each (λ d. Untied os (key_of d)) (meant_of next)) rest (meant_untied next after)) in
     let put = all_put news ms up (untied_each (others_of ms) news (meant_of ms) free).0 in
     sym put.all ∙ merged_once put.after next put.up after (put.among ∙ are) (put.rest ∙ sym rest)

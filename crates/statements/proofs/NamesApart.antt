@@ -10,7 +10,8 @@ use Rattle.index.specs.State.{Collection}
 use Rattle.index.specs.LawfulState.{AreNamedApart}
 use Rattle.statements.specs.Places.{collection_at, no_collection}
 
-pub apart_set : (cs : List Collection) (i : ℕ) (c : Collection) → i < length cs → c.name ≡ (collection_at cs i).name → AreNamedApart cs → AreNamedApart (set cs i c)
+pub apart_set : (cs : List Collection) (i : ℕ) (c : Collection) → i < length cs → c.name ≡ (collection_at cs i).name → AreNamedApart cs
+    → AreNamedApart (set cs i c)
 apart_set cs i c within same up a b d lt below =
     let long : b < length cs = omega (arith, length-set cs i c) in
     subst (λ (n : List ℕ). slice_cmp nat_cmp n (get_or (set cs i c) b d).name ≡ orders.Less) (sym (named a d (omega arith)))
@@ -19,6 +20,7 @@ apart_set cs i c within same up a b d lt below =
     named : (k : ℕ) (d : Collection) → k < length cs → (get_or (set cs i c) k d).name ≡ (get_or cs k d).name
     named k d k_in =
         elim (cases_eq k i) [
-          | inl e ↦ ap (λ (x : Collection). x.name) (get_or-set_at cs i k c d e within) ∙ same ∙ ap (λ (x : Collection). x.name) (get_or_default cs i no_collection d within ∙ ap (λ (j : ℕ). get_or cs j d) (sym e))
+          | inl e ↦ ap (λ (x : Collection). x.name) (get_or-set_at cs i k c d e within) ∙ same
+              ∙ ap (λ (x : Collection). x.name) (get_or_default cs i no_collection d within ∙ ap (λ (j : ℕ). get_or cs j d) (sym e))
           | inr other ↦ ap (λ (x : Collection). x.name) (get_or-set_other cs i k c d other)
         ]

@@ -1,5 +1,6 @@
 -- Numbers of collections.
-use Rattle.std.proofs.Common.{◌≡◌, ℕ, zero, suc, ◌+◌, ◌-◌, ◌<◌, ◌≤◌, Bool, true, false, List, [], ◌∷◌, length, set, insert, Option, Some, None, refl, sym, ap, subst, ◌∙◌, arith}
+use Rattle.std.proofs.Common.{◌≡◌, ℕ, zero, suc, ◌+◌, ◌-◌, ◌<◌, ◌≤◌, Bool, true, false, List, [], ◌∷◌, length, set, insert, Option, Some, None, refl, sym, ap}
+use Rattle.std.proofs.Common.{subst, ◌∙◌, arith}
 use Rattle.std.specs.Prelude.{◌==◌, ◌||◌, ◌&&◌, nat_le, if◌then◌else◌, All}
 use Rattle.std.specs.Str.{bytes_eq}
 use Rattle.std.proofs.lemmas.Bool.Decides.{nat_tests}
@@ -45,7 +46,8 @@ used_grows : (k : ℕ) (cs : List Collection) → uses cs (suc k) ≡ true → n
 used_grows k [] e = absurd cc
 used_grows k (c ∷ cs) e = at (c.number == suc k) refl e (used_grows k cs)
   where
-    at : (b : Bool) → (c.number == suc k) ≡ b → (b || uses cs (suc k)) ≡ true → (uses cs (suc k) ≡ true → numbered_to k cs + 1 ≤ numbered_to (suc k) cs) → numbered_to k (c ∷ cs) + 1 ≤ numbered_to (suc k) (c ∷ cs)
+    at : (b : Bool) → (c.number == suc k) ≡ b → (b || uses cs (suc k)) ≡ true → (uses cs (suc k) ≡ true → numbered_to k cs + 1 ≤ numbered_to (suc k) cs)
+        → numbered_to k (c ∷ cs) + 1 ≤ numbered_to (suc k) (c ∷ cs)
     at true is e later =
         let same : c.number ≡ suc k = grind (arith, nat_tests) in
         let before : nat_le c.number k ≡ false = grind (arith, nat_tests) in
@@ -62,7 +64,8 @@ unused_is zero k cs e h = at (uses cs (suc k)) refl
     at true is = absurd (omega (arith, e, h, used_grows k cs is, numbered_few (suc k) cs))
 unused_is (suc more) k cs e h = at (uses cs (suc k)) refl (unused_is more (suc k) cs (omega (arith, e)))
   where
-    at : (b : Bool) → uses cs (suc k) ≡ b → (suc k ≤ numbered_to (suc k) cs → uses cs (unused_from more (suc (suc k)) cs) ≡ false) → uses cs (if b then unused_from more (suc (suc k)) cs else suc k) ≡ false
+    at : (b : Bool) → uses cs (suc k) ≡ b → (suc k ≤ numbered_to (suc k) cs → uses cs (unused_from more (suc (suc k)) cs) ≡ false)
+        → uses cs (if b then unused_from more (suc (suc k)) cs else suc k) ≡ false
     at false is later = is
     at true is later = later (omega (arith, h, used_grows k cs is))
 
@@ -100,7 +103,8 @@ uses_set [] i c n h e = absurd (omega arith)
 uses_set (d ∷ ds) zero c n h e = ap (λ (k : ℕ). (k == n) || uses ds n) e
 uses_set (d ∷ ds) (suc i) c n h e = ap (λ b. (d.number == n) || b) (uses_set ds i c n (omega arith) e)
 
-pub numbers_set : (cs : List Collection) (i : ℕ) (c : Collection) → i < length cs → c.number ≡ (collection_at cs i).number → AreNumberedApart cs → AreNumberedApart (set cs i c)
+pub numbers_set : (cs : List Collection) (i : ℕ) (c : Collection) → i < length cs → c.number ≡ (collection_at cs i).number → AreNumberedApart cs
+    → AreNumberedApart (set cs i c)
 numbers_set [] i c h e apart = absurd (omega arith)
 numbers_set (d ∷ ds) zero c h e apart = (ap (uses ds) e ∙ apart.0, apart.1)
 numbers_set (d ∷ ds) (suc i) c h e apart = (uses_set ds i c d.number (omega arith) e ∙ apart.0, numbers_set ds i c (omega arith) e apart.1)
@@ -112,7 +116,8 @@ neither false b e = (refl, e)
 pub turned : (a b : ℕ) → (a == b) ≡ false → (b == a) ≡ false
 turned a b e = grind (arith, nat_tests)
 
-uses_insert : (cs : List Collection) (i : ℕ) (c : Collection) (n : ℕ) → i ≤ length cs → (c.number == n) ≡ false → uses cs n ≡ false → uses (insert cs i c) n ≡ false
+uses_insert : (cs : List Collection) (i : ℕ) (c : Collection) (n : ℕ) → i ≤ length cs → (c.number == n) ≡ false → uses cs n ≡ false
+    → uses (insert cs i c) n ≡ false
 uses_insert [] zero c n h e u = rw e refl
 uses_insert [] (suc i) c n h e u = absurd (omega arith)
 uses_insert (d ∷ ds) zero c n h e u = rw (e, u) refl
@@ -120,7 +125,8 @@ uses_insert (d ∷ ds) (suc i) c n h e u =
     let parts = neither (d.number == n) (uses ds n) u in
     rw (parts.0, uses_insert ds i c n (omega arith) e parts.1) refl
 
-pub numbers_insert : (cs : List Collection) (i : ℕ) (c : Collection) → i ≤ length cs → uses cs c.number ≡ false → AreNumberedApart cs → AreNumberedApart (insert cs i c)
+pub numbers_insert : (cs : List Collection) (i : ℕ) (c : Collection) → i ≤ length cs → uses cs c.number ≡ false → AreNumberedApart cs
+    → AreNumberedApart (insert cs i c)
 numbers_insert [] zero c h u apart = (refl, tt)
 numbers_insert [] (suc i) c h u apart = absurd (omega arith)
 numbers_insert (d ∷ ds) zero c h u apart = (u, apart)
@@ -138,7 +144,8 @@ found_kept (d ∷ ds) name c h e = at (bytes_eq name d.name) e (found_kept ds na
     at true is later = let same : d ≡ c = cc in subst IsKept same (h 0 d (omega arith))
     at false is later = later is
 
-pub number_bounds : (cs : List Collection) (name : List ℕ) → All IsKept cs → (find_collection cs name ≡ None → length cs < 1000) → Between 1 (number_or (unused cs) (find_collection cs name)) 1000
+pub number_bounds : (cs : List Collection) (name : List ℕ) → All IsKept cs → (find_collection cs name ≡ None → length cs < 1000)
+    → Between 1 (number_or (unused cs) (find_collection cs name)) 1000
 number_bounds cs name h room = at (find_collection cs name) refl
   where
     at : (o : Option Collection) → find_collection cs name ≡ o → Between 1 (number_or (unused cs) o) 1000
@@ -153,9 +160,11 @@ pub record Searched (cs : List Collection) (end counter number : ℕ) : Type 0 w
   pub left : unused_from (end - counter) number cs ≡ unused cs
 
 pub searched_none : (cs : List Collection) (end : ℕ) → end ≡ length cs → Searched cs end 0 1
-searched_none cs end e = let all : end - 0 ≡ length cs = omega (arith, e) in record { whole = e; number_is = refl; left = ap (λ (n : ℕ). unused_from n 1 cs) all }
+searched_none cs end e = let all : end - 0 ≡ length cs = omega (arith, e) in
+    record { whole = e; number_is = refl; left = ap (λ (n : ℕ). unused_from n 1 cs) all }
 
-pub searched_one : (cs : List Collection) (end counter number : ℕ) → Searched cs end counter number → counter < end → uses cs number ≡ true → Searched cs end (counter + 1) (number + 1)
+pub searched_one : (cs : List Collection) (end counter number : ℕ) → Searched cs end counter number → counter < end → uses cs number ≡ true
+    → Searched cs end (counter + 1) (number + 1)
 searched_one cs end counter number h within used =
     let more : end - counter ≡ suc (end - (counter + 1)) = omega (arith, within) in
     let next : number + 1 ≡ suc number = omega arith in

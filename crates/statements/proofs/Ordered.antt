@@ -1,5 +1,6 @@
 -- Lists in rising order by a key: what a search answers, and what an insert and a removal keep.
-use Rattle.std.proofs.Common.{◌≡◌, ℕ, zero, suc, ◌+◌, ◌-◌, ◌<◌, ◌≤◌, inl, inr, Bool, false, true, List, [], ◌∷◌, length, get_or, set, insert, remove, take, drop, Some, None, Result, Ok, Err, refl, sym, ap, subst, ◌∙◌, arith}
+use Rattle.std.proofs.Common.{◌≡◌, ℕ, zero, suc, ◌+◌, ◌-◌, ◌<◌, ◌≤◌, inl, inr, Bool, false, true, List, [], ◌∷◌, length, get_or, set, insert, remove, take}
+use Rattle.std.proofs.Common.{drop, Some, None, Result, Ok, Err, refl, sym, ap, subst, ◌∙◌, arith}
 use Rattle.std.specs.Prelude.{option_map, if◌then◌else◌}
 use Rattle.std.specs.Str.{bytes_eq}
 use Rattle.std.specs.Cmp.{IsTotalOrder}
@@ -40,7 +41,8 @@ gap_found {R = R} o key xs x i up within found =
 
 -- ---- edits
 
-module _ {X K : Type 0} {R : K → K → Ordering} (o : IsTotalOrder R) (key : X → K) (xs : List X) (i : ℕ) (new : X) (up : Rises R key xs) (gap : IsGap (λ y. R (key y) (key new)) xs i) where
+module _ {X K : Type 0} {R : K → K → Ordering} (o : IsTotalOrder R) (key : X → K) (xs : List X) (i : ℕ) (new : X) (up : Rises R key xs)
+    (gap : IsGap (λ y. R (key y) (key new)) xs i) where
   abbrev Less_at : ℕ → ℕ → X → Type 0
   Less_at a b d = R (key (get_or (insert xs i new) a d)) (key (get_or (insert xs i new) b d)) ≡ orders.Less
 
@@ -89,15 +91,19 @@ module _ {X K : Type 0} {R : K → K → Ordering} (o : IsTotalOrder R) (key : X
               elim (cases_lt a i) [
                 | inl a_before ↦ subst (λ (n : ℕ). At a n d) (sym e) (across a (b - 1) d a_before (omega arith) (omega arith))
                 | inr a_from ↦ elim (cases_lt i a) [
-                  | inr a_at ↦ let f : a ≡ i = omega arith in subst (λ (n : ℕ). At n b d) (sym f) (subst (λ (n : ℕ). At i n d) (sym e) (after_new (b - 1) d (omega arith) (omega arith)))
-                  | inl a_after ↦ let f : a ≡ (a - 1) + 1 = omega arith in subst (λ (n : ℕ). At n b d) (sym f) (subst (λ (n : ℕ). At (a - 1 + 1) n d) (sym e) (both_after (a - 1) (b - 1) d (omega arith) (omega arith) (omega arith)))
+                  | inr a_at ↦ let f : a ≡ i = omega arith in
+                      subst (λ (n : ℕ). At n b d) (sym f) (subst (λ (n : ℕ). At i n d) (sym e) (after_new (b - 1) d (omega arith) (omega arith)))
+                  | inl a_after ↦ let f : a ≡ (a - 1) + 1 = omega arith in
+                      subst (λ (n : ℕ). At n b d) (sym f)
+                      (subst (λ (n : ℕ). At (a - 1 + 1) n d) (sym e) (both_after (a - 1) (b - 1) d (omega arith) (omega arith) (omega arith)))
                 ]
               ]
         ]
       ]
 
 pub All-inserted : {X : Type 0} (P : X → Type 0) (xs : List X) (i : ℕ) (new : X) → i ≤ length xs → All P xs → P new → All P (insert xs i new)
-All-inserted P xs i new within all here = All-append P (take i xs) (new ∷ drop i xs) (All-take P i xs all) (All-cons P new (drop i xs) here (All-drop P i xs all))
+All-inserted P xs i new within all here =
+    All-append P (take i xs) (new ∷ drop i xs) (All-take P i xs all) (All-cons P new (drop i xs) here (All-drop P i xs all))
 
 -- ---- a document's place
 
@@ -119,25 +125,32 @@ pub place_gap : (ds : List Pairs) (i : ℕ) (id : Tree) (new : Pairs) → IsGap 
 place_gap [] zero id new gap = refl
 place_gap [] (suc i) id new gap = absurd (omega (arith, gap.within))
 place_gap (d ∷ ds) zero id new gap =
-    ap (λ (r : Ordering). by_order r (Some (new ∷ d ∷ ds)) None (option_map (λ later. d ∷ later) (place id new ds))) (flipped compare_total (key_of d) id orders.Greater (gap.after 0 d (omega arith) (omega arith)))
+    ap (λ (r : Ordering). by_order r (Some (new ∷ d ∷ ds)) None (option_map (λ later. d ∷ later) (place id new ds)))
+    (flipped compare_total (key_of d) id orders.Greater (gap.after 0 d (omega arith) (omega arith)))
 place_gap (d ∷ ds) (suc i) id new gap =
-    ap (λ (r : Ordering). by_order r (Some (new ∷ d ∷ ds)) None (option_map (λ later. d ∷ later) (place id new ds))) (flipped compare_total (key_of d) id orders.Less (gap.before 0 d (omega arith) (omega arith)))
+    ap (λ (r : Ordering). by_order r (Some (new ∷ d ∷ ds)) None (option_map (λ later. d ∷ later) (place id new ds)))
+    (flipped compare_total (key_of d) id orders.Less (gap.before 0 d (omega arith) (omega arith)))
     ∙ ap (option_map (λ later. d ∷ later)) (place_gap ds i id new (IsGap-tail (by_key id) d ds i gap))
 
 pub rises_tail : {X K : Type 0} (R : K → K → Ordering) (key : X → K) (x : X) (xs : List X) → Rises R key (x ∷ xs) → Rises R key xs
 rises_tail R key x xs up i j d lt within = up (suc i) (suc j) d (omega arith) (omega arith)
 
-pub place_there : (ds : List Pairs) (i : ℕ) (id : Tree) (new : Pairs) → Rises compare key_of ds → i < length ds → ((d : Pairs) → by_key id (get_or ds i d) ≡ orders.Equal) → place id new ds ≡ None
+pub place_there : (ds : List Pairs) (i : ℕ) (id : Tree) (new : Pairs) → Rises compare key_of ds → i < length ds
+    → ((d : Pairs) → by_key id (get_or ds i d) ≡ orders.Equal) → place id new ds ≡ None
 place_there [] i id new up within same = absurd (omega arith)
 place_there (d ∷ ds) zero id new up within same =
-    ap (λ (r : Ordering). by_order r (Some (new ∷ d ∷ ds)) None (option_map (λ later. d ∷ later) (place id new ds))) (flipped compare_total (key_of d) id orders.Equal (same d))
+    ap (λ (r : Ordering). by_order r (Some (new ∷ d ∷ ds)) None (option_map (λ later. d ∷ later) (place id new ds)))
+    (flipped compare_total (key_of d) id orders.Equal (same d))
 place_there (d ∷ ds) (suc i) id new up within same =
-    let less : compare (key_of d) id ≡ orders.Less = sym (alike_right compare_total (key_of (get_or ds i d)) id (key_of d) (same d)) ∙ up 0 (suc i) d (omega arith) (omega arith) in
-    ap (λ (r : Ordering). by_order r (Some (new ∷ d ∷ ds)) None (option_map (λ later. d ∷ later) (place id new ds))) (flipped compare_total (key_of d) id orders.Less less)
+    let less : compare (key_of d) id ≡ orders.Less =
+    sym (alike_right compare_total (key_of (get_or ds i d)) id (key_of d) (same d)) ∙ up 0 (suc i) d (omega arith) (omega arith) in
+    ap (λ (r : Ordering). by_order r (Some (new ∷ d ∷ ds)) None (option_map (λ later. d ∷ later) (place id new ds)))
+    (flipped compare_total (key_of d) id orders.Less less)
     ∙ ap (option_map (λ later. d ∷ later)) (place_there ds i id new (rises_tail compare key_of d ds up) (omega arith) same)
 
 -- what a search by a key found
-pub place_found : (id : Tree) (ds : List Pairs) (r : Result ℕ ℕ) → Rises compare key_of ds → IsSearchInRange r (length ds) → IsBinarySearchResult (by_key id) ds r → IsPlace id ds r
+pub place_found : (id : Tree) (ds : List Pairs) (r : Result ℕ ℕ) → Rises compare key_of ds → IsSearchInRange r (length ds)
+    → IsBinarySearchResult (by_key id) ds r → IsPlace id ds r
 place_found id ds (Ok i) up within found = (within, found, λ new. place_there ds i id new up within found)
 place_found id ds (Err i) up within found =
     let gap = gap_found compare_total key_of ds id i up within found in
@@ -159,7 +172,8 @@ named_so name c e = sym (is_eq-slice_cmp name c.name) ∙ ap is_eq (flipped nat_
 passes : (name : List ℕ) (c : Collection) (cs : List Collection) → bytes_eq name c.name ≡ false → find_collection (c ∷ cs) name ≡ find_collection cs name
 passes name c cs e = ap (λ (b : Bool). if b then Some c else find_collection cs name) e
 
-pub passes_on : (name : List ℕ) (c : Collection) (cs : List Collection) → slice_cmp nat_cmp name c.name ≡ orders.Greater → find_collection (c ∷ cs) name ≡ find_collection cs name
+pub passes_on : (name : List ℕ) (c : Collection) (cs : List Collection) → slice_cmp nat_cmp name c.name ≡ orders.Greater
+    → find_collection (c ∷ cs) name ≡ find_collection cs name
 passes_on name c cs e = passes name c cs (sym (is_eq-slice_cmp name c.name) ∙ ap is_eq e)
 
 its_own_reverse : (r : Ordering) → r ≡ ordering_reverse r → r ≡ orders.Equal
@@ -197,36 +211,44 @@ missing (c ∷ cs) (suc i) name gap =
 abbrev put_at : Collection → Collection → List Collection → Ordering → List Collection
 put_at new c cs r = by_order r (new ∷ c ∷ cs) (new ∷ cs) (c ∷ put_collection new cs)
 
-pub added : (cs : List Collection) (i : ℕ) (name : List ℕ) (new : Collection) → IsGap (by_name name) cs i → new.name ≡ name → put_collection new cs ≡ insert cs i new
+pub added : (cs : List Collection) (i : ℕ) (name : List ℕ) (new : Collection) → IsGap (by_name name) cs i → new.name ≡ name
+    → put_collection new cs ≡ insert cs i new
 added [] zero name new gap e = refl
 added [] (suc i) name new gap e = absurd (omega (arith, gap.within))
 added (c ∷ cs) zero name new gap e =
-    ap (λ (n : List ℕ). put_at new c cs (slice_cmp nat_cmp n c.name)) e ∙ ap (put_at new c cs) (flipped nat_list_cmp_total c.name name orders.Greater (gap.after 0 c (omega arith) (omega arith)))
+    ap (λ (n : List ℕ). put_at new c cs (slice_cmp nat_cmp n c.name)) e
+    ∙ ap (put_at new c cs) (flipped nat_list_cmp_total c.name name orders.Greater (gap.after 0 c (omega arith) (omega arith)))
 added (c ∷ cs) (suc i) name new gap e =
-    ap (λ (n : List ℕ). put_at new c cs (slice_cmp nat_cmp n c.name)) e ∙ ap (put_at new c cs) (flipped nat_list_cmp_total c.name name orders.Less (gap.before 0 c (omega arith) (omega arith)))
+    ap (λ (n : List ℕ). put_at new c cs (slice_cmp nat_cmp n c.name)) e
+    ∙ ap (put_at new c cs) (flipped nat_list_cmp_total c.name name orders.Less (gap.before 0 c (omega arith) (omega arith)))
     ∙ ap (λ (ds : List Collection). c ∷ ds) (added cs i name new (IsGap-tail (by_name name) c cs i gap) e)
 
-before_it : (c : Collection) (cs : List Collection) (i : ℕ) (name : List ℕ) → ByName (c ∷ cs) → i < length cs → by_name name (get_or cs i no_collection) ≡ orders.Equal → by_name name c ≡ orders.Less
+before_it : (c : Collection) (cs : List Collection) (i : ℕ) (name : List ℕ) → ByName (c ∷ cs) → i < length cs
+    → by_name name (get_or cs i no_collection) ≡ orders.Equal → by_name name c ≡ orders.Less
 before_it c cs i name up within same =
     sym (alike_right nat_list_cmp_total (get_or cs i no_collection).name name c.name same) ∙ up 0 (suc i) no_collection (omega arith) (omega arith)
 
-pub found : (cs : List Collection) (i : ℕ) (name : List ℕ) → ByName cs → i < length cs → by_name name (get_or cs i no_collection) ≡ orders.Equal → find_collection cs name ≡ Some (get_or cs i no_collection)
+pub found : (cs : List Collection) (i : ℕ) (name : List ℕ) → ByName cs → i < length cs → by_name name (get_or cs i no_collection) ≡ orders.Equal
+    → find_collection cs name ≡ Some (get_or cs i no_collection)
 found [] i name up within same = absurd (omega arith)
 found (c ∷ cs) zero name up within same = ap (λ (b : Bool). if b then Some c else find_collection cs name) (named_so name c same)
 found (c ∷ cs) (suc i) name up within same =
     passes name c cs (not_named name c (ap is_eq (before_it c cs i name up (omega arith) same)))
     ∙ found cs i name (rises_tail (slice_cmp nat_cmp) (λ (c : Collection). c.name) c cs up) (omega arith) same
 
-pub replaced : (cs : List Collection) (i : ℕ) (name : List ℕ) (new : Collection) → ByName cs → i < length cs → by_name name (get_or cs i no_collection) ≡ orders.Equal → new.name ≡ name → put_collection new cs ≡ set cs i new
+pub replaced : (cs : List Collection) (i : ℕ) (name : List ℕ) (new : Collection) → ByName cs → i < length cs
+    → by_name name (get_or cs i no_collection) ≡ orders.Equal → new.name ≡ name → put_collection new cs ≡ set cs i new
 replaced [] i name new up within same e = absurd (omega arith)
 replaced (c ∷ cs) zero name new up within same e =
     ap (λ (n : List ℕ). put_at new c cs (slice_cmp nat_cmp n c.name)) e ∙ ap (put_at new c cs) (flipped nat_list_cmp_total c.name name orders.Equal same)
 replaced (c ∷ cs) (suc i) name new up within same e =
-    ap (λ (n : List ℕ). put_at new c cs (slice_cmp nat_cmp n c.name)) e ∙ ap (put_at new c cs) (flipped nat_list_cmp_total c.name name orders.Less (before_it c cs i name up (omega arith) same))
+    ap (λ (n : List ℕ). put_at new c cs (slice_cmp nat_cmp n c.name)) e
+    ∙ ap (put_at new c cs) (flipped nat_list_cmp_total c.name name orders.Less (before_it c cs i name up (omega arith) same))
     ∙ ap (λ (ds : List Collection). c ∷ ds) (replaced cs i name new (rises_tail (slice_cmp nat_cmp) (λ (c : Collection). c.name) c cs up) (omega arith) same e)
 
 -- what a search by a name found
-pub named_at : (name : List ℕ) (cs : List Collection) (r : Result ℕ ℕ) → ByName cs → IsSearchInRange r (length cs) → IsBinarySearchResult (by_name name) cs r → IsNamedAt name cs r
+pub named_at : (name : List ℕ) (cs : List Collection) (r : Result ℕ ℕ) → ByName cs → IsSearchInRange r (length cs) → IsBinarySearchResult (by_name name) cs r
+    → IsNamedAt name cs r
 named_at name cs (Ok i) up within same = record {
   within = within;
   named = exact_bytes (get_or cs i no_collection).name name (same no_collection);

@@ -1,5 +1,6 @@
 -- Where a document goes among others, as a walk over them finds it.
-use Rattle.std.proofs.Common.{◌≡◌, ℕ, ◌+◌, ◌<◌, ◌≤◌, List, [], ◌∷◌, ◌++◌, length, take, drop, get_or, insert, Option, Some, None, refl, sym, ap, ◌∙◌, arith, append_assoc}
+use Rattle.std.proofs.Common.{◌≡◌, ℕ, ◌+◌, ◌<◌, ◌≤◌, List, [], ◌∷◌, ◌++◌, length, take, drop, get_or, insert, Option, Some, None, refl, sym, ap, ◌∙◌, arith}
+use Rattle.std.proofs.Common.{append_assoc}
 use Rattle.std.specs.Prelude.{option_map}
 use Rattle.std.specs.declared.cmp.Ordering.{Ordering}
 use Rattle.std.specs.declared.cmp.Ordering.TheVariants as orders
@@ -56,7 +57,8 @@ module _ (new : Pairs) (ds : List Pairs) (i : ℕ) (d : Pairs) (within : i < len
       at (Some xs) = ap (λ (ys : List Pairs). Some ys) (sym (append_assoc (take i ds) (d ∷ []) xs) ∙ ap (λ (ys : List Pairs). ys ++ xs) (sym next))
 
 -- behind all others
-pub goes_last : (new : Pairs) (ds : List Pairs) (i n : ℕ) → IsPlacedFrom new ds i → length ds ≤ i → n ≡ length ds → place (key_of new) new ds ≡ Some (insert ds n new)
+pub goes_last : (new : Pairs) (ds : List Pairs) (i n : ℕ) → IsPlacedFrom new ds i → length ds ≤ i → n ≡ length ds
+    → place (key_of new) new ds ≡ Some (insert ds n new)
 goes_last new ds i n far whole is =
     let long : length ds ≤ n = omega (arith, is) in
     far ∙ ap (λ (xs : List Pairs). behind (take i ds) (place (key_of new) new xs)) (drop_all i ds whole)

@@ -101,7 +101,8 @@ module _ (away : DroppedIndexes) where
 pub left_short : (away : DroppedIndexes) (is left : List Definition) → left_by away is ≡ Ok left → AreShortIndexes is → AreShortIndexes left
 left_short all is left e h = let none : [] ≡ left = cc in subst AreShortIndexes none (record { each = tt; few = omega arith })
 left_short (named name) is left e h =
-    let p = passed (bytes_eq name (codes "_id_")) refusals.BadValue (unless (not (list_any (is_dropped (named name)) is)) refusals.IndexNotFound (Ok (remaining (named name) is))) left e in
+    let p = passed (bytes_eq name (codes "_id_")) refusals.BadValue
+    (unless (not (list_any (is_dropped (named name)) is)) refusals.IndexNotFound (Ok (remaining (named name) is))) left e in
     let q = passed (not (list_any (is_dropped (named name)) is)) refusals.IndexNotFound (Ok (remaining (named name) is)) left p.1 in
     let same : remaining (named name) is ≡ left = cc in
     subst AreShortIndexes same (record { each = remaining_each (named name) is h.each; few = omega (arith, remaining_few (named name) is, h.few) })

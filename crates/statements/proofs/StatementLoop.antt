@@ -1,5 +1,6 @@
 -- Statement after statement, over documents in memory.
-use Rattle.std.proofs.Common.{◌≡◌, ◌≢◌, ℕ, suc, ◌+◌, ◌<◌, ◌≤◌, Bool, List, [], ◌++◌, length, map, drop, get_or, Result, Ok, Err, refl, sym, ap, subst, ◌∙◌, arith, append_assoc}
+use Rattle.std.proofs.Common.{◌≡◌, ◌≢◌, ℕ, suc, ◌+◌, ◌<◌, ◌≤◌, Bool, List, [], ◌++◌, length, map, drop, get_or, Result, Ok, Err, refl, sym, ap, subst, ◌∙◌}
+use Rattle.std.proofs.Common.{arith, append_assoc}
 use Rattle.std.specs.Prelude.{All}
 use Rattle.std.proofs.lemmas.List.{drop_all, append-nil}
 use Rattle.bson.specs.Tree.{Pairs}
@@ -56,7 +57,8 @@ module _ (ss : List UpdateStatement) (start now : Run) (i : ℕ) (far : HasLeft 
         ap later_writes (sym planned) ∙ ap (λ (ws : List DocumentWrite). written now ++ ws) (sym (left_writes_of i ss s (listed_of now) within is)) ∙ far.wrote
 
     -- one is done
-    pub left_on : run_listed i s (listed_of now) ≡ Ok (listed_of next) → HasWritten (statement_writes s now.documents.items) now next → HasLeft ss start next (i + 1)
+    pub left_on : run_listed i s (listed_of now) ≡ Ok (listed_of next) → HasWritten (statement_writes s now.documents.items) now next
+        → HasLeft ss start next (i + 1)
     left_on planned one = record {
       on = RunsOn-trans start now next far.on one.on;
       same = sym (run_one i ss s (listed_of now) within is ∙ ap (λ (r : Result Listed Refusal). r >>= run_each (i + 1) (drop (i + 1) ss)) planned) ∙ far.same;
@@ -66,12 +68,14 @@ module _ (ss : List UpdateStatement) (start now : Run) (i : ℕ) (far : HasLeft 
     }
 
     -- one is refused
-    pub left_refused : (e : Refusal) → Fails refusals.OutOfMemory e (run_listed i s (listed_of now)) → Wrote (Err e) (statement_writes s now.documents.items) now next
+    pub left_refused : (e : Refusal) → Fails refusals.OutOfMemory e (run_listed i s (listed_of now))
+        → Wrote (Err e) (statement_writes s now.documents.items) now next
         → Wrote (Err e) (writes_from 0 ss (listed_of start)) start next
     left_refused e planned one other =
         let stop = one other in
         record {
-          wrote = stop.wrote ∙ ap (λ (ws : List DocumentWrite). written now ++ ws) (sym (append-nil (statement_writes s now.documents.items))) ∙ writes_left (Err e) (planned other);
+          wrote = stop.wrote ∙ ap (λ (ws : List DocumentWrite). written now ++ ws) (sym (append-nil (statement_writes s now.documents.items)))
+              ∙ writes_left (Err e) (planned other);
           puttable = λ h. stop.puttable (far.on.puttable h);
           keeps = λ from h. subst (λ (k : Bool). AreWritten k from next.writes.items) far.on.kept (stop.keeps from (far.on.keeps from h));
         }
@@ -79,7 +83,8 @@ module _ (ss : List UpdateStatement) (start now : Run) (i : ℕ) (far : HasLeft 
   -- all are done
   pub left_none : length ss ≤ i → HasWritten (writes_from 0 ss (listed_of start)) start now
   left_none whole = record {
-    wrote = sym (append-nil (written now)) ∙ ap (λ (xs : List UpdateStatement). written now ++ writes_from i xs (listed_of now)) (sym (drop_all i ss whole)) ∙ far.wrote;
+    wrote = sym (append-nil (written now)) ∙ ap (λ (xs : List UpdateStatement). written now ++ writes_from i xs (listed_of now)) (sym (drop_all i ss whole))
+        ∙ far.wrote;
     on = far.on;
   }
 
@@ -117,7 +122,8 @@ module _ (start new : Run) (from : List Pairs) (same : start.documents.items ≡
       end = record { run = new; planned = ap (run_each 0 ss) (sym begun) ∙ planned; writes = refl; tally = refl; is = ran_from one.on };
     }
 
-    pub ran_to_refusal : (e : Refusal) → e ≢ refusals.OutOfMemory → Fails refusals.OutOfMemory e (run_each 0 ss (listed_of start)) → Wrote (Err e) (writes_from 0 ss (listed_of start)) start new
+    pub ran_to_refusal : (e : Refusal) → e ≢ refusals.OutOfMemory → Fails refusals.OutOfMemory e (run_each 0 ss (listed_of start))
+        → Wrote (Err e) (writes_from 0 ss (listed_of start)) start new
         → IsRan keeps_old ss from (record { writes = new.writes; end = Err e })
     ran_to_refusal e other planned stopped =
         let stop = stopped other in

@@ -1,11 +1,13 @@
 -- Updating document after document in memory, and statement after statement.
-use Rattle.std.proofs.Common.{◌≡◌, ◌≢◌, ℕ, zero, suc, ◌+◌, ◌<◌, ◌≤◌, Bool, true, false, List, [], ◌∷◌, ◌++◌, length, map, take, drop, get_or, set, Option, Some, Result, Ok, Err, refl, sym, ap, subst, ◌∙◌, arith, append_assoc}
+use Rattle.std.proofs.Common.{◌≡◌, ◌≢◌, ℕ, zero, suc, ◌+◌, ◌<◌, ◌≤◌, Bool, true, false, List, [], ◌∷◌, ◌++◌, length, map, take, drop, get_or, set, Option, Some}
+use Rattle.std.proofs.Common.{Result, Ok, Err, refl, sym, ap, subst, ◌∙◌, arith, append_assoc}
 use Rattle.std.specs.Prelude.{◌^◌, ◌-◌, nat_lt, not, ◌&&◌, ◌||◌, if◌then◌else◌, All}
 use Rattle.std.specs.List.{list_any}
 use Rattle.std.specs.declared.cmp.Ordering.{Ordering}
 use Rattle.std.specs.declared.cmp.Ordering.TheVariants as orders
 use Rattle.std.proofs.lemmas.Cmp.{tied_itself}
-use Rattle.std.proofs.lemmas.List.{set-get_or, length-set, take_more, take_more_set, take-append-drop, get_or_default, drop_all, take_all, drop-set-lt, append-nil}
+use Rattle.std.proofs.lemmas.List.{set-get_or, length-set, take_more, take_more_set, take-append-drop, get_or_default, drop_all, take_all, drop-set-lt}
+use Rattle.std.proofs.lemmas.List.{append-nil}
 use Rattle.std.proofs.lemmas.List.Elements.{All-append, All-cons, All-set}
 use Rattle.std.proofs.lemmas.Slice.Eq.{bytes_eq-Decides}
 use Rattle.bson.specs.Lawful.{IsDocument}
@@ -27,7 +29,8 @@ use Rattle.database_model.specs.Documents.{key_of}
 use Rattle.database_model.specs.Lawful.{IsStored, IsWithin}
 use Rattle.database_model.specs.Merging.{Listed, none_changed, listed_to, one_or_none, put_each, run_listed, upsert_listed}
 use Rattle.database_model.specs.Update.{counted, spelled, Changed, passed_over, changed_to, update_from, upsert_document}
-use Rattle.statements.specs.Updating.{AreWritten, changed_of, ChangesAt, document_at, HasInserted, HasNone, HasRun, HasStopped, HasWritten, HaveOld, IsChange, IsMadeIn, IsRefused, IsRunOf, listed_of, MayBePut, news_of, replaced_in, RunsOn, seen, write_of_new, written, Wrote}
+use Rattle.statements.specs.Updating.{AreWritten, changed_of, ChangesAt, document_at, HasInserted, HasNone, HasRun, HasStopped, HasWritten, HaveOld, IsChange}
+use Rattle.statements.specs.Updating.{IsMadeIn, IsRefused, IsRunOf, listed_of, MayBePut, news_of, replaced_in, RunsOn, seen, write_of_new, written, Wrote}
 use Rattle.database_model.specs.Writes.{change_writes, changes_of, made_write, statement_writes, updated_by}
 use Rattle.statements.specs.declared.statements.Run.{Run}
 use Rattle.statements.specs.declared.statements.Write.{Write}
@@ -37,7 +40,8 @@ use Rattle.statements.proofs.KeptLemmas.{kept_place}
 use Rattle.statements.proofs.Ordered.{flipped}
 use Rattle.replies.proofs.Steps.{drop_step}
 use Rattle.statements.proofs.EditPlaceLemmas.{put_where_placed}
-use Rattle.statements.proofs.WriteSteps.{changes_on, changes_only, changes_refused, found_at, news_more, none_written, old_more, one_written, or_false, or_true, rising_rest, seen_more, updated_none, updated_other, updated_unmatched, writes_changes, writes_none, writes_upsert}
+use Rattle.statements.proofs.WriteSteps.{changes_on, changes_only, changes_refused, found_at, news_more, none_written, old_more, one_written, or_false, or_true}
+use Rattle.statements.proofs.WriteSteps.{rising_rest, seen_more, updated_none, updated_other, updated_unmatched, writes_changes, writes_none, writes_upsert}
 
 -- ---- runs that go on
 
@@ -79,7 +83,8 @@ put_each_more [] x ds = refl
 put_each_more (new ∷ rest) x ds = put_each_more rest x (put_document new ds)
 
 -- it goes in the place of the one of its key
-pub put_in_place : (ds : List Pairs) (i : ℕ) (new : Pairs) → i < length ds → key_of new ≡ key_of (get_or ds i no_pairs) → IsRising ds → put_document new ds ≡ set ds i new
+pub put_in_place : (ds : List Pairs) (i : ℕ) (new : Pairs) → i < length ds → key_of new ≡ key_of (get_or ds i no_pairs) → IsRising ds
+    → put_document new ds ≡ set ds i new
 put_in_place [] i new below same up = absurd (omega (arith, below))
 put_in_place (d ∷ ds) zero new below same up =
     let tied : compare (key_of new) (key_of d) ≡ orders.Equal = ap (λ t. compare t (key_of d)) same ∙ tied_itself compare_total (key_of d) in
@@ -105,13 +110,15 @@ module _ (u : Change) (at : ℕ) (old new : Run) (matched : new.tally.matched �
   abbrev d : Pairs
   d = document_at at old
 
-  pub changes_none : new.documents.items ≡ old.documents.items → new.writes.items ≡ old.writes.items → new.tally.modified ≡ old.tally.modified → apply u 65535 d ≡ Ok d → ChangesAt u at old new
+  pub changes_none : new.documents.items ≡ old.documents.items → new.writes.items ≡ old.writes.items → new.tally.modified ≡ old.tally.modified
+      → apply u 65535 d ≡ Ok d → ChangesAt u at old new
   changes_none same none modified is = record {
     made = d;
     is = is;
     puts = same ∙ sym (set-get_or old.documents.items at no_pairs);
     matched = matched;
-    modified = modified ∙ ap (λ (b : Bool). if b then old.tally.modified else counted old.tally.modified) (sym ((bytes_eq-Decides (spelled d) (spelled d)).1 refl));
+    modified = modified
+        ∙ ap (λ (b : Bool). if b then old.tally.modified else counted old.tally.modified) (sym ((bytes_eq-Decides (spelled d) (spelled d)).1 refl));
     upserted = upserted;
     wrote = ap (map seen) none ∙ sym (append-nil (written old)) ∙ ap (λ (ws : List DocumentWrite). written old ++ ws) (sym (none_written d));
     on = record {
@@ -128,9 +135,11 @@ module _ (u : Change) (at : ℕ) (old new : Run) (matched : new.tally.matched �
     };
   }
 
-  module _ (there : at < length old.documents.items) (read : IsRead u) (made : Pairs) (change : IsChange u d made) (puts : new.documents.items ≡ set old.documents.items at made)
+  module _ (there : at < length old.documents.items) (read : IsRead u) (made : Pairs) (change : IsChange u d made)
+      (puts : new.documents.items ≡ set old.documents.items at made)
       (before : Option Pairs) (has_old : old.keeps_old ≡ true → before ≡ Some d)
-      (more : new.writes.items ≡ old.writes.items ++ record { is_new = false; old = before; new = made } ∷ []) (modified : new.tally.modified ≡ counted old.tally.modified) where
+      (more : new.writes.items ≡ old.writes.items ++ record { is_new = false; old = before; new = made } ∷ [])
+      (modified : new.tally.modified ≡ counted old.tally.modified) where
     abbrev w : Write
     w = record { is_new = false; old = before; new = made }
 
@@ -148,14 +157,16 @@ module _ (u : Change) (at : ℕ) (old new : Run) (matched : new.tally.matched �
         let found : replaced_in (put_each (news_of old.writes.items) from) w ≡ Some d =
         ap (λ (ds : List Pairs). replaced_in ds w) h.puts ∙ found_at old.documents.items at made there good.1 h.rising in
         record {
-          puts = ap (λ (xs : List Pairs). put_each xs from) all_news ∙ put_each_more (news_of old.writes.items) made from ∙ ap (put_document made) h.puts ∙ placed ∙ sym puts;
+          puts = ap (λ (xs : List Pairs). put_each xs from) all_news ∙ put_each_more (news_of old.writes.items) made from ∙ ap (put_document made) h.puts
+              ∙ placed ∙ sym puts;
           rising = subst IsRising (sym puts) (rising_set old.documents.items at made there good.1 h.rising);
           stored = subst (All IsStored) (sym puts) (All-set IsStored old.documents.items at made good.0 h.stored);
           written = record {
             old = λ k.
                 let keeps = sym kept ∙ k in
                 subst (HaveOld from) (sym more) (old_more from old.writes.items w (h.written.old keeps) (has_old keeps ∙ sym found));
-            storable = subst (All IsStorable) (sym all_news) (All-more IsStorable (news_of old.writes.items) made h.written.storable (storable made good.0 change.readable));
+            storable = subst (All IsStorable) (sym all_news)
+                (All-more IsStorable (news_of old.writes.items) made h.written.storable (storable made good.0 change.readable));
           };
         }
 
@@ -188,7 +199,8 @@ pub record Looking (s : UpdateStatement) (start now : Run) (found : Bool) (at : 
   pub none : found ≡ false → listed_of now ≡ listed_of start
   pub upserted : now.tally.upserted ≡ start.tally.upserted
   pub any : (found || list_any (matches s.filter) (drop at now.documents.items)) ≡ list_any (matches s.filter) start.documents.items
-  pub wrote : written now ++ changes_of s.change (updated_by s (drop at now.documents.items)) ≡ written start ++ changes_of s.change (updated_by s start.documents.items)
+  pub wrote : written now ++ changes_of s.change (updated_by s (drop at now.documents.items)) ≡ written start
+      ++ changes_of s.change (updated_by s start.documents.items)
 
 pub begins : (s : UpdateStatement) (start : Run) → All IsWithin start.documents.items → Looking s start start false 0
 begins s start within = record { on = RunsOn-refl start within; count = refl; same = refl; none = λ e. refl; upserted = refl; any = refl; wrote = refl }
@@ -247,15 +259,18 @@ module _ (s : UpdateStatement) (start now : Run) (found : Bool) (i : ℕ) (far :
   }
 
   -- it matches, and is refused
-  pub refused_one : (e : Refusal) (next : Run) → matches s.filter at_hand ≡ true → Fails refusals.OutOfMemory e (apply s.change 65535 at_hand) → (e ≢ refusals.OutOfMemory → next ≡ now)
+  pub refused_one : (e : Refusal) (next : Run) → matches s.filter at_hand ≡ true → Fails refusals.OutOfMemory e (apply s.change 65535 at_hand)
+      → (e ≢ refusals.OutOfMemory → next ≡ now)
       → IsRefused s e start next
   refused_one e next match is same = record {
     planned = λ other. sym looked ∙ (λ k. one_step (match k) (is other k) s.multi);
     writes = λ other.
         let wrote : written now ≡ written start ++ statement_writes s start.documents.items =
-        sym (append-nil (written now)) ∙ ap (λ (ws : List DocumentWrite). written now ++ ws) (sym (changes_refused s at_hand rest match e (is other))) ∙ left_writes
+        sym (append-nil (written now)) ∙ ap (λ (ws : List DocumentWrite). written now ++ ws) (sym (changes_refused s at_hand rest match e (is other)))
+        ∙ left_writes
         ∙ ap (λ (ws : List DocumentWrite). written start ++ ws) (sym (writes_changes s start.documents.items (some_match match))) in
-        subst (HasStopped (statement_writes s start.documents.items) start) (sym (same other)) (stops (statement_writes s start.documents.items) start now far.on wrote);
+        subst (HasStopped (statement_writes s start.documents.items) start) (sym (same other))
+        (stops (statement_writes s start.documents.items) start now far.on wrote);
   }
 
   -- it matches, and is changed
@@ -304,9 +319,11 @@ module _ (s : UpdateStatement) (start now : Run) (found : Bool) (i : ℕ) (far :
     }
 
 -- no document is left
-pub looked_at_all : (s : UpdateStatement) (start now : Run) (found : Bool) (i : ℕ) → Looking s start now found i → length now.documents.items ≤ i → HasRun s start now found
+pub looked_at_all : (s : UpdateStatement) (start now : Run) (found : Bool) (i : ℕ) → Looking s start now found i → length now.documents.items ≤ i
+    → HasRun s start now found
 looked_at_all s start now found i far whole = record {
-  planned = sym far.same ∙ (λ k. update_from s (record (changed_of found now) { documents = take_all i now.documents.items whole k }) (drop_all i now.documents.items whole k));
+  planned = sym far.same
+      ∙ (λ k. update_from s (record (changed_of found now) { documents = take_all i now.documents.items whole k }) (drop_all i now.documents.items whole k));
   none = far.none;
   upserted = far.upserted;
   any = sym far.any ∙ ap (λ (ds : List Pairs). found || list_any (matches s.filter) ds) (drop_all i now.documents.items whole) ∙ or_false found;
@@ -342,7 +359,8 @@ some_upserted no_items us i made none = absurd (let no = sym made ∙ none in cc
 some_upserted (item t ts) us i made none = absurd (let no = sym made ∙ none in cc)
 
 -- the run after it, whatever it counts
-pub inserts_on : (d : Pairs) (old mid new : Run) → IsStored d → IsDocument d → HasInserted d old mid → new.documents.items ≡ mid.documents.items → new.writes.items ≡ mid.writes.items
+pub inserts_on : (d : Pairs) (old mid new : Run) → IsStored d → IsDocument d → HasInserted d old mid → new.documents.items ≡ mid.documents.items
+    → new.writes.items ≡ mid.writes.items
     → new.keeps_old ≡ mid.keeps_old → (HasNone new.tally → ⊥) → RunsOn old new
 inserts_on d old mid new stored readable put same none keeps some =
     let made : IsMadeIn d old new = none ∙ put.writes in
@@ -355,7 +373,8 @@ inserts_on d old mid new stored readable put same none keeps some =
       keeps = λ from h.
           let kept = kept_place old.documents.items d mid.documents.items (h.rising, h.stored) stored put.placed in
           record {
-            puts = ap (λ (xs : List Pairs). put_each xs from) (made_news d old new stored readable made) ∙ put_each_more (news_of old.writes.items) d from ∙ ap (put_document d) h.puts
+            puts = ap (λ (xs : List Pairs). put_each xs from) (made_news d old new stored readable made) ∙ put_each_more (news_of old.writes.items) d from
+                ∙ ap (put_document d) h.puts
                 ∙ put_where_placed d old.documents.items mid.documents.items put.placed ∙ sym same;
             rising = subst IsRising (sym same) kept.0;
             stored = subst (All IsStored) (sym same) kept.1;
@@ -366,14 +385,16 @@ inserts_on d old mid new stored readable put same none keeps some =
 -- ---- one statement
 
 wrote_behind : (ws : List DocumentWrite) (a b c : Run) → RunsOn a b → written b ≡ written a → (r : Result (Unit {0}) Refusal) → Wrote r ws b c → Wrote r ws a c
-wrote_behind ws a b c first same (Ok u) later = record { wrote = later.wrote ∙ ap (λ (xs : List DocumentWrite). xs ++ ws) same; on = RunsOn-trans a b c first later.on }
+wrote_behind ws a b c first same
+    (Ok u) later = record { wrote = later.wrote ∙ ap (λ (xs : List DocumentWrite). xs ++ ws) same; on = RunsOn-trans a b c first later.on }
 wrote_behind ws a b c first same (Err e) later = λ other. stopped_behind ws a b c first same (later other)
 
 module _ (index : ℕ) (s : UpdateStatement) (old mid : Run) where
   abbrev ran_on : Changed → Result Listed Refusal
   ran_on changed = if not changed.found && s.upsert then upsert_listed index s (listed_of old) else Ok (listed_to (listed_of old) changed)
 
-  pub refused_statement : (e : Refusal) → Fails refusals.OutOfMemory e (update_from s (none_changed (listed_of old)) old.documents.items) → Fails refusals.OutOfMemory e (run_listed index s (listed_of old))
+  pub refused_statement : (e : Refusal) → Fails refusals.OutOfMemory e (update_from s (none_changed (listed_of old)) old.documents.items)
+      → Fails refusals.OutOfMemory e (run_listed index s (listed_of old))
   refused_statement e is other = ap (λ (r : Result Changed Refusal). r >>= ran_on) (is other)
 
   module _ (found : Bool) (up : HasRun s old mid found) where
@@ -402,12 +423,14 @@ module _ (index : ℕ) (s : UpdateStatement) (old mid : Run) where
     module _ (none : found ≡ false) where
       nothing_wrote : written mid ≡ written old
       nothing_wrote =
-          up.wrote ∙ ap (λ (ds : List Pairs). written old ++ changes_of s.change ds) (updated_unmatched s old.documents.items (up.any ∙ none)) ∙ append-nil (written old)
+          up.wrote ∙ ap (λ (ds : List Pairs). written old ++ changes_of s.change ds) (updated_unmatched s old.documents.items (up.any ∙ none))
+          ∙ append-nil (written old)
 
       -- it makes no document
       pub none_wrote : s.upsert ≡ false → HasWritten (statement_writes s old.documents.items) old mid
       none_wrote makes = record {
-        wrote = nothing_wrote ∙ sym (append-nil (written old)) ∙ ap (λ (ws : List DocumentWrite). written old ++ ws) (sym (writes_none s old.documents.items (up.any ∙ none) makes));
+        wrote = nothing_wrote ∙ sym (append-nil (written old))
+            ∙ ap (λ (ws : List DocumentWrite). written old ++ ws) (sym (writes_none s old.documents.items (up.any ∙ none) makes));
         on = up.on;
       }
 

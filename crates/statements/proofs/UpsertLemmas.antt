@@ -23,7 +23,8 @@ module _ (index : ℕ) (s : UpdateStatement) (d : Pairs) (old : Run) (is : upser
 
   made : upsert_listed index s (listed_of old) ≡ put_with (or_refused (place (key_of d) d old.documents.items) refusals.DuplicateKey)
   made = ap (λ (r : Result Pairs Refusal). r
-      >>= (λ new. or_refused (place (key_of new) new old.documents.items) refusals.DuplicateKey >>= (λ stored. let x : Result Listed Refusal = Ok (with_listed index new stored (listed_of old)) in x))) is
+      >>= (λ new. or_refused (place (key_of new) new old.documents.items) refusals.DuplicateKey >>=
+      (λ stored. let x : Result Listed Refusal = Ok (with_listed index new stored (listed_of old)) in x))) is
 
   pub upsert_refused : (e : Refusal) → Fails refusals.OutOfMemory e (or_refused (place (key_of d) d old.documents.items) refusals.DuplicateKey)
       → Fails refusals.OutOfMemory e (upsert_listed index s (listed_of old))
@@ -37,11 +38,14 @@ module _ (index : ℕ) (s : UpdateStatement) (d : Pairs) (old : Run) (is : upser
 
   -- another has its `_id`
   pub upsert_stopped : (e : Refusal) (new : Run) → IsStored d → IsDocument d → IsThere d e old new → Wrote (Err e) upsert_writes old new
-  upsert_stopped e new stored readable there other = subst (λ (ws : List DocumentWrite). HasStopped ws old new) (sym its_write) (made_stops d old new stored readable (there.writes other))
+  upsert_stopped e new stored readable there other =
+      subst (λ (ws : List DocumentWrite). HasStopped ws old new) (sym its_write) (made_stops d old new stored readable (there.writes other))
 
-  module _ (mid new : Run) (put : HasInserted d old mid) (documents : new.documents.items ≡ mid.documents.items) (entry : Pairs) (named : entry ≡ upserted_entry index (key_of d))
+  module _ (mid new : Run) (put : HasInserted d old mid) (documents : new.documents.items ≡ mid.documents.items) (entry : Pairs)
+      (named : entry ≡ upserted_entry index (key_of d))
       (upserted : new.tally.upserted ≡ append_items mid.tally.upserted (item (document entry) no_items)) where
-    pub upsert_done : new.tally.matched ≡ counted mid.tally.matched → new.tally.modified ≡ mid.tally.modified → upsert_listed index s (listed_of old) ≡ Ok (listed_of new)
+    pub upsert_done : new.tally.matched ≡ counted mid.tally.matched → new.tally.modified ≡ mid.tally.modified
+        → upsert_listed index s (listed_of old) ≡ Ok (listed_of new)
     upsert_done matched modified =
         let before : mid.tally ≡ old.tally = put.tally in
         let count : new.tally.matched ≡ counted old.tally.matched = matched ∙ ap (λ (t : Tally). counted t.matched) before in
@@ -54,5 +58,6 @@ module _ (index : ℕ) (s : UpdateStatement) (d : Pairs) (old : Run) (is : upser
     pub upsert_wrote : IsStored d → IsDocument d → new.writes.items ≡ mid.writes.items → new.keeps_old ≡ mid.keeps_old → HasWritten upsert_writes old new
     upsert_wrote stored readable writes keeps = record {
       wrote = wrote_made d old new stored readable (writes ∙ put.writes) ∙ ap (λ (ws : List DocumentWrite). written old ++ ws) (sym its_write);
-      on = inserts_on d old mid new stored readable put documents writes keeps (λ none. some_upserted mid.tally.upserted new.tally.upserted entry upserted none.1);
+      on = inserts_on d old mid new stored readable put documents writes keeps
+          (λ none. some_upserted mid.tally.upserted new.tally.upserted entry upserted none.1);
     }

@@ -1,5 +1,6 @@
 -- Laws of what the statements of an update write.
-use Rattle.std.proofs.Common.{◌≡◌, ℕ, suc, Bool, true, false, List, [], ◌∷◌, ◌++◌, map, take, Option, Some, None, Result, Ok, Err, refl, sym, ap, subst, ◌∙◌, arith, append_assoc}
+use Rattle.std.proofs.Common.{◌≡◌, ℕ, suc, Bool, true, false, List, [], ◌∷◌, ◌++◌, map, take, Option, Some, None, Result, Ok, Err, refl, sym, ap, subst, ◌∙◌}
+use Rattle.std.proofs.Common.{arith, append_assoc}
 use Rattle.std.specs.Prelude.{not, ◌&&◌, ◌||◌, if◌then◌else◌, All}
 use Rattle.std.specs.List.{filter, list_any}
 use Rattle.std.specs.Str.{bytes_eq}
@@ -39,7 +40,8 @@ SameChanged (Err e) (Err f) = Unit {0}
 SameChanged (Ok c) (Err f) = ⊥
 SameChanged (Err e) (Ok d) = ⊥
 
-from_same : (s : UpdateStatement) (c d : Changed) (xs : List Pairs) → c.documents ≡ d.documents → c.found ≡ d.found → SameChanged (update_from s c xs) (update_from s d xs)
+from_same : (s : UpdateStatement) (c d : Changed) (xs : List Pairs) → c.documents ≡ d.documents → c.found ≡ d.found
+    → SameChanged (update_from s c xs) (update_from s d xs)
 from_same s c d [] documents found = (documents, found)
 from_same s c d (x ∷ xs) documents found = at (matches s.filter x) (apply s.change 65535 x) s.multi (λ a b e f. from_same s a b xs e f)
   where
@@ -71,26 +73,32 @@ module _ (i j : ℕ) (s : UpdateStatement) (l m : Listed) (documents : l.documen
       placed new None = tt
       placed new (Some stored) = refl
 
-      at : (r : Result Pairs Refusal) → SameListed (r >>= (λ new. put_in i l new (place (key_of new) new l.documents))) (r >>= (λ new. put_in j m new (place (key_of new) new m.documents)))
+      at : (r : Result Pairs Refusal)
+          → SameListed (r >>= (λ new. put_in i l new (place (key_of new) new l.documents))) (r >>= (λ new. put_in j m new (place (key_of new) new m.documents)))
       at (Err e) = tt
       at (Ok new) =
-          subst (λ (ds : List Pairs). SameListed (put_in i l new (place (key_of new) new l.documents)) (put_in j m new (place (key_of new) new ds))) documents (placed new (place (key_of new) new l.documents))
+          subst (λ (ds : List Pairs). SameListed (put_in i l new (place (key_of new) new l.documents)) (put_in j m new (place (key_of new) new ds))) documents
+          (placed new (place (key_of new) new l.documents))
 
   run_same : SameListed (run_listed i s l) (run_listed j s m)
   run_same = at (update_from s (none_changed l) l.documents) (update_from s (none_changed m) m.documents) changed
     where
       changed : SameChanged (update_from s (none_changed l) l.documents) (update_from s (none_changed m) m.documents)
       changed =
-          subst (λ (ds : List Pairs). SameChanged (update_from s (none_changed l) l.documents) (update_from s (none_changed m) ds)) documents (from_same s (none_changed l) (none_changed m) l.documents refl refl)
+          subst (λ (ds : List Pairs). SameChanged (update_from s (none_changed l) l.documents) (update_from s (none_changed m) ds)) documents
+          (from_same s (none_changed l) (none_changed m) l.documents refl refl)
 
-      by : (b : Bool) (c d : Changed) → c.documents ≡ d.documents → SameListed (if b then upsert_listed i s l else Ok (listed_to l c)) (if b then upsert_listed j s m else Ok (listed_to m d))
+      by : (b : Bool) (c d : Changed) → c.documents ≡ d.documents
+          → SameListed (if b then upsert_listed i s l else Ok (listed_to l c)) (if b then upsert_listed j s m else Ok (listed_to m d))
       by true c d same = upsert_same
       by false c d same = same
 
       at : (r t : Result Changed Refusal) → SameChanged r t
-          → SameListed (r >>= (λ c. if not c.found && s.upsert then upsert_listed i s l else Ok (listed_to l c))) (t >>= (λ d. if not d.found && s.upsert then upsert_listed j s m else Ok (listed_to m d)))
+          → SameListed (r >>= (λ c. if not c.found && s.upsert then upsert_listed i s l else Ok (listed_to l c)))
+          (t >>= (λ d. if not d.found && s.upsert then upsert_listed j s m else Ok (listed_to m d)))
       at (Ok c) (Ok d) h =
-          subst (λ (f : Bool). SameListed (if not c.found && s.upsert then upsert_listed i s l else Ok (listed_to l c)) (if not f && s.upsert then upsert_listed j s m else Ok (listed_to m d))) h.1
+          subst (λ (f : Bool). SameListed (if not c.found && s.upsert then upsert_listed i s l else Ok (listed_to l c))
+          (if not f && s.upsert then upsert_listed j s m else Ok (listed_to m d))) h.1
           (by (not c.found && s.upsert) c d h.0)
       at (Err e) (Err f) h = tt
       at (Ok c) (Err f) h = absurd h
@@ -114,14 +122,16 @@ writes_same i j (s ∷ ss) l m documents =
 abbrev over_left : List UpdateStatement → Result Listed Refusal → List DocumentWrite
 over_left later r = unless_refused (λ l. writes_of later l.documents) r
 
-join_from : (i : ℕ) (first later : List UpdateStatement) (l : Listed) → writes_from i (first ++ later) l ≡ writes_from i first l ++ over_left later (run_each i first l)
+join_from : (i : ℕ) (first later : List UpdateStatement) (l : Listed)
+    → writes_from i (first ++ later) l ≡ writes_from i first l ++ over_left later (run_each i first l)
 join_from i [] later l = writes_same i 0 later l (not_listed l.documents) refl
 join_from i (s ∷ ss) later l = at (run_listed i s l) (λ next. join_from (suc i) ss later next)
   where
     here : List DocumentWrite
     here = statement_writes s l.documents
 
-    at : (r : Result Listed Refusal) → ((next : Listed) → writes_from (suc i) (ss ++ later) next ≡ writes_from (suc i) ss next ++ over_left later (run_each (suc i) ss next))
+    at : (r : Result Listed Refusal)
+        → ((next : Listed) → writes_from (suc i) (ss ++ later) next ≡ writes_from (suc i) ss next ++ over_left later (run_each (suc i) ss next))
         → statement_writes s l.documents ++ unless_refused (writes_from (suc i) (ss ++ later)) r
         ≡ (statement_writes s l.documents ++ unless_refused (writes_from (suc i) ss) r) ++ over_left later (r >>= run_each (suc i) ss)
     at (Ok next) go =
@@ -156,7 +166,8 @@ unchanged_write_nothing s ds some h =
 pub no_stored : All IsStored []
 no_stored k d below = absurd (omega arith)
 
-found_is : (s : UpdateStatement) (c : Changed) (xs : List Pairs) (d : Changed) → update_from s c xs ≡ Ok d → d.found ≡ (c.found || list_any (matches s.filter) xs)
+found_is : (s : UpdateStatement) (c : Changed) (xs : List Pairs) (d : Changed) → update_from s c xs ≡ Ok d
+    → d.found ≡ (c.found || list_any (matches s.filter) xs)
 found_is s c [] d e = let same : c ≡ d = cc in ap (λ (x : Changed). x.found) (sym same) ∙ sym (at c.found)
   where
     at : (b : Bool) → (b || false) ≡ b
@@ -168,7 +179,8 @@ found_is s c (x ∷ xs) d e = at (matches s.filter x) (apply s.change 65535 x) s
     met true = refl
     met false = refl
 
-    at : (m : Bool) (r : Result Pairs Refusal) (multi : Bool) → ((b : Changed) → update_from s b xs ≡ Ok d → d.found ≡ (b.found || list_any (matches s.filter) xs))
+    at : (m : Bool) (r : Result Pairs Refusal) (multi : Bool)
+        → ((b : Changed) → update_from s b xs ≡ Ok d → d.found ≡ (b.found || list_any (matches s.filter) xs))
         → one_step s c x xs m r multi ≡ Ok d → d.found ≡ (c.found || (m || list_any (matches s.filter) xs))
     at false r multi go f = go (passed_over x c) f
     at true (Err e) multi go f = absurd cc
@@ -203,19 +215,24 @@ left_by i s l m read stored e P changed made =
     let c = step_of (update_from s (none_changed l) l.documents) (λ c. if not c.found && s.upsert then upsert_listed i s l else Ok (listed_to l c)) m e in
     at c.0 c.1 (not c.0.found && s.upsert) refl c.2
   where
-    placed : (new : Pairs) (o : Option (List Pairs)) → (or_refused o refusals.DuplicateKey >>= (λ stored. Ok (with_listed i new stored l))) ≡ Ok m → o ≡ Some m.documents
+    placed : (new : Pairs) (o : Option (List Pairs)) → (or_refused o refusals.DuplicateKey >>= (λ stored. Ok (with_listed i new stored l))) ≡ Ok m
+        → o ≡ Some m.documents
     placed new None f = absurd cc
     placed new (Some xs) f = let same : with_listed i new xs l ≡ m = cc in ap (λ (x : Listed). Some x.documents) same
 
-    at : (c : Changed) → update_from s (none_changed l) l.documents ≡ Ok c → (b : Bool) → (not c.found && s.upsert) ≡ b → (if b then upsert_listed i s l else Ok (listed_to l c)) ≡ Ok m → P
+    at : (c : Changed) → update_from s (none_changed l) l.documents ≡ Ok c → (b : Bool) → (not c.found && s.upsert) ≡ b
+        → (if b then upsert_listed i s l else Ok (listed_to l c)) ≡ Ok m → P
     at c is true asked f =
         let both = and_both c.found s.upsert asked in
-        let n = step_of (upsert_document s) (λ new. or_refused (place (key_of new) new l.documents) refusals.DuplicateKey >>= (λ stored. Ok (with_listed i new stored l))) m f in
-        made n.0 (record { makes = both.1; none = sym (found_is s (none_changed l) l.documents c is) ∙ both.0; is = n.1; placed = placed n.0 (place (key_of n.0) n.0 l.documents) n.2 })
+        let n = step_of (upsert_document s)
+        (λ new. or_refused (place (key_of new) new l.documents) refusals.DuplicateKey >>= (λ stored. Ok (with_listed i new stored l))) m f in
+        made n.0 (record
+        { makes = both.1; none = sym (found_is s (none_changed l) l.documents c is) ∙ both.0; is = n.1; placed = placed n.0 (place (key_of n.0) n.0 l.documents) n.2 })
     at c is false asked f =
         let same : listed_to l c ≡ m = cc in
         let kept = from_kept s read (none_changed l) l.documents c no_stored stored refl is in
-        changed c (record { is = is; left = ap (λ (x : Listed). x.documents) (sym same); keys = kept.0; stored = kept.1; writes = writes (list_any (matches s.filter) l.documents) refl })
+        changed c (record
+        { is = is; left = ap (λ (x : Listed). x.documents) (sym same); keys = kept.0; stored = kept.1; writes = writes (list_any (matches s.filter) l.documents) refl })
       where
         unasked : c.found ≡ false → s.upsert ≡ false
         unasked none = ap (λ (b : Bool). not b && s.upsert) (sym none) ∙ asked
@@ -223,7 +240,8 @@ left_by i s l m read stored e P changed made =
         writes : (b : Bool) → list_any (matches s.filter) l.documents ≡ b → statement_writes s l.documents ≡ changes_of s.change (updated_by s l.documents)
         writes true some = writes_changes s l.documents some
         writes false none =
-            writes_none s l.documents none (unasked (found_is s (none_changed l) l.documents c is ∙ none)) ∙ ap (changes_of s.change) (sym (updated_unmatched s l.documents none))
+            writes_none s l.documents none (unasked (found_is s (none_changed l) l.documents c is ∙ none))
+            ∙ ap (changes_of s.change) (sym (updated_unmatched s l.documents none))
 
 pub next_kept : (i : ℕ) (s : UpdateStatement) (l m : Listed) → IsRead s.change → Kept l.documents → run_listed i s l ≡ Ok m → Kept m.documents
 next_kept i s l m read h e =
@@ -264,17 +282,20 @@ statement_stored s read ds h = at (list_any (matches s.filter) ds)
     at true = changes_stored s.change read (updated_by s ds) (updated_stored s ds h)
     at false = made_stored s
 
-from_stored : (i : ℕ) (ss : List UpdateStatement) (l : Listed) → All (λ (s : UpdateStatement). IsRead s.change) ss → Kept l.documents → All IsStored (documents_in (writes_from i ss l))
+from_stored : (i : ℕ) (ss : List UpdateStatement) (l : Listed) → All (λ (s : UpdateStatement). IsRead s.change) ss → Kept l.documents
+    → All IsStored (documents_in (writes_from i ss l))
 from_stored i [] l read h = no_stored
 from_stored i (s ∷ ss) l read h =
     subst (All IsStored) (sym (documents_append (statement_writes s l.documents) (unless_refused (writes_from (suc i) ss) (run_listed i s l))))
-    (All-append IsStored (documents_in (statement_writes s l.documents)) (documents_in (unless_refused (writes_from (suc i) ss) (run_listed i s l))) (statement_stored s now l.documents h.1)
+    (All-append IsStored (documents_in (statement_writes s l.documents)) (documents_in (unless_refused (writes_from (suc i) ss) (run_listed i s l)))
+    (statement_stored s now l.documents h.1)
     (at (run_listed i s l) refl (λ next kept. from_stored (suc i) ss next (λ j d below. read (suc j) d (omega arith)) kept)))
   where
     now : IsRead s.change
     now = read 0 s (omega arith)
 
-    at : (r : Result Listed Refusal) → run_listed i s l ≡ r → ((next : Listed) → Kept next.documents → All IsStored (documents_in (writes_from (suc i) ss next)))
+    at : (r : Result Listed Refusal) → run_listed i s l ≡ r
+        → ((next : Listed) → Kept next.documents → All IsStored (documents_in (writes_from (suc i) ss next)))
         → All IsStored (documents_in (unless_refused (writes_from (suc i) ss) r))
     at (Ok next) is go = go next (next_kept i s l next now h is)
     at (Err e) is go = no_stored

@@ -1,5 +1,6 @@
 -- What an update writes, put among the documents.
-use Rattle.std.proofs.Common.{◌≡◌, ℕ, suc, ◌<◌, Bool, true, false, List, [], ◌∷◌, ◌++◌, length, length-append, map, take, get_or, Option, Some, None, Result, Ok, Err, refl, sym, ap, subst, ◌∙◌, arith, append_assoc}
+use Rattle.std.proofs.Common.{◌≡◌, ℕ, suc, ◌<◌, Bool, true, false, List, [], ◌∷◌, ◌++◌, length, length-append, map, take, get_or, Option, Some, None, Result}
+use Rattle.std.proofs.Common.{Ok, Err, refl, sym, ap, subst, ◌∙◌, arith, append_assoc}
 use Rattle.std.specs.Prelude.{if◌then◌else◌, is_some, option_map, All}
 use Rattle.std.specs.List.{filter, list_any}
 use Rattle.std.specs.Ordering.{is_eq}
@@ -46,7 +47,8 @@ put_each_append : (xs ys ds : List Pairs) → put_each (xs ++ ys) ds ≡ put_eac
 put_each_append [] ys ds = refl
 put_each_append (x ∷ xs) ys ds = put_each_append xs ys (put_document x ds)
 
-put_writes_append : (ws vs : List DocumentWrite) (ds : List Pairs) → put_each (documents_in (ws ++ vs)) ds ≡ put_each (documents_in vs) (put_each (documents_in ws) ds)
+put_writes_append : (ws vs : List DocumentWrite) (ds : List Pairs)
+    → put_each (documents_in (ws ++ vs)) ds ≡ put_each (documents_in vs) (put_each (documents_in ws) ds)
 put_writes_append ws vs ds = ap (λ (xs : List Pairs). put_each xs ds) (documents_append ws vs) ∙ put_each_append (documents_in ws) (documents_in vs) ds
 
 -- ---- which are there
@@ -64,10 +66,12 @@ put_has new [] id h = absurd cc
 put_has new (d ∷ ds) id h = at (compare (key_of new) (key_of d)) refl (put_has new ds id)
   where
     -- in the place of one of its key
-    instead : compare (key_of new) (key_of d) ≡ orders.Equal → (r : Ordering) → compare id (key_of d) ≡ r → is_some (if is_eq r then Some d else find_document ds id) ≡ true
+    instead : compare (key_of new) (key_of d) ≡ orders.Equal → (r : Ordering) → compare id (key_of d) ≡ r
+        → is_some (if is_eq r then Some d else find_document ds id) ≡ true
         → is_some (if is_eq (compare id (key_of new)) then Some new else find_document ds id) ≡ true
     instead tied orders.Equal is h =
-        let same : compare id (key_of new) ≡ orders.Equal = compare_total.congr id (key_of d) (key_of new) is ∙ flipped compare_total (key_of new) (key_of d) orders.Equal tied in
+        let same : compare id (key_of new) ≡ orders.Equal =
+        compare_total.congr id (key_of d) (key_of new) is ∙ flipped compare_total (key_of new) (key_of d) orders.Equal tied in
         ap (λ (r : Ordering). is_some (if is_eq r then Some new else find_document ds id)) same
     instead tied orders.Less is h = some_or (is_eq (compare id (key_of new))) new (find_document ds id) h
     instead tied orders.Greater is h = some_or (is_eq (compare id (key_of new))) new (find_document ds id) h
@@ -77,7 +81,8 @@ put_has new (d ∷ ds) id h = at (compare (key_of new) (key_of d)) refl (put_has
     behind true h go = refl
     behind false h go = go h
 
-    at : (r : Ordering) → compare (key_of new) (key_of d) ≡ r → (Has ds id → Has (put_document new ds) id) → Has (by_order r (new ∷ d ∷ ds) (new ∷ ds) (d ∷ put_document new ds)) id
+    at : (r : Ordering) → compare (key_of new) (key_of d) ≡ r → (Has ds id → Has (put_document new ds) id)
+        → Has (by_order r (new ∷ d ∷ ds) (new ∷ ds) (d ∷ put_document new ds)) id
     at orders.Less is go = some_or (is_eq (compare id (key_of new))) new (find_document (d ∷ ds) id) h
     at orders.Equal is go = instead is (compare id (key_of d)) refl h
     at orders.Greater is go = behind (is_eq (compare id (key_of d))) h go
@@ -103,7 +108,8 @@ abbrev HasAll : List Pairs → List Pairs → Type 0
 HasAll there ds = Each (λ d. Has there (key_of d)) ds
 
 put_has_all : (news there ds : List Pairs) → HasAll there ds → HasAll (put_each news there) ds
-put_has_all news there ds h = Each-map (λ d. Has there (key_of d)) (λ d. Has (put_each news there) (key_of d)) ds (λ d k. put_each_has news there (key_of d) k) h
+put_has_all news there ds h =
+    Each-map (λ d. Has there (key_of d)) (λ d. Has (put_each news there) (key_of d)) ds (λ d k. put_each_has news there (key_of d) k) h
 
 has_same_keys : (there xs ds : List Pairs) → SameKeys xs ds → HasAll there ds → HasAll there xs
 has_same_keys there [] [] same h = tt
@@ -111,7 +117,8 @@ has_same_keys there [] (d ∷ ds) same h = absurd same
 has_same_keys there (x ∷ xs) [] same h = absurd same
 has_same_keys there (x ∷ xs) (d ∷ ds) same h = (subst (Has there) (sym same.0) h.0, has_same_keys there xs ds same.1 h.1)
 
-has_placed : (there : List Pairs) (new : Pairs) (ds next : List Pairs) → place (key_of new) new ds ≡ Some next → Has there (key_of new) → HasAll there ds → HasAll there next
+has_placed : (there : List Pairs) (new : Pairs) (ds next : List Pairs) → place (key_of new) new ds ≡ Some next → Has there (key_of new) → HasAll there ds
+    → HasAll there next
 has_placed there new [] next e it h = let same : new ∷ [] ≡ next = cc in subst (HasAll there) same (it, tt)
 has_placed there new (d ∷ ds) next e it h = at (compare (key_of new) (key_of d)) (place (key_of new) new ds) (λ xs f. has_placed there new ds xs f it h.1) e
   where
@@ -161,7 +168,8 @@ updated_has s there ds h = at s.multi
     matching [] k = tt
     matching (x ∷ xs) k = by (matches s.filter x) (matching xs k.1)
       where
-        by : (b : Bool) → HasAll there (filter (matches s.filter) xs) → HasAll there (if b then x ∷ filter (matches s.filter) xs else filter (matches s.filter) xs)
+        by : (b : Bool) → HasAll there (filter (matches s.filter) xs)
+            → HasAll there (if b then x ∷ filter (matches s.filter) xs else filter (matches s.filter) xs)
         by true later = (k.0, later)
         by false later = later
 
@@ -185,11 +193,13 @@ statement_there s read ds there stored h = at (list_any (matches s.filter) ds)
     at false = made (made_of s) there
 
 -- what a statement leaves is there
-left_there : (i : ℕ) (s : UpdateStatement) (l m : Listed) (there : List Pairs) → IsRead s.change → All IsStored l.documents → run_listed i s l ≡ Ok m → HasAll there l.documents
+left_there : (i : ℕ) (s : UpdateStatement) (l m : Listed) (there : List Pairs) → IsRead s.change → All IsStored l.documents → run_listed i s l ≡ Ok m
+    → HasAll there l.documents
     → HasAll (put_each (documents_in (statement_writes s l.documents)) there) m.documents
 left_there i s l m there read stored e h =
     left_by i s l m read stored e (HasAll (put_each (documents_in (statement_writes s l.documents)) there) m.documents)
-    (λ c up. subst (HasAll (put_each (documents_in (statement_writes s l.documents)) there)) (sym up.left) (has_same_keys (put_each (documents_in (statement_writes s l.documents)) there) c.documents l.documents up.keys
+    (λ c up. subst (HasAll (put_each (documents_in (statement_writes s l.documents)) there)) (sym up.left)
+    (has_same_keys (put_each (documents_in (statement_writes s l.documents)) there) c.documents l.documents up.keys
     (put_has_all (documents_in (statement_writes s l.documents)) there l.documents h)))
     (λ new up. subst (λ (ws : List DocumentWrite). HasAll (put_each (documents_in ws) there) m.documents) (sym (its_write new up))
     (has_placed (put_document new there) new l.documents m.documents up.placed (put_has_it new there) (put_has_all (new ∷ []) there l.documents h)))
@@ -197,11 +207,14 @@ left_there i s l m there read stored e h =
     its_write : (new : Pairs) → HasMade s l m new → statement_writes s l.documents ≡ made_write new ∷ []
     its_write new up = writes_upsert s l.documents up.none up.makes ∙ ap (λ (r : Result Pairs Refusal). map made_write (one_or_none r)) up.is
 
-from_there : (i : ℕ) (ss : List UpdateStatement) (l : Listed) (there : List Pairs) → All (λ (s : UpdateStatement). IsRead s.change) ss → Kept l.documents → HasAll there l.documents → AreThere there (writes_from i ss l)
+from_there : (i : ℕ) (ss : List UpdateStatement) (l : Listed) (there : List Pairs) → All (λ (s : UpdateStatement). IsRead s.change) ss → Kept l.documents
+    → HasAll there l.documents → AreThere there (writes_from i ss l)
 from_there i [] l there read kept h = tt
 from_there i (s ∷ ss) l there read kept h =
-    there_append (statement_writes s l.documents) (unless_refused (writes_from (suc i) ss) (run_listed i s l)) there (statement_there s now l.documents there kept.1 h)
-    (at (run_listed i s l) refl (λ next k g. from_there (suc i) ss next (put_each (documents_in (statement_writes s l.documents)) there) (λ j d below. read (suc j) d (omega arith)) k g))
+    there_append (statement_writes s l.documents) (unless_refused (writes_from (suc i) ss) (run_listed i s l)) there
+    (statement_there s now l.documents there kept.1 h)
+    (at (run_listed i s l) refl
+    (λ next k g. from_there (suc i) ss next (put_each (documents_in (statement_writes s l.documents)) there) (λ j d below. read (suc j) d (omega arith)) k g))
   where
     now : IsRead s.change
     now = read 0 s (omega arith)
@@ -254,10 +267,12 @@ put_same new [] [] h = ((refl, refl), tt)
 put_same new [] (d ∷ ds) h = absurd h
 put_same new (f ∷ fs) [] h = absurd h
 put_same new (f ∷ fs) (d ∷ ds) h =
-    subst (λ (r : Ordering). AllSame (by_order r (new ∷ f ∷ fs) (new ∷ fs) (f ∷ put_document new fs)) (put_document new (d ∷ ds))) (sym (ap (compare (key_of new)) h.0.0))
+    subst (λ (r : Ordering). AllSame (by_order r (new ∷ f ∷ fs) (new ∷ fs) (f ∷ put_document new fs)) (put_document new (d ∷ ds)))
+    (sym (ap (compare (key_of new)) h.0.0))
     (at (compare (key_of new) (key_of d)) (put_same new fs ds h.1))
   where
-    at : (r : Ordering) → AllSame (put_document new fs) (put_document new ds) → AllSame (by_order r (new ∷ f ∷ fs) (new ∷ fs) (f ∷ put_document new fs)) (by_order r (new ∷ d ∷ ds) (new ∷ ds) (d ∷ put_document new ds))
+    at : (r : Ordering) → AllSame (put_document new fs) (put_document new ds)
+        → AllSame (by_order r (new ∷ f ∷ fs) (new ∷ fs) (f ∷ put_document new fs)) (by_order r (new ∷ d ∷ ds) (new ∷ ds) (d ∷ put_document new ds))
     at orders.Less later = ((refl, refl), h)
     at orders.Equal later = ((refl, refl), h.1)
     at orders.Greater later = (h.0, later)
@@ -302,7 +317,8 @@ module _ (s : UpdateStatement) (read : IsRead s.change) where
   abbrev Leads : List Pairs → List Pairs → Changed → Type 0
   Leads fs ds c = AllSame (put_each (documents_in (changes_of s.change (updated_by s ds))) fs) c.documents
 
-  from_leads : (so_far : Changed) (front fs ds : List Pairs) (c : Changed) → AllSame front so_far.documents → AllSame fs ds → All IsStored ds → IsRising (front ++ fs) → update_from s so_far ds ≡ Ok c → Leads (front ++ fs) ds c
+  from_leads : (so_far : Changed) (front fs ds : List Pairs) (c : Changed) → AllSame front so_far.documents → AllSame fs ds → All IsStored ds
+      → IsRising (front ++ fs) → update_from s so_far ds ≡ Ok c → Leads (front ++ fs) ds c
   from_leads so_far front [] [] c h same stored up e =
       let ends : so_far ≡ c = cc in
       subst (λ (xs : List Pairs). AllSame (put_each (documents_in (changes_of s.change xs)) (front ++ [])) c.documents) (sym (updated_none s))
@@ -310,7 +326,8 @@ module _ (s : UpdateStatement) (read : IsRead s.change) where
   from_leads so_far front [] (d ∷ ds) c h same stored up e = absurd same
   from_leads so_far front (f ∷ fs) [] c h same stored up e = absurd same
   from_leads so_far front (f ∷ fs) (d ∷ ds) c h same stored up e =
-      at (matches s.filter d) refl (apply s.change 65535 d) refl s.multi refl (λ next gs k r g. from_leads next gs fs ds c k same.1 (λ i x below. stored (suc i) x (omega arith)) r g) e
+      at (matches s.filter d) refl (apply s.change 65535 d) refl s.multi refl
+      (λ next gs k r g. from_leads next gs fs ds c k same.1 (λ i x below. stored (suc i) x (omega arith)) r g) e
     where
       Goes : Type 0
       Goes = (next : Changed) (gs : List Pairs) → AllSame gs next.documents → IsRising (gs ++ fs) → update_from s next ds ≡ Ok c → Leads (gs ++ fs) ds c
@@ -324,25 +341,35 @@ module _ (s : UpdateStatement) (read : IsRead s.change) where
       at : (m : Bool) → matches s.filter d ≡ m → (r : Result Pairs Refusal) → apply s.change 65535 d ≡ r → (multi : Bool) → s.multi ≡ multi → Goes
           → one_step s so_far d ds m r multi ≡ Ok c → Leads (front ++ f ∷ fs) (d ∷ ds) c
       at false other r is multi m go g =
-          subst (λ (xs : List Pairs). AllSame (put_each (documents_in (changes_of s.change xs)) (front ++ f ∷ fs)) c.documents) (sym (updated_other s d ds other))
-          (subst (λ (ys : List Pairs). Leads ys ds c) (together f) (go (passed_over d so_far) (front ++ f ∷ []) (grown f d same.0) (subst IsRising (sym (together f)) up) g))
+          subst (λ (xs : List Pairs). AllSame (put_each (documents_in (changes_of s.change xs)) (front ++ f ∷ fs)) c.documents)
+          (sym (updated_other s d ds other))
+          (subst (λ (ys : List Pairs). Leads ys ds c) (together f)
+          (go (passed_over d so_far) (front ++ f ∷ []) (grown f d same.0) (subst IsRising (sym (together f)) up) g))
       at true match (Err x) is multi m go g = absurd cc
       at true match (Ok new) is true multi go g =
           let one = one_changed d new f front fs same.0 (kept_key s.change d new read (stored 0 d (omega arith)) is) up in
-          let rises : IsRising (front ++ one.there ∷ fs) = SameKeys-rising (front ++ one.there ∷ fs) (front ++ f ∷ fs) (same_key_there front f one.there fs one.key) up in
-          let later = go (changed_to d new so_far) (front ++ one.there ∷ []) (grown one.there new one.same) (subst IsRising (sym (together one.there)) rises) g in
+          let rises : IsRising (front ++ one.there ∷ fs) =
+          SameKeys-rising (front ++ one.there ∷ fs) (front ++ f ∷ fs) (same_key_there front f one.there fs one.key) up in
+          let later = go (changed_to d new so_far) (front ++ one.there ∷ []) (grown one.there new one.same)
+          (subst IsRising (sym (together one.there)) rises) g in
           subst (λ (ws : List DocumentWrite). AllSame (put_each (documents_in ws) (front ++ f ∷ fs)) c.documents) (sym (changes_on s d ds match new is multi))
-          (subst (λ (ys : List Pairs). AllSame ys c.documents) (sym (put_writes_append (change_writes d new) (changes_of s.change (updated_by s ds)) (front ++ f ∷ fs)))
-          (subst (λ (ys : List Pairs). AllSame (put_each (documents_in (changes_of s.change (updated_by s ds))) ys) c.documents) (together one.there ∙ sym one.puts) later))
+          (subst (λ (ys : List Pairs). AllSame ys c.documents)
+          (sym (put_writes_append (change_writes d new) (changes_of s.change (updated_by s ds)) (front ++ f ∷ fs)))
+          (subst (λ (ys : List Pairs). AllSame (put_each (documents_in (changes_of s.change (updated_by s ds))) ys) c.documents)
+          (together one.there ∙ sym one.puts) later))
       at true match (Ok new) is false single go g =
           let one = one_changed d new f front fs same.0 (kept_key s.change d new read (stored 0 d (omega arith)) is) up in
           let last : Changed = changed_to d new so_far in
           let ends : record last { documents = last.documents ++ ds } ≡ c = cc in
-          let all : AllSame ((front ++ one.there ∷ []) ++ fs) (last.documents ++ ds) = same_append (front ++ one.there ∷ []) fs last.documents ds (grown one.there new one.same) same.1 in
-          subst (λ (ws : List DocumentWrite). AllSame (put_each (documents_in ws) (front ++ f ∷ fs)) c.documents) (sym (changes_only s d ds match new is single))
-          (subst (λ (ys : List Pairs). AllSame ys c.documents) (together one.there ∙ sym one.puts) (subst (λ (x : Changed). AllSame ((front ++ one.there ∷ []) ++ fs) x.documents) ends all))
+          let all : AllSame ((front ++ one.there ∷ []) ++ fs) (last.documents ++ ds) =
+          same_append (front ++ one.there ∷ []) fs last.documents ds (grown one.there new one.same) same.1 in
+          subst (λ (ws : List DocumentWrite). AllSame (put_each (documents_in ws) (front ++ f ∷ fs)) c.documents)
+          (sym (changes_only s d ds match new is single))
+          (subst (λ (ys : List Pairs). AllSame ys c.documents) (together one.there ∙ sym one.puts)
+          (subst (λ (x : Changed). AllSame ((front ++ one.there ∷ []) ++ fs) x.documents) ends all))
 
-statement_leads : (i : ℕ) (s : UpdateStatement) (l m : Listed) (fs : List Pairs) → IsRead s.change → Kept l.documents → run_listed i s l ≡ Ok m → AllSame fs l.documents
+statement_leads : (i : ℕ) (s : UpdateStatement) (l m : Listed) (fs : List Pairs) → IsRead s.change → Kept l.documents → run_listed i s l ≡ Ok m
+    → AllSame fs l.documents
     → AllSame (put_each (documents_in (statement_writes s l.documents)) fs) m.documents
 statement_leads i s l m fs read kept e h =
     left_by i s l m read kept.1 e (AllSame (put_each (documents_in (statement_writes s l.documents)) fs) m.documents) changed made
@@ -353,7 +380,8 @@ statement_leads i s l m fs read kept e h =
     changed : (c : Changed) → HasChanged s l m c → AllSame (put_each (documents_in (statement_writes s l.documents)) fs) m.documents
     changed c was =
         subst (λ (ws : List DocumentWrite). AllSame (put_each (documents_in ws) fs) m.documents) (sym was.writes)
-        (subst (AllSame (put_each (documents_in (changes_of s.change (updated_by s l.documents))) fs)) (sym was.left) (from_leads s read (none_changed l) [] fs l.documents c tt h kept.1 up was.is))
+        (subst (AllSame (put_each (documents_in (changes_of s.change (updated_by s l.documents))) fs)) (sym was.left)
+        (from_leads s read (none_changed l) [] fs l.documents c tt h kept.1 up was.is))
 
     made : (new : Pairs) → HasMade s l m new → AllSame (put_each (documents_in (statement_writes s l.documents)) fs) m.documents
     made new was =
@@ -362,17 +390,20 @@ statement_leads i s l m fs read kept e h =
         subst (λ (ws : List DocumentWrite). AllSame (put_each (documents_in ws) fs) m.documents) (sym its_write)
         (subst (AllSame (put_document new fs)) (put_where_placed new l.documents m.documents was.placed) (put_same new fs l.documents h))
 
-leads_from : (i : ℕ) (ss : List UpdateStatement) (l m : Listed) (fs : List Pairs) → All (λ (s : UpdateStatement). IsRead s.change) ss → Kept l.documents → run_each i ss l ≡ Ok m → AllSame fs l.documents
+leads_from : (i : ℕ) (ss : List UpdateStatement) (l m : Listed) (fs : List Pairs) → All (λ (s : UpdateStatement). IsRead s.change) ss → Kept l.documents
+    → run_each i ss l ≡ Ok m → AllSame fs l.documents
     → AllSame (put_each (documents_in (writes_from i ss l)) fs) m.documents
 leads_from i [] l m fs read kept e h = let same : l ≡ m = cc in subst (λ (x : Listed). AllSame fs x.documents) same h
 leads_from i (s ∷ ss) l m fs read kept e h =
     let now : IsRead s.change = read 0 s (omega arith) in
     let n = step_of (run_listed i s l) (run_each (suc i) ss) m e in
     let here = statement_writes s l.documents in
-    let later = leads_from (suc i) ss n.0 m (put_each (documents_in here) fs) (λ j d below. read (suc j) d (omega arith)) (next_kept i s l n.0 now kept n.1) n.2 (statement_leads i s l n.0 fs now kept n.1 h) in
+    let later = leads_from (suc i) ss n.0 m (put_each (documents_in here) fs) (λ j d below. read (suc j) d (omega arith))
+    (next_kept i s l n.0 now kept n.1) n.2 (statement_leads i s l n.0 fs now kept n.1 h) in
     subst (λ (r : Result Listed Refusal). AllSame (put_each (documents_in (here ++ unless_refused (writes_from (suc i) ss) r)) fs) m.documents) (sym n.1)
     (subst (λ (ys : List Pairs). AllSame ys m.documents) (sym (put_writes_append here (writes_from (suc i) ss n.0) fs)) later)
 
 pub writes_lead : WritesLead
 writes_lead ss ds after h e =
-    same_spelled (put_each (documents_in (writes_of ss ds)) ds) after.documents (leads_from 0 ss (not_listed ds) after ds h.read (h.rising, h.stored) e (same_itself ds))
+    same_spelled (put_each (documents_in (writes_of ss ds)) ds) after.documents
+    (leads_from 0 ss (not_listed ds) after ds h.read (h.rising, h.stored) e (same_itself ds))

@@ -1,5 +1,6 @@
 -- What a statement writes, document by document.
-use Rattle.std.proofs.Common.{◌≡◌, ℕ, zero, suc, ◌<◌, Bool, true, false, List, [], ◌∷◌, ◌++◌, length, map, take, get_or, Some, Result, Ok, Err, refl, sym, ap, ◌∙◌, arith}
+use Rattle.std.proofs.Common.{◌≡◌, ℕ, zero, suc, ◌<◌, Bool, true, false, List, [], ◌∷◌, ◌++◌, length, map, take, get_or, Some, Result, Ok, Err, refl, sym, ap}
+use Rattle.std.proofs.Common.{◌∙◌, arith}
 use Rattle.std.specs.Prelude.{◌||◌, if◌then◌else◌, All}
 use Rattle.std.specs.List.{filter, list_any}
 use Rattle.std.specs.Ordering.{is_eq}
@@ -99,7 +100,8 @@ module _ (s : UpdateStatement) (d : Pairs) (ds : List Pairs) where
       where
         at : (multi : Bool) → s.multi ≡ multi → changes_of s.change (updated_by s (d ∷ ds)) ≡ []
         at true multi =
-            ap (changes_of s.change) (first ∙ ap (λ (b : Bool). if b then d ∷ filter (matches s.filter) ds else d ∷ []) multi) ∙ ap (changes_with (filter (matches s.filter) ds)) is
+            ap (changes_of s.change) (first ∙ ap (λ (b : Bool). if b then d ∷ filter (matches s.filter) ds else d ∷ []) multi)
+            ∙ ap (changes_with (filter (matches s.filter) ds)) is
         at false single =
             ap (changes_of s.change) (first ∙ ap (λ (b : Bool). if b then d ∷ filter (matches s.filter) ds else d ∷ []) single) ∙ ap (changes_with []) is
 
@@ -109,7 +111,8 @@ module _ (s : UpdateStatement) (d : Pairs) (ds : List Pairs) where
       changes_on multi =
           ap (changes_of s.change) (first ∙ ap (λ (b : Bool). if b then d ∷ filter (matches s.filter) ds else d ∷ []) multi)
           ∙ ap (changes_with (filter (matches s.filter) ds)) is
-          ∙ ap (λ (b : Bool). change_writes d new ++ changes_of s.change (if b then filter (matches s.filter) ds else take 1 (filter (matches s.filter) ds))) (sym multi)
+          ∙ ap (λ (b : Bool). change_writes d new ++ changes_of s.change (if b then filter (matches s.filter) ds else take 1 (filter (matches s.filter) ds)))
+          (sym multi)
 
       -- it is changed, and no other
       pub changes_only : s.multi ≡ false → changes_of s.change (updated_by s (d ∷ ds)) ≡ change_writes d new
@@ -119,14 +122,16 @@ module _ (s : UpdateStatement) (d : Pairs) (ds : List Pairs) where
 
 -- ---- a statement
 
-pub writes_changes : (s : UpdateStatement) (ds : List Pairs) → list_any (matches s.filter) ds ≡ true → statement_writes s ds ≡ changes_of s.change (updated_by s ds)
+pub writes_changes : (s : UpdateStatement) (ds : List Pairs) → list_any (matches s.filter) ds ≡ true
+    → statement_writes s ds ≡ changes_of s.change (updated_by s ds)
 writes_changes s ds some = ap (λ (b : Bool). if b then changes_of s.change (updated_by s ds) else map made_write (made_of s)) some
 
 pub writes_made : (s : UpdateStatement) (ds : List Pairs) → list_any (matches s.filter) ds ≡ false → statement_writes s ds ≡ map made_write (made_of s)
 writes_made s ds none = ap (λ (b : Bool). if b then changes_of s.change (updated_by s ds) else map made_write (made_of s)) none
 
 -- a statement that makes a document where none matches
-pub writes_upsert : (s : UpdateStatement) (ds : List Pairs) → list_any (matches s.filter) ds ≡ false → s.upsert ≡ true → statement_writes s ds ≡ map made_write (one_or_none (upsert_document s))
+pub writes_upsert : (s : UpdateStatement) (ds : List Pairs) → list_any (matches s.filter) ds ≡ false → s.upsert ≡ true
+    → statement_writes s ds ≡ map made_write (one_or_none (upsert_document s))
 writes_upsert s ds none makes = writes_made s ds none ∙ ap (λ (b : Bool). map made_write (if b then one_or_none (upsert_document s) else [])) makes
 
 -- one that doesn't
@@ -141,7 +146,8 @@ news_more ws w = map-append (λ (v : Write). v.new) ws (w ∷ [])
 pub seen_more : (ws : List Write) (w : Write) → map seen (ws ++ w ∷ []) ≡ map seen ws ++ seen w ∷ []
 seen_more ws w = map-append seen ws (w ∷ [])
 
-pub old_more : (from : List Pairs) (ws : List Write) (w : Write) → HaveOld from ws → w.old ≡ replaced_in (put_each (news_of ws) from) w → HaveOld from (ws ++ w ∷ [])
+pub old_more : (from : List Pairs) (ws : List Write) (w : Write) → HaveOld from ws → w.old ≡ replaced_in (put_each (news_of ws) from) w
+    → HaveOld from (ws ++ w ∷ [])
 old_more from [] w h is = (is, tt)
 old_more from (v ∷ ws) w h is = (h.0, old_more (put_document v.new from) ws w h.1 is)
 
@@ -149,7 +155,8 @@ pub rising_rest : (d : Pairs) (ds : List Pairs) → IsRising (d ∷ ds) → IsRi
 rising_rest d ds up i j e lt below = up (suc i) (suc j) e (omega (arith, lt)) (omega (arith, below))
 
 -- the document at a place is found by its key
-pub found_at : (ds : List Pairs) (i : ℕ) (new : Pairs) → i < length ds → key_of new ≡ key_of (get_or ds i no_pairs) → IsRising ds → find_document ds (key_of new) ≡ Some (get_or ds i no_pairs)
+pub found_at : (ds : List Pairs) (i : ℕ) (new : Pairs) → i < length ds → key_of new ≡ key_of (get_or ds i no_pairs) → IsRising ds
+    → find_document ds (key_of new) ≡ Some (get_or ds i no_pairs)
 found_at [] i new below same up = absurd (omega (arith, below))
 found_at (d ∷ ds) zero new below same up =
     let tied : compare (key_of new) (key_of d) ≡ orders.Equal = ap (λ t. compare t (key_of d)) same ∙ tied_itself compare_total (key_of d) in

@@ -1,5 +1,6 @@
 -- Values that are put at the end of an array, and elements that are taken out of one.
-use Rattle.std.proofs.Common.{◌≡◌, ℕ, suc, ◌+◌, ◌<◌, ◌≤◌, Bool, true, false, List, [], ◌∷◌, ◌++◌, length, drop, get_or, Result, Ok, Err, refl, sym, ap, ◌∙◌, arith}
+use Rattle.std.proofs.Common.{◌≡◌, ℕ, suc, ◌+◌, ◌<◌, ◌≤◌, Bool, true, false, List, [], ◌∷◌, ◌++◌, length, drop, get_or, Result, Ok, Err, refl, sym, ap, ◌∙◌}
+use Rattle.std.proofs.Common.{arith}
 use Rattle.std.specs.Prelude.{if◌then◌else◌, not, filter, nat_le}
 use Rattle.std.proofs.lemmas.List.{drop_all}
 use Rattle.std.proofs.lemmas.Bool.{lt-leb, le-leb}
@@ -16,7 +17,8 @@ use Rattle.filter.specs.Elements.{element_matches}
 use Rattle.update.specs.Arrays.{items_without}
 use Rattle.update.proofs.StepLemmas.{drop_step}
 
-pub items_step : (vs : List Value) (i : ℕ) (v : Value) (t : Tree) → i < length vs → v ≡ get_or vs i v → t ≡ tree v → items_of (drop i vs) ≡ item t (items_of (drop (i + 1) vs))
+pub items_step : (vs : List Value) (i : ℕ) (v : Value) (t : Tree) → i < length vs → v ≡ get_or vs i v → t ≡ tree v
+    → items_of (drop i vs) ≡ item t (items_of (drop (i + 1) vs))
 items_step vs i v t lt is made = ap items_of (drop_step vs i v lt is) ∙ ap (λ (u : Tree). item u (items_of (drop (i + 1) vs))) (sym made)
 
 pub items_none : (ts : Items) (vs : List Value) (i : ℕ) (planned : Items) → length vs ≤ i → append_items ts (items_of (drop i vs)) ≡ planned → ts ≡ planned
@@ -59,7 +61,8 @@ fits ts planned same le =
 
 -- ---- what is taken out
 
-pub items_of-filter : (condition : Condition) (vs : List Value) → items_of (filter (λ v. not (element_matches condition (tree v))) vs) ≡ items_without condition (items_of vs)
+pub items_of-filter : (condition : Condition) (vs : List Value)
+    → items_of (filter (λ v. not (element_matches condition (tree v))) vs) ≡ items_without condition (items_of vs)
 items_of-filter condition [] = refl
 items_of-filter condition (v ∷ vs) = by (element_matches condition (tree v)) (items_of-filter condition vs)
   where

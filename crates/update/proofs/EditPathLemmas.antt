@@ -14,7 +14,8 @@ or_both false true false d = refl
 or_both false false c d = refl
 
 module _ {X Y : Type 0} (f : X → Y → Bool) where
-  any_split : (x : X) (xs : List X) (ys : List Y) → list_any (λ y. f x y || list_any (λ z. f z y) xs) ys ≡ (list_any (f x) ys || list_any (λ y. list_any (λ z. f z y) xs) ys)
+  any_split : (x : X) (xs : List X) (ys : List Y)
+      → list_any (λ y. f x y || list_any (λ z. f z y) xs) ys ≡ (list_any (f x) ys || list_any (λ y. list_any (λ z. f z y) xs) ys)
   any_split x xs [] = refl
   any_split x xs (y ∷ ys) =
       ap (λ (b : Bool). (f x y || list_any (λ z. f z y) xs) || b) (any_split x xs ys)

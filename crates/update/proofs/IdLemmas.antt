@@ -1,5 +1,6 @@
 -- A document with `_id` first is a document, and a loop that copies the other pairs makes it.
-use Rattle.std.proofs.Common.{◌≡◌, ◌≢◌, ℕ, zero, suc, max, ◌+◌, ◌<◌, ◌≤◌, Bool, true, false, List, [], ◌∷◌, ◌++◌, length, drop, take, get_or, Option, Some, None, refl, sym, ap, subst, ◌∙◌, arith}
+use Rattle.std.proofs.Common.{◌≡◌, ◌≢◌, ℕ, zero, suc, max, ◌+◌, ◌<◌, ◌≤◌, Bool, true, false, List, [], ◌∷◌, ◌++◌, length, drop, take, get_or, Option, Some}
+use Rattle.std.proofs.Common.{None, refl, sym, ap, subst, ◌∙◌, arith}
 use Rattle.std.specs.Prelude.{if◌then◌else◌, not, option_map}
 use Rattle.std.specs.Str.{bytes_eq}
 use Rattle.std.proofs.lemmas.Slice.Eq.{bytes_eq-Decides}
@@ -7,7 +8,8 @@ use Rattle.std.proofs.lemmas.List.{drop_all}
 use Rattle.bson.specs.Tree.{Tree, Pairs, no_pairs, pair, append}
 use Rattle.bson.specs.View.{tree, pairs_of}
 use Rattle.bson.specs.Edits.{place, pair_at, without_pair}
-use Rattle.bson.specs.EditsLaws.{append-none, append-one, pairs_of-push, place-there, place-absent, pair_at-pairs_of, pairs_of-remove, lookup-absent, IsPairs-without_pair, pairs_levels-without_pair}
+use Rattle.bson.specs.EditsLaws.{append-none, append-one, pairs_of-push, place-there, place-absent, pair_at-pairs_of, pairs_of-remove, lookup-absent}
+use Rattle.bson.specs.EditsLaws.{IsPairs-without_pair, pairs_levels-without_pair}
 use Rattle.bson.specs.Lookup.{lookup}
 use Rattle.bson.specs.Lawful.{levels, pairs_levels, IsName, Lacks, IsTree, IsPairs, IsDocument}
 use Rattle.bson.specs.declared.value.Pair.{Pair}
@@ -48,7 +50,8 @@ pub pairs_levels-without : (ps : Pairs) (name : List ℕ) → pairs_levels (with
 pairs_levels-without no_pairs name = omega arith
 pairs_levels-without (pair n t ps) name = at (bytes_eq name n) (pairs_levels-without ps name)
   where
-    at : (b : Bool) → pairs_levels (without ps name) ≤ pairs_levels ps → pairs_levels (if b then without ps name else pair n t (without ps name)) ≤ max (levels t) (pairs_levels ps)
+    at : (b : Bool) → pairs_levels (without ps name) ≤ pairs_levels ps
+        → pairs_levels (if b then without ps name else pair n t (without ps name)) ≤ max (levels t) (pairs_levels ps)
     at true later = omega arith
     at false later = omega arith
 
@@ -100,7 +103,8 @@ without-place : (ps : Pairs) (name : List ℕ) (i : ℕ) → IsPairs ps → plac
 without-place no_pairs name i h e = absurd cc
 without-place (pair n t ps) name i h e = at (bytes_eq name n) refl e (place ps name) refl (λ j p. without-place ps name j h.3 p)
   where
-    at : (b : Bool) → bytes_eq name n ≡ b → (if b then Some 0 else option_map suc (place ps name)) ≡ Some i → (o : Option ℕ) → place ps name ≡ o → ((j : ℕ) → place ps name ≡ Some j → without ps name ≡ without_pair ps j)
+    at : (b : Bool) → bytes_eq name n ≡ b → (if b then Some 0 else option_map suc (place ps name)) ≡ Some i → (o : Option ℕ) → place ps name ≡ o
+        → ((j : ℕ) → place ps name ≡ Some j → without ps name ≡ without_pair ps j)
         → (if b then without ps name else pair n t (without ps name)) ≡ without_pair (pair n t ps) i
     at true same found o p later =
         let first : 0 ≡ i = some_same found in
@@ -163,7 +167,8 @@ IsDocument-to_front ps i d = at (pair_at ps i) refl
         let s = stands ps i p.0 p.1 d.lawful e in
         record { lawful = (s.named, s.lawful, s.lacks, IsPairs-without_pair ps i d.lawful); depth = omega (arith, rest, s.depth, d.depth) }
 
-pub moved : (ps rest : List Pair) (i : ℕ) (p : Pair) → i < length ps → p ≡ get_or ps i p → rest ≡ take i ps ++ drop (i + 1) ps → pairs_of (p ∷ rest) ≡ to_front (pairs_of ps) i
+pub moved : (ps rest : List Pair) (i : ℕ) (p : Pair) → i < length ps → p ≡ get_or ps i p → rest ≡ take i ps ++ drop (i + 1) ps
+    → pairs_of (p ∷ rest) ≡ to_front (pairs_of ps) i
 moved ps rest i p lt is left =
     let next : i + 1 ≡ suc i = omega arith in
     let whole : pairs_of rest ≡ without_pair (pairs_of ps) i = ap pairs_of (left ∙ ap (λ (k : ℕ). take i ps ++ drop k ps) next) ∙ pairs_of-remove ps i in
@@ -189,7 +194,8 @@ module _ (all : Pairs) (ps : List Pair) (i : ℕ) (p : Pair) (us : List Pair) (w
   -- a pair that is passed over
   pub passed_over : bytes_eq id_name p.name ≡ true → append (pairs_of us) (without (pairs_of (drop (i + 1) ps)) id_name) ≡ all
   passed_over e =
-      ap (λ (b : Bool). append (pairs_of us) (if b then without (pairs_of (drop (i + 1) ps)) id_name else pair p.name (tree p.value) (without (pairs_of (drop (i + 1) ps)) id_name))) (sym e) ∙ step
+      ap (λ (b : Bool). append (pairs_of us)
+      (if b then without (pairs_of (drop (i + 1) ps)) id_name else pair p.name (tree p.value) (without (pairs_of (drop (i + 1) ps)) id_name))) (sym e) ∙ step
 
   -- a pair that is copied
   pub copied : (q : Pair) (vs : List Pair) → bytes_eq id_name p.name ≡ false → q.name ≡ p.name → tree q.value ≡ tree p.value → vs ≡ us ++ q ∷ []
@@ -200,6 +206,7 @@ module _ (all : Pairs) (ps : List Pair) (i : ℕ) (p : Pair) (us : List Pair) (w
       ∙ (λ j. append (pairs_of us) (pair (name j) (value j) rest))
       ∙ ap (λ (b : Bool). append (pairs_of us) (if b then rest else pair p.name (tree p.value) rest)) (sym e) ∙ step
 
-pub all_copied : (all : Pairs) (ps : List Pair) (i : ℕ) (us : List Pair) → length ps ≤ i → append (pairs_of us) (without (pairs_of (drop i ps)) id_name) ≡ all → pairs_of us ≡ all
+pub all_copied : (all : Pairs) (ps : List Pair) (i : ℕ) (us : List Pair) → length ps ≤ i → append (pairs_of us) (without (pairs_of (drop i ps)) id_name) ≡ all
+    → pairs_of us ≡ all
 all_copied all ps i us whole so_far =
     sym (append-none (pairs_of us)) ∙ ap (λ (xs : List Pair). append (pairs_of us) (without (pairs_of xs) id_name)) (sym (drop_all i ps whole)) ∙ so_far

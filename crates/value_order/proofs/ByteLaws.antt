@@ -6,7 +6,8 @@ use Rattle.std.specs.Int.{bytes_high_first, byte_at}
 use mathlib.Core.Logic.{⊎_elim}
 use borrow.Author.Tests.{ltb-true}
 use lib.Utf8.{encode, encodes, next, scalar as is_scalar, scalars, scalar_cases}
-use Rattle.bson.specs.Tree.{Scalar, text, binary, object_id, boolean, date, null, int32, timestamp, int64, min_key, max_key, Tree, scalar, document, array, Pairs, no_pairs, pair, Items, no_items, item}
+use Rattle.bson.specs.Tree.{Scalar, text, binary, object_id, boolean, date, null, int32, timestamp, int64, min_key, max_key, Tree, scalar, document, array}
+use Rattle.bson.specs.Tree.{Pairs, no_pairs, pair, Items, no_items, item}
 use Rattle.bson.specs.Lawful.{IsBytes, IsScalar, IsTree, IsPairs, IsItems}
 use Rattle.value_order.specs.Order.{class}
 use Rattle.value_order.specs.KeyText.{escaped_text, sortable_bits, scalar_text, content_text, pairs_text, items_text, tree_text}
@@ -38,11 +39,14 @@ unfolding encode
 encode_bytes c fits =
     either (nat_lt c 128) _ _ (λ e. (omega (arith, ltb-true c 128 e), tt)) (λ _.
     either (nat_lt c 2048) _ _ (λ e. (omega (arith, ltb-true c 2048 e), (next_byte c, tt))) (λ _.
-    either (nat_lt c 65536) _ _ (λ e. (omega (arith, ltb-true c 65536 e), (next_byte (c / 64), (next_byte c, tt)))) (λ _. (omega arith, (next_byte (c / 4096), (next_byte (c / 64), (next_byte c, tt)))))))
+    either (nat_lt c 65536) _ _ (λ e. (omega (arith, ltb-true c 65536 e), (next_byte (c / 64), (next_byte c, tt))))
+    (λ _. (omega arith, (next_byte (c / 4096), (next_byte (c / 64), (next_byte c, tt)))))))
 
 all_bytes : (cs : List ℕ) → scalars cs ≡ true → AreBytes (encodes cs)
 all_bytes [] e = tt
-all_bytes (c ∷ cs) e = AreBytes-append (encode c) (encodes cs) (encode_bytes c (low c (and_first (is_scalar c) (scalars cs) e))) (all_bytes cs (and_second (is_scalar c) (scalars cs) e))
+all_bytes (c ∷ cs) e =
+    AreBytes-append (encode c) (encodes cs) (encode_bytes c (low c (and_first (is_scalar c) (scalars cs) e)))
+    (all_bytes cs (and_second (is_scalar c) (scalars cs) e))
   where
     low : (c : ℕ) → is_scalar c ≡ true → c < 1114112
     low c e = ⊎_elim (λ h. omega (arith, h)) (λ h. h.1) (scalar_cases c e)

@@ -27,14 +27,17 @@ name_sorts (b ∷ n) (c ∷ m) g h =
 pub escaped_sorts : (s r : List ℕ) → SortsAs nat_cmp (escaped_text s) (escaped_text r) (bytes_cmp s r)
 escaped_sorts [] [] = SortsAs-append nat_cmp (0 ∷ []) (0 ∷ []) (0 ∷ []) (0 ∷ []) Equal Equal (SortsAs-cell nat_cmp 0 0) (λ _. SortsAs-cell nat_cmp 0 0)
 escaped_sorts [] (zero ∷ r) =
-    SortsAs-append nat_cmp (0 ∷ []) (0 ∷ []) (0 ∷ []) (255 ∷ escaped_text r) Equal Less (SortsAs-cell nat_cmp 0 0) (λ _. SortsAs-less nat_cmp 0 255 [] (escaped_text r) refl)
+    SortsAs-append nat_cmp (0 ∷ []) (0 ∷ []) (0 ∷ []) (255 ∷ escaped_text r) Equal Less (SortsAs-cell nat_cmp 0 0)
+    (λ _. SortsAs-less nat_cmp 0 255 [] (escaped_text r) refl)
 escaped_sorts [] (suc c ∷ r) = SortsAs-less nat_cmp 0 (suc c) (0 ∷ []) (escaped_text r) (above_zero (suc c) (omega arith))
 escaped_sorts (zero ∷ s) [] =
-    SortsAs-append nat_cmp (0 ∷ []) (0 ∷ []) (255 ∷ escaped_text s) (0 ∷ []) Equal Greater (SortsAs-cell nat_cmp 0 0) (λ _. SortsAs-greater nat_cmp 255 0 (escaped_text s) [] refl)
+    SortsAs-append nat_cmp (0 ∷ []) (0 ∷ []) (255 ∷ escaped_text s) (0 ∷ []) Equal Greater (SortsAs-cell nat_cmp 0 0)
+    (λ _. SortsAs-greater nat_cmp 255 0 (escaped_text s) [] refl)
 escaped_sorts (suc b ∷ s) [] = SortsAs-greater nat_cmp (suc b) 0 (escaped_text s) (0 ∷ []) (zero_below (suc b) (omega arith))
 escaped_sorts (zero ∷ s) (zero ∷ r) =
     SortsAs-append nat_cmp (0 ∷ []) (0 ∷ []) (255 ∷ escaped_text s) (255 ∷ escaped_text r) Equal (bytes_cmp s r) (SortsAs-cell nat_cmp 0 0)
-    (λ _. SortsAs-append nat_cmp (255 ∷ []) (255 ∷ []) (escaped_text s) (escaped_text r) Equal (bytes_cmp s r) (SortsAs-cell nat_cmp 255 255) (λ _. escaped_sorts s r))
+    (λ _. SortsAs-append nat_cmp (255 ∷ []) (255 ∷ []) (escaped_text s) (escaped_text r) Equal (bytes_cmp s r) (SortsAs-cell nat_cmp 255 255)
+    (λ _. escaped_sorts s r))
 escaped_sorts (zero ∷ s) (suc c ∷ r) =
     SortsAs-is nat_cmp _ _ _ _ (ap (λ (o : Ordering). ordering_then o (bytes_cmp s r)) (sym (above_zero (suc c) (omega arith))))
     (SortsAs-less nat_cmp 0 (suc c) (255 ∷ escaped_text s) (escaped_text r) (above_zero (suc c) (omega arith)))
@@ -42,4 +45,5 @@ escaped_sorts (suc b ∷ s) (zero ∷ r) =
     SortsAs-is nat_cmp _ _ _ _ (ap (λ (o : Ordering). ordering_then o (bytes_cmp s r)) (sym (zero_below (suc b) (omega arith))))
     (SortsAs-greater nat_cmp (suc b) 0 (escaped_text s) (255 ∷ escaped_text r) (zero_below (suc b) (omega arith)))
 escaped_sorts (suc b ∷ s) (suc c ∷ r) =
-    SortsAs-append nat_cmp (suc b ∷ []) (suc c ∷ []) (escaped_text s) (escaped_text r) (nat_cmp (suc b) (suc c)) (bytes_cmp s r) (SortsAs-cell nat_cmp (suc b) (suc c)) (λ _. escaped_sorts s r)
+    SortsAs-append nat_cmp (suc b ∷ []) (suc c ∷ []) (escaped_text s) (escaped_text r) (nat_cmp (suc b) (suc c)) (bytes_cmp s r)
+    (SortsAs-cell nat_cmp (suc b) (suc c)) (λ _. escaped_sorts s r)

@@ -55,15 +55,20 @@ less_inverted (m ∷ a) (n ∷ b) g h s = by (less_inverted a b g.1 h.1) (nat_cm
     first : (o : Ordering) → nat_cmp m n ≡ o → ordering_then o (slice_cmp nat_cmp (a ++ []) (b ++ [])) ≡ Less
     first o e = ap (λ (q : Ordering). ordering_then q (slice_cmp nat_cmp (a ++ []) (b ++ []))) (sym e) ∙ s.decides [] []
 
-    by : (SortsAs nat_cmp a b Less → SortsAs nat_cmp (complement a) (complement b) Greater) → (o : Ordering) → nat_cmp m n ≡ o → SortsAs nat_cmp (complement (m ∷ a)) (complement (n ∷ b)) Greater
+    by : (SortsAs nat_cmp a b Less → SortsAs nat_cmp (complement a) (complement b) Greater) → (o : Ordering) → nat_cmp m n ≡ o
+        → SortsAs nat_cmp (complement (m ∷ a)) (complement (n ∷ b)) Greater
     by more Less e = SortsAs-greater nat_cmp (255 - m) (255 - n) (complement a) (complement b) (lower m n h.0 e)
     by more Equal e =
         SortsAs-append nat_cmp ((255 - m) ∷ []) ((255 - n) ∷ []) (complement a) (complement b) Equal Greater
-        (SortsAs-is nat_cmp _ _ _ _ (sym (nat_cmp_is (255 - m) (255 - n) Equal (ap (λ (k : ℕ). 255 - k) (subst (λ (o : Ordering). MatchOrdering o (m < n) (m ≡ n) (n < m)) e (ranks m n))))) (SortsAs-cell nat_cmp (255 - m) (255 - n)))
+        (SortsAs-is nat_cmp _ _ _ _
+        (sym (nat_cmp_is (255 - m) (255 - n) Equal
+        (ap (λ (k : ℕ). 255 - k) (subst (λ (o : Ordering). MatchOrdering o (m < n) (m ≡ n) (n < m)) e (ranks m n)))))
+        (SortsAs-cell nat_cmp (255 - m) (255 - n)))
         (λ _. more (tail_sorts m n a b Less e s))
     by more Greater e = absurd (let f : Greater ≡ Less = first Greater e in cc)
 
-pub inverted_sorts : (a b : List ℕ) (c : Ordering) → AreBytes a → AreBytes b → SortsAs nat_cmp a b c → SortsAs nat_cmp (complement a) (complement b) (ordering_reverse c)
+pub inverted_sorts : (a b : List ℕ) (c : Ordering) → AreBytes a → AreBytes b → SortsAs nat_cmp a b c
+    → SortsAs nat_cmp (complement a) (complement b) (ordering_reverse c)
 inverted_sorts a b Less g h s = less_inverted a b g h s
 inverted_sorts a b Equal g h s =
     subst (λ (l : List ℕ). SortsAs nat_cmp (complement a) (complement l) Equal) (exact_bytes a b (order_of nat_cmp a b Equal s)) (SortsAs-same (complement a))

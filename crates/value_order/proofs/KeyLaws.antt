@@ -9,7 +9,8 @@ use Rattle.std.specs.Cmp.{nat_cmp_is}
 use Rattle.std.specs.Cmp.Lexicographic.{slice_cmp}
 use Rattle.std.proofs.lemmas.Cmp.{nat_list_cmp_total, tied_itself}
 use Rattle.std.proofs.lemmas.Map.Lookups.{exact_bytes, exact_unsigned}
-use Rattle.bson.specs.Tree.{Scalar, text, binary, object_id, boolean, date, null, int32, timestamp, int64, min_key, max_key, Tree, scalar, document, array, Pairs, no_pairs, pair, Items, no_items, item}
+use Rattle.bson.specs.Tree.{Scalar, text, binary, object_id, boolean, date, null, int32, timestamp, int64, min_key, max_key, Tree, scalar, document, array}
+use Rattle.bson.specs.Tree.{Pairs, no_pairs, pair, Items, no_items, item}
 use Rattle.bson.specs.Lawful.{IsName, IsScalar, IsTree, IsPairs, IsItems}
 use Rattle.bson.specs.Spelling.{tree_bytes, pairs_bytes, items_bytes}
 use Rattle.value_order.specs.Order.{class, bytes_cmp, compare, Key, empty_array, value, key_cmp}
@@ -59,7 +60,8 @@ mutual
   good_items : (i : ℕ) (ts : Items) → IsItems ts → length (items_bytes i ts) < 2 ^ 32 → GoodItems nat_cmp same 0 ended scalar_text Good IsName ts
   good_items i no_items h small = tt
   good_items i (item t ts) h small = (
-    good_tree t h.0 (omega (arith, small, length-append (decimal i ++ 0 ∷ tree_bytes t) (items_bytes (i + 1) ts), length-append (decimal i) (0 ∷ tree_bytes t))),
+    good_tree t h.0
+        (omega (arith, small, length-append (decimal i ++ 0 ∷ tree_bytes t) (items_bytes (i + 1) ts), length-append (decimal i) (0 ∷ tree_bytes t))),
     good_items (i + 1) ts h.1 (omega (arith, small, length-append (decimal i ++ 0 ∷ tree_bytes t) (items_bytes (i + 1) ts))),
   )
 
@@ -74,16 +76,19 @@ mutual
   pairs_are : (ps : Pairs) → pairs_text ps ≡ pairs_body nat_cmp same 0 ended scalar_text ps
   pairs_are no_pairs = refl
   pairs_are (pair n t ps) =
-      ap (λ (x : List ℕ). class t ∷ x) ((λ i. n ++ 0 ∷ (class t ∷ (content_is t i ++ pairs_are ps i))) ∙ sym (append_assoc n (0 ∷ []) (class t ∷ (body nat_cmp same 0 ended scalar_text t ++ pairs_body nat_cmp same 0 ended scalar_text ps))))
+      ap (λ (x : List ℕ). class t ∷ x) ((λ i. n ++ 0 ∷ (class t ∷ (content_is t i ++ pairs_are ps i)))
+      ∙ sym (append_assoc n (0 ∷ []) (class t ∷ (body nat_cmp same 0 ended scalar_text t ++ pairs_body nat_cmp same 0 ended scalar_text ps))))
 
   items_are : (ts : Items) → items_text ts ≡ items_body nat_cmp same 0 ended scalar_text ts
   items_are no_items = refl
   items_are (item t ts) = λ i. class t ∷ (content_is t i ++ items_are ts i)
 
-texts_sort : (t u : Tree) → GoodTree nat_cmp same 0 ended scalar_text Good IsName t → GoodTree nat_cmp same 0 ended scalar_text Good IsName u → SortsAs nat_cmp (tree_text t) (tree_text u) (compare t u)
+texts_sort : (t u : Tree) → GoodTree nat_cmp same 0 ended scalar_text Good IsName t → GoodTree nat_cmp same 0 ended scalar_text Good IsName u
+    → SortsAs nat_cmp (tree_text t) (tree_text u) (compare t u)
 texts_sort t u g h =
     subst (λ (x : List ℕ). SortsAs nat_cmp x (tree_text u) (compare t u)) (ap (λ (x : List ℕ). class t ∷ x) (sym (content_is t)))
-    (subst (λ (x : List ℕ). SortsAs nat_cmp (class t ∷ body nat_cmp same 0 ended scalar_text t) x (compare t u)) (ap (λ (x : List ℕ). class u ∷ x) (sym (content_is u)))
+    (subst (λ (x : List ℕ). SortsAs nat_cmp (class t ∷ body nat_cmp same 0 ended scalar_text t) x (compare t u))
+    (ap (λ (x : List ℕ). class u ∷ x) (sym (content_is u)))
     (tree_sorts nat_cmp same 0 ended scalar_text Good IsName (λ m n. refl) (sym (nat_cmp_is 0 0 Equal refl))
     (λ v. sym (nat_cmp_is 0 (class v) Less (class_above v))) (λ v. sym (nat_cmp_is (class v) 0 Greater (class_above v)))
     (λ n m f k. name_sorts n m f.no_zero k.no_zero) scalar_sorts t u g h))
@@ -108,11 +113,14 @@ good_key : (t : Tree) → IsKey (value t) → GoodTree nat_cmp same 0 ended scal
 good_key t h = good_tree t h.0 (omega (arith, h.1))
 
 keys_sort : (a b : Key) → IsKey a → IsKey b → SortsAs nat_cmp (key_text a) (key_text b) (key_cmp a b)
-keys_sort empty_array empty_array g h = SortsAs-append nat_cmp (0x18 ∷ []) (0x18 ∷ []) [] [] _ _ (SortsAs-cell nat_cmp 0x18 0x18) (λ _. record { decides = λ x y. refl })
+keys_sort empty_array empty_array g h =
+    SortsAs-append nat_cmp (0x18 ∷ []) (0x18 ∷ []) [] [] _ _ (SortsAs-cell nat_cmp 0x18 0x18) (λ _. record { decides = λ x y. refl })
 keys_sort empty_array (value u) g h =
-    SortsAs-append nat_cmp (0x18 ∷ []) (class u ∷ []) [] (content_text u) _ _ (SortsAs-cell nat_cmp 0x18 (class u)) (λ e. absurd (not_empty u (sym (exact_unsigned 0x18 (class u) e))))
+    SortsAs-append nat_cmp (0x18 ∷ []) (class u ∷ []) [] (content_text u) _ _ (SortsAs-cell nat_cmp 0x18 (class u))
+    (λ e. absurd (not_empty u (sym (exact_unsigned 0x18 (class u) e))))
 keys_sort (value t) empty_array g h =
-    SortsAs-append nat_cmp (class t ∷ []) (0x18 ∷ []) (content_text t) [] _ _ (SortsAs-cell nat_cmp (class t) 0x18) (λ e. absurd (not_empty t (exact_unsigned (class t) 0x18 e)))
+    SortsAs-append nat_cmp (class t ∷ []) (0x18 ∷ []) (content_text t) [] _ _ (SortsAs-cell nat_cmp (class t) 0x18)
+    (λ e. absurd (not_empty t (exact_unsigned (class t) 0x18 e)))
 keys_sort (value t) (value u) g h = texts_sort t u (good_key t g) (good_key u h)
 
 key_bytes : (a : Key) → IsKey a → AreBytes (key_text a)
@@ -158,5 +166,8 @@ then_parts Greater o e = absurd cc
 pub none_begins : NoneBegins
 none_begins d a b x y g h e =
     let sorts = directed_sort d a b g h in
-    let both = then_parts (directed_cmp d a b) (slice_cmp nat_cmp x y) (sym (sorts.decides x y) ∙ bytes_same (directed_text d a ++ x) (directed_text d b ++ y) e) in
-    (exact_bytes (directed_text d a) (directed_text d b) (order_of nat_cmp (directed_text d a) (directed_text d b) (directed_cmp d a b) sorts ∙ both.0), exact_bytes x y both.1)
+    let both = then_parts (directed_cmp d a b) (slice_cmp nat_cmp x y)
+    (sym (sorts.decides x y) ∙ bytes_same (directed_text d a ++ x) (directed_text d b ++ y) e) in (
+      exact_bytes (directed_text d a) (directed_text d b) (order_of nat_cmp (directed_text d a) (directed_text d b) (directed_cmp d a b) sorts ∙ both.0),
+      exact_bytes x y both.1,
+    )

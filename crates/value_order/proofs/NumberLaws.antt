@@ -13,7 +13,8 @@ use Rattle.value_order.specs.SortingLaws.{SortsAs, SortsAs-none, SortsAs-cell, S
 pub two_digits : (p a r b s : ℕ) → r < p → s < p → nat_cmp (a * p + r) (b * p + s) ≡ ordering_then (nat_cmp a b) (nat_cmp r s)
 two_digits p a r b s low other = sym (nat_cmp_is (a * p + r) (b * p + s) _ (by (nat_cmp a b) (nat_cmp r s) (ranks a b) (ranks r s)))
   where
-    by : (o q : Ordering) → MatchOrdering o (a < b) (a ≡ b) (b < a) → MatchOrdering q (r < s) (r ≡ s) (s < r) → MatchOrdering (ordering_then o q) (a * p + r < b * p + s) (a * p + r ≡ b * p + s) (b * p + s < a * p + r)
+    by : (o q : Ordering) → MatchOrdering o (a < b) (a ≡ b) (b < a) → MatchOrdering q (r < s) (r ≡ s) (s < r)
+        → MatchOrdering (ordering_then o q) (a * p + r < b * p + s) (a * p + r ≡ b * p + s) (b * p + s < a * p + r)
     by Less q h k = let up : (a + 1) * p ≤ b * p = mul-le-mul_right p (omega (arith, h)) in omega (arith, up)
     by Equal Less h k = omega (arith, ap (λ (x : ℕ). x * p) h, k)
     by Equal Equal h k = omega (arith, ap (λ (x : ℕ). x * p) h, k)
@@ -37,5 +38,6 @@ module _ (m n : ℕ) where
   SortsAs-bytes zero = SortsAs-is nat_cmp [] [] Equal _ (λ i. nat_cmp (sym (mod-one m) i) (sym (mod-one n) i)) (SortsAs-none nat_cmp)
   SortsAs-bytes (suc k) =
       SortsAs-is nat_cmp _ _ _ _
-      (sym (two_digits (256 ^ k) (byte_at k m) (m % 256 ^ k) (byte_at k n) (n % 256 ^ k) (mod-lt m (positive k)) (mod-lt n (positive k))) ∙ (λ i. nat_cmp (sym (lowest k m) i) (sym (lowest k n) i)))
+      (sym (two_digits (256 ^ k) (byte_at k m) (m % 256 ^ k) (byte_at k n) (n % 256 ^ k) (mod-lt m (positive k)) (mod-lt n (positive k)))
+      ∙ (λ i. nat_cmp (sym (lowest k m) i) (sym (lowest k n) i)))
       (SortsAs-append nat_cmp (byte_at k m ∷ []) (byte_at k n ∷ []) _ _ _ _ (SortsAs-cell nat_cmp (byte_at k m) (byte_at k n)) (λ _. SortsAs-bytes k))

@@ -1,5 +1,6 @@
 -- Text that is put at the end piece by piece.
-use Rattle.std.proofs.Common.{◌≡◌, ℕ, zero, suc, ◌+◌, ◌<◌, ◌≤◌, List, [], ◌∷◌, ◌++◌, length, map, take, drop, set, get_or, Result, Ok, Err, sym, ◌∙◌, ap, subst, arith}
+use Rattle.std.proofs.Common.{◌≡◌, ℕ, zero, suc, ◌+◌, ◌<◌, ◌≤◌, List, [], ◌∷◌, ◌++◌, length, map, take, drop, set, get_or, Result, Ok, Err, sym, ◌∙◌, ap, subst}
+use Rattle.std.proofs.Common.{arith}
 use Rattle.std.proofs.lemmas.List.{length-append}
 use Rattle.bson.specs.View.{tree, pairs_of, items_of}
 use Rattle.bson.specs.declared.value.Value.{Value}
@@ -11,12 +12,14 @@ use Rattle.value_order.specs.declared.texts.KeyFault.{KeyFault}
 use Rattle.value_order.specs.declared.texts.KeyFault.TheVariants as faults
 
 -- a piece that passes the limit is part of a text that does
-pub piece_refused : (limit : ℕ) (piece whole old mid new last : List ℕ) (e : KeyFault) → length mid + length piece ≤ length old + length whole → IsPut limit piece mid new (Err e) → IsPut limit whole old last (Err e)
+pub piece_refused : (limit : ℕ) (piece whole old mid new last : List ℕ) (e : KeyFault) → length mid + length piece ≤ length old + length whole
+    → IsPut limit piece mid new (Err e) → IsPut limit whole old last (Err e)
 piece_refused limit piece whole old mid new last faults.TooLong within h = (omega (arith, h.0), h.1)
 piece_refused limit piece whole old mid new last faults.Memory within h = tt
 
 -- the last piece
-pub last_put : (limit : ℕ) (piece whole old mid new : List ℕ) (r : Result (Unit {0}) KeyFault) → mid ++ piece ≡ old ++ whole → IsPut limit piece mid new r → IsPut limit whole old new r
+pub last_put : (limit : ℕ) (piece whole old mid new : List ℕ) (r : Result (Unit {0}) KeyFault) → mid ++ piece ≡ old ++ whole → IsPut limit piece mid new r
+    → IsPut limit whole old new r
 last_put limit piece whole old mid new (Ok _) same h = (h.0 ∙ same, h.1)
 last_put limit piece whole old mid new (Err e) same h =
     piece_refused limit piece whole old mid new new e (omega (arith, sym (length-append mid piece) ∙ ap length same ∙ length-append old whole)) h
@@ -37,16 +40,25 @@ byte_part (zero ∷ bytes) zero lt = omega arith
 byte_part (suc b ∷ bytes) zero lt = omega arith
 byte_part (b ∷ bytes) (suc i) lt = byte_part bytes i (omega arith)
 
-pub item_part : (vs : List Value) (i : ℕ) (v : Value) → i < length vs → v ≡ get_or vs i v → length (tree_text (tree v)) ≤ length (items_text (items_of (drop i vs)))
+pub item_part : (vs : List Value) (i : ℕ) (v : Value) → i < length vs → v ≡ get_or vs i v
+    → length (tree_text (tree v)) ≤ length (items_text (items_of (drop i vs)))
 item_part [] i v lt is = absurd (omega arith)
-item_part (w ∷ ws) zero v lt is = omega (arith, ap (λ (x : Value). length (tree_text (tree x))) is, length-append (tree_text (tree w)) (items_text (items_of ws)))
+item_part (w ∷ ws) zero v lt is =
+    omega (arith, ap (λ (x : Value). length (tree_text (tree x))) is, length-append (tree_text (tree w)) (items_text (items_of ws)))
 item_part (w ∷ ws) (suc i) v lt is = item_part ws i v (omega arith) is
 
-pub pair_part : (ps : List Pair) (i : ℕ) (p : Pair) → i < length ps → p ≡ get_or ps i p → length (class (tree p.value) ∷ (p.name ++ 0 ∷ [])) + length (tree_text (tree p.value)) ≤ length (pairs_text (pairs_of (drop i ps)))
+pub pair_part : (ps : List Pair) (i : ℕ) (p : Pair) → i < length ps → p ≡ get_or ps i p
+    → length (class (tree p.value) ∷ (p.name ++ 0 ∷ [])) + length (tree_text (tree p.value)) ≤ length (pairs_text (pairs_of (drop i ps)))
 pair_part [] i p lt is = absurd (omega arith)
 pair_part (q ∷ qs) zero p lt is =
-    subst (λ (x : Pair). length (class (tree x.value) ∷ (x.name ++ 0 ∷ [])) + length (tree_text (tree x.value)) ≤ length (pairs_text (pairs_of (q ∷ qs)))) (sym is)
-    (omega (arith, length-append q.name (0 ∷ []), length-append q.name (0 ∷ tree_text (tree q.value) ++ pairs_text (pairs_of qs)), length-append (tree_text (tree q.value)) (pairs_text (pairs_of qs))))
+    subst (λ (x : Pair). length (class (tree x.value) ∷ (x.name ++ 0 ∷ [])) + length (tree_text (tree x.value)) ≤ length (pairs_text (pairs_of (q ∷ qs))))
+    (sym is)
+    (omega (
+      arith,
+      length-append q.name (0 ∷ []),
+      length-append q.name (0 ∷ tree_text (tree q.value) ++ pairs_text (pairs_of qs)),
+      length-append (tree_text (tree q.value)) (pairs_text (pairs_of qs)),
+    ))
 pair_part (q ∷ qs) (suc i) p lt is = pair_part qs i p (omega arith) is
 
 -- a list of which the front is mapped and the rest is as it was

@@ -12,7 +12,8 @@ use Rattle.bson.specs.declared.value.Pair.{Pair}
 use Rattle.value_order.specs.Order.{leaf, leaf_cmp, content_cmp, pairs_cmp, items_cmp}
 
 -- values that are not both documents and not both arrays have only themselves to compare
-pub content_cmp-leaves : (v w : Value) → ((ps qs : Pairs) → v ≡ values.Document ps → w ≡ values.Document qs → ⊥) → ((ts us : Items) → v ≡ values.Array ts → w ≡ values.Array us → ⊥)
+pub content_cmp-leaves : (v w : Value) → ((ps qs : Pairs) → v ≡ values.Document ps → w ≡ values.Document qs → ⊥)
+    → ((ts us : Items) → v ≡ values.Array ts → w ≡ values.Array us → ⊥)
     → content_cmp (tree v) (tree w) ≡ leaf_cmp (leaf (tree v)) (leaf (tree w))
 content_cmp-leaves (values.Document ps) (values.Document qs) documents arrays = absurd (documents ps qs refl refl)
 content_cmp-leaves (values.Array ts) (values.Array us) documents arrays = absurd (arrays ts us refl refl)
@@ -38,7 +39,8 @@ pair_smaller (q ∷ qs) zero p lt is = omega (arith, ap (λ (x : Pair). count (t
 pair_smaller (q ∷ qs) (suc i) p lt is = omega (arith, pair_smaller qs i p (omega arith) is)
 
 -- where the first list has ended, its length decides
-pub items_end : (vs ws : List Value) (i : ℕ) → length vs ≤ i → i ≤ length ws → i ≤ length vs → items_cmp (items_of (drop i vs)) (items_of (drop i ws)) ≡ nat_cmp (length vs) (length ws)
+pub items_end : (vs ws : List Value) (i : ℕ) → length vs ≤ i → i ≤ length ws → i ≤ length vs
+    → items_cmp (items_of (drop i vs)) (items_of (drop i ws)) ≡ nat_cmp (length vs) (length ws)
 items_end [] [] zero all within far = nat_cmp_is 0 0 Equal refl
 items_end [] (w ∷ ws) zero all within far = nat_cmp_is 0 (suc (length ws)) Less (omega arith)
 items_end [] ws (suc i) all within far = absurd (omega arith)
@@ -46,7 +48,8 @@ items_end (v ∷ vs) ws zero all within far = absurd (omega arith)
 items_end (v ∷ vs) [] (suc i) all within far = absurd (omega arith)
 items_end (v ∷ vs) (w ∷ ws) (suc i) all within far = items_end vs ws i (omega arith) (omega arith) (omega arith) ∙ next_cmp (length vs) (length ws)
 
-pub pairs_end : (ps qs : List Pair) (i : ℕ) → length ps ≤ i → i ≤ length qs → i ≤ length ps → pairs_cmp (pairs_of (drop i ps)) (pairs_of (drop i qs)) ≡ nat_cmp (length ps) (length qs)
+pub pairs_end : (ps qs : List Pair) (i : ℕ) → length ps ≤ i → i ≤ length qs → i ≤ length ps
+    → pairs_cmp (pairs_of (drop i ps)) (pairs_of (drop i qs)) ≡ nat_cmp (length ps) (length qs)
 pairs_end [] [] zero all within far = nat_cmp_is 0 0 Equal refl
 pairs_end [] (q ∷ qs) zero all within far = nat_cmp_is 0 (suc (length qs)) Less (omega arith)
 pairs_end [] qs (suc i) all within far = absurd (omega arith)

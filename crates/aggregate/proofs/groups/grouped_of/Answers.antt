@@ -11,4 +11,5 @@ use Rattle.aggregate.proofs.groups.grouped_of.Goals as goal
 pub returns : goal.returns
 returns g c =
     let taken = filter (takes (map stage_of c.args.stages.now)) (map g.T.AsDocument.document c.args.documents.now) in
-    subst (λ planned. Gives refusals.OutOfMemory (λ v. v.items) c.grouped_from.result planned) (grouped_is (grouping_of c.args.grouping.now) taken) c.grouped_from.ensures
+    subst (λ planned. Gives refusals.OutOfMemory (λ v. v.items) c.grouped_from.result planned)
+    (grouped_is (grouping_of c.args.grouping.now) taken) c.grouped_from.ensures

@@ -11,4 +11,5 @@ returns-in_ok-enough-in-Some-Skip-default t c =
     let behind : List Stage = map stage_of e.behind.now in
     let is : stages ≡ skip_stage e.skipped ∷ behind = search rules in
     let most = c.in_ok-enough-in-Some-Skip-default.field-0 in
-    skip_enough stages behind e.skipped most c.checked_add.result (most + e.skipped < 18446744073709551616) is c.in_ok-enough-in-Some-Skip-default.ensures c.checked_add.ensures
+    skip_enough stages behind e.skipped most c.checked_add.result
+    (most + e.skipped < 18446744073709551616) is c.in_ok-enough-in-Some-Skip-default.ensures c.checked_add.ensures

@@ -4,7 +4,8 @@ use Rattle.bson.specs.Spelling.{pairs_bytes}
 use Rattle.bson.proofs.DistinctLaws.{new_here}
 use Rattle.std.proofs.lemmas.Result.{err_from_is_err_and}
 use Rattle.bson.proofs.RawLaws.{Elements-spelled}
-use Rattle.bson.proofs.CheckLaws.{pairs_uncounted, pair_counted, before_rest, pair_checked, pair_refused, pairs_passed, items_unchecked, item_checked, item_refused, items_passed, document_refused, array_refused}
+use Rattle.bson.proofs.CheckLaws.{pairs_uncounted, pair_counted, before_rest, pair_checked, pair_refused, pairs_passed, items_unchecked, item_checked}
+use Rattle.bson.proofs.CheckLaws.{item_refused, items_passed, document_refused, array_refused}
 use Rattle.bson.proofs.checking.+checking.Goals as goal
 
 -- ---- arrays
@@ -15,15 +16,19 @@ check_items-items-init t c = items_unchecked c.args.more c.args.content.now (λ 
 pub check_items-returns-in_err-rest : goal.check_items-returns-in_err-rest
 check_items-returns-in_err-rest t c =
     let p = err_from_is_err_and c.from_residual.result c.from_residual.ensures.1 in
-    rw (p.1, p.2) (item_refused c.args.more c.args.content.now c.items.rest.now c.items.i c.in-Some.type_byte.now c.in-Some.after.now c.items.invariant c.in-Some.ensures.cases.0 c.in_err-rest.field-0.0 c.in_err-rest.ensures)
+    rw (p.1, p.2)
+    (item_refused c.args.more c.args.content.now c.items.rest.now c.items.i c.in-Some.type_byte.now c.in-Some.after.now c.items.invariant
+    c.in-Some.ensures.cases.0 c.in_err-rest.field-0.0 c.in_err-rest.ensures)
 
 pub check_items-items-smaller : goal.check_items-items-smaller
 check_items-items-smaller t c =
-    (item_checked c.args.more c.args.content.now c.items.rest.now c.items.i c.in-Some.type_byte.now c.in-Some.after.now c.items.invariant c.in-Some.ensures.cases.0 c.in_ok-rest.rest.now c.in_ok-rest.ensures).1
+    (item_checked c.args.more c.args.content.now c.items.rest.now c.items.i c.in-Some.type_byte.now c.in-Some.after.now c.items.invariant
+    c.in-Some.ensures.cases.0 c.in_ok-rest.rest.now c.in_ok-rest.ensures).1
 
 pub check_items-items-preserved : goal.check_items-items-preserved
 check_items-items-preserved t c =
-    (item_checked c.args.more c.args.content.now c.items.rest.now c.items.i c.in-Some.type_byte.now c.in-Some.after.now c.items.invariant c.in-Some.ensures.cases.0 c.in_ok-rest.rest.now c.in_ok-rest.ensures).0
+    (item_checked c.args.more c.args.content.now c.items.rest.now c.items.i c.in-Some.type_byte.now c.in-Some.after.now c.items.invariant
+    c.in-Some.ensures.cases.0 c.in_ok-rest.rest.now c.in_ok-rest.ensures).0
 
 pub check_items-returns : goal.check_items-returns
 check_items-returns t c = items_passed c.args.more c.args.content.now c.items.rest.now c.items.i c.items.invariant c.in_default.ensures.cases
@@ -35,16 +40,21 @@ check_pairs-pairs-init t c = pairs_uncounted c.args.more c.args.content.now (λ 
 
 pub check_pairs-check_pair-requires : goal.check_pairs-check_pair-requires
 check_pairs-check_pair-requires t c =
-    let before = before_rest c.args.more c.args.content.now c.pairs.rest.now c.split_at.result.0.now _ c.pairs.invariant.checked (omega arith) c.split_at.ensures.front c.requires.more c.requires.short in (
+    let before =
+    before_rest c.args.more c.args.content.now c.pairs.rest.now c.split_at.result.0.now _ c.pairs.invariant.checked
+    (omega arith) c.split_at.ensures.front c.requires.more c.requires.short in (
       search rules,
       (
         c.requires.more,
         (
           Elements-spelled c.split_at.result.0.now c.pairs.invariant.checked.front before,
           λ known k x kinded read.
-              new_here c.args.content.now c.split_at.result.0.now c.in-Some.after.now c.in-Some.type_byte.now c.count_distinct-distinct.result c.pairs.count c.pairs.invariant.checked.front k x
-              (c.pairs.invariant.checked.parts ∙ ap (λ (xs : List ℕ). pairs_bytes c.pairs.invariant.checked.front ++ xs) c.in-Some.ensures.cases.0) c.pairs.invariant.checked.lawful
-              (omega (arith, ap length before.spelled, before.short)) before c.pairs.invariant.counted c.count_distinct-distinct.ensures (ltb-true c.pairs.count c.count_distinct-distinct.result known) kinded read,
+              new_here c.args.content.now c.split_at.result.0.now c.in-Some.after.now c.in-Some.type_byte.now c.count_distinct-distinct.result c.pairs.count
+              c.pairs.invariant.checked.front k x
+              (c.pairs.invariant.checked.parts
+              ∙ ap (λ (xs : List ℕ). pairs_bytes c.pairs.invariant.checked.front ++ xs) c.in-Some.ensures.cases.0) c.pairs.invariant.checked.lawful
+              (omega (arith, ap length before.spelled, before.short)) before c.pairs.invariant.counted c.count_distinct-distinct.ensures
+              (ltb-true c.pairs.count c.count_distinct-distinct.result known) kinded read,
         ),
       ),
     )
@@ -52,18 +62,28 @@ check_pairs-check_pair-requires t c =
 pub check_pairs-returns-in_err-rest : goal.check_pairs-returns-in_err-rest
 check_pairs-returns-in_err-rest t c =
     let p = err_from_is_err_and c.from_residual.result c.from_residual.ensures.1 in
-    let before = before_rest c.args.more c.args.content.now c.pairs.rest.now c.split_at.result.0.now _ c.pairs.invariant.checked (omega arith) c.split_at.ensures.front c.requires.more c.requires.short in
-    rw (p.1, p.2) (pair_refused c.args.more c.args.content.now c.pairs.rest.now c.split_at.result.0.now c.in-Some.type_byte.now c.in-Some.after.now c.pairs.invariant.checked c.in-Some.ensures.cases.0 before c.in_err-rest.field-0.0 c.in_err-rest.ensures)
+    let before =
+    before_rest c.args.more c.args.content.now c.pairs.rest.now c.split_at.result.0.now _ c.pairs.invariant.checked
+    (omega arith) c.split_at.ensures.front c.requires.more c.requires.short in
+    rw (p.1, p.2)
+    (pair_refused c.args.more c.args.content.now c.pairs.rest.now c.split_at.result.0.now c.in-Some.type_byte.now c.in-Some.after.now c.pairs.invariant.checked
+    c.in-Some.ensures.cases.0 before c.in_err-rest.field-0.0 c.in_err-rest.ensures)
 
 pub check_pairs-pairs-smaller : goal.check_pairs-pairs-smaller
 check_pairs-pairs-smaller t c =
-    let before = before_rest c.args.more c.args.content.now c.pairs.rest.now c.split_at.result.0.now _ c.pairs.invariant.checked (omega arith) c.split_at.ensures.front c.requires.more c.requires.short in
-    (pair_checked c.args.more c.args.content.now c.pairs.rest.now c.split_at.result.0.now c.in-Some.type_byte.now c.in-Some.after.now c.pairs.invariant.checked c.in-Some.ensures.cases.0 before c.in_ok-rest.rest.now c.in_ok-rest.ensures).1
+    let before =
+    before_rest c.args.more c.args.content.now c.pairs.rest.now c.split_at.result.0.now _ c.pairs.invariant.checked
+    (omega arith) c.split_at.ensures.front c.requires.more c.requires.short in
+    (pair_checked c.args.more c.args.content.now c.pairs.rest.now c.split_at.result.0.now c.in-Some.type_byte.now c.in-Some.after.now c.pairs.invariant.checked
+    c.in-Some.ensures.cases.0 before c.in_ok-rest.rest.now c.in_ok-rest.ensures).1
 
 pub check_pairs-pairs-preserved : goal.check_pairs-pairs-preserved
 check_pairs-pairs-preserved t c =
-    let before = before_rest c.args.more c.args.content.now c.pairs.rest.now c.split_at.result.0.now _ c.pairs.invariant.checked (omega arith) c.split_at.ensures.front c.requires.more c.requires.short in
-    (pair_counted c.args.more c.args.content.now c.pairs.rest.now c.split_at.result.0.now c.in-Some.type_byte.now c.in-Some.after.now c.pairs.invariant.checked c.in-Some.ensures.cases.0 before c.pairs.count c.in_ok-rest.rest.now c.pairs.invariant.counted c.pairs.invariant.within c.in_ok-rest.ensures)
+    let before =
+    before_rest c.args.more c.args.content.now c.pairs.rest.now c.split_at.result.0.now _ c.pairs.invariant.checked
+    (omega arith) c.split_at.ensures.front c.requires.more c.requires.short in
+    (pair_counted c.args.more c.args.content.now c.pairs.rest.now c.split_at.result.0.now c.in-Some.type_byte.now c.in-Some.after.now c.pairs.invariant.checked
+    c.in-Some.ensures.cases.0 before c.pairs.count c.in_ok-rest.rest.now c.pairs.invariant.counted c.pairs.invariant.within c.in_ok-rest.ensures)
 
 pub check_pairs-returns : goal.check_pairs-returns
 check_pairs-returns t c = pairs_passed c.args.more c.args.content.now c.pairs.rest.now c.pairs.invariant.checked c.in_default.ensures.cases
@@ -73,14 +93,21 @@ check_pairs-returns t c = pairs_passed c.args.more c.args.content.now c.pairs.re
 pub check_value-returns-in_err-check_pairs-in-Document : goal.check_value-returns-in_err-check_pairs-in-Document
 check_value-returns-in_err-check_pairs-in-Document t c =
     let p = err_from_is_err_and c.from_residual-in_err-check_pairs-in-Document.result c.from_residual-in_err-check_pairs-in-Document.ensures.1 in
-    rw (p.1, p.2, c.in-Document.is) (document_refused c.in_err-check_pairs-in-Document.field-0.0 c.args.more c.args.bytes.now (c.in_ok-content-in-Document.content.now, c.in_ok-content-in-Document.rest.now) (omega arith) c.in_ok-content-in-Document.ensures.gives c.in_err-check_pairs-in-Document.ensures)
+    rw (p.1, p.2, c.in-Document.is)
+    (document_refused c.in_err-check_pairs-in-Document.field-0.0 c.args.more c.args.bytes.now
+    (c.in_ok-content-in-Document.content.now, c.in_ok-content-in-Document.rest.now)
+    (omega arith) c.in_ok-content-in-Document.ensures.gives c.in_err-check_pairs-in-Document.ensures)
 
 pub check_value-returns-in_err-check_items-in-Array : goal.check_value-returns-in_err-check_items-in-Array
 check_value-returns-in_err-check_items-in-Array t c =
     let p = err_from_is_err_and c.from_residual-in_err-check_items-in-Array.result c.from_residual-in_err-check_items-in-Array.ensures.1 in
-    rw (p.1, p.2, c.in-Array.is) (array_refused c.in_err-check_items-in-Array.field-0.0 c.args.more c.args.bytes.now (c.in_ok-content-in-Array.content.now, c.in_ok-content-in-Array.rest.now) (omega arith) c.in_ok-content-in-Array.ensures.gives c.in_err-check_items-in-Array.ensures)
+    rw (p.1, p.2, c.in-Array.is)
+    (array_refused c.in_err-check_items-in-Array.field-0.0 c.args.more c.args.bytes.now
+    (c.in_ok-content-in-Array.content.now, c.in_ok-content-in-Array.rest.now)
+    (omega arith) c.in_ok-content-in-Array.ensures.gives c.in_err-check_items-in-Array.ensures)
 
 -- ---- elements
 
 pub check_pair-is_repeated-requires-clause-new : goal.check_pair-is_repeated-requires-clause-new
-check_pair-is_repeated-requires-clause-new t c = λ known. c.requires.new known c.in_ok-kind.kind (c.in_ok-name.name.now, c.in_ok-name.rest.now) c.in_ok-kind.ensures c.in_ok-name.ensures
+check_pair-is_repeated-requires-clause-new t c =
+    λ known. c.requires.new known c.in_ok-kind.kind (c.in_ok-name.name.now, c.in_ok-name.rest.now) c.in_ok-kind.ensures c.in_ok-name.ensures

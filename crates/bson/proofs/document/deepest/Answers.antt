@@ -3,4 +3,11 @@ use Rattle.bson.proofs.BuildLaws.{pairs_levels-more}
 use Rattle.bson.proofs.document.deepest.Goals as goal
 
 pub pairs-preserved : goal.pairs-preserved
-pairs-preserved c = omega (arith, c.max-levels.ensures, c.levels.ensures.levels, c.pairs.invariant, pairs_levels-more c.args.pairs.now c.pairs.pair-index c.pair-item.result c.pairs-test.true c.pair-item.is)
+pairs-preserved c =
+    omega (
+      arith,
+      c.max-levels.ensures,
+      c.levels.ensures.levels,
+      c.pairs.invariant,
+      pairs_levels-more c.args.pairs.now c.pairs.pair-index c.pair-item.result c.pairs-test.true c.pair-item.is,
+    )

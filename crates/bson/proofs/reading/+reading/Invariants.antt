@@ -21,13 +21,17 @@ abbrev pub decreases-read_pairs : goal.decreases-read_pairs
 decreases-read_pairs l = 3 * l.more + 2
 
 abbrev pub invariant-read_pairs-pairs : goal.invariant-read_pairs-pairs
-invariant-read_pairs-pairs l = PairsSoFar l.more (pairs_of l.pairs.items) (names_of l.pairs.items) l.rest (pairs_in (value_at l.more) l.content) × (l.levels ≡ pairs_levels (pairs_of l.pairs.items)) × ((name : List ℕ) → stands_in l.names name ≡ stands_in (names_of l.pairs.items) name)
+invariant-read_pairs-pairs l =
+    PairsSoFar l.more (pairs_of l.pairs.items) (names_of l.pairs.items) l.rest (pairs_in (value_at l.more) l.content)
+    × (l.levels ≡ pairs_levels (pairs_of l.pairs.items)) × ((name : List ℕ) → stands_in l.names name ≡ stands_in (names_of l.pairs.items) name)
 
 abbrev pub decreases-read_pairs-pairs : goal.decreases-read_pairs-pairs
 decreases-read_pairs-pairs l = length l.rest
 
 abbrev pub invariant-read_items-items : goal.invariant-read_items-items
-invariant-read_items-items l = ItemsSoFar l.more (items_of l.items.items) (length l.items.items) l.rest (items_in (value_at l.more) l.content) × (l.levels ≡ items_levels (items_of l.items.items))
+invariant-read_items-items l =
+    ItemsSoFar l.more (items_of l.items.items) (length l.items.items) l.rest (items_in (value_at l.more) l.content)
+    × (l.levels ≡ items_levels (items_of l.items.items))
 
 abbrev pub decreases-read_items-items : goal.decreases-read_items-items
 decreases-read_items-items l = length l.rest

@@ -7,6 +7,7 @@ returns-then-len-gt-MESSAGE_LIMIT-clause-fills c = omega (arith, c.args.out.now.
 
 pub returns-clause-fills : goal.returns-clause-fills
 returns-clause-fills c = (
-  fill_is c.args.out.now.items c.deref_mut.result.now c.write_number.new.bytes c.args.out.now.len c.args.start c.len.result c.deref_mut.ensures.value c.args.out.now.ok.0 c.len.ensures c.write_number.ensures c.requires,
+  fill_is c.args.out.now.items c.deref_mut.result.now c.write_number.new.bytes c.args.out.now.len c.args.start c.len.result c.deref_mut.ensures.value
+      c.args.out.now.ok.0 c.len.ensures c.write_number.ensures c.requires,
   omega (arith, c.args.out.now.ok.0),
 )

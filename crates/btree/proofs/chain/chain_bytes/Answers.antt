@@ -11,7 +11,8 @@ returns-in_err-shared-clause-reads g c =
     let word = (c.in_err-shared.ensures.same k).word in
     let n = next_page (g.P.Pages.store c.loop-left.pages) value _ _ _ c.loop-left-test.true (c.loop-left.invariant.chained links value has next long word) in
     answer_failed (g.P.Pages.store c.args.pages.now) (g.P.Pages.store c.read.new.self) _ _ _ c.from_residual.ensures.1
-    (cause_later (g.P.Pages.store c.args.pages.now) (g.P.Pages.store c.loop-left.pages) (g.P.Pages.store c.read.new.self) _ (c.loop-left.invariant.grows.frame word) (c.in_err-shared.ensures.cause k _ n.at))
+    (cause_later (g.P.Pages.store c.args.pages.now) (g.P.Pages.store c.loop-left.pages) (g.P.Pages.store c.read.new.self) _
+    (c.loop-left.invariant.grows.frame word) (c.in_err-shared.ensures.cause k _ n.at))
 
 pub returns-then-len-min-clause-reads : goal.returns-then-len-min-clause-reads
 returns-then-len-min-clause-reads g c =
@@ -19,7 +20,8 @@ returns-then-len-min-clause-reads g c =
     let long_is : vec_len c.in-Chain.part ≡ length c.in-Chain.part.items = search rules in
     let word = (c.in_ok-shared.ensures.same k).word in
     c.if-len-min.true (c.len.ensures ∙ long_is
-    ∙ part_long (g.P.Pages.store c.loop-left.pages) value _ _ _ _ c.in-Chain.part.items c.loop-left-test.true (c.loop-left.invariant.chained links value has next long word)
+    ∙ part_long (g.P.Pages.store c.loop-left.pages) value _ _ _ _ c.in-Chain.part.items c.loop-left-test.true
+    (c.loop-left.invariant.chained links value has next long word)
     (c.in_ok-shared.ensures.value k ∙ ap (λ (s : Sheet). s.content) (sym c.image.ensures) ∙ ap content_in c.in-Chain.is) ∙ sym c.min.ensures)
 
 pub loop-left-preserved : goal.loop-left-preserved
@@ -30,9 +32,12 @@ loop-left-preserved g c =
       grows = grows_trans _ _ _ c.loop-left.invariant.grows step;
       same = λ k. let now = c.in_ok-shared.ensures.same k in same_trans _ _ _ (c.loop-left.invariant.same now.word) now;
       chained = λ links value has next long k.
-          subst (λ bs. IsRead (g.P.Pages.store c.read.new.self) value bs (c.loop-left.left - c.len-left.result) c.in-Chain.next) (ap (λ zs. c.loop-left.bytes.items ++ zs) (sym c.deref.ensures.value) ∙ sym c.in_ok-extend_from_slice.ensures.items)
-          (read_on (g.P.Pages.store c.loop-left.pages) (g.P.Pages.store c.read.new.self) value _ _ _ _ _ c.in-Chain.part.items (step.frame k) c.loop-left-test.true (c.loop-left.invariant.chained links value has next long (step.frame k).word)
-          (c.in_ok-shared.ensures.value k ∙ ap (λ (s : Sheet). s.content) (sym c.image.ensures) ∙ ap content_in c.in-Chain.is) (ap (λ n. c.loop-left.left - n) (c.len-left.ensures ∙ long_is)));
+          subst (λ bs. IsRead (g.P.Pages.store c.read.new.self) value bs (c.loop-left.left - c.len-left.result) c.in-Chain.next)
+          (ap (λ zs. c.loop-left.bytes.items ++ zs) (sym c.deref.ensures.value) ∙ sym c.in_ok-extend_from_slice.ensures.items)
+          (read_on (g.P.Pages.store c.loop-left.pages) (g.P.Pages.store c.read.new.self) value _ _ _ _ _ c.in-Chain.part.items
+          (step.frame k) c.loop-left-test.true (c.loop-left.invariant.chained links value has next long (step.frame k).word)
+          (c.in_ok-shared.ensures.value k ∙ ap (λ (s : Sheet). s.content) (sym c.image.ensures) ∙ ap content_in c.in-Chain.is)
+          (ap (λ n. c.loop-left.left - n) (c.len-left.ensures ∙ long_is)));
     }
 
 pub returns-then-page-ne0-clause-reads : goal.returns-then-page-ne0-clause-reads

@@ -6,13 +6,16 @@ use Rattle.btree.proofs.chain.write_chain.Goals as goal
 pub loop-left-preserved : goal.loop-left-preserved
 loop-left-preserved g c =
     record {
-      grows = grows_trans _ _ _ c.loop-left.invariant.grows (grows_made (g.P.Pages.store c.loop-left.pages) (g.P.Pages.store c.fresh.new.self) _ _ c.in_ok-next.ensures.stays c.in_ok-next.ensures.makes);
+      grows = grows_trans _ _ _ c.loop-left.invariant.grows
+          (grows_made (g.P.Pages.store c.loop-left.pages) (g.P.Pages.store c.fresh.new.self) _ _ c.in_ok-next.ensures.stays c.in_ok-next.ensures.makes);
       room = omega arith;
       written = λ k.
           let made = c.in_ok-next.ensures.makes k in
-          chained_on (g.P.Pages.store c.args.pages.now) (g.P.Pages.store c.loop-left.pages) (g.P.Pages.store c.fresh.new.self) (drop (4076 * (c.loop-left.left - 1)) c.args.value.now)
+          chained_on (g.P.Pages.store c.args.pages.now) (g.P.Pages.store c.loop-left.pages) (g.P.Pages.store c.fresh.new.self)
+          (drop (4076 * (c.loop-left.left - 1)) c.args.value.now)
           (drop (4076 * c.loop-left.left) c.args.value.now) c.in_ok-bytes.bytes.items _ _ (c.loop-left.invariant.written made.frame.word) made
           (some_left c.args.value.now c.loop-left.left c.loop-left.invariant.room c.loop-left-test.true)
-          (first_of c.args.value.now c.in_ok-bytes.bytes.items c.loop-left.left c.min-end.result c.loop-left.invariant.room c.loop-left-test.true c.min-end.ensures c.in_ok-bytes.ensures.items)
+          (first_of c.args.value.now c.in_ok-bytes.bytes.items c.loop-left.left c.min-end.result c.loop-left.invariant.room c.loop-left-test.true
+          c.min-end.ensures c.in_ok-bytes.ensures.items)
           (drop_on c.args.value.now c.loop-left.left c.loop-left-test.true);
     }

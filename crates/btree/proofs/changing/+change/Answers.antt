@@ -33,66 +33,100 @@ change_below-returns-in-Leaf-clause-turns g t c =
     λ base d high body rank at shown whole sound little rise between word.
     let gone = c.in_ok-retire.ensures.retires (c.change_leaf.ensures.grows.frame word).word in
     let same = c.in_ok-shared.ensures.same gone.frame.word in
-    let grown = frame_trans (g.P.Pages.store c.args.pages.now) (g.P.Pages.store c.read.new.self) (g.P.Pages.store c.retire.new.self) (frame_same _ _ same) gone.frame in
+    let grown = frame_trans (g.P.Pages.store c.args.pages.now) (g.P.Pages.store c.read.new.self) (g.P.Pages.store c.retire.new.self)
+    (frame_same _ _ same) gone.frame in
     at_leaf (λ d body. c.args.rank ≡ base + d → Shows (g.P.Pages.store c.retire.new.self) d body → IsSound d c.args.low.now high body
-    → IsTurn (g.P.Pages.store c.args.pages.now) (g.P.Pages.store c.change_leaf.new.pages) base c.args.low.now high (change (map edit_in c.args.edits.now) (entries_of d body)) (c.args.page ∷ pages_of d body) c.change_leaf.result)
+    → IsTurn (g.P.Pages.store c.args.pages.now) (g.P.Pages.store c.change_leaf.new.pages) base c.args.low.now high
+    (change (map edit_in c.args.edits.now) (entries_of d body)) (c.args.page ∷ pages_of d body) c.change_leaf.result)
     c.in-Leaf.leaf
-    (λ pairs is rank shown sound. turned_on (g.P.Pages.store c.args.pages.now) (g.P.Pages.store c.retire.new.self) (g.P.Pages.store c.change_leaf.new.pages) base c.args.low.now high _ (c.args.page ∷ pages_of 0 pairs) (pages_of 0 pairs) c.change_leaf.result grown
+    (λ pairs is rank shown sound. turned_on (g.P.Pages.store c.args.pages.now) (g.P.Pages.store c.retire.new.self)
+    (g.P.Pages.store c.change_leaf.new.pages) base c.args.low.now high _ (c.args.page ∷ pages_of 0 pairs) (pages_of 0 pairs) c.change_leaf.result grown
     (λ n. omega (arith, ap (times n) (gone.made ∙ same.made), ap (times n) (gone.retired ∙ ap (λ zs. c.args.page ∷ zs) same.retired)))
     (c.change_leaf.ensures.turns base c.args.low.now high pairs (omega arith) is sound shown between word))
-    d body (sym (ap content_in c.in-Leaf.is) ∙ ap (λ (s : Sheet). s.content) c.image.ensures ∙ sym (c.in_ok-shared.ensures.value gone.frame.word) ∙ at.holds) rank (shows_kept _ _ grown d body shown) sound
+    d body (sym (ap content_in c.in-Leaf.is) ∙ ap (λ (s : Sheet). s.content) c.image.ensures ∙ sym (c.in_ok-shared.ensures.value gone.frame.word)
+    ∙ at.holds) rank (shows_kept _ _ grown d body shown) sound
 
 pub change_below-returns-clause-grows : goal.change_below-returns-clause-grows
-change_below-returns-clause-grows g t c = grows_trans _ _ _ (grows_trans (g.P.Pages.store c.args.pages.now) (g.P.Pages.store c.read.new.self) (g.P.Pages.store c.retire.new.self) (grows_same (g.P.Pages.store c.args.pages.now) (g.P.Pages.store c.read.new.self) c.in_ok-shared.ensures.stays c.in_ok-shared.ensures.same) (grows_retired (g.P.Pages.store c.read.new.self) (g.P.Pages.store c.retire.new.self) _ c.in_ok-retire.ensures.stays c.in_ok-retire.ensures.retires)) c.change_children.ensures.grows
+change_below-returns-clause-grows g t c =
+    grows_trans _ _ _
+    (grows_trans (g.P.Pages.store c.args.pages.now) (g.P.Pages.store c.read.new.self) (g.P.Pages.store c.retire.new.self)
+    (grows_same (g.P.Pages.store c.args.pages.now) (g.P.Pages.store c.read.new.self) c.in_ok-shared.ensures.stays c.in_ok-shared.ensures.same)
+    (grows_retired (g.P.Pages.store c.read.new.self) (g.P.Pages.store c.retire.new.self) _ c.in_ok-retire.ensures.stays c.in_ok-retire.ensures.retires))
+    c.change_children.ensures.grows
 
 pub change_below-returns-clause-turns : goal.change_below-returns-clause-turns
 change_below-returns-clause-turns g t c =
     λ base d high body rank at shown whole sound little rise between word.
     let gone = c.in_ok-retire.ensures.retires (c.change_children.ensures.grows.frame word).word in
     let same = c.in_ok-shared.ensures.same gone.frame.word in
-    let grown = frame_trans (g.P.Pages.store c.args.pages.now) (g.P.Pages.store c.read.new.self) (g.P.Pages.store c.retire.new.self) (frame_same _ _ same) gone.frame in
-    let e = sym (ap content_in c.in-Branch.is) ∙ ap (λ (s : Sheet). s.content) c.image.ensures ∙ sym (c.in_ok-shared.ensures.value gone.frame.word) ∙ at.holds in
-    let o = opened (g.P.Pages.store c.args.pages.now) (g.P.Pages.store c.retire.new.self) base d c.args.rank c.args.page c.args.low.now high body _ rank shown whole sound little (branch_stubs d c.args.low.now body c.in-Branch.branch _ e c.in_ok-units.ensures.ok) grown
+    let grown = frame_trans (g.P.Pages.store c.args.pages.now) (g.P.Pages.store c.read.new.self) (g.P.Pages.store c.retire.new.self)
+    (frame_same _ _ same) gone.frame in
+    let e = sym (ap content_in c.in-Branch.is) ∙ ap (λ (s : Sheet). s.content) c.image.ensures ∙ sym (c.in_ok-shared.ensures.value gone.frame.word)
+    ∙ at.holds in
+    let o = opened (g.P.Pages.store c.args.pages.now)
+    (g.P.Pages.store c.retire.new.self) base d c.args.rank c.args.page c.args.low.now high body _ rank shown whole sound little
+    (branch_stubs d c.args.low.now body c.in-Branch.branch _ e c.in_ok-units.ensures.ok) grown
     (gone.made ∙ same.made) (gone.retired ∙ ap (λ zs. c.args.page ∷ zs) same.retired) in
-    turned_on (g.P.Pages.store c.args.pages.now) (g.P.Pages.store c.retire.new.self) (g.P.Pages.store c.change_children.new.pages) base c.args.low.now high _ _ o.0.after c.change_children.result grown o.0.turned
+    turned_on (g.P.Pages.store c.args.pages.now) (g.P.Pages.store c.retire.new.self)
+    (g.P.Pages.store c.change_children.new.pages) base c.args.low.now high _ _ o.0.after c.change_children.result grown o.0.turned
     (c.change_children.ensures.turns base c.args.low.now high (entries_of d body) o.0.after o.0.held (omega (arith, branch_deep d body c.in-Branch.branch e))
     (inr (begins c.args.low.now c.in-Branch.branch _ c.in_ok-units.ensures.ok o.1.0)) rise between word)
 
 pub change_children-returns-in_default-clause-turns : goal.change_children-returns-in_default-clause-turns
 change_children-returns-in_default-clause-turns g t c =
     λ base low high entries reached h deep begin rise between word.
-    let w = two_parts (g.P.Pages.store c.args.pages.now) base low high entries reached (sheaf_in c.args.loose) (map stub_in c.in_ok-left.field-0.left.units.items ++ stub_in c.in_ok-left.field-0.unit ∷ []) _ h c.in_ok-left.ensures.parts
+    let w = two_parts (g.P.Pages.store c.args.pages.now) base low high entries reached (sheaf_in c.args.loose)
+    (map stub_in c.in_ok-left.field-0.left.units.items ++ stub_in c.in_ok-left.field-0.unit ∷ []) _ h c.in_ok-left.ensures.parts
     (omega (arith, long_append (map stub_in c.in_ok-left.field-0.left.units.items) (stub_in c.in_ok-left.field-0.unit ∷ []))) in
-    c.in_default.ensures (last_is_child (g.P.Pages.store c.args.pages.now) base low w.between w.front_entries w.front_pages _ (map stub_in c.in_ok-left.field-0.left.units.items) (stub_in c.in_ok-left.field-0.unit) w.front_held deep
+    c.in_default.ensures
+    (last_is_child (g.P.Pages.store c.args.pages.now) base low w.between w.front_entries w.front_pages _ (map stub_in c.in_ok-left.field-0.left.units.items)
+    (stub_in c.in_ok-left.field-0.unit) w.front_held deep
     (omega (arith, long_append (map stub_in c.in_ok-left.field-0.left.units.items) (stub_in c.in_ok-left.field-0.unit ∷ []))) refl)
 
 pub change_children-returns-in_err-below-clause-turns : goal.change_children-returns-in_err-below-clause-turns
 change_children-returns-in_err-below-clause-turns g t c =
     λ base low high entries reached h deep begin rise between word.
-    let p = prepare (g.P.Pages.store c.args.pages.now) c.args.loose c.in_ok-left.field-0.left c.in_ok-left.field-0.right c.in_ok-left.field-0.unit c.deref.result.now c.as_slice-key.result.now c.in-Some.page c.child_place-at.result c.args.edits.now _ _ _
-    c.in_ok-left.ensures.parts c.as_slice-key.ensures.value c.in-Some.ensures c.edits_at.ensures.parts c.edits_at.ensures.before c.edits_at.ensures.behind c.deref.ensures.value c.in_ok-left.ensures.left c.child_place-at.ensures.next (omega arith)
+    let p = prepare
+    (g.P.Pages.store c.args.pages.now) c.args.loose c.in_ok-left.field-0.left c.in_ok-left.field-0.right c.in_ok-left.field-0.unit c.deref.result.now
+    c.as_slice-key.result.now c.in-Some.page c.child_place-at.result c.args.edits.now _ _ _
+    c.in_ok-left.ensures.parts c.as_slice-key.ensures.value c.in-Some.ensures c.edits_at.ensures.parts c.edits_at.ensures.before c.edits_at.ensures.behind
+    c.deref.ensures.value c.in_ok-left.ensures.left c.child_place-at.ensures.next (omega arith)
     base low high entries reached h deep rise between in
-    turns_failed (g.P.Pages.store c.args.pages.now) (g.P.Pages.store c.change_below.new.pages) base low high _ _ c.from_residual-in_err-below.result _ c.from_residual-in_err-below.ensures.1
-    (c.in_err-below.ensures.turns base p.off.d p.two.between p.off.body (omega (arith, p.off.rank_is, c.in_ok-left.ensures.left_rank)) p.off.at p.off.shown p.off.lies.0 p.off.lies.1 p.off.little p.mine_rise p.mine_between word)
+    turns_failed (g.P.Pages.store c.args.pages.now)
+    (g.P.Pages.store c.change_below.new.pages) base low high _ _ c.from_residual-in_err-below.result _ c.from_residual-in_err-below.ensures.1
+    (c.in_err-below.ensures.turns base p.off.d p.two.between p.off.body
+    (omega (arith, p.off.rank_is, c.in_ok-left.ensures.left_rank)) p.off.at p.off.shown p.off.lies.0 p.off.lies.1 p.off.little p.mine_rise p.mine_between word)
 
 pub change_children-returns-in_err-front-clause-turns : goal.change_children-returns-in_err-front-clause-turns
 change_children-returns-in_err-front-clause-turns g t c =
     λ base low high entries reached h deep begin rise between word.
     let g2 = c.in_err-front.ensures.grows.frame word in
     let g1 = c.in_ok-below.ensures.grows.frame g2.word in
-    let p = prepare (g.P.Pages.store c.args.pages.now) c.args.loose c.in_ok-left.field-0.left c.in_ok-left.field-0.right c.in_ok-left.field-0.unit c.deref.result.now c.as_slice-key.result.now c.in-Some.page c.child_place-at.result c.args.edits.now _ _ _
-    c.in_ok-left.ensures.parts c.as_slice-key.ensures.value c.in-Some.ensures c.edits_at.ensures.parts c.edits_at.ensures.before c.edits_at.ensures.behind c.deref.ensures.value c.in_ok-left.ensures.left c.child_place-at.ensures.next (omega arith)
+    let p = prepare
+    (g.P.Pages.store c.args.pages.now) c.args.loose c.in_ok-left.field-0.left c.in_ok-left.field-0.right c.in_ok-left.field-0.unit c.deref.result.now
+    c.as_slice-key.result.now c.in-Some.page c.child_place-at.result c.args.edits.now _ _ _
+    c.in_ok-left.ensures.parts c.as_slice-key.ensures.value c.in-Some.ensures c.edits_at.ensures.parts c.edits_at.ensures.before c.edits_at.ensures.behind
+    c.deref.ensures.value c.in_ok-left.ensures.left c.child_place-at.ensures.next (omega arith)
     base low high entries reached h deep rise between in
-    turns_failed (g.P.Pages.store c.args.pages.now) (g.P.Pages.store c.change_children.new.pages) base low high _ _ c.from_residual-in_err-front.result _ c.from_residual-in_err-front.ensures.1
+    turns_failed (g.P.Pages.store c.args.pages.now)
+    (g.P.Pages.store c.change_children.new.pages) base low high _ _ c.from_residual-in_err-front.result _ c.from_residual-in_err-front.ensures.1
     (cause_later (g.P.Pages.store c.args.pages.now) (g.P.Pages.store c.change_below.new.pages) (g.P.Pages.store c.change_children.new.pages) _ g1
-    (c.in_err-front.ensures.turns base low (Some c.as_slice-key.result.now) (entries_of (suc p.off.d) p.off.twigs) (pages_of (suc p.off.d) p.off.twigs) (held_later _ _ base low _ _ _ _ g1 (subst (λ k. IsHeld (g.P.Pages.store c.args.pages.now) base low (Some c.as_slice-key.result.now) (entries_of (suc p.off.d) p.off.twigs) (pages_of (suc p.off.d) p.off.twigs) (record { rank = k; stubs = map stub_in c.in_ok-left.field-0.left.units.items })) (sym c.in_ok-left.ensures.left_rank) p.left_held))
+    (c.in_err-front.ensures.turns base low (Some c.as_slice-key.result.now) (entries_of (suc p.off.d) p.off.twigs) (pages_of (suc p.off.d) p.off.twigs)
+    (held_later _ _ base low _ _ _ _ g1
+    (subst (λ k. IsHeld (g.P.Pages.store c.args.pages.now) base low (Some c.as_slice-key.result.now) (entries_of (suc p.off.d) p.off.twigs)
+    (pages_of (suc p.off.d) p.off.twigs) (record { rank = k; stubs = map stub_in c.in_ok-left.field-0.left.units.items }))
+    (sym c.in_ok-left.ensures.left_rank) p.left_held))
     (omega (arith, c.in_ok-left.ensures.left_rank))
-    (begins_there (g.P.Pages.store c.args.pages.now) c.args.loose c.in_ok-left.field-0.left c.in_ok-left.field-0.right c.in_ok-left.field-0.unit c.deref.result.now c.as_slice-key.result.now c.in-Some.page c.child_place-at.result c.args.edits.now _ _ _
-    c.in_ok-left.ensures.parts c.as_slice-key.ensures.value c.in-Some.ensures c.edits_at.ensures.parts c.edits_at.ensures.before c.edits_at.ensures.behind c.deref.ensures.value c.in_ok-left.ensures.left c.child_place-at.ensures.next (omega arith) base low begin p.theirs_between)
+    (begins_there
+    (g.P.Pages.store c.args.pages.now) c.args.loose c.in_ok-left.field-0.left c.in_ok-left.field-0.right c.in_ok-left.field-0.unit c.deref.result.now
+    c.as_slice-key.result.now c.in-Some.page c.child_place-at.result c.args.edits.now _ _ _
+    c.in_ok-left.ensures.parts c.as_slice-key.ensures.value c.in-Some.ensures c.edits_at.ensures.parts c.edits_at.ensures.before c.edits_at.ensures.behind
+    c.deref.ensures.value c.in_ok-left.ensures.left c.child_place-at.ensures.next (omega arith) base low begin p.theirs_between)
     p.theirs_rise p.theirs_between word))
 
 pub change_children-returns-in_err-back-clause-grows : goal.change_children-returns-in_err-back-clause-grows
-change_children-returns-in_err-back-clause-grows g t c = grows_trans _ _ _ (grows_trans _ _ _ c.in_ok-below.ensures.grows c.in_ok-front.ensures.grows) c.in_err-back.ensures.grows
+change_children-returns-in_err-back-clause-grows g t c =
+    grows_trans _ _ _ (grows_trans _ _ _ c.in_ok-below.ensures.grows c.in_ok-front.ensures.grows) c.in_err-back.ensures.grows
 
 pub change_children-returns-in_err-back-clause-turns : goal.change_children-returns-in_err-back-clause-turns
 change_children-returns-in_err-back-clause-turns g t c =
@@ -100,19 +134,31 @@ change_children-returns-in_err-back-clause-turns g t c =
     let g3 = c.in_err-back.ensures.grows.frame word in
     let g2 = c.in_ok-front.ensures.grows.frame g3.word in
     let g1 = c.in_ok-below.ensures.grows.frame g2.word in
-    let p = prepare (g.P.Pages.store c.args.pages.now) c.args.loose c.in_ok-left.field-0.left c.in_ok-left.field-0.right c.in_ok-left.field-0.unit c.deref.result.now c.as_slice-key.result.now c.in-Some.page c.child_place-at.result c.args.edits.now _ _ _
-    c.in_ok-left.ensures.parts c.as_slice-key.ensures.value c.in-Some.ensures c.edits_at.ensures.parts c.edits_at.ensures.before c.edits_at.ensures.behind c.deref.ensures.value c.in_ok-left.ensures.left c.child_place-at.ensures.next (omega arith)
+    let p = prepare
+    (g.P.Pages.store c.args.pages.now) c.args.loose c.in_ok-left.field-0.left c.in_ok-left.field-0.right c.in_ok-left.field-0.unit c.deref.result.now
+    c.as_slice-key.result.now c.in-Some.page c.child_place-at.result c.args.edits.now _ _ _
+    c.in_ok-left.ensures.parts c.as_slice-key.ensures.value c.in-Some.ensures c.edits_at.ensures.parts c.edits_at.ensures.before c.edits_at.ensures.behind
+    c.deref.ensures.value c.in_ok-left.ensures.left c.child_place-at.ensures.next (omega arith)
     base low high entries reached h deep rise between in
-    let u1 = c.in_ok-below.ensures.turns base p.off.d p.two.between p.off.body (omega (arith, p.off.rank_is, c.in_ok-left.ensures.left_rank)) p.off.at p.off.shown p.off.lies.0 p.off.lies.1 p.off.little p.mine_rise p.mine_between g2.word in
-    turns_failed (g.P.Pages.store c.args.pages.now) (g.P.Pages.store c.meet_behind.new.pages) base low high _ _ c.from_residual-in_err-back.result _ c.from_residual-in_err-back.ensures.1
-    (cause_later (g.P.Pages.store c.args.pages.now) (g.P.Pages.store c.change_children.new.pages) (g.P.Pages.store c.meet_behind.new.pages) _ (frame_trans _ _ _ g1 g2)
-    (c.in_err-back.ensures.turns base c.as_slice-key.result.now p.two.between high (change (map edit_in c.edits_at.result.1.now) (entries_of p.off.d p.off.body)) p.two.back_entries u1.after p.two.back_pages (held_later _ _ base _ _ _ _ _ g2 u1.held)
+    let u1 = c.in_ok-below.ensures.turns base p.off.d p.two.between p.off.body
+    (omega (arith, p.off.rank_is, c.in_ok-left.ensures.left_rank)) p.off.at p.off.shown p.off.lies.0 p.off.lies.1 p.off.little p.mine_rise p.mine_between
+    g2.word in
+    turns_failed (g.P.Pages.store c.args.pages.now)
+    (g.P.Pages.store c.meet_behind.new.pages) base low high _ _ c.from_residual-in_err-back.result _ c.from_residual-in_err-back.ensures.1
+    (cause_later (g.P.Pages.store c.args.pages.now) (g.P.Pages.store c.change_children.new.pages) (g.P.Pages.store c.meet_behind.new.pages) _
+    (frame_trans _ _ _ g1 g2)
+    (c.in_err-back.ensures.turns base c.as_slice-key.result.now p.two.between high
+    (change (map edit_in c.edits_at.result.1.now) (entries_of p.off.d p.off.body)) p.two.back_entries u1.after p.two.back_pages
+    (held_later _ _ base _ _ _ _ _ g2 u1.held)
     (behind_later _ _ base p.two.between high p.two.back_entries p.two.back_pages _ (frame_trans _ _ _ g1 g2)
-    (subst (λ k. IsBehind (g.P.Pages.store c.args.pages.now) base p.two.between high p.two.back_entries p.two.back_pages (record { rank = k; stubs = map stub_in c.in_ok-left.field-0.right.units.items })) (sym c.in_ok-left.ensures.right_rank) p.two.behind))
+    (subst (λ k. IsBehind (g.P.Pages.store c.args.pages.now) base p.two.between high p.two.back_entries p.two.back_pages
+    (record { rank = k; stubs = map stub_in c.in_ok-left.field-0.right.units.items })) (sym c.in_ok-left.ensures.right_rank) p.two.behind))
     (within_up_to c.as_slice-key.result.now p.two.between p.off.between.1) word))
 
 pub change_children-returns-clause-grows : goal.change_children-returns-clause-grows
-change_children-returns-clause-grows g t c = grows_trans _ _ _ (grows_trans _ _ _ (grows_trans _ _ _ c.in_ok-below.ensures.grows c.in_ok-front.ensures.grows) c.in_ok-back.ensures.grows) c.meet.ensures.grows
+change_children-returns-clause-grows g t c =
+    grows_trans _ _ _
+    (grows_trans _ _ _ (grows_trans _ _ _ c.in_ok-below.ensures.grows c.in_ok-front.ensures.grows) c.in_ok-back.ensures.grows) c.meet.ensures.grows
 
 pub change_children-returns-clause-turns : goal.change_children-returns-clause-turns
 change_children-returns-clause-turns g t c =
@@ -121,27 +167,50 @@ change_children-returns-clause-turns g t c =
     let g3 = c.in_ok-back.ensures.grows.frame g4.word in
     let g2 = c.in_ok-front.ensures.grows.frame g3.word in
     let g1 = c.in_ok-below.ensures.grows.frame g2.word in
-    let p = prepare (g.P.Pages.store c.args.pages.now) c.args.loose c.in_ok-left.field-0.left c.in_ok-left.field-0.right c.in_ok-left.field-0.unit c.deref.result.now c.as_slice-key.result.now c.in-Some.page c.child_place-at.result c.args.edits.now _ _ _
-    c.in_ok-left.ensures.parts c.as_slice-key.ensures.value c.in-Some.ensures c.edits_at.ensures.parts c.edits_at.ensures.before c.edits_at.ensures.behind c.deref.ensures.value c.in_ok-left.ensures.left c.child_place-at.ensures.next (omega arith)
+    let p = prepare
+    (g.P.Pages.store c.args.pages.now) c.args.loose c.in_ok-left.field-0.left c.in_ok-left.field-0.right c.in_ok-left.field-0.unit c.deref.result.now
+    c.as_slice-key.result.now c.in-Some.page c.child_place-at.result c.args.edits.now _ _ _
+    c.in_ok-left.ensures.parts c.as_slice-key.ensures.value c.in-Some.ensures c.edits_at.ensures.parts c.edits_at.ensures.before c.edits_at.ensures.behind
+    c.deref.ensures.value c.in_ok-left.ensures.left c.child_place-at.ensures.next (omega arith)
     base low high entries reached h deep rise between in
-    let u1 = c.in_ok-below.ensures.turns base p.off.d p.two.between p.off.body (omega (arith, p.off.rank_is, c.in_ok-left.ensures.left_rank)) p.off.at p.off.shown p.off.lies.0 p.off.lies.1 p.off.little p.mine_rise p.mine_between g2.word in
-    let u2 = c.in_ok-front.ensures.turns base low (Some c.as_slice-key.result.now) (entries_of (suc p.off.d) p.off.twigs) (pages_of (suc p.off.d) p.off.twigs) (held_later _ _ base low _ _ _ _ g1 (subst (λ k. IsHeld (g.P.Pages.store c.args.pages.now) base low (Some c.as_slice-key.result.now) (entries_of (suc p.off.d) p.off.twigs) (pages_of (suc p.off.d) p.off.twigs) (record { rank = k; stubs = map stub_in c.in_ok-left.field-0.left.units.items })) (sym c.in_ok-left.ensures.left_rank) p.left_held))
+    let u1 = c.in_ok-below.ensures.turns base p.off.d p.two.between p.off.body
+    (omega (arith, p.off.rank_is, c.in_ok-left.ensures.left_rank)) p.off.at p.off.shown p.off.lies.0 p.off.lies.1 p.off.little p.mine_rise p.mine_between
+    g2.word in
+    let u2 = c.in_ok-front.ensures.turns base low (Some c.as_slice-key.result.now) (entries_of (suc p.off.d) p.off.twigs) (pages_of (suc p.off.d) p.off.twigs)
+    (held_later _ _ base low _ _ _ _ g1
+    (subst (λ k. IsHeld (g.P.Pages.store c.args.pages.now) base low (Some c.as_slice-key.result.now) (entries_of (suc p.off.d) p.off.twigs)
+    (pages_of (suc p.off.d) p.off.twigs) (record { rank = k; stubs = map stub_in c.in_ok-left.field-0.left.units.items }))
+    (sym c.in_ok-left.ensures.left_rank) p.left_held))
     (omega (arith, c.in_ok-left.ensures.left_rank))
-    (begins_there (g.P.Pages.store c.args.pages.now) c.args.loose c.in_ok-left.field-0.left c.in_ok-left.field-0.right c.in_ok-left.field-0.unit c.deref.result.now c.as_slice-key.result.now c.in-Some.page c.child_place-at.result c.args.edits.now _ _ _
-    c.in_ok-left.ensures.parts c.as_slice-key.ensures.value c.in-Some.ensures c.edits_at.ensures.parts c.edits_at.ensures.before c.edits_at.ensures.behind c.deref.ensures.value c.in_ok-left.ensures.left c.child_place-at.ensures.next (omega arith) base low begin p.theirs_between)
+    (begins_there
+    (g.P.Pages.store c.args.pages.now) c.args.loose c.in_ok-left.field-0.left c.in_ok-left.field-0.right c.in_ok-left.field-0.unit c.deref.result.now
+    c.as_slice-key.result.now c.in-Some.page c.child_place-at.result c.args.edits.now _ _ _
+    c.in_ok-left.ensures.parts c.as_slice-key.ensures.value c.in-Some.ensures c.edits_at.ensures.parts c.edits_at.ensures.before c.edits_at.ensures.behind
+    c.deref.ensures.value c.in_ok-left.ensures.left c.child_place-at.ensures.next (omega arith) base low begin p.theirs_between)
     p.theirs_rise p.theirs_between g3.word in
-    let u3 = c.in_ok-back.ensures.turns base c.as_slice-key.result.now p.two.between high (change (map edit_in c.edits_at.result.1.now) (entries_of p.off.d p.off.body)) p.two.back_entries u1.after p.two.back_pages (held_later _ _ base _ _ _ _ _ g2 u1.held)
+    let u3 = c.in_ok-back.ensures.turns base c.as_slice-key.result.now p.two.between high
+    (change (map edit_in c.edits_at.result.1.now) (entries_of p.off.d p.off.body)) p.two.back_entries u1.after p.two.back_pages
+    (held_later _ _ base _ _ _ _ _ g2 u1.held)
     (behind_later _ _ base p.two.between high p.two.back_entries p.two.back_pages _ (frame_trans _ _ _ g1 g2)
-    (subst (λ k. IsBehind (g.P.Pages.store c.args.pages.now) base p.two.between high p.two.back_entries p.two.back_pages (record { rank = k; stubs = map stub_in c.in_ok-left.field-0.right.units.items })) (sym c.in_ok-left.ensures.right_rank) p.two.behind))
+    (subst (λ k. IsBehind (g.P.Pages.store c.args.pages.now) base p.two.between high p.two.back_entries p.two.back_pages
+    (record { rank = k; stubs = map stub_in c.in_ok-left.field-0.right.units.items })) (sym c.in_ok-left.ensures.right_rank) p.two.behind))
     (within_up_to c.as_slice-key.result.now p.two.between p.off.between.1) g4.word in
-    subst (λ es. IsTurn (g.P.Pages.store c.args.pages.now) (g.P.Pages.store c.meet.new.pages) base low high (change es entries) reached c.meet.result) (sym c.edits_at.ensures.parts)
-    (children_done (g.P.Pages.store c.args.pages.now) (g.P.Pages.store c.change_below.new.pages) (g.P.Pages.store c.change_children.new.pages) (g.P.Pages.store c.meet_behind.new.pages) (g.P.Pages.store c.meet.new.pages) base low high entries reached c.args.loose.rank _ _ _ c.in-Some.page _ _
+    subst (λ es. IsTurn (g.P.Pages.store c.args.pages.now) (g.P.Pages.store c.meet.new.pages) base low high (change es entries) reached c.meet.result)
+    (sym c.edits_at.ensures.parts)
+    (children_done (g.P.Pages.store c.args.pages.now) (g.P.Pages.store c.change_below.new.pages) (g.P.Pages.store c.change_children.new.pages)
+    (g.P.Pages.store c.meet_behind.new.pages) (g.P.Pages.store c.meet.new.pages) base low high entries reached c.args.loose.rank _ _ _ c.in-Some.page _ _
     p _ _ _ c.meet.result g1 g2 g3 u1 u2 u3
-    (c.meet.ensures.turns base low c.as_slice-key.result.now high (change (map edit_in c.edits_at.result.0.now) (entries_of (suc p.off.d) p.off.twigs)) (change (map edit_in c.edits_at.result.1.now) (entries_of p.off.d p.off.body) ++ p.two.back_entries) u2.after u3.after
+    (c.meet.ensures.turns base low c.as_slice-key.result.now high (change (map edit_in c.edits_at.result.0.now) (entries_of (suc p.off.d) p.off.twigs))
+    (change (map edit_in c.edits_at.result.1.now) (entries_of p.off.d p.off.body) ++ p.two.back_entries) u2.after u3.after
     (held_later _ _ base low _ _ _ _ g3 u2.held) u3.held p.off.between.0 p.within word))
 
 pub change_below-returns-in-Leaf-clause-grows : goal.change_below-returns-in-Leaf-clause-grows
-change_below-returns-in-Leaf-clause-grows g t c = grows_trans _ _ _ (grows_trans (g.P.Pages.store c.args.pages.now) (g.P.Pages.store c.read.new.self) (g.P.Pages.store c.retire.new.self) (grows_same (g.P.Pages.store c.args.pages.now) (g.P.Pages.store c.read.new.self) c.in_ok-shared.ensures.stays c.in_ok-shared.ensures.same) (grows_retired (g.P.Pages.store c.read.new.self) (g.P.Pages.store c.retire.new.self) _ c.in_ok-retire.ensures.stays c.in_ok-retire.ensures.retires)) c.change_leaf.ensures.grows
+change_below-returns-in-Leaf-clause-grows g t c =
+    grows_trans _ _ _
+    (grows_trans (g.P.Pages.store c.args.pages.now) (g.P.Pages.store c.read.new.self) (g.P.Pages.store c.retire.new.self)
+    (grows_same (g.P.Pages.store c.args.pages.now) (g.P.Pages.store c.read.new.self) c.in_ok-shared.ensures.stays c.in_ok-shared.ensures.same)
+    (grows_retired (g.P.Pages.store c.read.new.self) (g.P.Pages.store c.retire.new.self) _ c.in_ok-retire.ensures.stays c.in_ok-retire.ensures.retires))
+    c.change_leaf.ensures.grows
 
 pub change_children-returns-in_err-front-clause-grows : goal.change_children-returns-in_err-front-clause-grows
 change_children-returns-in_err-front-clause-grows g t c = grows_trans _ _ _ c.in_ok-below.ensures.grows c.in_err-front.ensures.grows
@@ -151,7 +220,8 @@ change_below-returns-in-Leaf-clause-few g t c =
     λ one little k.
     let gone = c.in_ok-retire.ensures.retires (c.change_leaf.ensures.grows.frame k).word in
     let same = c.in_ok-shared.ensures.same gone.frame.word in
-    few_or_one_on (g.P.Pages.store c.args.pages.now) (g.P.Pages.store c.retire.new.self) (g.P.Pages.store c.change_leaf.new.pages) c.args.rank _ _ _ _ 0 c.change_leaf.result (omega (arith, ap length (gone.made ∙ same.made)))
+    few_or_one_on (g.P.Pages.store c.args.pages.now) (g.P.Pages.store c.retire.new.self)
+    (g.P.Pages.store c.change_leaf.new.pages) c.args.rank _ _ _ _ 0 c.change_leaf.result (omega (arith, ap length (gone.made ∙ same.made)))
     (c.change_leaf.ensures.few one k) (omega arith) (omega arith)
 
 pub change_below-returns-clause-few : goal.change_below-returns-clause-few
@@ -159,8 +229,11 @@ change_below-returns-clause-few g t c =
     λ one little k.
     let gone = c.in_ok-retire.ensures.retires (c.change_children.ensures.grows.frame k).word in
     let same = c.in_ok-shared.ensures.same gone.frame.word in
-    few_alone (g.P.Pages.store c.args.pages.now) (g.P.Pages.store c.change_children.new.pages) c.args.rank _ _ c.change_children.result (few_on (g.P.Pages.store c.args.pages.now) (g.P.Pages.store c.retire.new.self) (g.P.Pages.store c.change_children.new.pages) c.args.rank c.args.rank _ _ _ _ 0 c.change_children.result (omega (arith, ap length (gone.made ∙ same.made)))
-    (c.change_children.ensures.few one (branch_few c.args.low.now c.in-Branch.branch _ c.in_ok-units.ensures.ok c.in_ok-units.ensures.sound little) (branch_two c.args.low.now c.in-Branch.branch _ c.in_ok-units.ensures.ok c.in_ok-units.ensures.sound) k) refl (omega arith) (omega arith))
+    few_alone (g.P.Pages.store c.args.pages.now) (g.P.Pages.store c.change_children.new.pages) c.args.rank _ _ c.change_children.result
+    (few_on (g.P.Pages.store c.args.pages.now) (g.P.Pages.store c.retire.new.self)
+    (g.P.Pages.store c.change_children.new.pages) c.args.rank c.args.rank _ _ _ _ 0 c.change_children.result (omega (arith, ap length (gone.made ∙ same.made)))
+    (c.change_children.ensures.few one (branch_few c.args.low.now c.in-Branch.branch _ c.in_ok-units.ensures.ok c.in_ok-units.ensures.sound little)
+    (branch_two c.args.low.now c.in-Branch.branch _ c.in_ok-units.ensures.ok c.in_ok-units.ensures.sound) k) refl (omega arith) (omega arith))
 
 pub change_children-returns-clause-few : goal.change_children-returns-clause-few
 change_children-returns-clause-few g t c =
@@ -170,28 +243,43 @@ change_children-returns-clause-few g t c =
     let g2 = c.in_ok-front.ensures.grows.frame g3.word in
     let left = c.in_ok-left.field-0.left in
     let right = c.in_ok-left.field-0.right in
-    let m = all_mine c.args.edits.now c.edits_at.result.0.now c.edits_at.result.1.now c.deref.result.now c.args.loose.units.items (map stub_in left.units.items) (map stub_in right.units.items) (stub_in c.in_ok-left.field-0.unit) c.as_slice-key.result.now c.child_place-at.result _ one
-    c.edits_at.ensures.parts c.edits_at.ensures.before c.deref.ensures.value c.in_ok-left.ensures.parts c.as_slice-key.ensures.value (omega (arith, c.in_ok-left.ensures.left, long_map stub_in left.units.items))
+    let m = all_mine c.args.edits.now c.edits_at.result.0.now c.edits_at.result.1.now c.deref.result.now c.args.loose.units.items
+    (map stub_in left.units.items) (map stub_in right.units.items) (stub_in c.in_ok-left.field-0.unit) c.as_slice-key.result.now c.child_place-at.result _ one
+    c.edits_at.ensures.parts c.edits_at.ensures.before c.deref.ensures.value c.in_ok-left.ensures.parts c.as_slice-key.ensures.value
+    (omega (arith, c.in_ok-left.ensures.left, long_map stub_in left.units.items))
     c.child_place-at.ensures.here (λ lt. omega (arith, c.in_ok-front.ensures.some lt, c.in_ok-left.ensures.left)) in
     let front = c.in_ok-front.ensures.none m.none in
     let front_is : c.in_ok-front.front ≡ left = (let whole = front.0 in cc) in
-    let b = c.in_ok-below.ensures.few m.one (unit_little (map stub_in c.args.loose.units.items) (map stub_in left.units.items) (map stub_in right.units.items) (stub_in c.in_ok-left.field-0.unit) _ c.in_ok-left.ensures.parts little.0 c.as_slice-key.ensures.value) g2.word in
-    children_few (g.P.Pages.store c.args.pages.now) (g.P.Pages.store c.change_below.new.pages) (g.P.Pages.store c.change_children.new.pages) (g.P.Pages.store c.meet_behind.new.pages) (g.P.Pages.store c.meet.new.pages)
-    (sheaf_in c.args.loose) (sheaf_in left) (sheaf_in right) (sheaf_in c.in_ok-below.below) (sheaf_in c.in_ok-front.front) (sheaf_in c.in_ok-back.back) (stub_in c.in_ok-left.field-0.unit) (sum_of edit_pages (map edit_in c.args.edits.now))
-    c.in_ok-left.ensures.parts c.in_ok-left.ensures.left_rank c.in_ok-left.ensures.right_rank c.requires.rank little (omega (arith, long_map stub_in c.args.loose.units.items)) (ap sheaf_in front_is) (omega (arith, ap (λ (s : Store). length s.made) front.1))
-    (λ some small. c.in_ok-back.ensures.few (omega (arith, long_map stub_in right.units.items)) g4.word (few_small _ _ _ _ _ _ b) small) (λ none. let n = c.in_ok-back.ensures.none (omega (arith, long_map stub_in right.units.items)) g4.word in (ap sheaf_in n.0, n.1))
-    (subst (λ es. IsFewOrOne (g.P.Pages.store c.args.pages.now) (g.P.Pages.store c.change_below.new.pages) (left.rank - 1) 10880 (4 * (left.rank - 1) + sum_of edit_pages es) (sheaf_in c.in_ok-below.below)) (sym m.same) b)
+    let b = c.in_ok-below.ensures.few m.one
+    (unit_little (map stub_in c.args.loose.units.items) (map stub_in left.units.items) (map stub_in right.units.items)
+    (stub_in c.in_ok-left.field-0.unit) _ c.in_ok-left.ensures.parts little.0 c.as_slice-key.ensures.value) g2.word in
+    children_few (g.P.Pages.store c.args.pages.now) (g.P.Pages.store c.change_below.new.pages) (g.P.Pages.store c.change_children.new.pages)
+    (g.P.Pages.store c.meet_behind.new.pages) (g.P.Pages.store c.meet.new.pages)
+    (sheaf_in c.args.loose) (sheaf_in left) (sheaf_in right) (sheaf_in c.in_ok-below.below) (sheaf_in c.in_ok-front.front) (sheaf_in c.in_ok-back.back)
+    (stub_in c.in_ok-left.field-0.unit) (sum_of edit_pages (map edit_in c.args.edits.now))
+    c.in_ok-left.ensures.parts c.in_ok-left.ensures.left_rank c.in_ok-left.ensures.right_rank c.requires.rank little
+    (omega (arith, long_map stub_in c.args.loose.units.items)) (ap sheaf_in front_is) (omega (arith, ap (λ (s : Store). length s.made) front.1))
+    (λ some small. c.in_ok-back.ensures.few (omega (arith, long_map stub_in right.units.items)) g4.word (few_small _ _ _ _ _ _ b) small)
+    (λ none. let n = c.in_ok-back.ensures.none (omega (arith, long_map stub_in right.units.items)) g4.word in (ap sheaf_in n.0, n.1))
+    (subst (λ es. IsFewOrOne (g.P.Pages.store c.args.pages.now) (g.P.Pages.store c.change_below.new.pages) (left.rank - 1) 10880
+    (4 * (left.rank - 1) + sum_of edit_pages es) (sheaf_in c.in_ok-below.below)) (sym m.same) b)
     c.meet.result (λ hl hr. c.meet.ensures.few k hl hr)
 
 pub change_below-returns-in-Some-clause-grows : goal.change_below-returns-in-Some-clause-grows
-change_below-returns-in-Some-clause-grows g t c = grows_trans _ _ _ (grows_trans (g.P.Pages.store c.args.pages.now) (g.P.Pages.store c.read.new.self) (g.P.Pages.store c.retire.new.self) (grows_same (g.P.Pages.store c.args.pages.now) (g.P.Pages.store c.read.new.self) c.in_ok-shared.ensures.stays c.in_ok-shared.ensures.same) (grows_retired (g.P.Pages.store c.read.new.self) (g.P.Pages.store c.retire.new.self) _ c.in_ok-retire.ensures.stays c.in_ok-retire.ensures.retires)) c.change_child.ensures.grows
+change_below-returns-in-Some-clause-grows g t c =
+    grows_trans _ _ _
+    (grows_trans (g.P.Pages.store c.args.pages.now) (g.P.Pages.store c.read.new.self) (g.P.Pages.store c.retire.new.self)
+    (grows_same (g.P.Pages.store c.args.pages.now) (g.P.Pages.store c.read.new.self) c.in_ok-shared.ensures.stays c.in_ok-shared.ensures.same)
+    (grows_retired (g.P.Pages.store c.read.new.self) (g.P.Pages.store c.retire.new.self) _ c.in_ok-retire.ensures.stays c.in_ok-retire.ensures.retires))
+    c.change_child.ensures.grows
 
 pub change_below-returns-in-Some-clause-few : goal.change_below-returns-in-Some-clause-few
 change_below-returns-in-Some-clause-few g t c =
     λ one little k.
     let gone = c.in_ok-retire.ensures.retires (c.change_child.ensures.grows.frame k).word in
     let same = c.in_ok-shared.ensures.same gone.frame.word in
-    few_or_one_on (g.P.Pages.store c.args.pages.now) (g.P.Pages.store c.retire.new.self) (g.P.Pages.store c.change_child.new.pages) c.args.rank _ _ _ _ 0 c.change_child.result (omega (arith, ap length (gone.made ∙ same.made)))
+    few_or_one_on (g.P.Pages.store c.args.pages.now) (g.P.Pages.store c.retire.new.self)
+    (g.P.Pages.store c.change_child.new.pages) c.args.rank _ _ _ _ 0 c.change_child.result (omega (arith, ap length (gone.made ∙ same.made)))
     (c.change_child.ensures.few one little k) (omega arith) (omega arith)
 
 pub change_below-returns-in-Some-clause-turns : goal.change_below-returns-in-Some-clause-turns
@@ -199,22 +287,30 @@ change_below-returns-in-Some-clause-turns g t c =
     λ base d high body rank at shown whole sound little rise between word.
     let gone = c.in_ok-retire.ensures.retires (c.change_child.ensures.grows.frame word).word in
     let same = c.in_ok-shared.ensures.same gone.frame.word in
-    let grown = frame_trans (g.P.Pages.store c.args.pages.now) (g.P.Pages.store c.read.new.self) (g.P.Pages.store c.retire.new.self) (frame_same _ _ same) gone.frame in
-    let e = sym (ap content_in c.in-Branch.is) ∙ ap (λ (s : Sheet). s.content) c.image.ensures ∙ sym (c.in_ok-shared.ensures.value gone.frame.word) ∙ at.holds in
+    let grown = frame_trans (g.P.Pages.store c.args.pages.now) (g.P.Pages.store c.read.new.self) (g.P.Pages.store c.retire.new.self)
+    (frame_same _ _ same) gone.frame in
+    let e = sym (ap content_in c.in-Branch.is) ∙ ap (λ (s : Sheet). s.content) c.image.ensures ∙ sym (c.in_ok-shared.ensures.value gone.frame.word)
+    ∙ at.holds in
     let stubs = map arm_stub (under_key c.args.low.now c.in-Branch.branch) in
-    let o = opened (g.P.Pages.store c.args.pages.now) (g.P.Pages.store c.retire.new.self) base d c.args.rank c.args.page c.args.low.now high body stubs rank shown whole sound little (branch_stubs d c.args.low.now body c.in-Branch.branch stubs e refl) grown
+    let o = opened (g.P.Pages.store c.args.pages.now)
+    (g.P.Pages.store c.retire.new.self) base d c.args.rank c.args.page c.args.low.now high body stubs rank shown whole sound little
+    (branch_stubs d c.args.low.now body c.in-Branch.branch stubs e refl) grown
     (gone.made ∙ same.made) (gone.retired ∙ ap (λ zs. c.args.page ∷ zs) same.retired) in
-    turned_on (g.P.Pages.store c.args.pages.now) (g.P.Pages.store c.retire.new.self) (g.P.Pages.store c.change_child.new.pages) base c.args.low.now high _ _ o.0.after c.change_child.result grown o.0.turned
-    (c.change_child.ensures.turns base high (entries_of d body) o.0.after o.0.held (omega (arith, branch_deep d body c.in-Branch.branch e)) (c.in-Some.ensures.all rise) rise between little word)
+    turned_on (g.P.Pages.store c.args.pages.now) (g.P.Pages.store c.retire.new.self)
+    (g.P.Pages.store c.change_child.new.pages) base c.args.low.now high _ _ o.0.after c.change_child.result grown o.0.turned
+    (c.change_child.ensures.turns base high (entries_of d body) o.0.after o.0.held (omega (arith, branch_deep d body c.in-Branch.branch e))
+    (c.in-Some.ensures.all rise) rise between little word)
 
 pub change_child-returns-in_err-below-clause-turns : goal.change_child-returns-in_err-below-clause-turns
 change_child-returns-in_err-below-clause-turns g t c =
     λ base high entries reached h deep mine rise between little k.
     let s = g.P.Pages.store c.args.pages.now in
-    let p = prepared_child s base c.args.low.now high entries reached c.args.branch.now c.args.at c.args.rank c.low_bound-key.result.now c.branch_child-page.result.page (map edit_in c.args.edits.now) h deep mine rise between
+    let p = prepared_child s base c.args.low.now high entries reached c.args.branch.now c.args.at c.args.rank c.low_bound-key.result.now
+    c.branch_child-page.result.page (map edit_in c.args.edits.now) h deep mine rise between
     c.low_bound-key.ensures.first c.low_bound-key.ensures.later (λ d. ap (λ (a : Arm). a.child) (c.branch_child-page.ensures d)) in
     turns_failed s (g.P.Pages.store c.change_below.new.pages) base c.args.low.now high _ _ c.from_residual.result _ c.from_residual.ensures.1
-    (c.in_err-below.ensures.turns base p.off.d p.two.between p.off.body (omega (arith, p.off.rank_is)) p.off.at p.off.shown p.off.lies.0 p.off.lies.1 p.off.little p.mine_rise p.mine_between k)
+    (c.in_err-below.ensures.turns base p.off.d p.two.between p.off.body
+    (omega (arith, p.off.rank_is)) p.off.at p.off.shown p.off.lies.0 p.off.lies.1 p.off.little p.mine_rise p.mine_between k)
 
 pub change_child-returns-clause-grows : goal.change_child-returns-clause-grows
 change_child-returns-clause-grows g t c = grows_trans _ _ _ c.in_ok-below.ensures.grows c.put_child.ensures.grows
@@ -224,7 +320,9 @@ change_child-returns-clause-few g t c =
     λ one little k.
     let g2 = c.put_child.ensures.grows.frame k in
     c.put_child.ensures.few (g.P.Pages.store c.args.pages.now) (sum_of edit_pages (map edit_in c.args.edits.now)) little
-    (c.in_ok-below.ensures.few one (key_little c.args.low.now c.args.branch.now c.args.at c.low_bound-key.result.now c.requires.sound c.requires.place c.low_bound-key.ensures.first c.low_bound-key.ensures.later little) g2.word) k
+    (c.in_ok-below.ensures.few one
+    (key_little c.args.low.now c.args.branch.now c.args.at c.low_bound-key.result.now c.requires.sound c.requires.place c.low_bound-key.ensures.first
+    c.low_bound-key.ensures.later little) g2.word) k
 
 pub change_child-returns-clause-turns : goal.change_child-returns-clause-turns
 change_child-returns-clause-turns g t c =
@@ -235,12 +333,16 @@ change_child-returns-clause-turns g t c =
     let mid = g.P.Pages.store c.change_below.new.pages in
     let edits = map edit_in c.args.edits.now in
     let child_is = λ (d : Arm). ap (λ (a : Arm). a.child) (c.branch_child-page.ensures d) in
-    let p = prepared_child s base c.args.low.now high entries reached c.args.branch.now c.args.at c.args.rank c.low_bound-key.result.now c.branch_child-page.result.page edits h deep mine rise between
+    let p = prepared_child s base c.args.low.now high entries reached c.args.branch.now c.args.at c.args.rank c.low_bound-key.result.now
+    c.branch_child-page.result.page edits h deep mine rise between
     c.low_bound-key.ensures.first c.low_bound-key.ensures.later child_is in
-    let u = c.in_ok-below.ensures.turns base p.off.d p.two.between p.off.body (omega (arith, p.off.rank_is)) p.off.at p.off.shown p.off.lies.0 p.off.lies.1 p.off.little p.mine_rise p.mine_between g2.word in
+    let u = c.in_ok-below.ensures.turns base p.off.d p.two.between p.off.body
+    (omega (arith, p.off.rank_is)) p.off.at p.off.shown p.off.lies.0 p.off.lies.1 p.off.little p.mine_rise p.mine_between g2.word in
     turned_on s mid (g.P.Pages.store c.put_child.new.pages) base c.args.low.now high _ reached _ c.put_child.result g1
-    (amid_turned s base c.args.low.now high entries reached c.args.branch.now c.args.at c.args.rank c.low_bound-key.result.now c.branch_child-page.result.page edits h deep mine rise between
+    (amid_turned s base c.args.low.now high entries reached c.args.branch.now c.args.at c.args.rank c.low_bound-key.result.now c.branch_child-page.result.page
+    edits h deep mine rise between
     c.low_bound-key.ensures.first c.low_bound-key.ensures.later child_is mid (sheaf_in c.in_ok-below.below) g1 u)
     (c.put_child.ensures.turns base high (change edits entries) _
-    (amid s base c.args.low.now high entries reached c.args.branch.now c.args.at c.args.rank c.low_bound-key.result.now c.branch_child-page.result.page edits h deep mine rise between
+    (amid s base c.args.low.now high entries reached c.args.branch.now c.args.at c.args.rank c.low_bound-key.result.now c.branch_child-page.result.page edits h
+    deep mine rise between
     c.low_bound-key.ensures.first c.low_bound-key.ensures.later child_is mid (sheaf_in c.in_ok-below.below) g1 u) deep little k)

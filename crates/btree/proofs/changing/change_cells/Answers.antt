@@ -10,11 +10,14 @@ use Rattle.btree.proofs.changing.change_cells.Goals as goal
 pub returns-clause-turns : goal.returns-clause-turns
 returns-clause-turns g c = λ base low high pairs rank e sound shown between k.
     leaf_changed (g.P.Pages.store c.args.pages.now) (g.P.Pages.store c.edit_cells.new.pages) base c.args.rank low high _ pairs _ _ rank
-    (c.in_ok-edit_cells.ensures.edits pairs (c.in_ok-cells.ensures.ok ∙ e) sound.0 shown k) (c.in_ok-units.ensures ∙ ap (λ cs. map item_stub (map item_in cs)) c.deref.ensures.value)
-    (c.in_ok-edit_cells.ensures.small (subst (Each IsItem) (sym c.in_ok-cells.ensures.ok) (each_of_all c.args.leaf.now c.in_ok-cells.ensures.sound.each))) sound between
+    (c.in_ok-edit_cells.ensures.edits pairs (c.in_ok-cells.ensures.ok ∙ e) sound.0 shown k)
+    (c.in_ok-units.ensures ∙ ap (λ cs. map item_stub (map item_in cs)) c.deref.ensures.value)
+    (c.in_ok-edit_cells.ensures.small (subst (Each IsItem) (sym c.in_ok-cells.ensures.ok) (each_of_all c.args.leaf.now c.in_ok-cells.ensures.sound.each)))
+    sound between
 
 pub returns-clause-few : goal.returns-clause-few
 returns-clause-few g c = λ one k.
     let f = cells_few _ _ c.args.leaf.now _ (length c.args.edits.now) (c.in_ok-units.ensures ∙ ap (λ cs. map item_stub (map item_in cs)) c.deref.ensures.value)
-    (c.in_ok-edit_cells.ensures.small (subst (Each IsItem) (sym c.in_ok-cells.ensures.ok) (each_of_all c.args.leaf.now c.in_ok-cells.ensures.sound.each))) c.in_ok-cells.ensures.ok c.in_ok-edit_cells.ensures.size c.in_ok-cells.ensures.sound.room (omega arith) in
+    (c.in_ok-edit_cells.ensures.small (subst (Each IsItem) (sym c.in_ok-cells.ensures.ok) (each_of_all c.args.leaf.now c.in_ok-cells.ensures.sound.each)))
+    c.in_ok-cells.ensures.ok c.in_ok-edit_cells.ensures.size c.in_ok-cells.ensures.sound.room (omega arith) in
     record { rank_is = refl; small = f.0; size = f.1; made = c.in_ok-edit_cells.ensures.few k }

@@ -12,5 +12,6 @@ returns-clause-turns g c =
     λ base low high pairs rank e sound shown between k.
     let word = (c.write_leaf.ensures.grows.frame k).word in
     let h = c.in_ok-edited.ensures.edits pairs e sound.0 shown word in
-    edited_turns (g.P.Pages.store c.args.pages.now) (g.P.Pages.store c.edit_page.new.pages) (g.P.Pages.store c.write_leaf.new.pages) base low high (map edit_in c.args.edits.now) pairs _ c.write_leaf.result (c.in_ok-edited.ensures.grows.frame word) h
+    edited_turns (g.P.Pages.store c.args.pages.now) (g.P.Pages.store c.edit_page.new.pages) (g.P.Pages.store c.write_leaf.new.pages) base low high
+    (map edit_in c.args.edits.now) pairs _ c.write_leaf.result (c.in_ok-edited.ensures.grows.frame word) h
     (c.write_leaf.ensures.turns base low high h.pairs rank h.items_are (h.rise, h.between low high sound.1 between) h.shown k)

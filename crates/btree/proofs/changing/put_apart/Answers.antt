@@ -16,9 +16,11 @@ returns-in_err-back-clause-turns g c =
     let s = g.P.Pages.store c.args.pages.now in
     let left = c.in_ok-left.field-0.left in
     let right = c.in_ok-left.field-0.right in
-    turns_failed s (g.P.Pages.store c.meet_behind.new.pages) base c.args.low.now high _ _ c.from_residual-in_err-back.result _ c.from_residual-in_err-back.ensures.1
+    turns_failed s
+    (g.P.Pages.store c.meet_behind.new.pages) base c.args.low.now high _ _ c.from_residual-in_err-back.result _ c.from_residual-in_err-back.ensures.1
     (c.in_err-back.ensures.turns base m.key m.between high m.mid_entries m.back_entries m.mid_pages m.back_pages m.held
-    (right_there s base c.args.low.now high c.args.branch.now c.args.at c.args.rank entries reached (sheaf_in c.args.below) (sheaf_in left) (sheaf_in right) (stub_in c.in_ok-left.field-0.unit) m (sym c.in_ok-units.ensures.ok ∙ c.in_ok-left.ensures.parts)
+    (right_there s base c.args.low.now high c.args.branch.now c.args.at c.args.rank entries reached (sheaf_in c.args.below) (sheaf_in left) (sheaf_in right)
+    (stub_in c.in_ok-left.field-0.unit) m (sym c.in_ok-units.ensures.ok ∙ c.in_ok-left.ensures.parts)
     (omega (arith, c.in_ok-left.ensures.left, long_map stub_in left.units.items)) c.in_ok-left.ensures.left_rank c.in_ok-left.ensures.right_rank)
     (within_up_to m.key m.between m.inside) k)
 
@@ -33,10 +35,15 @@ returns-clause-few g c =
     let left = c.in_ok-left.field-0.left in
     let right = c.in_ok-left.field-0.right in
     let stubs = map stub_in c.in_ok-units.units.items in
-    children_few first s s (g.P.Pages.store c.meet_behind.new.pages) (g.P.Pages.store c.meet.new.pages) (record { rank = c.args.rank; stubs = stubs }) (sheaf_in left) (sheaf_in right) (sheaf_in c.args.below) (sheaf_in left) (sheaf_in c.in_ok-back.back)
+    children_few first s s (g.P.Pages.store c.meet_behind.new.pages) (g.P.Pages.store c.meet.new.pages) (record { rank = c.args.rank; stubs = stubs })
+    (sheaf_in left) (sheaf_in right) (sheaf_in c.args.below) (sheaf_in left) (sheaf_in c.in_ok-back.back)
     (stub_in c.in_ok-left.field-0.unit) count c.in_ok-left.ensures.parts c.in_ok-left.ensures.left_rank c.in_ok-left.ensures.right_rank c.requires.rank
     (branch_few c.args.low.now c.args.branch.now stubs c.in_ok-units.ensures.ok c.in_ok-units.ensures.sound little)
-    (omega (arith, branch_two c.args.low.now c.args.branch.now c.in_ok-units.units.items c.in_ok-units.ensures.ok c.in_ok-units.ensures.sound, long_map stub_in c.in_ok-units.units.items)) refl (omega arith)
+    (omega (
+      arith,
+      branch_two c.args.low.now c.args.branch.now c.in_ok-units.units.items c.in_ok-units.ensures.ok c.in_ok-units.ensures.sound,
+      long_map stub_in c.in_ok-units.units.items,
+    )) refl (omega arith)
     (λ some small. c.in_ok-back.ensures.few (omega (arith, long_map stub_in right.units.items)) g2.word (few_small _ _ _ _ _ _ below) small)
     (λ none. let n = c.in_ok-back.ensures.none (omega (arith, long_map stub_in right.units.items)) g2.word in (ap sheaf_in n.0, n.1))
     (subst (λ r. IsFewOrOne first s (r - 1) 10880 (4 * (r - 1) + count) (sheaf_in c.args.below)) (sym c.in_ok-left.ensures.left_rank) below)
@@ -52,8 +59,15 @@ returns-clause-turns g c =
     let right = c.in_ok-left.field-0.right in
     let parts = sym c.in_ok-units.ensures.ok ∙ c.in_ok-left.ensures.parts in
     let place : length (map stub_in left.units.items) ≡ c.args.at = omega (arith, c.in_ok-left.ensures.left, long_map stub_in left.units.items) in
-    let behind = right_there s base c.args.low.now high c.args.branch.now c.args.at c.args.rank entries reached (sheaf_in c.args.below) (sheaf_in left) (sheaf_in right) (stub_in c.in_ok-left.field-0.unit) m parts place c.in_ok-left.ensures.left_rank c.in_ok-left.ensures.right_rank in
-    let front = left_there s base c.args.low.now high c.args.branch.now c.args.at c.args.rank entries reached (sheaf_in c.args.below) (sheaf_in left) (sheaf_in right) (stub_in c.in_ok-left.field-0.unit) m parts place c.in_ok-left.ensures.left_rank c.in_ok-left.ensures.right_rank in
-    let u = c.in_ok-back.ensures.turns base m.key m.between high m.mid_entries m.back_entries m.mid_pages m.back_pages m.held behind (within_up_to m.key m.between m.inside) g2.word in
-    apart_done s (g.P.Pages.store c.meet_behind.new.pages) (g.P.Pages.store c.meet.new.pages) base c.args.low.now high c.args.branch.now c.args.at c.args.rank entries reached (sheaf_in c.args.below) (sheaf_in c.in_ok-back.back) c.meet.result m g1 u
-    (c.meet.ensures.turns base c.args.low.now m.key high m.front_entries (m.mid_entries ++ m.back_entries) m.front_pages u.after (held_later _ _ base c.args.low.now _ _ _ _ g1 front) u.held m.over m.within k)
+    let behind =
+    right_there s base c.args.low.now high c.args.branch.now c.args.at c.args.rank entries reached (sheaf_in c.args.below) (sheaf_in left) (sheaf_in right)
+    (stub_in c.in_ok-left.field-0.unit) m parts place c.in_ok-left.ensures.left_rank c.in_ok-left.ensures.right_rank in
+    let front = left_there s base c.args.low.now high c.args.branch.now c.args.at c.args.rank entries reached (sheaf_in c.args.below) (sheaf_in left)
+    (sheaf_in right) (stub_in c.in_ok-left.field-0.unit) m parts place c.in_ok-left.ensures.left_rank c.in_ok-left.ensures.right_rank in
+    let u = c.in_ok-back.ensures.turns base m.key m.between high m.mid_entries m.back_entries m.mid_pages m.back_pages m.held behind
+    (within_up_to m.key m.between m.inside) g2.word in
+    apart_done s (g.P.Pages.store c.meet_behind.new.pages)
+    (g.P.Pages.store c.meet.new.pages) base c.args.low.now high c.args.branch.now c.args.at c.args.rank entries reached (sheaf_in c.args.below)
+    (sheaf_in c.in_ok-back.back) c.meet.result m g1 u
+    (c.meet.ensures.turns base c.args.low.now m.key high m.front_entries (m.mid_entries ++ m.back_entries) m.front_pages u.after
+    (held_later _ _ base c.args.low.now _ _ _ _ g1 front) u.held m.over m.within k)

@@ -13,57 +13,82 @@ none = record { key = []; load = value (inline []) }
 pub returns-then-whole-eq0-clause-part : goal.returns-then-whole-eq0-clause-part
 returns-then-whole-eq0-clause-part c =
     λ small. none_fits (map stub_in c.args.units.now) none c.args.fills 4080 (omega (arith, long_map stub_in c.args.units.now)) (omega arith)
-    (subst (λ n. 4080 < stubs_size (take n (map stub_in c.args.units.now)) + stub_size (get_or (map stub_in c.args.units.now) n none)) c.if-whole-eq0.true (c.units_within-whole.ensures.next none (omega arith))) small
+    (subst (λ n. 4080 < stubs_size (take n (map stub_in c.args.units.now)) + stub_size (get_or (map stub_in c.args.units.now) n none)) c.if-whole-eq0.true
+    (c.units_within-whole.ensures.next none (omega arith))) small
 
 pub returns-then-whole-behind-clause-part : goal.returns-then-whole-behind-clause-part
 returns-then-whole-behind-clause-part c =
     λ small.
     let long = long_map stub_in c.args.units.now in
-    let next : 1360 < stubs_size (take c.units_within-behind.result (drop c.units_within-whole.result (map stub_in c.args.units.now))) + stub_size (get_or (drop c.units_within-whole.result (map stub_in c.args.units.now)) c.units_within-behind.result none) =
-    subst (λ ss. 1360 < stubs_size (take c.units_within-behind.result ss) + stub_size (get_or ss c.units_within-behind.result none)) (behind_is c.args.units.now c.units_within-whole.result (omega arith)) (c.units_within-behind.ensures.next none (omega (arith, ap length (take_over (length c.args.units.now - c.units_within-whole.result) (drop c.units_within-whole.result c.args.units.now) (omega (arith, behind_long c.units_within-whole.result c.args.units.now (omega arith)))), behind_long c.units_within-whole.result c.args.units.now (omega arith)))) in
+    let next : 1360 < stubs_size (take c.units_within-behind.result (drop c.units_within-whole.result (map stub_in c.args.units.now)))
+    + stub_size (get_or (drop c.units_within-whole.result (map stub_in c.args.units.now)) c.units_within-behind.result none) =
+    subst (λ ss. 1360 < stubs_size (take c.units_within-behind.result ss) + stub_size (get_or ss c.units_within-behind.result none))
+    (behind_is c.args.units.now c.units_within-whole.result (omega arith))
+    (c.units_within-behind.ensures.next none
+    (omega (
+      arith,
+      ap length (take_over (length c.args.units.now - c.units_within-whole.result) (drop c.units_within-whole.result c.args.units.now)
+          (omega (arith, behind_long c.units_within-whole.result c.args.units.now (omega arith)))),
+      behind_long c.units_within-whole.result c.args.units.now (omega arith),
+    ))) in
     subst (λ f. IsPart f (map stub_in c.args.units.now) c.units_within-whole.result) (sym c.if-fills.false)
-    (part_front (map stub_in c.args.units.now) none c.units_within-whole.result c.units_within-behind.result (omega arith) (c.units_within-whole.ensures.next none (omega arith)) c.units_within-whole.ensures.room (omega arith) next small)
+    (part_front (map stub_in c.args.units.now) none c.units_within-whole.result c.units_within-behind.result (omega arith)
+    (c.units_within-whole.ensures.next none (omega arith)) c.units_within-whole.ensures.room (omega arith) next small)
 
 pub returns-then-half-eq0-clause-part : goal.returns-then-half-eq0-clause-part
 returns-then-half-eq0-clause-part c =
     λ small. none_fits (map stub_in c.args.units.now) none c.args.fills 2720 (omega (arith, long_map stub_in c.args.units.now)) (omega arith)
-    (subst (λ n. 2720 < stubs_size (take n (map stub_in c.args.units.now)) + stub_size (get_or (map stub_in c.args.units.now) n none)) c.if-half-eq0.true (c.units_within-half.ensures.next none (omega arith))) small
+    (subst (λ n. 2720 < stubs_size (take n (map stub_in c.args.units.now)) + stub_size (get_or (map stub_in c.args.units.now) n none)) c.if-half-eq0.true
+    (c.units_within-half.ensures.next none (omega arith))) small
 
 pub returns-clause-part : goal.returns-clause-part
 returns-clause-part c =
     λ small.
     let long = long_map stub_in c.args.units.now in
     subst (λ f. IsPart f (map stub_in c.args.units.now) c.units_within-half.result) (sym c.if-fills.false)
-    (part_half (map stub_in c.args.units.now) none c.units_within-whole.result c.units_within-half.result (omega arith) (c.units_within-whole.ensures.next none (omega arith)) (omega (arith, c.units_within-half.ensures.within)) c.units_within-half.ensures.room
+    (part_half (map stub_in c.args.units.now) none c.units_within-whole.result c.units_within-half.result (omega arith)
+    (c.units_within-whole.ensures.next none (omega arith)) (omega (arith, c.units_within-half.ensures.within)) c.units_within-half.ensures.room
     (λ lt. c.units_within-half.ensures.next none (omega arith)) small)
 
 pub returns-then-whole-eq0-clause-full : goal.returns-then-whole-eq0-clause-full
 returns-then-whole-eq0-clause-full c =
     λ small.
     let one = each_at 0 (map stub_in c.args.units.now) none (omega (arith, long_map stub_in c.args.units.now)) small in
-    let next = subst (λ n. 4080 < stubs_size (take n (map stub_in c.args.units.now)) + stub_size (get_or (map stub_in c.args.units.now) n none)) c.if-whole-eq0.true (c.units_within-whole.ensures.next none (omega arith)) in
+    let next = subst
+    (λ n. 4080 < stubs_size (take n (map stub_in c.args.units.now)) + stub_size (get_or (map stub_in c.args.units.now) n none)) c.if-whole-eq0.true
+    (c.units_within-whole.ensures.next none (omega arith)) in
     absurd (omega arith)
 
 pub returns-then-half-eq0-clause-full : goal.returns-then-half-eq0-clause-full
 returns-then-half-eq0-clause-full c =
     λ small.
     let one = each_at 0 (map stub_in c.args.units.now) none (omega (arith, long_map stub_in c.args.units.now)) small in
-    let next = subst (λ n. 2720 < stubs_size (take n (map stub_in c.args.units.now)) + stub_size (get_or (map stub_in c.args.units.now) n none)) c.if-half-eq0.true (c.units_within-half.ensures.next none (omega arith)) in
+    let next = subst
+    (λ n. 2720 < stubs_size (take n (map stub_in c.args.units.now)) + stub_size (get_or (map stub_in c.args.units.now) n none)) c.if-half-eq0.true
+    (c.units_within-half.ensures.next none (omega arith)) in
     absurd (omega arith)
 
 pub returns-then-fills-clause-full : goal.returns-then-fills-clause-full
 returns-then-fills-clause-full c =
-    λ small. full_whole (map stub_in c.args.units.now) none c.units_within-whole.result (omega (arith, long_map stub_in c.args.units.now)) (c.units_within-whole.ensures.next none (omega arith)) small
+    λ small. full_whole (map stub_in c.args.units.now) none c.units_within-whole.result (omega (arith, long_map stub_in c.args.units.now))
+    (c.units_within-whole.ensures.next none (omega arith)) small
 
 pub returns-then-whole-behind-clause-full : goal.returns-then-whole-behind-clause-full
 returns-then-whole-behind-clause-full c =
-    λ small. full_whole (map stub_in c.args.units.now) none c.units_within-whole.result (omega (arith, long_map stub_in c.args.units.now)) (c.units_within-whole.ensures.next none (omega arith)) small
+    λ small. full_whole (map stub_in c.args.units.now) none c.units_within-whole.result (omega (arith, long_map stub_in c.args.units.now))
+    (c.units_within-whole.ensures.next none (omega arith)) small
 
 pub returns-clause-full : goal.returns-clause-full
 returns-clause-full c =
     λ small.
     let long = long_map stub_in c.args.units.now in
     let there = behind_is c.args.units.now c.units_within-whole.result (omega arith) in
-    full_half (map stub_in c.args.units.now) none c.units_within-whole.result c.units_within-behind.result c.units_within-half.result (omega arith) (c.units_within-whole.ensures.next none (omega arith)) c.units_within-whole.ensures.room
-    (omega (arith, ap length there, behind_long c.units_within-whole.result c.args.units.now (omega arith), long_map stub_in (take (length c.args.units.now - c.units_within-whole.result) (drop c.units_within-whole.result c.args.units.now)))) (subst (λ ss. stubs_size (take c.units_within-behind.result ss) ≤ 1360) there c.units_within-behind.ensures.room)
+    full_half (map stub_in c.args.units.now) none c.units_within-whole.result c.units_within-behind.result c.units_within-half.result (omega arith)
+    (c.units_within-whole.ensures.next none (omega arith)) c.units_within-whole.ensures.room
+    (omega (
+      arith,
+      ap length there,
+      behind_long c.units_within-whole.result c.args.units.now (omega arith),
+      long_map stub_in (take (length c.args.units.now - c.units_within-whole.result) (drop c.units_within-whole.result c.args.units.now)),
+    )) (subst (λ ss. stubs_size (take c.units_within-behind.result ss) ≤ 1360) there c.units_within-behind.ensures.room)
     (λ lt. c.units_within-half.ensures.next none (omega arith)) small

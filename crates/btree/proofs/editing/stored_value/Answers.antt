@@ -7,7 +7,10 @@ use Rattle.btree.proofs.editing.stored_value.Goals as goal
 pub returns-clause-stores : goal.returns-clause-stores
 returns-clause-stores g c =
     λ k. subst (IsStored (g.P.Pages.store c.args.pages.now) (g.P.Pages.store c.write_chain.new.pages) c.args.value.now) (sym c.chained.ensures.place)
-    (chained (g.P.Pages.store c.args.pages.now) (g.P.Pages.store c.write_chain.new.pages) c.args.value.now _ _ (omega arith) refl (c.in_ok-first.ensures.writes k))
+    (chained (g.P.Pages.store c.args.pages.now) (g.P.Pages.store c.write_chain.new.pages) c.args.value.now _ _ (omega arith) refl
+    (c.in_ok-first.ensures.writes k))
 
 pub returns-clause-few : goal.returns-clause-few
-returns-clause-few g c = λ k. chain_few (g.P.Pages.store c.args.pages.now) (g.P.Pages.store c.write_chain.new.pages) c.args.value.now _ (omega arith) (c.in_ok-first.ensures.writes k)
+returns-clause-few g c =
+    λ k. chain_few (g.P.Pages.store c.args.pages.now) (g.P.Pages.store c.write_chain.new.pages) c.args.value.now _ (omega arith)
+    (c.in_ok-first.ensures.writes k)

@@ -23,7 +23,8 @@ returns-in_err-next-clause-edits g c =
     let step = c.in_err-next.ensures.grows.frame k in
     let h = c.loop-edit.invariant.stands pairs e rise shown step.word in
     answer_failed (g.P.Pages.store c.args.pages.now) (g.P.Pages.store c.edit_leaf.new.pages) _ _ _ c.from_residual-in_err-next.ensures.1
-    (cause_later (g.P.Pages.store c.args.pages.now) (g.P.Pages.store c.loop-edit.pages) (g.P.Pages.store c.edit_leaf.new.pages) _ (c.loop-edit.invariant.grows.frame step.word)
+    (cause_later (g.P.Pages.store c.args.pages.now) (g.P.Pages.store c.loop-edit.pages) (g.P.Pages.store c.edit_leaf.new.pages) _
+    (c.loop-edit.invariant.grows.frame step.word)
     (c.in_err-next.ensures.edits h.pairs h.items_are h.rise h.shown k))
 
 pub loop-edit-preserved : goal.loop-edit-preserved
@@ -31,13 +32,16 @@ loop-edit-preserved g c =
     record {
       grows = grows_trans _ _ _ c.loop-edit.invariant.grows c.in_ok-next.ensures.grows;
       long = omega (arith, c.loop-edit.invariant.long, c.in_ok-next.ensures.len);
-      size = room_after c.args.edits.now c.loop-edit.edit-index _ c.loop-edit-test.true (total item_size c.args.leaf.now) _ _ c.loop-edit.invariant.size c.in_ok-next.ensures.size;
+      size = room_after c.args.edits.now c.loop-edit.edit-index _ c.loop-edit-test.true
+          (total item_size c.args.leaf.now) _ _ c.loop-edit.invariant.size c.in_ok-next.ensures.size;
       few = λ k.
           let before = c.loop-edit.invariant.few (c.in_ok-next.ensures.grows.frame k).word in
-          edits_few (g.P.Pages.store c.args.pages.now) (g.P.Pages.store c.loop-edit.pages) (g.P.Pages.store c.edit_leaf.new.pages) c.args.edits.now c.loop-edit.edit-index _ c.loop-edit-test.true before (c.in_ok-next.ensures.few k);
+          edits_few (g.P.Pages.store c.args.pages.now) (g.P.Pages.store c.loop-edit.pages)
+          (g.P.Pages.store c.edit_leaf.new.pages) c.args.edits.now c.loop-edit.edit-index _ c.loop-edit-test.true before (c.in_ok-next.ensures.few k);
       stands = λ pairs e rise shown k.
           let h = c.loop-edit.invariant.stands pairs e rise shown (c.in_ok-next.ensures.grows.frame k).word in
           let more = c.in_ok-next.ensures.edits h.pairs h.items_are h.rise h.shown k in
           subst (λ es. IsEdited (g.P.Pages.store c.args.pages.now) (g.P.Pages.store c.edit_leaf.new.pages) es pairs c.in_ok-next.next)
-          (sym (edits_more c.args.edits.now c.loop-edit.edit-index _ c.loop-edit-test.true)) (edited_on (g.P.Pages.store c.args.pages.now) (g.P.Pages.store c.loop-edit.pages) (g.P.Pages.store c.edit_leaf.new.pages) _ _ pairs _ _ h more);
+          (sym (edits_more c.args.edits.now c.loop-edit.edit-index _ c.loop-edit-test.true))
+          (edited_on (g.P.Pages.store c.args.pages.now) (g.P.Pages.store c.loop-edit.pages) (g.P.Pages.store c.edit_leaf.new.pages) _ _ pairs _ _ h more);
     }

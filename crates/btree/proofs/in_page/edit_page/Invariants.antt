@@ -13,7 +13,9 @@ invariant-loop-edit g l = record {
   grows : Grows (g.P.Pages.store l.initial.pages) (g.P.Pages.store l.pages);
   long : length l.leaf ≤ length l.edited + l.edit-index;
   size : total item_size l.edited ≤ total item_size l.leaf + sum_of edit_room (take l.edit-index (map edit_in l.edits));
-  few : KeepsWord (g.P.Pages.store l.pages) → MakesUpTo (g.P.Pages.store l.initial.pages) (g.P.Pages.store l.pages) (sum_of edit_pages (take l.edit-index (map edit_in l.edits)));
+  few : KeepsWord (g.P.Pages.store l.pages)
+      → MakesUpTo (g.P.Pages.store l.initial.pages) (g.P.Pages.store l.pages) (sum_of edit_pages (take l.edit-index (map edit_in l.edits)));
   stands : (pairs : List Pair) → l.leaf ≡ map item_of pairs → Rises (pair_keys pairs) → Shows (g.P.Pages.store l.initial.pages) zero pairs
-      → KeepsWord (g.P.Pages.store l.pages) → IsEdited (g.P.Pages.store l.initial.pages) (g.P.Pages.store l.pages) (take l.edit-index (map edit_in l.edits)) pairs l.edited;
+      → KeepsWord (g.P.Pages.store l.pages)
+      → IsEdited (g.P.Pages.store l.initial.pages) (g.P.Pages.store l.pages) (take l.edit-index (map edit_in l.edits)) pairs l.edited;
 }

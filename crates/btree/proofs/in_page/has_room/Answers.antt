@@ -17,7 +17,8 @@ overflow_sub-used c = omega (arith, c.loop-edit.invariant.room)
 pub loop-edit-preserved : goal.loop-edit-preserved
 loop-edit-preserved c =
     record {
-      used = used_more c.args.edits.now c.loop-edit.edit-index _ c.loop-edit-test.true (total item_size c.args.leaf.now) c.loop-edit.used c.cell_bytes-more.result c.loop-edit.invariant.used c.cell_bytes-more.ensures;
+      used = used_more c.args.edits.now c.loop-edit.edit-index _ c.loop-edit-test.true
+          (total item_size c.args.leaf.now) c.loop-edit.used c.cell_bytes-more.result c.loop-edit.invariant.used c.cell_bytes-more.ensures;
       room = omega (arith, c.loop-edit.invariant.room, c.if-more-used.false);
     }
 
@@ -27,5 +28,6 @@ returns-clause-room c =
       arith,
       c.loop-edit.invariant.used,
       c.loop-edit.invariant.room,
-      ap (sum_of edit_room) (take_all c.loop-edit.edit-index (map edit_in c.args.edits.now) (omega (arith, long_map edit_in c.args.edits.now, c.loop-edit-test.false))),
+      ap (sum_of edit_room)
+          (take_all c.loop-edit.edit-index (map edit_in c.args.edits.now) (omega (arith, long_map edit_in c.args.edits.now, c.loop-edit-test.false))),
     )

@@ -9,9 +9,15 @@ use Rattle.btree.proofs.in_page.put_cell.Goals as goal
 pub with-requires-clause-sound : goal.with-requires-clause-sound
 with-requires-clause-sound g c =
     let cell : Cell = record { key = c.args.key; stored = c.in_ok-stored.stored } in
-    put_leaf c.args.leaf.now c.requires.sound (item_in cell) c.args.at c.requires.gap (item_small cell c.requires.key c.in_ok-stored.ensures.small) (omega (arith, c.requires.room, c.in_ok-stored.ensures.size))
+    put_leaf c.args.leaf.now c.requires.sound (item_in cell) c.args.at c.requires.gap (item_small cell c.requires.key c.in_ok-stored.ensures.small)
+    (omega (arith, c.requires.room, c.in_ok-stored.ensures.size))
 
 pub returns-clause-size : goal.returns-clause-size
 returns-clause-size g c =
     let cell : Cell = record { key = c.args.key; stored = c.in_ok-stored.stored } in
-    omega (arith, ap (total item_size) c.in_ok-made.ensures, put_total c.args.leaf.now c.requires.sound (item_in cell) c.args.at c.requires.gap, c.in_ok-stored.ensures.size)
+    omega (
+      arith,
+      ap (total item_size) c.in_ok-made.ensures,
+      put_total c.args.leaf.now c.requires.sound (item_in cell) c.args.at c.requires.gap,
+      c.in_ok-stored.ensures.size,
+    )

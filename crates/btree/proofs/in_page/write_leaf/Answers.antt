@@ -16,19 +16,23 @@ pub returns-then-len-lt2-clause-turns : goal.returns-then-len-lt2-clause-turns
 returns-then-len-lt2-clause-turns g c =
     λ base low high pairs rank e sound shown k.
     let s = g.P.Pages.store c.args.pages.now in
-    leaf_changed s s base c.args.rank low high [] pairs c.args.leaf _ rank (not_edited s pairs c.args.leaf e sound.0 shown) c.in_ok-units.ensures.ok (each_of_all c.args.leaf c.len.ensures.sound.each) sound tt
+    leaf_changed s s base c.args.rank low high [] pairs c.args.leaf _ rank (not_edited s pairs c.args.leaf e sound.0 shown) c.in_ok-units.ensures.ok
+    (each_of_all c.args.leaf c.len.ensures.sound.each) sound tt
 
 pub returns-clause-few : goal.returns-clause-few
 returns-clause-few g c =
     λ k.
     let key = c.in_ok-key.key.items in
-    inr (one_few (g.P.Pages.store c.args.pages.now) (g.P.Pages.store c.fresh.new.self) c.args.rank c.in_ok-page.page key c.args.leaf _ c.len.ensures.sound (c.in_ok-page.ensures.makes k) (c.in_ok-key.ensures.items ∙ c.leaf_key.ensures (none key)) c.child_unit.ensures.range
+    inr (one_few (g.P.Pages.store c.args.pages.now) (g.P.Pages.store c.fresh.new.self) c.args.rank c.in_ok-page.page key c.args.leaf _ c.len.ensures.sound
+    (c.in_ok-page.ensures.makes k) (c.in_ok-key.ensures.items ∙ c.leaf_key.ensures (none key)) c.child_unit.ensures.range
     (c.in_ok-push_unit.ensures.ok ∙ (λ i. map stub_in (c.new-units.ensures.items i) ++ c.child_unit.ensures.stub i ∷ [])))
 
 pub returns-clause-turns : goal.returns-clause-turns
 returns-clause-turns g c =
     λ base low high pairs rank e sound shown k.
     let key = c.in_ok-key.key.items in
-    leaf_written (g.P.Pages.store c.args.pages.now) (g.P.Pages.store c.fresh.new.self) base c.args.rank c.in_ok-page.page low key high c.args.leaf pairs _ rank e c.len.ensures.sound sound shown (c.in_ok-page.ensures.makes k)
+    leaf_written (g.P.Pages.store c.args.pages.now)
+    (g.P.Pages.store c.fresh.new.self) base c.args.rank c.in_ok-page.page low key high c.args.leaf pairs _ rank e c.len.ensures.sound sound shown
+    (c.in_ok-page.ensures.makes k)
     (c.in_ok-key.ensures.items ∙ c.leaf_key.ensures (none key)) c.child_unit.ensures.range
     (c.in_ok-push_unit.ensures.ok ∙ (λ i. map stub_in (c.new-units.ensures.items i) ++ c.child_unit.ensures.stub i ∷ []))

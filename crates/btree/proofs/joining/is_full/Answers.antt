@@ -6,4 +6,5 @@ use Rattle.btree.proofs.joining.is_full.Goals as goal
 
 pub returns-then-len-lt2-clause-few : goal.returns-then-len-lt2-clause-few
 returns-then-len-lt2-clause-few c =
-    λ no small. let few : length c.args.loose.now.units.items < 2 = search rules in omega (arith, size_many (map stub_in c.args.loose.now.units.items) small, long_map stub_in c.args.loose.now.units.items)
+    λ no small. let few : length c.args.loose.now.units.items < 2 = search rules in
+    omega (arith, size_many (map stub_in c.args.loose.now.units.items) small, long_map stub_in c.args.loose.now.units.items)

@@ -9,11 +9,13 @@ pub returns-then-is_full-clause-turns : goal.returns-then-is_full-clause-turns
 returns-then-is_full-clause-turns g c =
     λ base low mid high first last lp rp h1 h2 over upto k.
     let two : 2 ≤ length c.args.right.units.items = c.is_full.ensures.two c.if-is_full.true in
-    c.raise_behind.ensures.turns base low mid high first last lp rp h1 h2 (two_ready base (sheaf_in c.args.right) (omega (arith, long_map stub_in c.args.right.units.items))) over upto k
+    c.raise_behind.ensures.turns base low mid high first last lp rp h1 h2
+    (two_ready base (sheaf_in c.args.right) (omega (arith, long_map stub_in c.args.right.units.items))) over upto k
 
 pub returns-then-is_full-2-clause-turns : goal.returns-then-is_full-2-clause-turns
 returns-then-is_full-2-clause-turns g c =
     λ base low mid high first last lp rp h1 h2 over upto k.
     let two : 2 ≤ length c.args.left.units.items = c.is_full-2.ensures.two c.if-is_full-2.true in
-    c.raise_before.ensures.turns base low _ high first last lp rp h1 (two_ready base (sheaf_in c.args.left) (omega (arith, long_map stub_in c.args.left.units.items)))
+    c.raise_before.ensures.turns base low _ high first last lp rp h1
+    (two_ready base (sheaf_in c.args.left) (omega (arith, long_map stub_in c.args.left.units.items)))
     (goes_before (g.P.Pages.store c.args.pages.now) base low mid high last rp (sheaf_in c.args.right) h2 over upto) k

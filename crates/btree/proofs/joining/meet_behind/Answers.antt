@@ -9,11 +9,14 @@ pub returns-then-is_empty-clause-turns : goal.returns-then-is_empty-clause-turns
 returns-then-is_empty-clause-turns g c =
     λ base low between high first last lp rp h b upto k.
     let none : length c.args.right.units.items ≡ 0 = search rules in
-    behind_none (g.P.Pages.store c.args.pages.now) base low between high first last lp rp (sheaf_in c.args.left) (sheaf_in c.args.right) h b upto (omega (arith, long_map stub_in c.args.right.units.items))
+    behind_none (g.P.Pages.store c.args.pages.now) base low between high first last lp rp (sheaf_in c.args.left) (sheaf_in c.args.right) h b upto
+    (omega (arith, long_map stub_in c.args.right.units.items))
 
 pub returns-clause-turns : goal.returns-clause-turns
 returns-clause-turns g c =
     λ base low between high first last lp rp h b upto k.
     let some : 0 < length c.args.right.units.items = search rules in
-    let m = behind_some (g.P.Pages.store c.args.pages.now) base between high last rp (sheaf_in c.args.right) b (omega (arith, long_map stub_in c.args.right.units.items)) in
-    c.meet.ensures.turns base low m.mid high first last lp rp (subst (λ x. IsHeld (g.P.Pages.store c.args.pages.now) base low x first lp (sheaf_in c.args.left)) m.is h) m.held (subst (IsUpTo low) m.is upto) m.within k
+    let m = behind_some (g.P.Pages.store c.args.pages.now) base between high last rp (sheaf_in c.args.right) b
+    (omega (arith, long_map stub_in c.args.right.units.items)) in
+    c.meet.ensures.turns base low m.mid high first last lp rp
+    (subst (λ x. IsHeld (g.P.Pages.store c.args.pages.now) base low x first lp (sheaf_in c.args.left)) m.is h) m.held (subst (IsUpTo low) m.is upto) m.within k

@@ -9,31 +9,39 @@ use Rattle.btree.proofs.lookup.+get_below.Goals as goal
 pub returns-in_err-shared-clause-looks : goal.returns-in_err-shared-clause-looks
 returns-in_err-shared-clause-looks g t c =
     λ d body part within k.
-    answer_failed (g.P.Pages.store c.args.pages.now) (g.P.Pages.store c.read.new.self) _ _ _ c.from_residual.ensures.1 (c.in_err-shared.ensures.cause k _ part.at)
+    answer_failed (g.P.Pages.store c.args.pages.now) (g.P.Pages.store c.read.new.self) _ _ _ c.from_residual.ensures.1
+    (c.in_err-shared.ensures.cause k _ part.at)
 
 pub returns-then-not-lies_between-clause-looks : goal.returns-then-not-lies_between-clause-looks
 returns-then-not-lies_between-clause-looks g t c =
     λ d body part within k.
-    not_between (g.P.Pages.store c.args.pages.now) _ _ _ _ _ _ (c.in_ok-shared.ensures.value k ∙ ap (λ (s : Sheet). s.content) (sym c.image.ensures)) c.lies_between.ensures c.if-not-lies_between.true d body part
+    not_between (g.P.Pages.store c.args.pages.now) _ _ _ _ _ _
+    (c.in_ok-shared.ensures.value k ∙ ap (λ (s : Sheet). s.content) (sym c.image.ensures)) c.lies_between.ensures c.if-not-lies_between.true d body part
 
 pub returns-in-Leaf-clause-looks : goal.returns-in-Leaf-clause-looks
 returns-in-Leaf-clause-looks g t c =
     λ d body part within k.
     let w = (c.value_in_leaf.ensures.grows.frame k).word in
-    in_leaf (g.P.Pages.store c.args.pages.now) c.args.page c.args.level _ _ (λ v. v.items) (g.P.Pages.store c.read.new.self) (g.P.Pages.store c.value_in_leaf.new.pages) _ _ _ (frame_same (g.P.Pages.store c.args.pages.now) (g.P.Pages.store c.read.new.self) (c.in_ok-shared.ensures.same w))
-    (c.in_ok-shared.ensures.value w ∙ ap (λ (s : Sheet). s.content) (sym c.image-2.ensures) ∙ ap content_in c.in-Leaf.is) (λ pairs e rise shown. c.value_in_leaf.ensures.looks pairs e rise shown k) d body part
+    in_leaf (g.P.Pages.store c.args.pages.now) c.args.page c.args.level _ _ (λ v. v.items) (g.P.Pages.store c.read.new.self)
+    (g.P.Pages.store c.value_in_leaf.new.pages) _ _ _
+    (frame_same (g.P.Pages.store c.args.pages.now) (g.P.Pages.store c.read.new.self) (c.in_ok-shared.ensures.same w))
+    (c.in_ok-shared.ensures.value w ∙ ap (λ (s : Sheet). s.content) (sym c.image-2.ensures) ∙ ap content_in c.in-Leaf.is)
+    (λ pairs e rise shown. c.value_in_leaf.ensures.looks pairs e rise shown k) d body part
 
 pub returns-then-len-eq0-clause-looks : goal.returns-then-len-eq0-clause-looks
 returns-then-len-eq0-clause-looks g t c =
     λ d body part within k.
     let none : length c.in-Branch.branch ≡ 0 = search rules in
-    too_deep (g.P.Pages.store c.args.pages.now) _ _ _ _ _ (c.in_ok-shared.ensures.value k ∙ ap (λ (s : Sheet). s.content) (sym c.image-2.ensures) ∙ ap content_in c.in-Branch.is) (inr none) d body part
+    too_deep (g.P.Pages.store c.args.pages.now) _ _ _ _ _
+    (c.in_ok-shared.ensures.value k ∙ ap (λ (s : Sheet). s.content) (sym c.image-2.ensures) ∙ ap content_in c.in-Branch.is) (inr none) d body part
 
 pub returns-clause-looks : goal.returns-clause-looks
 returns-clause-looks g t c =
     λ d body part within k.
     let w = (c.get_below.ensures.grows.frame k).word in
-    in_child (g.P.Pages.store c.args.pages.now) c.args.page c.args.level _ _ (λ v. v.items) (g.P.Pages.store c.read.new.self) (g.P.Pages.store c.get_below.new.pages) _ _ _ _ _ _ _
-    (c.in_ok-shared.ensures.value w ∙ ap (λ (s : Sheet). s.content) (sym c.image-2.ensures) ∙ ap content_in c.in-Branch.is) (frame_same (g.P.Pages.store c.args.pages.now) (g.P.Pages.store c.read.new.self) (c.in_ok-shared.ensures.same w)) c.child_of_key-at.ensures
+    in_child (g.P.Pages.store c.args.pages.now) c.args.page c.args.level _ _ (λ v. v.items) (g.P.Pages.store c.read.new.self)
+    (g.P.Pages.store c.get_below.new.pages) _ _ _ _ _ _ _
+    (c.in_ok-shared.ensures.value w ∙ ap (λ (s : Sheet). s.content) (sym c.image-2.ensures) ∙ ap content_in c.in-Branch.is)
+    (frame_same (g.P.Pages.store c.args.pages.now) (g.P.Pages.store c.read.new.self) (c.in_ok-shared.ensures.same w)) c.child_of_key-at.ensures
     (bounds_are _ _ _ _ _ _ c.low_bound-from.ensures.first c.low_bound-from.ensures.later c.high_bound-to.ensures.last c.high_bound-to.ensures.inner)
     (λ e. sym (ap (λ (a : Arm). a.child) (c.branch_child.ensures e))) (λ d body part within. c.get_below.ensures.looks d body part within k) d body part within

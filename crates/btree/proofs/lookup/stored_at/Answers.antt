@@ -13,5 +13,6 @@ returns-then-not-is_eq c =
 
 pub returns : goal.returns
 returns c =
-    λ pairs e rise. look_found _ pairs c.args.key.now c.place_of_key-at.result _ c.leaf_cell-cell.result.stored e rise c.place_of_key-at.ensures (omega arith) c.leaf_cell-cell.ensures refl
+    λ pairs e rise. look_found _ pairs c.args.key.now c.place_of_key-at.result _ c.leaf_cell-cell.result.stored e rise c.place_of_key-at.ensures
+    (omega arith) c.leaf_cell-cell.ensures refl
     (ap is_eq (sym c.cmp.ensures) ∙ sym c.is_eq.ensures ∙ c.if-not-is_eq.false)

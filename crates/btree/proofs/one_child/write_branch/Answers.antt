@@ -12,7 +12,10 @@ returns-clause-turns g c =
     λ base high entries reached below o m deep little k.
     let s = g.P.Pages.store c.args.pages.now in
     let new = g.P.Pages.store c.fresh.new.self in
-    amid_written s new base c.args.rank c.args.page c.in_ok-written.written c.args.low.now high c.args.branch.now c.args.at entries reached below _ o m deep (with_branch c.args.at c.args.page c.args.branch.now (omega (arith, c.ranges.page.fits)) c.requires.sound)
-    (subst (λ arms. IsMade s new c.in_ok-written.written (branch arms)) c.in_ok-made.ensures (c.in_ok-written.ensures.makes k)) c.child_unit.ensures.range little
+    amid_written s new base c.args.rank c.args.page c.in_ok-written.written c.args.low.now high c.args.branch.now c.args.at entries reached below _ o m deep
+    (with_branch c.args.at c.args.page c.args.branch.now (omega (arith, c.ranges.page.fits)) c.requires.sound)
+    (subst (λ arms. IsMade s new c.in_ok-written.written (branch arms)) c.in_ok-made.ensures (c.in_ok-written.ensures.makes k)) c.child_unit.ensures.range
+    little
     (c.in_ok-push_unit.ensures.ok
-    ∙ (λ i. map stub_in (c.new-units.ensures.items i) ++ (c.child_unit.ensures.stub ∙ ap (λ (key : List ℕ). arm_stub (record { key = key; child = c.in_ok-written.written })) c.in_ok-key.ensures.items) i ∷ []))
+    ∙ (λ i. map stub_in (c.new-units.ensures.items i)
+    ++ (c.child_unit.ensures.stub ∙ ap (λ (key : List ℕ). arm_stub (record { key = key; child = c.in_ok-written.written })) c.in_ok-key.ensures.items) i ∷ []))

@@ -9,4 +9,5 @@ none = record { key = []; place = inline [] }
 
 pub loop-i-preserved : goal.loop-i-preserved
 loop-i-preserved c =
-    c.in_ok-push_cell.ensures.ok ∙ ap (λ zs. zs ++ item_in c.leaf_cell.result ∷ []) c.loop-i.invariant ∙ ap (λ z. take c.loop-i.i c.args.leaf.now ++ z ∷ []) (c.leaf_cell.ensures none) ∙ sym (take_more c.args.leaf.now c.loop-i.i none (omega arith))
+    c.in_ok-push_cell.ensures.ok ∙ ap (λ zs. zs ++ item_in c.leaf_cell.result ∷ []) c.loop-i.invariant
+    ∙ ap (λ z. take c.loop-i.i c.args.leaf.now ++ z ∷ []) (c.leaf_cell.ensures none) ∙ sym (take_more c.args.leaf.now c.loop-i.i none (omega arith))

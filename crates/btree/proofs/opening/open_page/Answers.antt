@@ -14,9 +14,11 @@ returns-clause-opens g c =
     λ base d high body rank at shown whole sound little k.
     let gone = c.in_ok-retire.ensures.retires k in
     let same = c.in_ok-shared.ensures.same gone.frame.word in
-    opened (g.P.Pages.store c.args.pages.now) (g.P.Pages.store c.retire.new.self) base d c.args.rank c.args.page c.args.low.now high body _ rank shown whole sound little
+    opened (g.P.Pages.store c.args.pages.now)
+    (g.P.Pages.store c.retire.new.self) base d c.args.rank c.args.page c.args.low.now high body _ rank shown whole sound little
     (c.in_ok-units.ensures.holds d body (ap (λ (s : Sheet). s.content) c.image.ensures ∙ sym (c.in_ok-shared.ensures.value gone.frame.word) ∙ at.holds))
-    (frame_trans _ (g.P.Pages.store c.read.new.self) _ (frame_same _ _ same) gone.frame) (gone.made ∙ same.made) (gone.retired ∙ ap (λ zs. c.args.page ∷ zs) same.retired)
+    (frame_trans _ (g.P.Pages.store c.read.new.self) _ (frame_same _ _ same) gone.frame) (gone.made ∙ same.made)
+    (gone.retired ∙ ap (λ zs. c.args.page ∷ zs) same.retired)
 
 pub returns-clause-few : goal.returns-clause-few
 returns-clause-few g c =

@@ -12,11 +12,13 @@ returns-clause-turns g c =
     λ base low high entries reached h ready k.
     let same = ap (map stub_in) c.deref.ensures.value in
     raised (g.P.Pages.store c.args.pages.now) (g.P.Pages.store c.write_parts.new.pages) base low high entries reached (sheaf_in c.args.loose) _ h ready
-    (c.in_ok-units.ensures.writes h.d low high h.body (same ∙ h.stubs_are) (subst (IsEnough h.d) (sym same) (ready_enough base h.d (sheaf_in c.args.loose) (h.rank_is ready.0) ready))
+    (c.in_ok-units.ensures.writes h.d low high h.body (same ∙ h.stubs_are)
+    (subst (IsEnough h.d) (sym same) (ready_enough base h.d (sheaf_in c.args.loose) (h.rank_is ready.0) ready))
     (c.may_fill-fills.ensures h.d h.body h.stubs_are) (subst (Each IsStub) (sym same) h.small) h.spread h.shown k) refl
 
 pub returns-clause-few : goal.returns-clause-few
 returns-clause-few g c =
     λ k h.
     let same = c.deref.ensures.value in
-    subst (λ us. AreFewPages (g.P.Pages.store c.args.pages.now) (g.P.Pages.store c.write_parts.new.pages) (stubs_size (map stub_in us)) (map stub_in c.in_ok-units.units.items)) same (c.in_ok-units.ensures.few k (subst (λ us. Each IsStub (map stub_in us)) (sym same) h))
+    subst (λ us. AreFewPages (g.P.Pages.store c.args.pages.now) (g.P.Pages.store c.write_parts.new.pages) (stubs_size (map stub_in us))
+    (map stub_in c.in_ok-units.units.items)) same (c.in_ok-units.ensures.few k (subst (λ us. Each IsStub (map stub_in us)) (sym same) h))

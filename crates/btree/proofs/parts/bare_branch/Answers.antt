@@ -6,4 +6,6 @@ use Rattle.btree.proofs.PartLemmas.{branch_whole}
 use Rattle.btree.proofs.parts.bare_branch.Goals as goal
 
 pub of-requires : goal.of-requires
-of-requires c = subst IsBranch (sym c.strip_first.ensures) (branch_whole (map arm_in c.args.children.now) c.requires.room (omega (arith, c.requires.some, long_map arm_in c.args.children.now)))
+of-requires c =
+    subst IsBranch (sym c.strip_first.ensures)
+    (branch_whole (map arm_in c.args.children.now) c.requires.room (omega (arith, c.requires.some, long_map arm_in c.args.children.now)))

@@ -10,4 +10,5 @@ returns-in_err-cell-clause-err c =
 
 pub loop-unit-preserved : goal.loop-unit-preserved
 loop-unit-preserved c =
-    next_mapped item_stub stub_in _ _ _ c.args.units.now c.loop-unit.unit-index c.unit-item.result _ c.in_ok-push_cell.ensures.ok c.loop-unit.invariant c.in_ok-cell.ensures.ok c.loop-unit-test.true c.unit-item.is
+    next_mapped item_stub stub_in _ _ _ c.args.units.now c.loop-unit.unit-index c.unit-item.result _ c.in_ok-push_cell.ensures.ok c.loop-unit.invariant
+    c.in_ok-cell.ensures.ok c.loop-unit-test.true c.unit-item.is

@@ -11,7 +11,13 @@ pub of-requires : goal.of-requires
 of-requires c =
     subst (λ cs. IsLeaf (map item_in cs)) (sym c.deref.ensures.value)
     (leaf_whole (map item_in c.in_ok-cells.cells.items) (subst (GoBehind None 0) (sym c.in_ok-cells.ensures.ok) c.requires.room)
-    (omega (arith, c.requires.some, ap length c.in_ok-cells.ensures.ok, long_map stub_in c.args.units.now, long_map item_stub (map item_in c.in_ok-cells.cells.items))))
+    (omega (
+      arith,
+      c.requires.some,
+      ap length c.in_ok-cells.ensures.ok,
+      long_map stub_in c.args.units.now,
+      long_map item_stub (map item_in c.in_ok-cells.cells.items),
+    )))
 
 pub returns-clause-holds : goal.returns-clause-holds
 returns-clause-holds c =

@@ -5,7 +5,8 @@ use Rattle.btree.proofs.parts.page_of.Goals as goal
 pub returns-then-not-is_child-clause-holds : goal.returns-then-not-is_child-clause-holds
 returns-then-not-is_child-clause-holds c =
     λ d body e enough go. let f = first_here c.args.units.now c.in-Some.first.now c.in-Some.ensures.item.3.0 c.in-Some.ensures.item.1 in
-    as_leaf d body _ _ c.leaf_of.result (λ page is. let yes = c.is_child.ensures.yes page is in let no' : c.is_child.result ≡ false = c.if-not-is_child.true in cc) (sym f ∙ e) (λ items same. c.leaf_of.ensures.holds items (f ∙ same))
+    as_leaf d body _ _ c.leaf_of.result (λ page is. let yes = c.is_child.ensures.yes page is in let no' : c.is_child.result ≡ false = c.if-not-is_child.true in
+    cc) (sym f ∙ e) (λ items same. c.leaf_of.ensures.holds items (f ∙ same))
 
 pub returns-then-units-lt2-clause-holds : goal.returns-then-units-lt2-clause-holds
 returns-then-units-lt2-clause-holds c =

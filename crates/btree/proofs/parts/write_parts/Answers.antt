@@ -11,36 +11,50 @@ pub loop-rest-init : goal.loop-rest-init
 loop-rest-init g c = record {
   grows = grows_itself (g.P.Pages.store c.args.pages.now);
   some = λ lt. omega arith;
-  few = λ k h. subst (λ us. AreFewSoFar (g.P.Pages.store c.args.pages.now) (g.P.Pages.store c.args.pages.now) (stubs_size (map stub_in c.args.units.now)) (map stub_in us) (map stub_in c.args.units.now)) (sym c.new-above.ensures.items)
+  few = λ k h. subst
+      (λ us. AreFewSoFar (g.P.Pages.store c.args.pages.now) (g.P.Pages.store c.args.pages.now) (stubs_size (map stub_in c.args.units.now)) (map stub_in us)
+      (map stub_in c.args.units.now)) (sym c.new-above.ensures.items)
       (few_none (g.P.Pages.store c.args.pages.now) (map stub_in c.args.units.now) h);
   partly = λ d low high body e enough may small spread shown k.
-      subst (λ us. ArePartly (g.P.Pages.store c.args.pages.now) (g.P.Pages.store c.args.pages.now) d low high body (map stub_in us) (map stub_in c.args.units.now)) (sym c.new-above.ensures.items)
+      subst (λ us. ArePartly (g.P.Pages.store c.args.pages.now) (g.P.Pages.store c.args.pages.now) d low high body (map stub_in us)
+      (map stub_in c.args.units.now)) (sym c.new-above.ensures.items)
       (partly_none (g.P.Pages.store c.args.pages.now) d low high body _ e enough small spread shown);
 }
 
 pub returns-in_err-unit-clause-writes : goal.returns-in_err-unit-clause-writes
 returns-in_err-unit-clause-writes g c = λ d low high body e enough may small spread shown k.
     let step = c.in_err-unit.ensures.grows.frame k in
-    writes_failed _ (g.P.Pages.store c.args.pages.now) (g.P.Pages.store c.write_part.new.pages) d low high body c.from_residual.result _ c.from_residual.ensures.1
-    (partly_failed (g.P.Pages.store c.args.pages.now) (g.P.Pages.store c.loop-rest.pages) (g.P.Pages.store c.write_part.new.pages) d low high body _ c.loop-rest.rest.now _ c.part_len-at.result c.args.fills
-    (c.loop-rest.invariant.partly d low high body e enough may small spread shown step.word) may c.part_len-at.ensures.part c.part_len-at.ensures.some c.part_len-at.ensures.within
+    writes_failed _ (g.P.Pages.store c.args.pages.now)
+    (g.P.Pages.store c.write_part.new.pages) d low high body c.from_residual.result _ c.from_residual.ensures.1
+    (partly_failed (g.P.Pages.store c.args.pages.now) (g.P.Pages.store c.loop-rest.pages)
+    (g.P.Pages.store c.write_part.new.pages) d low high body _ c.loop-rest.rest.now _ c.part_len-at.result c.args.fills
+    (c.loop-rest.invariant.partly d low high body e enough may small spread shown step.word) may c.part_len-at.ensures.part c.part_len-at.ensures.some
+    c.part_len-at.ensures.within
     c.split_at.ensures.front step _ (λ b is enough go. c.in_err-unit.ensures.writes d b is enough go k) (c.loop-rest.invariant.grows.frame step.word))
 
 pub loop-rest-preserved : goal.loop-rest-preserved
 loop-rest-preserved g c = record {
   grows = grows_trans _ _ _ c.loop-rest.invariant.grows c.in_ok-unit.ensures.grows;
   some = λ lt. omega (arith, c.in_ok-push_unit.ensures.long);
-  few = λ k h. few_step (g.P.Pages.store c.args.pages.now) (g.P.Pages.store c.loop-rest.pages) (g.P.Pages.store c.write_part.new.pages) _ c.part_len-at.result _ _ c.loop-rest.rest.now _ _ c.in_ok-unit.unit (let some : 0 < length c.loop-rest.rest.now = search rules in some)
-      (c.loop-rest.invariant.few (c.in_ok-unit.ensures.grows.frame k).word h) c.part_len-at.ensures.full c.split_at.ensures.front c.split_at.ensures.back (c.in_ok-unit.ensures.one k) c.in_ok-push_unit.ensures.ok;
+  few = λ k h. few_step (g.P.Pages.store c.args.pages.now) (g.P.Pages.store c.loop-rest.pages)
+      (g.P.Pages.store c.write_part.new.pages) _ c.part_len-at.result _ _ c.loop-rest.rest.now _ _ c.in_ok-unit.unit
+      (let some : 0 < length c.loop-rest.rest.now = search rules in some)
+      (c.loop-rest.invariant.few (c.in_ok-unit.ensures.grows.frame k).word h) c.part_len-at.ensures.full c.split_at.ensures.front c.split_at.ensures.back
+      (c.in_ok-unit.ensures.one k) c.in_ok-push_unit.ensures.ok;
   partly = λ d low high body e enough may small spread shown k.
-      partly_step (g.P.Pages.store c.args.pages.now) (g.P.Pages.store c.loop-rest.pages) (g.P.Pages.store c.write_part.new.pages) d low high body _ c.loop-rest.rest.now _ c.part_len-at.result c.args.fills
-      (c.loop-rest.invariant.partly d low high body e enough may small spread shown (c.in_ok-unit.ensures.grows.frame k).word) may c.part_len-at.ensures.part c.part_len-at.ensures.some c.part_len-at.ensures.within
-      c.split_at.ensures.front (c.in_ok-unit.ensures.grows.frame k) _ _ c.in_ok-unit.unit c.split_at.ensures.back (λ b is enough go. c.in_ok-unit.ensures.writes d b is enough go k) c.in_ok-push_unit.ensures.ok;
+      partly_step (g.P.Pages.store c.args.pages.now) (g.P.Pages.store c.loop-rest.pages)
+      (g.P.Pages.store c.write_part.new.pages) d low high body _ c.loop-rest.rest.now _ c.part_len-at.result c.args.fills
+      (c.loop-rest.invariant.partly d low high body e enough may small spread shown (c.in_ok-unit.ensures.grows.frame k).word) may c.part_len-at.ensures.part
+      c.part_len-at.ensures.some c.part_len-at.ensures.within
+      c.split_at.ensures.front (c.in_ok-unit.ensures.grows.frame k) _ _ c.in_ok-unit.unit c.split_at.ensures.back
+      (λ b is enough go. c.in_ok-unit.ensures.writes d b is enough go k) c.in_ok-push_unit.ensures.ok;
 }
 
 pub returns-clause-writes : goal.returns-clause-writes
 returns-clause-writes g c = λ d low high body e enough may small spread shown k.
-    partly_done (g.P.Pages.store c.args.pages.now) (g.P.Pages.store c.loop-rest.pages) d low high body _ _ (c.loop-rest.invariant.partly d low high body e enough may small spread shown k) (let none : length c.loop-rest.rest.now ≡ 0 = search rules in omega (arith, long_map stub_in c.loop-rest.rest.now))
+    partly_done (g.P.Pages.store c.args.pages.now) (g.P.Pages.store c.loop-rest.pages) d low high body _ _
+    (c.loop-rest.invariant.partly d low high body e enough may small spread shown k)
+    (let none : length c.loop-rest.rest.now ≡ 0 = search rules in omega (arith, long_map stub_in c.loop-rest.rest.now))
 
 pub returns-in_err-unit-clause-grows : goal.returns-in_err-unit-clause-grows
 returns-in_err-unit-clause-grows g c = grows_trans _ _ _ c.loop-rest.invariant.grows c.in_err-unit.ensures.grows
@@ -50,4 +64,5 @@ returns-in_err-push_unit-clause-grows g c = grows_trans _ _ _ c.loop-rest.invari
 
 pub returns-clause-few : goal.returns-clause-few
 returns-clause-few g c = λ k h.
-    few_done (g.P.Pages.store c.args.pages.now) (g.P.Pages.store c.loop-rest.pages) _ _ _ (c.loop-rest.invariant.few k h) (let none : length c.loop-rest.rest.now ≡ 0 = search rules in omega (arith, long_map stub_in c.loop-rest.rest.now))
+    few_done (g.P.Pages.store c.args.pages.now) (g.P.Pages.store c.loop-rest.pages) _ _ _ (c.loop-rest.invariant.few k h)
+    (let none : length c.loop-rest.rest.now ≡ 0 = search rules in omega (arith, long_map stub_in c.loop-rest.rest.now))

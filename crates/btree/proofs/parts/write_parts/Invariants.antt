@@ -13,10 +13,14 @@ abbrev pub invariant-loop-rest : goal.invariant-loop-rest
 invariant-loop-rest g l = record {
   grows : Grows (g.P.Pages.store l.initial.pages) (g.P.Pages.store l.pages);
   some : 0 < length l.units → 0 < length l.above.items + length l.rest;
-  few : KeepsWord (g.P.Pages.store l.pages) → Each IsStub (map stub_in l.units) → AreFewSoFar (g.P.Pages.store l.initial.pages) (g.P.Pages.store l.pages) (stubs_size (map stub_in l.units)) (map stub_in l.above.items) (map stub_in l.rest);
-  partly : (d : ℕ) (low : List ℕ) (high : Option (List ℕ)) (body : Body d) → map stub_in l.units ≡ stubs_of d body → IsEnough d (map stub_in l.units) → MayFill d l.fills
+  few : KeepsWord (g.P.Pages.store l.pages) → Each IsStub (map stub_in l.units)
+      → AreFewSoFar (g.P.Pages.store l.initial.pages) (g.P.Pages.store l.pages) (stubs_size (map stub_in l.units)) (map stub_in l.above.items)
+      (map stub_in l.rest);
+  partly : (d : ℕ) (low : List ℕ) (high : Option (List ℕ)) (body : Body d) → map stub_in l.units ≡ stubs_of d body → IsEnough d (map stub_in l.units)
+      → MayFill d l.fills
       → Each IsStub (map stub_in l.units) → IsSpread d low high body → Shows (g.P.Pages.store l.initial.pages) d body
-      → KeepsWord (g.P.Pages.store l.pages) → ArePartly (g.P.Pages.store l.initial.pages) (g.P.Pages.store l.pages) d low high body (map stub_in l.above.items) (map stub_in l.rest);
+      → KeepsWord (g.P.Pages.store l.pages)
+      → ArePartly (g.P.Pages.store l.initial.pages) (g.P.Pages.store l.pages) d low high body (map stub_in l.above.items) (map stub_in l.rest);
 }
 
 abbrev pub decreases-loop-rest : goal.decreases-loop-rest

@@ -19,7 +19,8 @@ pub returns-then-top-gt-LEVELS-clause-roots : goal.returns-then-top-gt-LEVELS-cl
 returns-then-top-gt-LEVELS-clause-roots g t c =
     λ entries reached h k.
     let some : 0 < length c.args.top.units.items = search rules in
-    inr (too_high (g.P.Pages.store c.args.pages.now) _ _ entries reached (sheaf_in c.args.top) h (inl (c.if-top-gt-LEVELS.true, omega (arith, long_map stub_in c.args.top.units.items))))
+    inr (too_high (g.P.Pages.store c.args.pages.now) _ _ entries reached (sheaf_in c.args.top) h
+    (inl (c.if-top-gt-LEVELS.true, omega (arith, long_map stub_in c.args.top.units.items))))
 
 pub returns-in-Some-clause-roots : goal.returns-in-Some-clause-roots
 returns-in-Some-clause-roots g t c =
@@ -27,8 +28,10 @@ returns-in-Some-clause-roots g t c =
     let one = c.in-Some.ensures.one in
     let head = head_of (map stub_in c.args.top.units.items) (omega (arith, long_map stub_in c.args.top.units.items, one)) in
     let rest : length head.rest ≡ 0 = omega (arith, ap length head.is, long_map stub_in c.args.top.units.items, one) in
-    changed_head (g.P.Pages.store c.args.pages.now) (g.P.Pages.store c.args.pages.now) c.in-Some.page entries reached reached (itself (g.P.Pages.store c.args.pages.now) reached)
-    (head_of_one (g.P.Pages.store c.args.pages.now) entries reached (sheaf_in c.args.top) c.in-Some.page head.s h (omega (arith, c.if-top-gt-LEVELS.false)) (head.is ∙ ap (λ ss. head.s ∷ ss) (no_stubs head.rest rest)) (c.in-Some.ensures.page head.s head.rest head.is))
+    changed_head (g.P.Pages.store c.args.pages.now) (g.P.Pages.store c.args.pages.now) c.in-Some.page entries reached reached
+    (itself (g.P.Pages.store c.args.pages.now) reached)
+    (head_of_one (g.P.Pages.store c.args.pages.now) entries reached (sheaf_in c.args.top) c.in-Some.page head.s h (omega (arith, c.if-top-gt-LEVELS.false))
+    (head.is ∙ ap (λ ss. head.s ∷ ss) (no_stubs head.rest rest)) (c.in-Some.ensures.page head.s head.rest head.is))
 
 pub returns-then-top-eq-LEVELS-clause-roots : goal.returns-then-top-eq-LEVELS-clause-roots
 returns-then-top-eq-LEVELS-clause-roots g t c =
@@ -36,7 +39,10 @@ returns-then-top-eq-LEVELS-clause-roots g t c =
     let some : 0 < length c.args.top.units.items = search rules in
     let long : 0 < length (map stub_in c.args.top.units.items) = omega (arith, long_map stub_in c.args.top.units.items) in
     inr (too_high (g.P.Pages.store c.args.pages.now) _ _ entries reached (sheaf_in c.args.top) h
-    (inr (c.if-top-eq-LEVELS.true, many_stubs (g.P.Pages.store c.args.pages.now) entries reached (sheaf_in c.args.top) h c.if-top-eq-LEVELS.true long c.in_default.ensures.none)))
+    (inr (
+      c.if-top-eq-LEVELS.true,
+      many_stubs (g.P.Pages.store c.args.pages.now) entries reached (sheaf_in c.args.top) h c.if-top-eq-LEVELS.true long c.in_default.ensures.none,
+    )))
 
 pub returns-in_err-above-clause-roots : goal.returns-in_err-above-clause-roots
 returns-in_err-above-clause-roots g t c =
@@ -44,7 +50,8 @@ returns-in_err-above-clause-roots g t c =
     let some : 0 < length c.args.top.units.items = search rules in
     let long : 0 < length (map stub_in c.args.top.units.items) = omega (arith, long_map stub_in c.args.top.units.items) in
     change_failed (g.P.Pages.store c.args.pages.now) (g.P.Pages.store c.raise.new.pages) entries reached c.from_residual.result _ c.from_residual.ensures.1
-    (c.in_err-above.ensures.turns 0 _ _ entries reached h (ready_top (g.P.Pages.store c.args.pages.now) entries reached (sheaf_in c.args.top) h long c.in_default.ensures.none) k)
+    (c.in_err-above.ensures.turns 0 _ _ entries reached h
+    (ready_top (g.P.Pages.store c.args.pages.now) entries reached (sheaf_in c.args.top) h long c.in_default.ensures.none) k)
 
 pub returns-clause-roots : goal.returns-clause-roots
 returns-clause-roots g t c =
@@ -52,8 +59,10 @@ returns-clause-roots g t c =
     let some : 0 < length c.args.top.units.items = search rules in
     let long : 0 < length (map stub_in c.args.top.units.items) = omega (arith, long_map stub_in c.args.top.units.items) in
     let word = (c.write_root.ensures.grows.frame k).word in
-    let u = c.in_ok-above.ensures.turns 0 _ _ entries reached h (ready_top (g.P.Pages.store c.args.pages.now) entries reached (sheaf_in c.args.top) h long c.in_default.ensures.none) word in
-    change_on (g.P.Pages.store c.args.pages.now) (g.P.Pages.store c.raise.new.pages) (g.P.Pages.store c.write_root.new.pages) entries reached u.after c.write_root.result (c.in_ok-above.ensures.grows.frame word) u.turned
+    let u = c.in_ok-above.ensures.turns 0 _ _ entries reached h
+    (ready_top (g.P.Pages.store c.args.pages.now) entries reached (sheaf_in c.args.top) h long c.in_default.ensures.none) word in
+    change_on (g.P.Pages.store c.args.pages.now) (g.P.Pages.store c.raise.new.pages)
+    (g.P.Pages.store c.write_root.new.pages) entries reached u.after c.write_root.result (c.in_ok-above.ensures.grows.frame word) u.turned
     (c.write_root.ensures.roots entries u.after u.held k)
 
 pub returns-clause-grows : goal.returns-clause-grows
@@ -64,8 +73,10 @@ returns-clause-few g t c =
     λ halvings little k.
     let word = (c.write_root.ensures.grows.frame k).word in
     let some : 0 < length c.args.top.units.items = search rules in
-    root_few (g.P.Pages.store c.args.pages.now) (g.P.Pages.store c.raise.new.pages) (g.P.Pages.store c.write_root.new.pages) halvings _ (map stub_in c.in_ok-above.above.units.items) c.write_root.result little.1
-    (omega (arith, c.in_ok-above.ensures.some some, long_map stub_in c.in_ok-above.above.units.items)) (c.in_ok-above.ensures.few word little.0) (λ h less. c.write_root.ensures.few h less k) (λ one. c.write_root.ensures.alone one k)
+    root_few (g.P.Pages.store c.args.pages.now) (g.P.Pages.store c.raise.new.pages) (g.P.Pages.store c.write_root.new.pages) halvings _
+    (map stub_in c.in_ok-above.above.units.items) c.write_root.result little.1
+    (omega (arith, c.in_ok-above.ensures.some some, long_map stub_in c.in_ok-above.above.units.items)) (c.in_ok-above.ensures.few word little.0)
+    (λ h less. c.write_root.ensures.few h less k) (λ one. c.write_root.ensures.alone one k)
 
 pub returns-clause-alone : goal.returns-clause-alone
 returns-clause-alone g t c = λ one k. absurd (not_alone (map stub_in c.args.top.units.items) one c.in_default.ensures.none)

@@ -14,7 +14,8 @@ pub returns-in_err-edit_cells-clause-turns : goal.returns-in_err-edit_cells-clau
 returns-in_err-edit_cells-clause-turns g c =
     λ k.
     let none : map item_in c.new-cells.result.items ≡ [] = search rules in
-    answer_failed (g.P.Pages.store c.args.pages.now) (g.P.Pages.store c.edit_cells.new.pages) _ _ _ c.from_residual.ensures.1 (c.in_err-edit_cells.ensures.edits [] none tt tt k)
+    answer_failed (g.P.Pages.store c.args.pages.now) (g.P.Pages.store c.edit_cells.new.pages) _ _ _ c.from_residual.ensures.1
+    (c.in_err-edit_cells.ensures.edits [] none tt tt k)
 
 pub returns-clause-turns : goal.returns-clause-turns
 returns-clause-turns g c =
@@ -28,5 +29,6 @@ pub returns-clause-few : goal.returns-clause-few
 returns-clause-few g c =
     λ one k.
     let none : map item_in c.new-cells.result.items ≡ [] = search rules in
-    let f = cells_few _ _ [] _ (length c.args.edits.now) (c.in_ok-units.ensures ∙ ap (λ cs. map item_stub (map item_in cs)) c.deref.ensures.value) (c.in_ok-edit_cells.ensures.small (subst (Each IsItem) (sym none) tt)) none c.in_ok-edit_cells.ensures.size (omega arith) (omega arith) in
+    let f = cells_few _ _ [] _ (length c.args.edits.now) (c.in_ok-units.ensures ∙ ap (λ cs. map item_stub (map item_in cs)) c.deref.ensures.value)
+    (c.in_ok-edit_cells.ensures.small (subst (Each IsItem) (sym none) tt)) none c.in_ok-edit_cells.ensures.size (omega arith) (omega arith) in
     record { rank_is = refl; small = f.0; size = f.1; made = c.in_ok-edit_cells.ensures.few k }

@@ -15,26 +15,31 @@ use Rattle.btree.proofs.scanning.+scan_below.Goals as goal
 pub returns-in_err-shared-clause-scans : goal.returns-in_err-shared-clause-scans
 returns-in_err-shared-clause-scans g t c =
     λ d body all part held k.
-    answer_failed (g.P.Pages.store c.args.pages.now) (g.P.Pages.store c.read.new.self) _ _ _ c.from_residual.ensures.1 (c.in_err-shared.ensures.cause k _ part.at)
+    answer_failed (g.P.Pages.store c.args.pages.now) (g.P.Pages.store c.read.new.self) _ _ _ c.from_residual.ensures.1
+    (c.in_err-shared.ensures.cause k _ part.at)
 
 pub returns-then-not-lies_between-clause-scans : goal.returns-then-not-lies_between-clause-scans
 returns-then-not-lies_between-clause-scans g t c =
     λ d body all part held k.
-    not_between (g.P.Pages.store c.args.pages.now) _ _ _ _ _ _ (c.in_ok-shared.ensures.value k ∙ ap (λ (s : Sheet). s.content) (sym c.image.ensures)) c.lies_between.ensures c.if-not-lies_between.true d body part
+    not_between (g.P.Pages.store c.args.pages.now) _ _ _ _ _ _
+    (c.in_ok-shared.ensures.value k ∙ ap (λ (s : Sheet). s.content) (sym c.image.ensures)) c.lies_between.ensures c.if-not-lies_between.true d body part
 
 pub returns-in-Leaf-clause-scans : goal.returns-in-Leaf-clause-scans
 returns-in-Leaf-clause-scans g t c =
     λ d body all part held k.
     let w = (c.scan_leaf.ensures.grows.frame k).word in
     scan_leaf_below (g.P.Pages.store c.args.pages.now) (g.P.Pages.store c.read.new.self) (g.P.Pages.store c.scan_leaf.new.pages) c.args.page c.args.level _ _ _
-    (λ es. Holds c.args.range.limit (all ++ within c.args.range es) c.scan_leaf.new.batch) _ (frame_same (g.P.Pages.store c.args.pages.now) (g.P.Pages.store c.read.new.self) (c.in_ok-shared.ensures.same w))
-    (c.in_ok-shared.ensures.value w ∙ ap (λ (s : Sheet). s.content) (sym c.image-2.ensures) ∙ ap content_in c.in-Leaf.is) (λ pairs e rise shown. c.scan_leaf.ensures.scans pairs all e rise shown held k) d body part
+    (λ es. Holds c.args.range.limit (all ++ within c.args.range es) c.scan_leaf.new.batch) _
+    (frame_same (g.P.Pages.store c.args.pages.now) (g.P.Pages.store c.read.new.self) (c.in_ok-shared.ensures.same w))
+    (c.in_ok-shared.ensures.value w ∙ ap (λ (s : Sheet). s.content) (sym c.image-2.ensures) ∙ ap content_in c.in-Leaf.is)
+    (λ pairs e rise shown. c.scan_leaf.ensures.scans pairs all e rise shown held k) d body part
 
 pub returns-then-len-eq0-clause-scans : goal.returns-then-len-eq0-clause-scans
 returns-then-len-eq0-clause-scans g t c =
     λ d body all part held k.
     let none : length c.in-Branch.branch ≡ 0 = search rules in
-    too_deep (g.P.Pages.store c.args.pages.now) _ _ _ _ _ (c.in_ok-shared.ensures.value k ∙ ap (λ (s : Sheet). s.content) (sym c.image-2.ensures) ∙ ap content_in c.in-Branch.is) (inr none) d body part
+    too_deep (g.P.Pages.store c.args.pages.now) _ _ _ _ _
+    (c.in_ok-shared.ensures.value k ∙ ap (λ (s : Sheet). s.content) (sym c.image-2.ensures) ∙ ap content_in c.in-Branch.is) (inr none) d body part
 
 pub loop-i-init : goal.loop-i-init
 loop-i-init g t c =
@@ -42,7 +47,9 @@ loop-i-init g t c =
       grows = grows_itself (g.P.Pages.store c.read.new.self);
       same = same_itself (g.P.Pages.store c.read.new.self);
       holds = λ d twigs all e part held k. subst (λ es. Holds c.args.range.limit es c.args.batch.now)
-          (sym (append-nil all) ∙ ap (λ es. all ++ es) (sym (none_before (g.P.Pages.store c.read.new.self) c.args.page c.args.level d c.args.low.now (option_map (λ b. b.now) c.args.high) twigs _ e part
+          (sym (append-nil all)
+          ∙ ap (λ es. all ++ es)
+          (sym (none_before (g.P.Pages.store c.read.new.self) c.args.page c.args.level d c.args.low.now (option_map (λ b. b.now) c.args.high) twigs _ e part
           c.args.range.from.now (option_map (λ b. b.now) c.args.range.to) c.child_of_key-i.result c.child_of_key-i.ensures))) held;
     }
 
@@ -51,12 +58,18 @@ returns-then-is_some-clause-scans g t c =
     λ d body all part held k.
     let w = (c.loop-i.invariant.grows.frame k).word in
     at_branch (g.P.Pages.store c.args.pages.now) (g.P.Pages.store c.read.new.self) c.args.page c.args.level _ _ c.in-Branch.branch
-    (c.in_ok-shared.ensures.value w ∙ ap (λ (s : Sheet). s.content) (sym c.image-2.ensures) ∙ ap content_in c.in-Branch.is) (frame_same (g.P.Pages.store c.args.pages.now) (g.P.Pages.store c.read.new.self) (c.in_ok-shared.ensures.same w))
+    (c.in_ok-shared.ensures.value w ∙ ap (λ (s : Sheet). s.content) (sym c.image-2.ensures) ∙ ap content_in c.in-Branch.is)
+    (frame_same (g.P.Pages.store c.args.pages.now) (g.P.Pages.store c.read.new.self) (c.in_ok-shared.ensures.same w))
     (λ d body. Holds c.args.range.limit (all ++ within c.args.range (entries_of d body)) c.loop-i.batch)
     (λ d twigs e p.
-    let here = child_here (g.P.Pages.store c.read.new.self) c.args.page c.args.level d c.args.low.now (option_map (λ b. b.now) c.args.high) twigs _ e p c.loop-i.i _ _ _ (omega (arith, c.loop-i-test.true))
-    (bounds_are _ _ _ _ _ _ c.low_bound-from.ensures.first c.low_bound-from.ensures.later c.high_bound-to.ensures.last c.high_bound-to.ensures.inner) (λ a. sym (ap (λ (x : Arm). x.child) (c.branch_child-child.ensures a))) in
-    subst (λ es. Holds c.args.range.limit es c.loop-i.batch) (child_rest (g.P.Pages.store c.read.new.self) c.args.level d twigs c.loop-i.i _ _ c.args.range.from.now _ (option_map (λ b. b.now) c.args.range.to) here all) (full_stays c.args.range.limit _ _ c.loop-i.batch (search rules) (c.loop-i.invariant.holds d twigs all e p held k)))
+    let here = child_here (g.P.Pages.store c.read.new.self) c.args.page c.args.level d c.args.low.now
+    (option_map (λ b. b.now) c.args.high) twigs _ e p c.loop-i.i _ _ _ (omega (arith, c.loop-i-test.true))
+    (bounds_are _ _ _ _ _ _ c.low_bound-from.ensures.first c.low_bound-from.ensures.later c.high_bound-to.ensures.last c.high_bound-to.ensures.inner)
+    (λ a. sym (ap (λ (x : Arm). x.child) (c.branch_child-child.ensures a))) in
+    subst (λ es. Holds c.args.range.limit es c.loop-i.batch)
+    (child_rest (g.P.Pages.store c.read.new.self) c.args.level d twigs c.loop-i.i _ _ c.args.range.from.now _
+    (option_map (λ b. b.now) c.args.range.to) here all)
+    (full_stays c.args.range.limit _ _ c.loop-i.batch (search rules) (c.loop-i.invariant.holds d twigs all e p held k)))
     d body part
 
 pub returns-then-not-is_within-clause-scans : goal.returns-then-not-is_within-clause-scans
@@ -64,12 +77,17 @@ returns-then-not-is_within-clause-scans g t c =
     λ d body all part held k.
     let w = (c.loop-i.invariant.grows.frame k).word in
     at_branch (g.P.Pages.store c.args.pages.now) (g.P.Pages.store c.read.new.self) c.args.page c.args.level _ _ c.in-Branch.branch
-    (c.in_ok-shared.ensures.value w ∙ ap (λ (s : Sheet). s.content) (sym c.image-2.ensures) ∙ ap content_in c.in-Branch.is) (frame_same (g.P.Pages.store c.args.pages.now) (g.P.Pages.store c.read.new.self) (c.in_ok-shared.ensures.same w))
+    (c.in_ok-shared.ensures.value w ∙ ap (λ (s : Sheet). s.content) (sym c.image-2.ensures) ∙ ap content_in c.in-Branch.is)
+    (frame_same (g.P.Pages.store c.args.pages.now) (g.P.Pages.store c.read.new.self) (c.in_ok-shared.ensures.same w))
     (λ d body. Holds c.args.range.limit (all ++ within c.args.range (entries_of d body)) c.loop-i.batch)
     (λ d twigs e p.
-    let here = child_here (g.P.Pages.store c.read.new.self) c.args.page c.args.level d c.args.low.now (option_map (λ b. b.now) c.args.high) twigs _ e p c.loop-i.i _ _ _ (omega (arith, c.loop-i-test.true))
-    (bounds_are _ _ _ _ _ _ c.low_bound-from.ensures.first c.low_bound-from.ensures.later c.high_bound-to.ensures.last c.high_bound-to.ensures.inner) (λ a. sym (ap (λ (x : Arm). x.child) (c.branch_child-child.ensures a))) in
-    subst (λ es. Holds c.args.range.limit es c.loop-i.batch) (child_past (g.P.Pages.store c.read.new.self) c.args.level d twigs c.loop-i.i _ _ c.args.range.from.now _ (option_map (λ b. b.now) c.args.range.to) here all c.if-not-is_within.ensures) (c.loop-i.invariant.holds d twigs all e p held k))
+    let here = child_here (g.P.Pages.store c.read.new.self) c.args.page c.args.level d c.args.low.now
+    (option_map (λ b. b.now) c.args.high) twigs _ e p c.loop-i.i _ _ _ (omega (arith, c.loop-i-test.true))
+    (bounds_are _ _ _ _ _ _ c.low_bound-from.ensures.first c.low_bound-from.ensures.later c.high_bound-to.ensures.last c.high_bound-to.ensures.inner)
+    (λ a. sym (ap (λ (x : Arm). x.child) (c.branch_child-child.ensures a))) in
+    subst (λ es. Holds c.args.range.limit es c.loop-i.batch)
+    (child_past (g.P.Pages.store c.read.new.self) c.args.level d twigs c.loop-i.i _ _ c.args.range.from.now _
+    (option_map (λ b. b.now) c.args.range.to) here all c.if-not-is_within.ensures) (c.loop-i.invariant.holds d twigs all e p held k))
     d body part
 
 pub returns-in_err-scan_below-clause-scans : goal.returns-in_err-scan_below-clause-scans
@@ -78,27 +96,40 @@ returns-in_err-scan_below-clause-scans g t c =
     let v = (c.in_err-scan_below.ensures.grows.frame k).word in
     let w = (c.loop-i.invariant.grows.frame v).word in
     at_branch (g.P.Pages.store c.args.pages.now) (g.P.Pages.store c.read.new.self) c.args.page c.args.level _ _ c.in-Branch.branch
-    (c.in_ok-shared.ensures.value w ∙ ap (λ (s : Sheet). s.content) (sym c.image-2.ensures) ∙ ap content_in c.in-Branch.is) (frame_same (g.P.Pages.store c.args.pages.now) (g.P.Pages.store c.read.new.self) (c.in_ok-shared.ensures.same w))
-    (λ d body. IsAnswer (g.P.Pages.store c.args.pages.now) (g.P.Pages.store c.scan_below.new.pages) (λ done. Holds c.args.range.limit (all ++ within c.args.range (entries_of d body)) c.scan_below.new.batch) c.from_residual-in_err-scan_below.result)
+    (c.in_ok-shared.ensures.value w ∙ ap (λ (s : Sheet). s.content) (sym c.image-2.ensures) ∙ ap content_in c.in-Branch.is)
+    (frame_same (g.P.Pages.store c.args.pages.now) (g.P.Pages.store c.read.new.self) (c.in_ok-shared.ensures.same w))
+    (λ d body. IsAnswer (g.P.Pages.store c.args.pages.now) (g.P.Pages.store c.scan_below.new.pages)
+    (λ done. Holds c.args.range.limit (all ++ within c.args.range (entries_of d body)) c.scan_below.new.batch) c.from_residual-in_err-scan_below.result)
     (λ d twigs e p.
-    let here = child_here (g.P.Pages.store c.read.new.self) c.args.page c.args.level d c.args.low.now (option_map (λ b. b.now) c.args.high) twigs _ e p c.loop-i.i _ _ _ (omega (arith, c.loop-i-test.true))
-    (bounds_are _ _ _ _ _ _ c.low_bound-from.ensures.first c.low_bound-from.ensures.later c.high_bound-to.ensures.last c.high_bound-to.ensures.inner) (λ a. sym (ap (λ (x : Arm). x.child) (c.branch_child-child.ensures a))) in
-    let grows = frame_trans (g.P.Pages.store c.args.pages.now) (g.P.Pages.store c.read.new.self) (g.P.Pages.store c.loop-i.pages) (frame_same (g.P.Pages.store c.args.pages.now) (g.P.Pages.store c.read.new.self) (c.in_ok-shared.ensures.same w)) (c.loop-i.invariant.grows.frame v) in
-    scan_failed (g.P.Pages.store c.args.pages.now) (g.P.Pages.store c.loop-i.pages) (g.P.Pages.store c.scan_below.new.pages) _ _ _ grows c.from_residual-in_err-scan_below.ensures.1
-    (c.in_err-scan_below.ensures.scans d here.body _ (part_kept _ _ (c.loop-i.invariant.grows.frame v) _ _ d _ _ here.body here.part) (c.loop-i.invariant.holds d twigs all e p held v) k))
+    let here = child_here (g.P.Pages.store c.read.new.self) c.args.page c.args.level d c.args.low.now
+    (option_map (λ b. b.now) c.args.high) twigs _ e p c.loop-i.i _ _ _ (omega (arith, c.loop-i-test.true))
+    (bounds_are _ _ _ _ _ _ c.low_bound-from.ensures.first c.low_bound-from.ensures.later c.high_bound-to.ensures.last c.high_bound-to.ensures.inner)
+    (λ a. sym (ap (λ (x : Arm). x.child) (c.branch_child-child.ensures a))) in
+    let grows = frame_trans (g.P.Pages.store c.args.pages.now) (g.P.Pages.store c.read.new.self) (g.P.Pages.store c.loop-i.pages)
+    (frame_same (g.P.Pages.store c.args.pages.now) (g.P.Pages.store c.read.new.self) (c.in_ok-shared.ensures.same w)) (c.loop-i.invariant.grows.frame v) in
+    scan_failed (g.P.Pages.store c.args.pages.now) (g.P.Pages.store c.loop-i.pages)
+    (g.P.Pages.store c.scan_below.new.pages) _ _ _ grows c.from_residual-in_err-scan_below.ensures.1
+    (c.in_err-scan_below.ensures.scans d here.body _ (part_kept _ _ (c.loop-i.invariant.grows.frame v) _ _ d _ _ here.body here.part)
+    (c.loop-i.invariant.holds d twigs all e p held v) k))
     d body part
 
 pub loop-i-preserved : goal.loop-i-preserved
 loop-i-preserved g t c =
     record {
-      grows = grows_trans (g.P.Pages.store c.read.new.self) (g.P.Pages.store c.loop-i.pages) (g.P.Pages.store c.scan_below.new.pages) c.loop-i.invariant.grows c.in_ok-scan_below.ensures.grows;
+      grows = grows_trans (g.P.Pages.store c.read.new.self) (g.P.Pages.store c.loop-i.pages)
+          (g.P.Pages.store c.scan_below.new.pages) c.loop-i.invariant.grows c.in_ok-scan_below.ensures.grows;
       same = λ k. let now = c.in_ok-scan_below.ensures.same k in same_trans _ _ _ (c.loop-i.invariant.same now.word) now;
       holds = λ d twigs all e p held k.
           let v = (c.in_ok-scan_below.ensures.grows.frame k).word in
-          let here = child_here (g.P.Pages.store c.read.new.self) c.args.page c.args.level d c.args.low.now (option_map (λ b. b.now) c.args.high) twigs _ e p c.loop-i.i _ _ _ (omega (arith, c.loop-i-test.true))
-          (bounds_are _ _ _ _ _ _ c.low_bound-from.ensures.first c.low_bound-from.ensures.later c.high_bound-to.ensures.last c.high_bound-to.ensures.inner) (λ a. sym (ap (λ (x : Arm). x.child) (c.branch_child-child.ensures a))) in
-          subst (λ es. Holds c.args.range.limit es c.scan_below.new.batch) (child_on (g.P.Pages.store c.read.new.self) c.args.level d twigs c.loop-i.i _ _ c.args.range.from.now _ (option_map (λ b. b.now) c.args.range.to) here all)
-          (c.in_ok-scan_below.ensures.scans d here.body _ (part_kept _ _ (c.loop-i.invariant.grows.frame v) _ _ d _ _ here.body here.part) (c.loop-i.invariant.holds d twigs all e p held v) k);
+          let here = child_here (g.P.Pages.store c.read.new.self) c.args.page c.args.level d c.args.low.now
+          (option_map (λ b. b.now) c.args.high) twigs _ e p c.loop-i.i _ _ _ (omega (arith, c.loop-i-test.true))
+          (bounds_are _ _ _ _ _ _ c.low_bound-from.ensures.first c.low_bound-from.ensures.later c.high_bound-to.ensures.last c.high_bound-to.ensures.inner)
+          (λ a. sym (ap (λ (x : Arm). x.child) (c.branch_child-child.ensures a))) in
+          subst (λ es. Holds c.args.range.limit es c.scan_below.new.batch)
+          (child_on (g.P.Pages.store c.read.new.self) c.args.level d twigs c.loop-i.i _ _ c.args.range.from.now _
+          (option_map (λ b. b.now) c.args.range.to) here all)
+          (c.in_ok-scan_below.ensures.scans d here.body _ (part_kept _ _ (c.loop-i.invariant.grows.frame v) _ _ d _ _ here.body here.part)
+          (c.loop-i.invariant.holds d twigs all e p held v) k);
     }
 
 pub returns-clause-scans : goal.returns-clause-scans
@@ -106,9 +137,11 @@ returns-clause-scans g t c =
     λ d body all part held k.
     let w = (c.loop-i.invariant.grows.frame k).word in
     at_branch (g.P.Pages.store c.args.pages.now) (g.P.Pages.store c.read.new.self) c.args.page c.args.level _ _ c.in-Branch.branch
-    (c.in_ok-shared.ensures.value w ∙ ap (λ (s : Sheet). s.content) (sym c.image-2.ensures) ∙ ap content_in c.in-Branch.is) (frame_same (g.P.Pages.store c.args.pages.now) (g.P.Pages.store c.read.new.self) (c.in_ok-shared.ensures.same w))
+    (c.in_ok-shared.ensures.value w ∙ ap (λ (s : Sheet). s.content) (sym c.image-2.ensures) ∙ ap content_in c.in-Branch.is)
+    (frame_same (g.P.Pages.store c.args.pages.now) (g.P.Pages.store c.read.new.self) (c.in_ok-shared.ensures.same w))
     (λ d body. Holds c.args.range.limit (all ++ within c.args.range (entries_of d body)) c.loop-i.batch)
     (λ d twigs e p.
-    subst (λ ts. Holds c.args.range.limit (all ++ within c.args.range (entries_of (suc d) ts)) c.loop-i.batch) (take_all twigs c.loop-i.i (omega (arith, ap length e, long_map (arm_of {B = Body d}) twigs, c.loop-i-test.false)))
+    subst (λ ts. Holds c.args.range.limit (all ++ within c.args.range (entries_of (suc d) ts)) c.loop-i.batch)
+    (take_all twigs c.loop-i.i (omega (arith, ap length e, long_map (arm_of {B = Body d}) twigs, c.loop-i-test.false)))
     (c.loop-i.invariant.holds d twigs all e p held k))
     d body part

@@ -15,5 +15,11 @@ entries-preserved c =
       made = λ ds each.
           let one = one_left ds documents entry left (subst (AreMade ds documents) c.in-Some.ensures.steps.0 (c.entries.invariant.made ds each)) in
           one.2 c.push.new.self.items (c.in_ok-push.ensures.items ∙ ap (λ (d : Pairs). documents ++ d ∷ []) (c.in_ok-spelled_in.ensures one.0 one.1.0 one.1.1));
-      count = omega (arith, ap length c.in_ok-push.ensures.items, length-append documents (document ∷ []), ap length c.in-Some.ensures.steps.0, c.entries.invariant.count);
+      count = omega (
+        arith,
+        ap length c.in_ok-push.ensures.items,
+        length-append documents (document ∷ []),
+        ap length c.in-Some.ensures.steps.0,
+        c.entries.invariant.count,
+      );
     }

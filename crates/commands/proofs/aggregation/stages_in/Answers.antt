@@ -19,5 +19,6 @@ listed (v ∷ vs) = ap (λ (ts : List Tree). tree v ∷ ts) (listed vs)
 pub returns-in-Array : goal.returns-in-Array
 returns-in-Array c =
     let same : map tree c.items.result.now ≡ items_list c.in-Array.array = sym (listed c.items.result.now) ∙ ap items_list c.items.ensures.items in
-    let planned : read_pipeline (map tree c.items.result.now) ≡ stages_in (tree c.args.value.now) = ap read_pipeline same ∙ ap (λ (v : Value). stages_in (tree v)) (sym c.in-Array.is) in
+    let planned : read_pipeline (map tree c.items.result.now) ≡ stages_in (tree c.args.value.now) =
+    ap read_pipeline same ∙ ap (λ (v : Value). stages_in (tree v)) (sym c.in-Array.is) in
     subst (λ (r : Result (List Stage) Refusal). Gives refusals.OutOfMemory pipeline_of c.read.result r) planned c.read.ensures

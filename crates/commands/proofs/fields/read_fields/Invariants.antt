@@ -4,4 +4,5 @@ use Rattle.commands.specs.Fields.{read_fields}
 use Rattle.commands.proofs.fields.read_fields.Given as goal
 
 abbrev pub invariant-pairs : goal.invariant-pairs
-invariant-pairs g l = read_fields g.F.Fields.field l.initial.fields (pairs_of l.pairs) ≡ read_fields g.F.Fields.field l.fields (pairs_of (drop l.pair-index l.pairs))
+invariant-pairs g l =
+    read_fields g.F.Fields.field l.initial.fields (pairs_of l.pairs) ≡ read_fields g.F.Fields.field l.fields (pairs_of (drop l.pair-index l.pairs))

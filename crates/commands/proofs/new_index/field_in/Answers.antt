@@ -10,7 +10,8 @@ use Rattle.commands.proofs.new_index.field_in.Goals as goal
 
 pub returns-in_err-field_to-in-Err-clause-gives : goal.returns-in_err-field_to-in-Err-clause-gives
 returns-in_err-field_to-in-Err-clause-gives c =
-    path_refused _ c.from_residual.result c.args.name.now (tree c.args.value.now) directions.Ascending c.in_err-field_to-in-Err.field-0.0 c.from_residual.ensures.1
+    path_refused _ c.from_residual.result c.args.name.now
+    (tree c.args.value.now) directions.Ascending c.in_err-field_to-in-Err.field-0.0 c.from_residual.ensures.1
     c.in_err-field_to-in-Err.ensures.gives
 
 pub returns-in-Ok-clause-gives : goal.returns-in-Ok-clause-gives

@@ -10,7 +10,8 @@ use Rattle.driver_replies.proofs.kills.wide_ids.Goals as goal
 pub ids-preserved : goal.ids-preserved
 ids-preserved c =
     let made : c.add.new.array ≡ append_items c.ids.wide (item (long c.in-Some.number) no_items) = search rules in
-    ids_step _ _ c.args.ids.now c.ids.id-index c.id-item.result _ _ c.ids-test.true (ap (λ (v : Value). number_of (tree v)) (sym c.id-item.is) ∙ sym c.in-Some.ensures) made c.ids.invariant
+    ids_step _ _ c.args.ids.now c.ids.id-index c.id-item.result _ _ c.ids-test.true
+    (ap (λ (v : Value). number_of (tree v)) (sym c.id-item.is) ∙ sym c.in-Some.ensures) made c.ids.invariant
 
 pub returns : goal.returns
 returns c = ids_done _ _ _ _ c.ids-test.false c.ids.invariant

@@ -13,7 +13,8 @@ pub from_pairs-requires : goal.from_pairs-requires
 from_pairs-requires c =
     let left : c.retain.new.self.items ≡ filter (λ (p : Pair). is_kept c.args.asked p.name) c.into_pairs-pairs.result.items =
     filter_same _ (λ (p : Pair). is_kept c.args.asked p.name) _ (λ x b f' k. search rules) _ _ c.retain.ensures.filtered in
-    let lawful : IsDocument (pairs_of c.into_pairs-pairs.result.items) = subst IsDocument (sym c.into_pairs-pairs.ensures.pairs) c.into_pairs-pairs.ensures.lawful in
+    let lawful : IsDocument (pairs_of c.into_pairs-pairs.result.items) =
+    subst IsDocument (sym c.into_pairs-pairs.ensures.pairs) c.into_pairs-pairs.ensures.lawful in
     rw left (IsDocument-filter (λ (p : Pair). is_kept c.args.asked p.name) c.into_pairs-pairs.result.items lawful)
 
 pub returns : goal.returns

@@ -2,7 +2,8 @@ use Rattle.std.proofs.Common.{refl}
 use Rattle.std.specs.Str.{is_utf8, chars}
 use lib.Utf8.{encode}
 use Rattle.bson.specs.Raw.{len_at}
-use Rattle.bson.specs.Reading.{fixed_at, count_at, ended_at, content_at, int32_at, scalar_at, kind_of, name_at, element_by, pairs_by, value_at, length_at, document_at}
+use Rattle.bson.specs.Reading.{fixed_at, count_at, ended_at, content_at, int32_at, scalar_at, kind_of, name_at, element_by, pairs_by, value_at, length_at}
+use Rattle.bson.specs.Reading.{document_at}
 use Rattle.drivers.specs.Commands.{command_of}
 use Rattle.drivers.specs.ForeignTypes.{foreign_of}
 use Rattle.drivers.specs.Incoming.{whole_at, read_whole}
@@ -11,7 +12,8 @@ use Rattle.drivers.specs.Seeking.{step, seek}
 use Rattle.drivers.proofs.laws.rows.Goals as goal
 
 pub returns-clause-queries : goal.returns-clause-queries
-unfolding is_utf8 chars encode fixed_at count_at ended_at content_at int32_at scalar_at kind_of name_at element_by pairs_by value_at length_at document_at whole_at read_whole
+unfolding is_utf8 chars encode fixed_at count_at ended_at content_at int32_at scalar_at kind_of name_at element_by pairs_by value_at length_at document_at
+    whole_at read_whole
 returns-clause-queries c = record {
   handshake = refl;
   other = refl;

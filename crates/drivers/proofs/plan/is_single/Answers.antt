@@ -8,6 +8,7 @@ use Rattle.drivers.proofs.plan.is_single.Goals as goal
 
 pub returns-then-eq : goal.returns-then-eq
 returns-then-eq c =
-    let find : bytes_eq (name_of c.args.body.now) (codes "find") ≡ true = ap (λ (s : List ℕ). bytes_eq s (codes "find")) (sym c.name_of.ensures) ∙ sym c.if-eq.ensures in
+    let find : bytes_eq (name_of c.args.body.now) (codes "find") ≡ true =
+    ap (λ (s : List ℕ). bytes_eq s (codes "find")) (sym c.name_of.ensures) ∙ sym c.if-eq.ensures in
     c.is_true.ensures ∙ ap is_true c.get.ensures
     ∙ sym (ap (λ (b : Bool). if b then is_true (lookup c.args.body.now (codes "singleBatch")) else false) find)

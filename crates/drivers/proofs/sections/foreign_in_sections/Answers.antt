@@ -9,11 +9,13 @@ returns-in_default c =
 
 pub returns-then-is_some : goal.returns-then-is_some
 returns-then-is_some c =
-    sections-found _ _ c.in-Some.kind.now c.sections.rest.now c.in-Some.after.now _ _ c.sections-test.true c.in-Some.ensures.cases.0 c.split_part.ensures.part c.in_ok-found.ensures (sym c.is_some.ensures ∙ c.if-is_some.true) ∙ c.sections.invariant
+    sections-found _ _ c.in-Some.kind.now c.sections.rest.now c.in-Some.after.now _ _ c.sections-test.true c.in-Some.ensures.cases.0 c.split_part.ensures.part
+    c.in_ok-found.ensures (sym c.is_some.ensures ∙ c.if-is_some.true) ∙ c.sections.invariant
 
 pub sections-preserved : goal.sections-preserved
 sections-preserved c =
-    sections-next _ _ c.in-Some.kind.now c.sections.rest.now c.in-Some.after.now _ _ _ c.sections-test.true c.in-Some.ensures.cases.0 c.split_part.ensures.part c.split_part.ensures.rest c.in_ok-found.ensures (sym c.is_some.ensures ∙ c.if-is_some.false) ∙ c.sections.invariant
+    sections-next _ _ c.in-Some.kind.now c.sections.rest.now c.in-Some.after.now _ _ _ c.sections-test.true c.in-Some.ensures.cases.0 c.split_part.ensures.part
+    c.split_part.ensures.rest c.in_ok-found.ensures (sym c.is_some.ensures ∙ c.if-is_some.false) ∙ c.sections.invariant
 
 pub returns : goal.returns
 returns c = sections-end _ _ c.sections.rest.now c.sections-test.false ∙ c.sections.invariant

@@ -7,8 +7,10 @@ use Rattle.engine.proofs.list_indexes.described_all.Goals as goal
 pub indexes-preserved : goal.indexes-preserved
 indexes-preserved c = record {
   all = describes_one c.args.indexes.now c.indexes.index-index c.index-item.result c.indexes.described.items c.push-in-indexes.new.self.items
-      c.indexes-test.true c.index-item.is (c.in_ok-push-2.ensures.items ∙ ap (λ (d : Pairs). c.indexes.described.items ++ d ∷ []) c.in_ok-described_index.ensures) c.indexes.invariant.all;
-  lawful = lawful_more c.args.indexes.now c.indexes.index-index c.index-item.result c.indexes-test.true c.index-item.is c.number-number.ensures.lawful c.indexes.invariant.lawful;
+      c.indexes-test.true c.index-item.is
+      (c.in_ok-push-2.ensures.items ∙ ap (λ (d : Pairs). c.indexes.described.items ++ d ∷ []) c.in_ok-described_index.ensures) c.indexes.invariant.all;
+  lawful = lawful_more c.args.indexes.now c.indexes.index-index c.index-item.result c.indexes-test.true c.index-item.is c.number-number.ensures.lawful
+      c.indexes.invariant.lawful;
 }
 
 pub returns-clause-all : goal.returns-clause-all

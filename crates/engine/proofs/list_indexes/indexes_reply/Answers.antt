@@ -15,7 +15,8 @@ pub whole_reply-requires-clause-within : goal.whole_reply-requires-clause-within
 whole_reply-requires-clause-within c =
     let seen = c.deref.result.now in
     let same : map (λ (d : Pairs). d) seen ≡ described_all c.args.indexes.now = map-id seen ∙ c.deref.ensures.value ∙ c.in_ok-described.ensures.all in
-    subst (λ (ds : List Pairs). All IsWithin ds) (sym same) (all_within c.args.indexes.now (definitions_short c.args.indexes.now c.in_ok-described.ensures.lawful c.requires.few))
+    subst (λ (ds : List Pairs). All IsWithin ds) (sym same)
+    (all_within c.args.indexes.now (definitions_short c.args.indexes.now c.in_ok-described.ensures.lawful c.requires.few))
 
 pub returns-clause-reply : goal.returns-clause-reply
 returns-clause-reply c =
@@ -23,4 +24,5 @@ returns-clause-reply c =
     let gs = map (λ (d : Pairs). d) seen in
     let same : gs ≡ described_all c.args.indexes.now = map-id seen ∙ c.deref.ensures.value ∙ c.in_ok-described.ensures.all in
     let short = definitions_short c.args.indexes.now c.in_ok-described.ensures.lawful c.requires.few in
-    if_ok c.whole_reply.result (λ d is. is ∙ ap ok_reply (reply_is c.args.indexes.now short c.args.namespace.now gs (batch_of (length gs) gs) same refl)) c.whole_reply.ensures.reply
+    if_ok c.whole_reply.result
+    (λ d is. is ∙ ap ok_reply (reply_is c.args.indexes.now short c.args.namespace.now gs (batch_of (length gs) gs) same refl)) c.whole_reply.ensures.reply

@@ -18,7 +18,8 @@ numbers-preserved c =
     searched_one (numbered c.args.names.now) (length c.args.names.now) c.numbers.counter n c.numbers.invariant c.numbers-test.true used
 
 pub numbers-init : goal.numbers-init
-numbers-init c = searched_none (numbered c.args.names.now) (length c.args.names.now) (sym (length-map c.args.names.now (λ (n : Name). empty_collection [] n.number)))
+numbers-init c =
+    searched_none (numbered c.args.names.now) (length c.args.names.now) (sym (length-map c.args.names.now (λ (n : Name). empty_collection [] n.number)))
 
 pub returns-then-not-index-clause-number : goal.returns-then-not-index-clause-number
 returns-then-not-index-clause-number c =
@@ -32,4 +33,6 @@ returns-then-not-index-clause-number c =
     searched_found (numbered c.args.names.now) (length c.args.names.now) c.numbers.counter n c.numbers.invariant free
 
 pub returns-clause-number : goal.returns-clause-number
-returns-clause-number c = searched_all (numbered c.args.names.now) (length c.args.names.now) c.numbers.counter c.numbers.number c.numbers.invariant (omega (arith, c.numbers-test.false))
+returns-clause-number c =
+    searched_all (numbered c.args.names.now) (length c.args.names.now) c.numbers.counter c.numbers.number c.numbers.invariant
+    (omega (arith, c.numbers-test.false))

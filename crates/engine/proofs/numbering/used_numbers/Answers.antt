@@ -15,9 +15,11 @@ names-preserved c =
     let far : AreMarkedTo names i c.names.used.items = c.names.invariant in
     elim c.if-number-le-MOST_COLLECTIONS.branch [
       | then-number-le-MOST_COLLECTIONS w ↦
-          subst (λ (v : Vec Bool). AreMarkedTo names (i + 1) v.items) (sym w.used-is) (marks_one names i name c.names.used.items c.names-test.true c.name-item.is far w.if-number-le-MOST_COLLECTIONS.true)
+          subst (λ (v : Vec Bool). AreMarkedTo names (i + 1) v.items) (sym w.used-is)
+          (marks_one names i name c.names.used.items c.names-test.true c.name-item.is far w.if-number-le-MOST_COLLECTIONS.true)
       | else-number-le-MOST_COLLECTIONS w ↦
-          subst (λ (v : Vec Bool). AreMarkedTo names (i + 1) v.items) (sym w.used-is) (marks_other names i name c.names.used.items c.names-test.true c.name-item.is far w.if-number-le-MOST_COLLECTIONS.false)
+          subst (λ (v : Vec Bool). AreMarkedTo names (i + 1) v.items) (sym w.used-is)
+          (marks_other names i name c.names.used.items c.names-test.true c.name-item.is far w.if-number-le-MOST_COLLECTIONS.false)
     ]
 
 pub returns : goal.returns

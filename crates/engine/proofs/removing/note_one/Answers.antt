@@ -25,4 +25,5 @@ returns c =
     let home = c.args.home.now in
     let d = c.args.document.now in
     takes_one c.args.edits.now c.delete_document.new.self home.number home.indexes.items d
-    (subst (λ (is : List Definition). DeletesFrom c.args.edits.now c.delete_document.new.self home.number is d) c.deref-2.ensures.value c.in_ok-delete_document.ensures.leads)
+    (subst (λ (is : List Definition). DeletesFrom c.args.edits.now c.delete_document.new.self home.number is d) c.deref-2.ensures.value
+    c.in_ok-delete_document.ensures.leads)

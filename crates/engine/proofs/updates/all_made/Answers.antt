@@ -20,4 +20,5 @@ pub returns-clause-ok : goal.returns-clause-ok
 returns-clause-ok c =
     let ss = c.args.statements.now in
     let i = c.statements.statement-index in
-    sym (append-nil c.statements.made.items) ∙ ap (λ (xs : List UpdateStatement). c.statements.made.items ++ made_by xs) (sym (drop_all i ss c.statements-test.false)) ∙ c.statements.invariant
+    sym (append-nil c.statements.made.items)
+    ∙ ap (λ (xs : List UpdateStatement). c.statements.made.items ++ made_by xs) (sym (drop_all i ss c.statements-test.false)) ∙ c.statements.invariant

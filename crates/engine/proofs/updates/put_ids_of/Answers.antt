@@ -28,12 +28,16 @@ documents-preserved c =
     let put = c.in_ok-put_id_of.ensures.put in
     record {
       put = put_on (texts_of c.args.ids.now.items) now next c.documents.invariant.put put;
-      left = left_next HasId (λ (d : Pairs). tree_text (key_of d)) (has_key_of xs) (λ d. is_eq (compare (key_of x) (key_of d))) (has_key_of (drop (i + 1) xs)) now next put (c.in_ok-put_id_of.ensures.tells c.if-not-branch.false)
-          (subst (λ (ys : List Pairs). AreLeft HasId (λ d. tree_text (key_of d)) (has_key_of xs) (has_key_of ys) now) (drop_step xs i x c.documents-test.true c.document-item.is) c.documents.invariant.left);
+      left = left_next HasId (λ (d : Pairs). tree_text (key_of d)) (has_key_of xs) (λ d. is_eq (compare (key_of x) (key_of d)))
+          (has_key_of (drop (i + 1) xs)) now next put (c.in_ok-put_id_of.ensures.tells c.if-not-branch.false)
+          (subst (λ (ys : List Pairs). AreLeft HasId (λ d. tree_text (key_of d)) (has_key_of xs) (has_key_of ys) now)
+          (drop_step xs i x c.documents-test.true c.document-item.is) c.documents.invariant.left);
     }
 
 pub returns-then-not-branch-clause-put : goal.returns-then-not-branch-clause-put
-returns-then-not-branch-clause-put c = put_on (texts_of c.args.ids.now.items) (texts_of c.documents.ids.items) (texts_of c.put_id_of.new.ids.items) c.documents.invariant.put c.in_ok-put_id_of.ensures.put
+returns-then-not-branch-clause-put c =
+    put_on (texts_of c.args.ids.now.items) (texts_of c.documents.ids.items)
+    (texts_of c.put_id_of.new.ids.items) c.documents.invariant.put c.in_ok-put_id_of.ensures.put
 
 pub returns-clause-put : goal.returns-clause-put
 returns-clause-put c = c.documents.invariant.put
@@ -43,4 +47,5 @@ returns-clause-tells c = λ e.
     let xs = c.args.documents.now in
     let now = texts_of c.documents.ids.items in
     left_none HasId (λ (d : Pairs). tree_text (key_of d)) (has_key_of xs) now
-    (subst (λ (ys : List Pairs). AreLeft HasId (λ d. tree_text (key_of d)) (has_key_of xs) (has_key_of ys) now) (drop_all c.documents.document-index xs (omega (arith, c.documents-test.false))) c.documents.invariant.left)
+    (subst (λ (ys : List Pairs). AreLeft HasId (λ d. tree_text (key_of d)) (has_key_of xs) (has_key_of ys) now)
+    (drop_all c.documents.document-index xs (omega (arith, c.documents-test.false))) c.documents.invariant.left)

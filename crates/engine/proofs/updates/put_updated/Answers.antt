@@ -26,15 +26,19 @@ statements-preserved c =
     let now = texts_of c.statements.ids.items in
     let next = texts_of c.put_ids.new.ids.items in
     let put = c.in_ok-put_ids.ensures.put in
-    let tells : TellIds (matches x.filter) next = subst (λ (d : UpdateStatement). TellIds (matches d.filter) next) c.statement.view_is (c.in_ok-put_ids.ensures.tells c.if-not-branch.false) in
+    let tells : TellIds (matches x.filter) next =
+    subst (λ (d : UpdateStatement). TellIds (matches d.filter) next) c.statement.view_is (c.in_ok-put_ids.ensures.tells c.if-not-branch.false) in
     record {
       put = put_on (texts_of c.args.ids.now.items) now next c.statements.invariant.put put;
       left = left_next HasId (λ (d : Pairs). tree_text (key_of d)) (is_updated xs) (matches x.filter) (is_updated (drop (i + 1) xs)) now next put tells
-          (subst (λ (ys : List UpdateStatement). AreLeft HasId (λ d. tree_text (key_of d)) (is_updated xs) (is_updated ys) now) (drop_step xs i x c.statements-test.true c.statement-item.is) c.statements.invariant.left);
+          (subst (λ (ys : List UpdateStatement). AreLeft HasId (λ d. tree_text (key_of d)) (is_updated xs) (is_updated ys) now)
+          (drop_step xs i x c.statements-test.true c.statement-item.is) c.statements.invariant.left);
     }
 
 pub returns-then-not-branch-clause-put : goal.returns-then-not-branch-clause-put
-returns-then-not-branch-clause-put c = put_on (texts_of c.args.ids.now.items) (texts_of c.statements.ids.items) (texts_of c.put_ids.new.ids.items) c.statements.invariant.put c.in_ok-put_ids.ensures.put
+returns-then-not-branch-clause-put c =
+    put_on (texts_of c.args.ids.now.items) (texts_of c.statements.ids.items)
+    (texts_of c.put_ids.new.ids.items) c.statements.invariant.put c.in_ok-put_ids.ensures.put
 
 pub returns-clause-put : goal.returns-clause-put
 returns-clause-put c = c.statements.invariant.put
@@ -44,4 +48,5 @@ returns-clause-tells c = λ e.
     let xs = c.args.statements.now in
     let now = texts_of c.statements.ids.items in
     left_none HasId (λ (d : Pairs). tree_text (key_of d)) (is_updated xs) now
-    (subst (λ (ys : List UpdateStatement). AreLeft HasId (λ d. tree_text (key_of d)) (is_updated xs) (is_updated ys) now) (drop_all c.statements.statement-index xs (omega (arith, c.statements-test.false))) c.statements.invariant.left)
+    (subst (λ (ys : List UpdateStatement). AreLeft HasId (λ d. tree_text (key_of d)) (is_updated xs) (is_updated ys) now)
+    (drop_all c.statements.statement-index xs (omega (arith, c.statements-test.false))) c.statements.invariant.left)

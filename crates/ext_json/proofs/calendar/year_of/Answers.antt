@@ -12,7 +12,8 @@ years-preserved c = (
   c.years.invariant.0
       ∙ year_next (9999 - c.years.year) c.years.year c.years.left (omega arith) (omega (arith, c.year_len-len.ensures, c.if-left-len.false))
       ∙ ap (λ (n : ℕ). year_from (9999 - c.years.year - 1) (c.years.year + 1) (c.years.left - n)) (sym c.year_len-len.ensures)
-      ∙ ap (λ (n : ℕ). year_from n (c.years.year + 1) (c.years.left - c.year_len-len.result)) (let e : 9999 - c.years.year - 1 ≡ 9999 - (c.years.year + 1) = omega arith in e),
+      ∙ ap (λ (n : ℕ). year_from n (c.years.year + 1) (c.years.left - c.year_len-len.result))
+      (let e : 9999 - c.years.year - 1 ≡ 9999 - (c.years.year + 1) = omega arith in e),
   omega (arith, c.years.invariant.1),
 )
 

@@ -16,8 +16,10 @@ decreases-put_value l = 2 * count (tree l.value.now)
 
 abbrev pub invariant-put_array-items : goal.invariant-put_array-items
 invariant-put_array-items l =
-    (l.out.tokens ≡ (l.fn.out.tokens ++ json.begin_array ∷ []) ++ items_tokens l.form (items_of (take l.item-index l.item-items))) × (l.out.before ≡ l.fn.out.before)
+    (l.out.tokens ≡ (l.fn.out.tokens ++ json.begin_array ∷ []) ++ items_tokens l.form (items_of (take l.item-index l.item-items)))
+    × (l.out.before ≡ l.fn.out.before)
 
 abbrev pub invariant-put_document-pairs : goal.invariant-put_document-pairs
 invariant-put_document-pairs l =
-    (l.out.tokens ≡ (l.fn.out.tokens ++ json.begin_object ∷ []) ++ pairs_tokens l.form (pairs_of (take l.pair-index l.pair-items))) × (l.out.before ≡ l.fn.out.before)
+    (l.out.tokens ≡ (l.fn.out.tokens ++ json.begin_object ∷ []) ++ pairs_tokens l.form (pairs_of (take l.pair-index l.pair-items)))
+    × (l.out.before ≡ l.fn.out.before)

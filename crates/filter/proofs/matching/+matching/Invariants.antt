@@ -41,10 +41,14 @@ abbrev pub decreases-has_document : goal.decreases-has_document
 decreases-has_document l = 8 * weights l.filter.now + 3
 
 abbrev pub invariant-all_hold-conditions : goal.invariant-all_hold-conditions
-invariant-all_hold-conditions l = all_hold (conditions_of (drop l.condition-index l.condition-items)) (subject_of l.subject) ≡ all_hold (conditions_of l.condition-items) (subject_of l.subject)
+invariant-all_hold-conditions l =
+    all_hold (conditions_of (drop l.condition-index l.condition-items)) (subject_of l.subject)
+    ≡ all_hold (conditions_of l.condition-items) (subject_of l.subject)
 
 abbrev pub invariant-any_holds-conditions : goal.invariant-any_holds-conditions
-invariant-any_holds-conditions l = any_holds (conditions_of (drop l.condition-index l.condition-items)) (subject_of l.subject) ≡ any_holds (conditions_of l.condition-items) (subject_of l.subject)
+invariant-any_holds-conditions l =
+    any_holds (conditions_of (drop l.condition-index l.condition-items)) (subject_of l.subject)
+    ≡ any_holds (conditions_of l.condition-items) (subject_of l.subject)
 
 abbrev pub invariant-has_element-items : goal.invariant-has_element-items
 invariant-has_element-items l =

@@ -6,4 +6,6 @@ use Rattle.filter.specs.Reading.{every}
 use Rattle.filter.proofs.operands.every.Goals as goal
 
 pub returns-else-is_empty : goal.returns-else-is_empty
-returns-else-is_empty c = ap all (sym c.filter.view_is) ∙ sym (every-some c.filter.inside.conditions.items (ap (λ n. n == 0) (sym c.filter.inside.conditions.ok.0) ∙ sym c.if-is_empty.ensures)) ∙ ap every c.filter.view_is
+returns-else-is_empty c = ap all (sym c.filter.view_is)
+    ∙ sym (every-some c.filter.inside.conditions.items (ap (λ n. n == 0) (sym c.filter.inside.conditions.ok.0) ∙ sym c.if-is_empty.ensures))
+    ∙ ap every c.filter.view_is

@@ -6,4 +6,6 @@ use Rattle.bson.specs.View.{tree}
 use Rattle.filter.proofs.predicate.is_one_of.Given as goal
 
 abbrev pub invariant-kinds : goal.invariant-kinds
-invariant-kinds l = list_any (λ b. b == kind_byte (kind (tree l.value))) (map kind_byte (drop l.kind-index l.kinds)) ≡ list_any (λ b. b == kind_byte (kind (tree l.value))) (map kind_byte l.kinds)
+invariant-kinds l =
+    list_any (λ b. b == kind_byte (kind (tree l.value))) (map kind_byte (drop l.kind-index l.kinds))
+    ≡ list_any (λ b. b == kind_byte (kind (tree l.value))) (map kind_byte l.kinds)

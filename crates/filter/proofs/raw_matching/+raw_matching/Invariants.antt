@@ -14,7 +14,9 @@ abbrev pub decreases-holds : goal.decreases-holds
 decreases-holds l = 2 * weight (condition_of l.condition.now)
 
 abbrev pub invariant-all_hold-conditions : goal.invariant-all_hold-conditions
-invariant-all_hold-conditions l = all_hold (conditions_of (drop l.condition-index l.condition-items)) (whole l.document) ≡ all_hold (conditions_of l.condition-items) (whole l.document)
+invariant-all_hold-conditions l =
+    all_hold (conditions_of (drop l.condition-index l.condition-items)) (whole l.document) ≡ all_hold (conditions_of l.condition-items) (whole l.document)
 
 abbrev pub invariant-any_holds-conditions : goal.invariant-any_holds-conditions
-invariant-any_holds-conditions l = any_holds (conditions_of (drop l.condition-index l.condition-items)) (whole l.document) ≡ any_holds (conditions_of l.condition-items) (whole l.document)
+invariant-any_holds-conditions l =
+    any_holds (conditions_of (drop l.condition-index l.condition-items)) (whole l.document) ≡ any_holds (conditions_of l.condition-items) (whole l.document)

@@ -38,10 +38,15 @@ abbrev pub decreases-read_not : goal.decreases-read_not
 decreases-read_not l = 8 * count (tree l.value.now) + 4
 
 abbrev pub invariant-read_filter-pairs : goal.invariant-read_filter-pairs
-invariant-read_filter-pairs l = if_ok (read_filter (pairs_of (drop l.pair-index l.pair-items))) (λ rs. Ok (append_conditions (conditions_of l.conditions.items) rs)) ≡ read_filter l.document
+invariant-read_filter-pairs l =
+    if_ok (read_filter (pairs_of (drop l.pair-index l.pair-items))) (λ rs. Ok (append_conditions (conditions_of l.conditions.items) rs))
+    ≡ read_filter l.document
 
 abbrev pub invariant-read_operators-pairs : goal.invariant-read_operators-pairs
-invariant-read_operators-pairs l = if_ok (read_operators (pairs_of (drop l.pair-index l.pair-items))) (λ rs. Ok (append_conditions (conditions_of l.conditions.items) rs)) ≡ read_operators l.document
+invariant-read_operators-pairs l =
+    if_ok (read_operators (pairs_of (drop l.pair-index l.pair-items))) (λ rs. Ok (append_conditions (conditions_of l.conditions.items) rs))
+    ≡ read_operators l.document
 
 abbrev pub invariant-read_filters-items : goal.invariant-read_filters-items
-invariant-read_filters-items l = if_ok (read_filters (items_of (drop l.item-index l.item-items))) (λ rs. Ok (append_conditions (conditions_of l.conditions.items) rs)) ≡ read_filters l.array
+invariant-read_filters-items l =
+    if_ok (read_filters (items_of (drop l.item-index l.item-items))) (λ rs. Ok (append_conditions (conditions_of l.conditions.items) rs)) ≡ read_filters l.array

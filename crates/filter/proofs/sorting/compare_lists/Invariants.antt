@@ -5,4 +5,5 @@ use Rattle.filter.proofs.sorting.compare_lists.Given as goal
 
 abbrev pub invariant-fields : goal.invariant-fields
 invariant-fields l =
-    keys_cmp (map field_of (drop l.i l.fields)) (map key_of (drop l.i l.a)) (map key_of (drop l.i l.b)) ≡ keys_cmp (map field_of l.fields) (map key_of l.a) (map key_of l.b)
+    keys_cmp (map field_of (drop l.i l.fields)) (map key_of (drop l.i l.a)) (map key_of (drop l.i l.b))
+    ≡ keys_cmp (map field_of l.fields) (map key_of l.a) (map key_of l.b)

@@ -14,7 +14,8 @@ use Rattle.filter.proofs.sorting.sort_key.Goals as goal
 
 pub all-preserved : goal.all-preserved
 all-preserved c =
-    reached_more c.args.field.now.descending c.deref-reached-items.result.now c.all.reached-index c.reached-item.result (option_map key_of c.all.found) (option_map key_of c.first_reached-found.result)
+    reached_more c.args.field.now.descending c.deref-reached-items.result.now c.all.reached-index c.reached-item.result (option_map key_of c.all.found)
+    (option_map key_of c.first_reached-found.result)
     (first_of c.args.field.now.descending None (flat_map keys_of (map reached c.deref-reached-items.result.now)))
     c.all-test.true c.reached-item.is c.first_reached-found.ensures c.all.invariant
 

@@ -9,7 +9,8 @@ loans-preserved c =
     let first = c.args.loans.now in
     let f = after_end c.args.socket in
     let new = c.end_loan.new.loan in
-    let s = one_more f c.loans.loans first i None new (omega (arith, c.loans-test.true, c.loans.auto.loans)) c.loans.invariant.done c.loans.invariant.left c.end_loan.ensures in
+    let s = one_more f c.loans.loans first i None new
+    (omega (arith, c.loans-test.true, c.loans.auto.loans)) c.loans.invariant.done c.loans.invariant.left c.end_loan.ensures in
     let next : i + 1 ≡ suc i = omega arith in
     record {
       done = ap (λ (m : ℕ). take m (set c.loans.loans i new)) next ∙ s.done ∙ ap (λ (m : ℕ). map f (take m first)) (sym next);

@@ -9,11 +9,13 @@ use Rattle.index.proofs.catalogue.key_pairs.Goals as goal
 
 pub fields-preserved : goal.fields-preserved
 fields-preserved c =
-    pair_more c.args.fields.now c.fields.field-index c.field-item.result c.fields.pairs.items c.push.new.self.items _ (key_document c.args.fields.now) c.fields-test.true c.field-item.is c.in_ok-push.ensures.items
+    pair_more c.args.fields.now c.fields.field-index c.field-item.result c.fields.pairs.items c.push.new.self.items _
+    (key_document c.args.fields.now) c.fields-test.true c.field-item.is c.in_ok-push.ensures.items
     (c.in_ok-from_str.ensures ∙ c.text.ensures.text) (c.direction_value.ensures ∙ ap direction_value c.direction.ensures) c.fields.invariant
 
 pub returns : goal.returns
 returns c =
     sym (append-none (pairs_of c.fields.pairs.items))
-    ∙ ap (λ (fs : List Field). append (pairs_of c.fields.pairs.items) (key_document fs)) (sym (drop_all c.fields.field-index c.args.fields.now c.fields-test.false))
+    ∙ ap (λ (fs : List Field). append (pairs_of c.fields.pairs.items) (key_document fs))
+    (sym (drop_all c.fields.field-index c.args.fields.now c.fields-test.false))
     ∙ c.fields.invariant

@@ -19,7 +19,8 @@ spelled_by number is = frame_of (pairs_bytes (catalogue_value number is))
 
 pub returns-in_default-clause-reads : goal.returns-in_default-clause-reads
 returns-in_default-clause-reads c k kept e =
-    absurd (c.in_default.not-Some (catalogue_value k.number k.indexes) (c.in_ok-document.ensures.reads (catalogue_value k.number k.indexes) (kept_spells k c.args.value.now kept e)))
+    absurd (c.in_default.not-Some (catalogue_value k.number k.indexes)
+    (c.in_ok-document.ensures.reads (catalogue_value k.number k.indexes) (kept_spells k c.args.value.now kept e)))
 
 pub indexed_bytes-requires : goal.indexed_bytes-requires
 indexed_bytes-requires c =
@@ -29,23 +30,32 @@ indexed_bytes-requires c =
 pub returns-in_default-2-clause-reads : goal.returns-in_default-2-clause-reads
 returns-in_default-2-clause-reads c k kept e =
     let read = c.in_ok-document.ensures.reads (catalogue_value k.number k.indexes) (kept_spells k c.args.value.now kept e) in
-    sym (ap (option_map parts) c.in_default-2.is) ∙ c.in_ok-told.ensures.parts k.number k.indexes kept.least kept.most kept.few (kept_lawful k kept) (same_some (sym c.in-Some.is ∙ read))
+    sym (ap (option_map parts) c.in_default-2.is)
+    ∙ c.in_ok-told.ensures.parts k.number k.indexes kept.least kept.most kept.few (kept_lawful k kept) (same_some (sym c.in-Some.is ∙ read))
 
 pub returns-then-ne-clause-reads : goal.returns-then-ne-clause-reads
 returns-then-ne-clause-reads c k kept e =
     let read = c.in_ok-document.ensures.reads (catalogue_value k.number k.indexes) (kept_spells k c.args.value.now kept e) in
     let told : (c.in-Some-2.told.number, c.in-Some-2.told.indexes.items) ≡ (k.number, k.indexes) =
-    told_pair (sym (ap (option_map parts) c.in-Some-2.is) ∙ c.in_ok-told.ensures.parts k.number k.indexes kept.least kept.most kept.few (kept_lawful k kept) (same_some (sym c.in-Some.is ∙ read))) in
+    told_pair (sym (ap (option_map parts) c.in-Some-2.is)
+    ∙ c.in_ok-told.ensures.parts k.number k.indexes kept.least kept.most kept.few (kept_lawful k kept) (same_some (sym c.in-Some.is ∙ read))) in
     absurd (not_differing c.as_slice.result.now c.args.value.now c.ne.result c.ne.ensures c.if-ne.true
-    (c.as_slice.ensures.value ∙ c.in_ok-bytes.ensures.bytes ∙ ap (spelled_by c.in-Some-2.told.number) c.deref.ensures.value ∙ (λ t. spelled_by (told t).0 (told t).1) ∙ sym e))
+    (c.as_slice.ensures.value ∙ c.in_ok-bytes.ensures.bytes ∙ ap (spelled_by c.in-Some-2.told.number) c.deref.ensures.value
+    ∙ (λ t. spelled_by (told t).0 (told t).1) ∙ sym e))
 
 pub returns-clause-reads : goal.returns-clause-reads
 returns-clause-reads c k kept e =
     let read = c.in_ok-document.ensures.reads (catalogue_value k.number k.indexes) (kept_spells k c.args.value.now kept e) in
-    sym (ap (option_map parts) c.in-Some-2.is) ∙ c.in_ok-told.ensures.parts k.number k.indexes kept.least kept.most kept.few (kept_lawful k kept) (same_some (sym c.in-Some.is ∙ read))
+    sym (ap (option_map parts) c.in-Some-2.is)
+    ∙ c.in_ok-told.ensures.parts k.number k.indexes kept.least kept.most kept.few (kept_lawful k kept) (same_some (sym c.in-Some.is ∙ read))
 
 pub returns-clause-only : goal.returns-clause-only
 returns-clause-only c =
     let limits : Limits c.in-Some-2.told = subst (λ (o : Option Catalogued). IfSome o Limits) c.in-Some-2.is c.in_ok-told.ensures.limits in
-    let same = same_bytes c.as_slice.result.now c.args.value.now c.ne.result c.ne.ensures c.if-ne.false in
-    (limits.0, limits.1, limits.2, sym same ∙ c.as_slice.ensures.value ∙ c.in_ok-bytes.ensures.bytes ∙ ap (spelled_by c.in-Some-2.told.number) c.deref.ensures.value)
+    let same = same_bytes c.as_slice.result.now c.args.value.now c.ne.result c.ne.ensures c.if-ne.false in (
+      limits.0,
+      limits.1,
+      limits.2,
+      sym same ∙ c.as_slice.ensures.value ∙ c.in_ok-bytes.ensures.bytes
+          ∙ ap (spelled_by c.in-Some-2.told.number) c.deref.ensures.value,
+    )

@@ -9,14 +9,16 @@ pub edits-init : goal.edits-init
 edits-init c = record {
   can = tt;
   finite = tt;
-  same = ap (λ (es : List TreeEdit). map edit_in es ++ edits_in c.into_iter-edit-iterator.result) c.in_ok-all.ensures.items ∙ ap edits_in c.into_iter-edit-iterator.ensures.into_iter_gives.0;
+  same = ap (λ (es : List TreeEdit). map edit_in es ++ edits_in c.into_iter-edit-iterator.result) c.in_ok-all.ensures.items
+      ∙ ap edits_in c.into_iter-edit-iterator.ensures.into_iter_gives.0;
 }
 
 pub edits-preserved : goal.edits-preserved
 edits-preserved c = record {
   can = tt;
   finite = tt;
-  same = one_more c.edits.all.items c.push.new.self.items c.tree_edit.result (c.in-Some.edit.0.now, c.in-Some.edit.1.now) c.edits.edit-iterator c.next.new.self (edits_in c.args.noted.now.entries)
+  same = one_more c.edits.all.items c.push.new.self.items c.tree_edit.result (c.in-Some.edit.0.now, c.in-Some.edit.1.now) c.edits.edit-iterator c.next.new.self
+      (edits_in c.args.noted.now.entries)
       c.in_ok-push.ensures.items c.tree_edit.ensures c.in-Some.ensures.steps c.edits.invariant.same;
 }
 

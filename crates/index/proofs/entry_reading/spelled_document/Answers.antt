@@ -5,10 +5,12 @@ use Rattle.index.proofs.ReadingLemmas.{same_document}
 use Rattle.index.proofs.entry_reading.spelled_document.Goals as goal
 
 pub returns-else-len-bytes-clause-reads : goal.returns-else-len-bytes-clause-reads
-returns-else-len-bytes-clause-reads c ps spells = ap (λ (d : Pairs). Some d) (same_document (c.in-Ok.ensures.only c.args.bytes.now [] ps spells (sym (append-nil c.args.bytes.now))))
+returns-else-len-bytes-clause-reads c ps spells =
+    ap (λ (d : Pairs). Some d) (same_document (c.in-Ok.ensures.only c.args.bytes.now [] ps spells (sym (append-nil c.args.bytes.now))))
 
 pub returns-in_default : goal.returns-in_default
 returns-in_default c = record {
-  reads = λ ps spells. let refused = c.in-Err.ensures.only c.args.bytes.now [] ps spells (sym (append-nil c.args.bytes.now)) c.in_default.not-Memory in absurd cc;
+  reads = λ ps spells. let refused = c.in-Err.ensures.only c.args.bytes.now [] ps spells (sym (append-nil c.args.bytes.now)) c.in_default.not-Memory in
+      absurd cc;
   only = tt;
 }

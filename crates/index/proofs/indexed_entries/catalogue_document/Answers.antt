@@ -6,7 +6,8 @@ use Rattle.index.proofs.CatalogueValues.{definitions_array}
 use Rattle.index.proofs.indexed_entries.catalogue_document.Goals as goal
 
 pub from_items-requires : goal.from_items-requires
-from_items-requires c = subst (λ (ts : Items). IsArray ts) (sym c.in_ok-values.ensures.items) (definitions_array c.args.indexes.now c.in_ok-values.ensures.lawful)
+from_items-requires c =
+    subst (λ (ts : Items). IsArray ts) (sym c.in_ok-values.ensures.items) (definitions_array c.args.indexes.now c.in_ok-values.ensures.lawful)
 
 pub put-requires-2-clause-flat : goal.put-requires-2-clause-flat
 put-requires-2-clause-flat c = omega (arith, items_flat c.args.indexes.now, ap items_levels c.in_ok-values.ensures.items, ap items_levels c.from_items.ensures)

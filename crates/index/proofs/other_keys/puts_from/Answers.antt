@@ -38,7 +38,8 @@ returns-then-puts_another c =
     let e : Noted = (c.in-Some.edit.0.now, c.in-Some.edit.1.now) in
     let is = c.in-Some.ensures.steps in
     found_place front c.args.id.now e c.next.new.self (puts_another front c.args.id.now (edits_in c.args.edits))
-    (ap (λ (k : List ℕ). is_some c.in-Some.edit.1.now && is_another front c.args.id.now k) (sym c.deref-in-edits.ensures.value) ∙ sym c.puts_another.ensures ∙ c.if-puts_another.true)
+    (ap (λ (k : List ℕ). is_some c.in-Some.edit.1.now && is_another front c.args.id.now k) (sym c.deref-in-edits.ensures.value) ∙ sym c.puts_another.ensures
+    ∙ c.if-puts_another.true)
     (sym (ap (λ (es : List Noted). puts_another front c.args.id.now (edits_in es)) is) ∙ c.edits.invariant.same)
 
 pub edits-preserved : goal.edits-preserved
@@ -54,7 +55,8 @@ edits-preserved c =
       rises = rises.1;
       above = above.1;
       same = on_place front c.args.id.now e c.next.new.self (puts_another front c.args.id.now (edits_in c.args.edits))
-          (ap (λ (k : List ℕ). is_some c.in-Some.edit.1.now && is_another front c.args.id.now k) (sym c.deref-in-edits.ensures.value) ∙ sym c.puts_another.ensures ∙ c.if-puts_another.false)
+          (ap (λ (k : List ℕ). is_some c.in-Some.edit.1.now && is_another front c.args.id.now k) (sym c.deref-in-edits.ensures.value)
+          ∙ sym c.puts_another.ensures ∙ c.if-puts_another.false)
           (sym (ap (λ (es : List Noted). puts_another front c.args.id.now (edits_in es)) is) ∙ c.edits.invariant.same);
     }
 

@@ -10,12 +10,14 @@ fields-init c = refl
 
 pub returns-then-not-is_same_field : goal.returns-then-not-is_same_field
 returns-then-not-is_same_field c =
-    differ_here c.args.a.now c.args.b.now c.fields.at c.if-a-b.false c.fields.invariant c.index-a-at.result c.index-b-at.result c.fields-test.true c.index-a-at.is c.index-b-at.is
+    differ_here c.args.a.now c.args.b.now c.fields.at c.if-a-b.false c.fields.invariant c.index-a-at.result c.index-b-at.result c.fields-test.true
+    c.index-a-at.is c.index-b-at.is
     (sym c.is_same_field.ensures ∙ c.if-not-is_same_field.true)
 
 pub fields-preserved : goal.fields-preserved
 fields-preserved c =
-    same_here c.args.a.now c.args.b.now c.fields.at c.if-a-b.false c.fields.invariant c.index-a-at.result c.index-b-at.result c.fields-test.true c.index-a-at.is c.index-b-at.is
+    same_here c.args.a.now c.args.b.now c.fields.at c.if-a-b.false c.fields.invariant c.index-a-at.result c.index-b-at.result c.fields-test.true
+    c.index-a-at.is c.index-b-at.is
     (sym c.is_same_field.ensures ∙ c.if-not-is_same_field.false)
 
 pub returns : goal.returns

@@ -8,13 +8,16 @@ use Rattle.statements.proofs.Numbers.{searched_all, searched_found, searched_non
 use Rattle.index_list.proofs.new_indexes.unused_number.Goals as goal
 
 pub numbers-init : goal.numbers-init
-numbers-init c = searched_none (numbered c.args.indexes.now) (length c.args.indexes.now) (sym (length-map c.args.indexes.now (λ (i : Definition). empty_collection [] i.number)))
+numbers-init c =
+    searched_none (numbered c.args.indexes.now) (length c.args.indexes.now)
+    (sym (length-map c.args.indexes.now (λ (i : Definition). empty_collection [] i.number)))
 
 pub numbers-preserved : goal.numbers-preserved
 numbers-preserved c =
     let is = c.args.indexes.now in
     let n = c.numbers.number in
-    searched_one (numbered is) (length is) c.numbers.counter n c.numbers.invariant c.numbers-test.true (has_number_is is n ∙ sym c.has_number.ensures ∙ c.if-not-has_number.false)
+    searched_one (numbered is) (length is) c.numbers.counter n c.numbers.invariant c.numbers-test.true
+    (has_number_is is n ∙ sym c.has_number.ensures ∙ c.if-not-has_number.false)
 
 pub returns-then-not-has_number-clause-number : goal.returns-then-not-has_number-clause-number
 returns-then-not-has_number-clause-number c =
@@ -26,7 +29,9 @@ pub returns-then-not-has_number-clause-within : goal.returns-then-not-has_number
 returns-then-not-has_number-clause-within c = (omega (arith, c.numbers.invariant.number_is), omega (arith, c.numbers.invariant.number_is, c.numbers-test.true))
 
 pub returns-clause-number : goal.returns-clause-number
-returns-clause-number c = searched_all (numbered c.args.indexes.now) (length c.args.indexes.now) c.numbers.counter c.numbers.number c.numbers.invariant (omega (arith, c.numbers-test.false))
+returns-clause-number c =
+    searched_all (numbered c.args.indexes.now) (length c.args.indexes.now) c.numbers.counter c.numbers.number c.numbers.invariant
+    (omega (arith, c.numbers-test.false))
 
 pub returns-clause-within : goal.returns-clause-within
 returns-clause-within c = (omega (arith, c.numbers.invariant.number_is), omega (arith, c.numbers.invariant.number_is, c.numbers.auto.counter-end))

@@ -9,7 +9,9 @@ documents-smaller c = part_shrinks c.documents.rest.now (c.in-Ok.field-0-0.now, 
 
 pub documents-preserved : goal.documents-preserved
 documents-preserved c =
-    sym (ap (λ (o : List (List ℕ) × List ℕ). o.1) (one_more part_at part_shrinks c.documents.rest.now (c.in-Ok.field-0-0.now, c.in-Ok.after.now) c.in-Ok.ensures)) ∙ c.documents.invariant
+    sym (ap (λ (o : List (List ℕ) × List ℕ). o.1)
+    (one_more part_at part_shrinks c.documents.rest.now (c.in-Ok.field-0-0.now, c.in-Ok.after.now) c.in-Ok.ensures)) ∙ c.documents.invariant
 
 pub returns : goal.returns
-returns c = ap not c.is_empty.ensures ∙ ap is_more (sym (all_left part_at c.args.bytes.now c.documents.rest.now c.in_default.field-0 c.documents.invariant c.in_default.ensures))
+returns c = ap not c.is_empty.ensures
+    ∙ ap is_more (sym (all_left part_at c.args.bytes.now c.documents.rest.now c.in_default.field-0 c.documents.invariant c.in_default.ensures))

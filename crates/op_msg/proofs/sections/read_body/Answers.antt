@@ -1,7 +1,8 @@
 use Rattle.std.proofs.Common.{List, ℕ, refl, sym, ap, subst, ◌∙◌, length, arith}
 use Rattle.op_msg.specs.Frame.{Section, section_at, sections_in, names_of, bodies_of}
 use Rattle.op_msg.specs.View.{Finds, section_of, body_with}
-use Rattle.op_msg.proofs.SectionWalks.{one_more, no_more, all_left, section_shrinks, only_first, names_counted, one_at_most, no_names, wrong_end, right_sections}
+use Rattle.op_msg.proofs.SectionWalks.{one_more, no_more, all_left, section_shrinks, only_first, names_counted, one_at_most, no_names, wrong_end}
+use Rattle.op_msg.proofs.SectionWalks.{right_sections}
 use Rattle.op_msg.proofs.sections.read_body.Goals as goal
 
 pub sections-init : goal.sections-init
@@ -24,7 +25,9 @@ sections-preserved c =
 
 pub returns-then-not-is_empty : goal.returns-then-not-is_empty
 returns-then-not-is_empty c =
-    wrong_end (sections_in c.args.bytes.now) c.sections.rest.now c.is_empty.result (all_left section_at c.args.bytes.now c.sections.rest.now c.in_default.field-0 c.sections.invariant.2 c.in_default.ensures) c.is_empty.ensures c.if-not-is_empty.true
+    wrong_end (sections_in c.args.bytes.now) c.sections.rest.now c.is_empty.result
+    (all_left section_at c.args.bytes.now c.sections.rest.now c.in_default.field-0 c.sections.invariant.2 c.in_default.ensures) c.is_empty.ensures
+    c.if-not-is_empty.true
 
 pub has_name_twice-requires : goal.has_name_twice-requires
 has_name_twice-requires c = omega (arith, c.sections.invariant.1, ap length (no_names c.sections.rest.now c.in_default.field-0 c.in_default.ensures))
@@ -32,6 +35,9 @@ has_name_twice-requires c = omega (arith, c.sections.invariant.1, ap length (no_
 pub returns : goal.returns
 returns c =
     let left = all_left section_at c.args.bytes.now c.sections.rest.now c.in_default.field-0 c.sections.invariant.2 c.in_default.ensures in
-    let none = ap (λ (o : List Section × List ℕ). body_with c.sections.found o.0) (no_more section_at c.sections.rest.now c.in_default.field-0 c.in_default.ensures) in
-    let right = right_sections (sections_in c.args.bytes.now) c.sections.rest.now c.is_empty.result c.has_name_twice.result left c.is_empty.ensures c.if-not-is_empty.false c.has_name_twice.ensures c.if-has_name_twice.false in
+    let none = ap (λ (o : List Section × List ℕ). body_with c.sections.found o.0)
+    (no_more section_at c.sections.rest.now c.in_default.field-0 c.in_default.ensures) in
+    let right = right_sections
+    (sections_in c.args.bytes.now) c.sections.rest.now c.is_empty.result c.has_name_twice.result left c.is_empty.ensures c.if-not-is_empty.false
+    c.has_name_twice.ensures c.if-has_name_twice.false in
     subst (Finds (λ b. b.now) c.only_body.result) (sym none ∙ c.sections.invariant.0 ∙ right) c.only_body.ensures

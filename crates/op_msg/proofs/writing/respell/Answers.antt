@@ -11,4 +11,5 @@ returns c =
     let len : n ≡ length body + 21 = search rules in
     let front : c.deref_mut.result.now ≡ take n frame = search rules in
     let same : length c.put_body.new.frame ≡ n = search rules in
-    respelled_front frame body c.put_body.new.frame _ n (omega (arith, c.requires.room)) len same (c.put_body.ensures.body ∙ ap (λ (f : List ℕ). respelled f body) front)
+    respelled_front frame body c.put_body.new.frame _ n (omega (arith, c.requires.room)) len same
+    (c.put_body.ensures.body ∙ ap (λ (f : List ℕ). respelled f body) front)

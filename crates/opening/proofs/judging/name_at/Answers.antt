@@ -36,11 +36,15 @@ returns-then-not-are_apart c =
 
 pub returns : goal.returns
 returns c =
-    let key = subst (λ found. IfSome found (λ s. c.deref.result.now ≡ key_under 0 0 (tree_text (words (string_bytes s))))) c.in-Some.is c.in_ok-namespace.ensures.only in
+    let key = subst
+    (λ found. IfSome found (λ s. c.deref.result.now ≡ key_under 0 0 (tree_text (words (string_bytes s))))) c.in-Some.is c.in_ok-namespace.ensures.only in
     let told =
-    subst (λ found. IfSome found (λ e. (1 ≤ e.number) × (e.number ≤ 1000) × (length e.indexes.items ≤ 16) × (c.deref-2.result.now ≡ frame_of (pairs_bytes (catalogue_value e.number e.indexes.items))))) c.in-Some-2.is c.in_ok-told.ensures.only in
+    subst (λ found. IfSome found
+    (λ e. (1 ≤ e.number) × (e.number ≤ 1000) × (length e.indexes.items ≤ 16)
+    × (c.deref-2.result.now ≡ frame_of (pairs_bytes (catalogue_value e.number e.indexes.items))))) c.in-Some-2.is c.in_ok-told.ensures.only in
     let is = c.in-Some-2.told.indexes.items in
-    let apart : are_apart c.in-Some-2.told.indexes.items ≡ true = ap are_apart (sym c.deref-3.ensures.value) ∙ sym c.are_apart.ensures.apart ∙ c.if-not-are_apart.false in
+    let apart : are_apart c.in-Some-2.told.indexes.items ≡ true =
+    ap are_apart (sym c.deref-3.ensures.value) ∙ sym c.are_apart.ensures.apart ∙ c.if-not-are_apart.false in
     record {
       pair_is = λ i. record { key = (sym c.deref.ensures.value ∙ key) i; value = (sym c.deref-2.ensures.value ∙ told.3) i };
       plain = refl;
@@ -48,7 +52,8 @@ returns c =
           (subst IsUtf8 c.as_str.ensures.value c.text_len.ensures.text)
           (omega (arith, c.if-text_len-gt-NAMESPACE_LIMIT.false, c.text_len.ensures.len, ap length c.as_str.ensures.value))
           told.0 told.1 told.2
-          (subst (λ (ds : List Definition). AllByRecursion IsDefinition ds) c.deref-3.ensures.value (c.are_apart.ensures.lawful c.if-not-are_apart.false)) apart;
+          (subst (λ (ds : List Definition). AllByRecursion IsDefinition ds) c.deref-3.ensures.value (c.are_apart.ensures.lawful c.if-not-are_apart.false))
+          apart;
       behind = sym c.if-not-is_last.ensures;
       room = omega (arith, c.if-names-ge-MOST_COLLECTIONS.false, length-map c.args.names.now named_as);
     }

@@ -16,5 +16,7 @@ returns-in-Ok c =
     let placed = sym c.position.ensures ∙ c.in-Some-eq0.is ∙ ap Some c.in-Some-eq0.field-0-test in
     let id = sym c.id_of.ensures ∙ ap (option_map (λ v. tree v.now)) c.in-Some.is in
     let text = c.in-Ok.ensures.text in
-    let stored = is_stored c.args.document.now (tree c.in-Some.id.now) limits names c.levels-levels.ensures.lawful placed id (omega (arith, c.in-Ok.ensures.short, ap length text)) in
+    let stored =
+    is_stored c.args.document.now (tree c.in-Some.id.now) limits names c.levels-levels.ensures.lawful placed id
+    (omega (arith, c.in-Ok.ensures.short, ap length text)) in
     (stored.0, text ∙ stored.1)

@@ -23,7 +23,8 @@ returns-in-Ok-None-clause-loads g c =
     let last = progress_of c.load_batch.new.loading c.load_batch.new.told.value.now in
     let mid = c.batches.file in
     let new = c.load_batch.new.file in
-    let batch = subst (λ key. LoadsBatch history key (Ok None) p last mid new) c.deref.ensures.value (subst (λ o. LoadsBatch history c.deref.result.now (Ok o) p last mid new) c.in-Ok-None.field-0-is c.in-Ok-None.ensures.loads) in
+    let batch = subst (λ key. LoadsBatch history key (Ok None) p last mid new) c.deref.ensures.value
+    (subst (λ o. LoadsBatch history c.deref.result.now (Ok o) p last mid new) c.in-Ok-None.field-0-is c.in-Ok-None.ensures.loads) in
     loads_end history from p c.args.file.now mid new c.batches.invariant.up_to last batch
 
 pub returns-in-Err-clause-loads : goal.returns-in-Err-clause-loads
@@ -46,7 +47,8 @@ batches-preserved g c =
     let mid = c.batches.file in
     let new = c.load_batch.new.file in
     let next = c.in-Ok-Some.next in
-    let batch = subst (λ key. LoadsBatch history key (Ok (Some next)) p last mid new) c.deref.ensures.value (subst (λ o. LoadsBatch history c.deref.result.now (Ok o) p last mid new) c.in-Ok-Some.field-0-is c.in-Ok-Some.ensures.loads) in
+    let batch = subst (λ key. LoadsBatch history key (Ok (Some next)) p last mid new) c.deref.ensures.value
+    (subst (λ o. LoadsBatch history c.deref.result.now (Ok o) p last mid new) c.in-Ok-Some.field-0-is c.in-Ok-Some.ensures.loads) in
     record {
       loading = c.in-Ok-Some.ensures.loading;
       up_to = loads_more history from p c.args.file.now mid new c.batches.invariant.up_to next last batch;

@@ -18,12 +18,16 @@ returns-clause-loading c =
     let next = c.change.new.self.value.now in
     let name = c.in-Ok.name in
     let pair = entry_in c.args.entry.now in
-    let is : IsName (map named_as old) pair (named_as name) = subst (λ xs. IsName (map named_as xs) pair (named_as name)) c.deref.ensures.value c.in-Ok.ensures in
-    let one : IsLoadingAs (map named_as old ++ named_as name ∷ []) (put_collection (named_as name) now) = name_loaded (map named_as old) now pair (named_as name) c.requires is in
+    let is : IsName (map named_as old) pair (named_as name) =
+    subst (λ xs. IsName (map named_as xs) pair (named_as name)) c.deref.ensures.value c.in-Ok.ensures in
+    let one : IsLoadingAs (map named_as old ++ named_as name ∷ []) (put_collection (named_as name) now) =
+    name_loaded (map named_as old) now pair (named_as name) c.requires is in
     elim c.match-push.branch [
       | in-Ok-push w ↦
-          let names : map named_as new ≡ map named_as old ++ named_as name ∷ [] = ap (map named_as) w.in-Ok-push.ensures.items ∙ map_append named_as old (name ∷ []) in
+          let names : map named_as new ≡ map named_as old ++ named_as name ∷ [] =
+          ap (map named_as) w.in-Ok-push.ensures.items ∙ map_append named_as old (name ∷ []) in
           subst (λ r. OnOk r (IsLoadingAs (map named_as new) next)) (sym w.result-is)
-          (subst (λ ns. IsLoadingAs ns next) (sym names) (subst (IsLoadingAs (map named_as old ++ named_as name ∷ [])) (sym (ap (λ (k : Known). k.now) c.change.ensures)) one))
+          (subst (λ ns. IsLoadingAs ns next) (sym names)
+          (subst (IsLoadingAs (map named_as old ++ named_as name ∷ [])) (sym (ap (λ (k : Known). k.now) c.change.ensures)) one))
       | in-Err-push w ↦ subst (λ r. OnOk r (IsLoadingAs (map named_as new) next)) (sym w.result-is) tt
     ]

@@ -5,7 +5,8 @@ use Rattle.page.specs.Format.{item_in, items_at}
 use Rattle.page.proofs.ReadLemmas.{slice_same}
 use Rattle.page.proofs.leaves.cells_rise.Goals as goal
 
-judged : (bytes places rest : List ℕ) (first : ℕ) (item : Item) (ascend : Bool) → places ≡ first ∷ rest → item ≡ item_in (take (length bytes - first) (drop first bytes))
+judged : (bytes places rest : List ℕ) (first : ℕ) (item : Item) (ascend : Bool) → places ≡ first ∷ rest
+    → item ≡ item_in (take (length bytes - first) (drop first bytes))
     → ascend ≡ rise_above item.key (map (λ at. (item_in (drop at bytes)).key) rest) → ascend ≡ rise (item_keys (items_at bytes places))
 judged bytes places rest first item ascend split is found =
     found
@@ -15,4 +16,5 @@ judged bytes places rest first item ascend split is found =
 
 pub returns : goal.returns
 returns c =
-    judged c.args.bytes.now c.args.places.now c.in-Some.rest.now c.in-Some.first.now _ c.keys_rise.result c.in-Some.ensures.cases.0 c.leaf_cell.ensures c.keys_rise.ensures
+    judged c.args.bytes.now c.args.places.now c.in-Some.rest.now c.in-Some.first.now _ c.keys_rise.result c.in-Some.ensures.cases.0 c.leaf_cell.ensures
+    c.keys_rise.ensures

@@ -19,4 +19,5 @@ unfolding page_bytes
 returns c =
     let b = c.args.numbers.now in
     rw (c.write_u32_into.ensures, c.copy_from_slice.ensures.after, c.linked_head.ensures)
-    (ap (λ (r : List ℕ). (header 4 (length b) c.args.page c.args.generation ++ little_bytes 4 c.args.next) ++ (flat_map (little_bytes 4) b ++ r)) (tail_zeros b c.requires))
+    (ap (λ (r : List ℕ). (header 4 (length b) c.args.page c.args.generation ++ little_bytes 4 c.args.next) ++ (flat_map (little_bytes 4) b ++ r))
+    (tail_zeros b c.requires))

@@ -10,6 +10,8 @@ loop-i-preserved c =
     record {
       numbers =
           c.loop-i.invariant.numbers ∙ numbers_step c.loop-i.numbers.items c.args.count c.loop-i.i c.args.bytes.now (omega arith)
-          ∙ ap (λ (l : List ℕ). l ++ more) (ap (λ (n : ℕ). c.loop-i.numbers.items ++ n ∷ []) (ap (little_number 4) (sym (slice_same (4 * c.loop-i.i) c.args.bytes.now)) ∙ sym c.read_u32.ensures) ∙ sym c.in_ok-push.ensures.items);
+          ∙ ap (λ (l : List ℕ). l ++ more)
+          (ap (λ (n : ℕ). c.loop-i.numbers.items ++ n ∷ [])
+          (ap (little_number 4) (sym (slice_same (4 * c.loop-i.i) c.args.bytes.now)) ∙ sym c.read_u32.ensures) ∙ sym c.in_ok-push.ensures.items);
       len = omega (arith, c.in_ok-push.ensures.len, c.loop-i.invariant.len);
     }

@@ -8,10 +8,18 @@ use Rattle.page.specs.Page.{bytes_from}
 use Rattle.page.proofs.Moments.{reads_further, reads_one}
 use Rattle.page.proofs.pages.read_page.Goals as goal
 
-put_long : (i : ℕ) (bytes sector : List ℕ) → i < 8 → length sector ≡ 512 → length bytes ≡ 4096 → length (put_mid (512 * i) (512 * i + 512 - 512 * i) bytes sector) ≡ 4096
+put_long : (i : ℕ) (bytes sector : List ℕ) → i < 8 → length sector ≡ 512 → length bytes ≡ 4096
+    → length (put_mid (512 * i) (512 * i + 512 - 512 * i) bytes sector) ≡ 4096
 put_long i bytes sector within full long =
-    let rest : length (post_of (512 * i) (512 * i + 512 - 512 * i) bytes) ≡ 4096 - (512 * i + 512) = omega (arith, length-drop (512 * i + 512 - 512 * i) (drop (512 * i) bytes), length-drop (512 * i) bytes, long) in
-    omega (arith, length-append (take (512 * i) bytes) (sector ++ post_of (512 * i) (512 * i + 512 - 512 * i) bytes), length-append sector (post_of (512 * i) (512 * i + 512 - 512 * i) bytes), length-take (512 * i) bytes, rest)
+    let rest : length (post_of (512 * i) (512 * i + 512 - 512 * i) bytes) ≡ 4096 - (512 * i + 512) =
+    omega (arith, length-drop (512 * i + 512 - 512 * i) (drop (512 * i) bytes), length-drop (512 * i) bytes, long) in
+    omega (
+      arith,
+      length-append (take (512 * i) bytes) (sector ++ post_of (512 * i) (512 * i + 512 - 512 * i) bytes),
+      length-append sector (post_of (512 * i) (512 * i + 512 - 512 * i) bytes),
+      length-take (512 * i) bytes,
+      rest,
+    )
 
 pub returns-in_err-read-clause-reads : goal.returns-in_err-read-clause-reads
 returns-in_err-read-clause-reads g c =
@@ -31,13 +39,15 @@ loop-i-preserved g c =
     let sector = c.read.new.bytes in
     record {
       only = reads_further h0 h1 h2 c.loop-i.invariant.only (reads_one h1 h2 _ c.read.ensures.time (λ keeps. c.read.ensures.same keeps));
-      long = (let same : length c.copy_from_slice.new.self ≡ 512 = omega (arith, c.copy_from_slice.ensures.len) in put_long i bytes c.copy_from_slice.new.self (omega arith) same c.loop-i.invariant.long);
+      long = (let same : length c.copy_from_slice.new.self ≡ 512 = omega (arith, c.copy_from_slice.ensures.len) in
+          put_long i bytes c.copy_from_slice.new.self (omega arith) same c.loop-i.invariant.long);
       so_far = λ keeps.
           let before = c.read.ensures.time.kept keeps in
           let room : 512 * i ≤ length bytes = omega arith in
           let long : length c.copy_from_slice.new.self ≡ 512 = omega (arith, c.copy_from_slice.ensures.len) in
           let is : c.copy_from_slice.new.self ≡ reads (now h0) (page + i) =
-          c.copy_from_slice.ensures.after ∙ c.in_ok-read.ensures.value keeps ∙ ap (λ (s : ℕ → Sector). reads s (page + i)) (c.loop-i.invariant.only.same before) in
+          c.copy_from_slice.ensures.after ∙ c.in_ok-read.ensures.value keeps
+          ∙ ap (λ (s : ℕ → Sector). reads s (page + i)) (c.loop-i.invariant.only.same before) in
           let front : take (512 * i) bytes ≡ bytes_from (reads (now h0)) page i = c.loop-i.invariant.so_far before in
           let next : suc i ≡ i + 1 = omega arith in
           take-put_mid (512 * i) (512 * i + 512 - 512 * i) bytes c.copy_from_slice.new.self (512 * (i + 1)) (omega (arith, long)) room

@@ -10,5 +10,7 @@ returns c =
     let front = take c.args.at bytes in
     let four = little_bytes 4 c.args.number in
     c.in_ok-extend_from_slice-2.ensures.items
-    ∙ (λ i. (c.in_ok-append_number.ensures ∙ ap (λ (l : List ℕ). l ++ four) (c.in_ok-extend_from_slice.ensures.items ∙ ap (λ (l : List ℕ). l ++ front) c.in_ok-made.ensures.items)) i ++ slice_same next bytes i)
+    ∙ (λ i. (c.in_ok-append_number.ensures
+    ∙ ap (λ (l : List ℕ). l ++ four) (c.in_ok-extend_from_slice.ensures.items ∙ ap (λ (l : List ℕ). l ++ front) c.in_ok-made.ensures.items)) i
+    ++ slice_same next bytes i)
     ∙ append_assoc front four (drop next bytes)

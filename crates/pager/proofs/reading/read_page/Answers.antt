@@ -6,24 +6,28 @@ use Rattle.pager.proofs.ReadLemmas.{found_kept, read_cause, read_done, read_fail
 use Rattle.pager.proofs.reading.read_page.Goals as goal
 
 pub returns-in-Some : goal.returns-in-Some
-returns-in-Some g c = found_kept g.D.Disk.history c.args.store.now c.args.page c.in-Some.shared c.args.cache.now c.get.new.self c.in-Some.ensures.found c.get.ensures.same
+returns-in-Some g c =
+    found_kept g.D.Disk.history c.args.store.now c.args.page c.in-Some.shared c.args.cache.now c.get.new.self c.in-Some.ensures.found c.get.ensures.same
 
 pub returns-in-Err : goal.returns-in-Err
 returns-in-Err g c =
     let history = g.D.Disk.history in
     let old = c.args.store.now in
     let new = c.read.new.self in
-    let only : OnlyRead history old new = record { root = c.read.ensures.reads.root; stopped = c.read.ensures.reads.stopped; reads = c.read.ensures.looks.reads } in
+    let only : OnlyRead history old new = record
+    { root = c.read.ensures.reads.root; stopped = c.read.ensures.reads.stopped; reads = c.read.ensures.looks.reads } in
     subst (λ (f : TreeFault). ReadsPage history c.args.page (Err f) old new c.args.cache.now c.get.new.self) (sym c.tree_fault.ensures)
     (read_failed history old new only c.args.page (tree_fault c.in-Err.fault) c.args.cache.now c.get.new.self c.get.ensures.same
-    (λ k found is. read_cause (history old.disk) (history new.disk) c.in-Err.fault (sheet_in history old c.args.page) found c.in-Err.ensures.looks.cause (c.in-Err.ensures.reads.sheet k) k is))
+    (λ k found is. read_cause (history old.disk) (history new.disk) c.in-Err.fault (sheet_in history old c.args.page) found c.in-Err.ensures.looks.cause
+    (c.in-Err.ensures.reads.sheet k) k is))
 
 pub returns-in_default-new : goal.returns-in_default-new
 returns-in_default-new g c =
     let history = g.D.Disk.history in
     let old = c.args.store.now in
     let new = c.read.new.self in
-    let only : OnlyRead history old new = record { root = c.read.ensures.reads.root; stopped = c.read.ensures.reads.stopped; reads = c.read.ensures.looks.reads } in
+    let only : OnlyRead history old new = record
+    { root = c.read.ensures.reads.root; stopped = c.read.ensures.reads.stopped; reads = c.read.ensures.looks.reads } in
     read_failed history old new only c.args.page faults.Memory c.args.cache.now c.get.new.self c.get.ensures.same (λ k found is. tt)
 
 pub returns : goal.returns
@@ -31,6 +35,7 @@ returns g c =
     let history = g.D.Disk.history in
     let old = c.args.store.now in
     let new = c.read.new.self in
-    let only : OnlyRead history old new = record { root = c.read.ensures.reads.root; stopped = c.read.ensures.reads.stopped; reads = c.read.ensures.looks.reads } in
+    let only : OnlyRead history old new = record
+    { root = c.read.ensures.reads.root; stopped = c.read.ensures.reads.stopped; reads = c.read.ensures.looks.reads } in
     read_done history old new only c.args.page c.in-Ok-new.shared c.args.cache.now c.get.new.self c.keep_page.new.cache c.get.ensures.same c.keep_page.ensures
     (λ k. c.in-Ok.ensures.reads.sheet k ∙ ap Ok (sym c.in-Ok-new.ensures))

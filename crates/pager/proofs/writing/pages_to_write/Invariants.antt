@@ -8,4 +8,5 @@ use Rattle.pager.proofs.writing.pages_to_write.Given as goal
 -- those so far, and those that are left
 abbrev pub invariant-loop-shared : goal.invariant-loop-shared
 invariant-loop-shared l =
-    (l.written.items ++ written_of l.book (drop l.shared-index l.made) ≡ written_of l.book l.made) × AllByRecursion (λ (sheet : Sheet). IsContent sheet.content) l.written.items
+    (l.written.items ++ written_of l.book (drop l.shared-index l.made) ≡ written_of l.book l.made)
+    × AllByRecursion (λ (sheet : Sheet). IsContent sheet.content) l.written.items

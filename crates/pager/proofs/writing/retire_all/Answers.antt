@@ -5,7 +5,8 @@ use Rattle.pager.proofs.writing.retire_all.Goals as goal
 
 pub returns-in_err-retire-clause-back : goal.returns-in_err-retire-clause-back
 returns-in_err-retire-clause-back c =
-    ap (undone (length c.args.book.now.turn)) (c.in_err-retire.ensures.err ∙ c.loop-page.invariant) ∙ back_all c.args.version (take c.loop-page.page-index c.args.pages.now) c.args.book.now
+    ap (undone (length c.args.book.now.turn)) (c.in_err-retire.ensures.err ∙ c.loop-page.invariant)
+    ∙ back_all c.args.version (take c.loop-page.page-index c.args.pages.now) c.args.book.now
 
 pub loop-page-preserved : goal.loop-page-preserved
 loop-page-preserved c =

@@ -4,4 +4,5 @@ use Rattle.path.proofs.IndexLemmas.{item_at-levels}
 use Rattle.path.proofs.holding.take_item.Goals as goal
 
 pub returns-clause-levels : goal.returns-clause-levels
-returns-clause-levels c = omega (arith, c.levels-levels.ensures.lawful.depth, item_at-levels c.args.array.now c.args.at (tree c.in-Ok.value) c.in-Ok.ensures.old)
+returns-clause-levels c =
+    omega (arith, c.levels-levels.ensures.lawful.depth, item_at-levels c.args.array.now c.args.at (tree c.in-Ok.value) c.in-Ok.ensures.old)

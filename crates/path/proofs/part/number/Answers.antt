@@ -13,7 +13,8 @@ digits-preserved c =
     let whole : c.saturating_add-number.result ≡ min 18446744073709551615 (c.digits.number * 10 + (b - 48)) = omega arith in
     record {
       fits = omega arith;
-      same = number_step 18446744073709551615 c.digits.number c.saturating_add-number.result (number 0 c.args.digits.now) b (drop (c.digits.digit-index + 1) c.args.digits.now) (drop c.digits.digit-index c.args.digits.now) left whole c.digits.invariant.same;
+      same = number_step 18446744073709551615 c.digits.number c.saturating_add-number.result (number 0 c.args.digits.now) b
+          (drop (c.digits.digit-index + 1) c.args.digits.now) (drop c.digits.digit-index c.args.digits.now) left whole c.digits.invariant.same;
     }
 
 pub returns : goal.returns

@@ -25,5 +25,6 @@ scalar_step d (suc steps) byte class rest text some is same h g =
 pub behind_value-returns : goal.behind_value-returns
 behind_value-returns t c =
     c.behind_scalar.ensures
-    ∙ scalar_step c.args.direction c.args.steps c.in_ok-byte.byte.now c.plain-class.result c.in_ok-byte.rest.now c.args.text.now c.if-steps-eq0.false c.in_ok-byte.ensures.cases.0 c.plain-class.ensures
+    ∙ scalar_step c.args.direction c.args.steps c.in_ok-byte.byte.now c.plain-class.result c.in_ok-byte.rest.now c.args.text.now c.if-steps-eq0.false
+    c.in_ok-byte.ensures.cases.0 c.plain-class.ensures
     c.if-class-eq80.false c.if-class-eq96.false

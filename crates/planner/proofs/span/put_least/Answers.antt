@@ -19,7 +19,8 @@ returns-in-Ascending c =
     on_ok_more c.put_end.result
     (λ put. put ∙ ap (λ (text : List ℕ). c.args.out.now.items ++ text)
     (ap (λ (d : Direction). least_end d low high) (sym c.in-Ascending.is ∙ c.direction.ensures)
-    ∙ least_here low high (fields_of (index_of c.args.index)) c.args.place (field_of c.in-Some.field) (sym (ap (option_map field_of) c.in-Some.is) ∙ c.field_at.ensures.field)))
+    ∙ least_here low high (fields_of (index_of c.args.index)) c.args.place (field_of c.in-Some.field)
+    (sym (ap (option_map field_of) c.in-Some.is) ∙ c.field_at.ensures.field)))
     c.put_end.ensures
 
 pub returns-in-Descending : goal.returns-in-Descending
@@ -29,5 +30,6 @@ returns-in-Descending c =
     on_ok_more c.put_end-in-Descending.result
     (λ put. put ∙ ap (λ (text : List ℕ). c.args.out.now.items ++ text)
     (ap (λ (d : Direction). least_end d low high) (sym c.in-Descending.is ∙ c.direction.ensures)
-    ∙ least_here low high (fields_of (index_of c.args.index)) c.args.place (field_of c.in-Some.field) (sym (ap (option_map field_of) c.in-Some.is) ∙ c.field_at.ensures.field)))
+    ∙ least_here low high (fields_of (index_of c.args.index)) c.args.place (field_of c.in-Some.field)
+    (sym (ap (option_map field_of) c.in-Some.is) ∙ c.field_at.ensures.field)))
     c.put_end-in-Descending.ensures

@@ -7,4 +7,5 @@ use Rattle.planner.proofs.spelling.are_keys.Given as goal
 
 abbrev pub invariant-values : goal.invariant-values
 invariant-values l =
-    AllByRecursion (λ o. IfSome o (λ v. IsKey (key_value (tree v.now)))) (drop l.value-index l.values) → AllByRecursion (λ o. IfSome o (λ v. IsKey (key_value (tree v.now)))) l.values
+    AllByRecursion (λ o. IfSome o (λ v. IsKey (key_value (tree v.now)))) (drop l.value-index l.values)
+    → AllByRecursion (λ o. IfSome o (λ v. IsKey (key_value (tree v.now)))) l.values

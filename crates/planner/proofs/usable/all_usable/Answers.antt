@@ -7,6 +7,7 @@ use Rattle.planner.proofs.usable.all_usable.Goals as goal
 
 pub conditions-preserved : goal.conditions-preserved
 conditions-preserved c =
-    gather_more usable_in c.conditions-condition-items.result.now c.conditions.condition-index c.condition-item.result (usable_of c.conditions.found) (usable_of c.or-found.result)
+    gather_more usable_in c.conditions-condition-items.result.now c.conditions.condition-index c.condition-item.result (usable_of c.conditions.found)
+    (usable_of c.or-found.result)
     (gather usable_in (conditions_of c.conditions-condition-items.result.now)) c.conditions-test.true c.condition-item.is
     (c.or-found.ensures ∙ ap (or (usable_of c.conditions.found)) c.usable_in.ensures) c.conditions.invariant

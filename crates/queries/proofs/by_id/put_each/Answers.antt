@@ -28,13 +28,17 @@ conditions-preserved c =
     let all : Tree → Bool = λ t. any_holds (conditions_of rs) (along (Some t ∷ [])) in
     record {
       put = put_on (texts_of c.args.ids.now.items) now next c.conditions.invariant.put put;
-      left = left_next IsPlain tree_text all (λ t. holds (condition_of r) (along (Some t ∷ []))) (λ t. any_holds (conditions_of (drop (i + 1) rs)) (along (Some t ∷ []))) now next put
+      left = left_next IsPlain tree_text all (λ t. holds (condition_of r) (along (Some t ∷ [])))
+          (λ t. any_holds (conditions_of (drop (i + 1) rs)) (along (Some t ∷ []))) now next put
           (c.in_ok-put_equal.ensures.tells c.if-not-branch.false)
-          (subst (λ (qs : List Condition). AreLeft IsPlain tree_text all (λ t. any_holds (conditions_of qs) (along (Some t ∷ []))) now) (drop_step rs i r c.conditions-test.true c.condition-item.is) c.conditions.invariant.left);
+          (subst (λ (qs : List Condition). AreLeft IsPlain tree_text all (λ t. any_holds (conditions_of qs) (along (Some t ∷ []))) now)
+          (drop_step rs i r c.conditions-test.true c.condition-item.is) c.conditions.invariant.left);
     }
 
 pub returns-then-not-branch-clause-put : goal.returns-then-not-branch-clause-put
-returns-then-not-branch-clause-put c = put_on (texts_of c.args.ids.now.items) (texts_of c.conditions.ids.items) (texts_of c.put_equal.new.ids.items) c.conditions.invariant.put c.in_ok-put_equal.ensures.put
+returns-then-not-branch-clause-put c =
+    put_on (texts_of c.args.ids.now.items) (texts_of c.conditions.ids.items)
+    (texts_of c.put_equal.new.ids.items) c.conditions.invariant.put c.in_ok-put_equal.ensures.put
 
 pub returns-clause-put : goal.returns-clause-put
 returns-clause-put c = c.conditions.invariant.put
@@ -45,4 +49,5 @@ returns-clause-tells c = λ e.
     let now = texts_of c.conditions.ids.items in
     let all : Tree → Bool = λ t. any_holds (conditions_of rs) (along (Some t ∷ [])) in
     left_none IsPlain tree_text all now
-    (subst (λ (qs : List Condition). AreLeft IsPlain tree_text all (λ t. any_holds (conditions_of qs) (along (Some t ∷ []))) now) (drop_all c.conditions.condition-index rs (omega (arith, c.conditions-test.false))) c.conditions.invariant.left)
+    (subst (λ (qs : List Condition). AreLeft IsPlain tree_text all (λ t. any_holds (conditions_of qs) (along (Some t ∷ []))) now)
+    (drop_all c.conditions.condition-index rs (omega (arith, c.conditions-test.false))) c.conditions.invariant.left)

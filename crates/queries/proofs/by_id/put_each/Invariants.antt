@@ -10,5 +10,6 @@ use Rattle.queries.proofs.by_id.put_each.Given as goal
 abbrev pub invariant-conditions : goal.invariant-conditions
 invariant-conditions l = record {
   put : ArePut (texts_of l.fn.ids.items) (texts_of l.ids.items);
-  left : AreLeft IsPlain tree_text (λ t. any_holds (conditions_of l.conditions) (along (Some t ∷ []))) (λ t. any_holds (conditions_of (drop l.condition-index l.conditions)) (along (Some t ∷ []))) (texts_of l.ids.items);
+  left : AreLeft IsPlain tree_text (λ t. any_holds (conditions_of l.conditions) (along (Some t ∷ [])))
+      (λ t. any_holds (conditions_of (drop l.condition-index l.conditions)) (along (Some t ∷ []))) (texts_of l.ids.items);
 }

@@ -16,7 +16,8 @@ returns-clause-put c =
     let v = tree c.args.value.now in
     let text : List ℕ = c.in-Some.text.items in
     let short = subst (λ (o : Option (Vec ℕ Global)). IfSome o (λ t. (t.items ≡ tree_text v) × IsKey (value v))) c.in-Some.is c.in_ok-text.ensures in
-    let made : texts_of c.push.new.self.items ≡ texts_of c.args.ids.now.items ++ text ∷ [] = ap texts_of c.in_ok-push.ensures.items ∙ texts_behind c.args.ids.now.items c.in-Some.text in
+    let made : texts_of c.push.new.self.items ≡ texts_of c.args.ids.now.items ++ text ∷ [] =
+    ap texts_of c.in_ok-push.ensures.items ∙ texts_behind c.args.ids.now.items c.in-Some.text in
     put_one (texts_of c.args.ids.now.items) (texts_of c.push.new.self.items) v text short.1 short.0 made
 
 pub returns-clause-tells : goal.returns-clause-tells
@@ -24,5 +25,6 @@ returns-clause-tells c = λ e.
     let v = tree c.args.value.now in
     let text : List ℕ = c.in-Some.text.items in
     let short = subst (λ (o : Option (Vec ℕ Global)). IfSome o (λ t. (t.items ≡ tree_text v) × IsKey (value v))) c.in-Some.is c.in_ok-text.ensures in
-    let made : texts_of c.push.new.self.items ≡ texts_of c.args.ids.now.items ++ text ∷ [] = ap texts_of c.in_ok-push.ensures.items ∙ texts_behind c.args.ids.now.items c.in-Some.text in
+    let made : texts_of c.push.new.self.items ≡ texts_of c.args.ids.now.items ++ text ∷ [] =
+    ap texts_of c.in_ok-push.ensures.items ∙ texts_behind c.args.ids.now.items c.in-Some.text in
     one_tells (texts_of c.args.ids.now.items) (texts_of c.push.new.self.items) v text short.1 short.0 made

@@ -23,7 +23,8 @@ returns g c =
     let is : IsRangeOf rs [] home.indexes.items r =
     subst (λ (s : List SortField). IsRangeOf rs s home.indexes.items r) c.new-none.ensures
     (subst (λ (ds : List Definition). IsRangeOf rs c.new-none.result ds r) c.deref.ensures.value
-    (subst (λ (o : Option IndexRange). IfSome o (λ range. IsRangeOf rs c.new-none.result c.deref.result.now (range_of range))) c.in-Some.is c.in_ok-range.ensures)) in
+    (subst (λ (o : Option IndexRange). IfSome o (λ range. IsRangeOf rs c.new-none.result c.deref.result.now (range_of range))) c.in-Some.is
+    c.in_ok-range.ensures)) in
     reads_as g.D.Disk.history (IsAsked home) (IsNumberedIndex home.number index.number)
     (λ now at (found : Option (Vec (Vec ℕ Global) Global)). at.definition ≡ index → IfSome found (λ ids. AreIdsInRange r at (texts_of ids.items)))
     (λ now of (found : Option (Vec (Vec ℕ Global) Global)). IfSome found (λ ids. AreIdsOf home.number (matches rs) (texts_of ids.items) now of))

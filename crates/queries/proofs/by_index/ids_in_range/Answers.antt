@@ -16,10 +16,14 @@ returns-in_err-texts g c =
     let r = range_of c.args.range.now in
     let e = err_from_is_err_and c.from_residual-in_err-texts.result c.from_residual-in_err-texts.ensures.1 in
     rw (e.1, e.2) (reads_refused g.D.Disk.history (IsNumberedIndex c.args.number c.args.index.now.number)
-    (λ now at (found : Option (Vec (Vec ℕ Global) Global)). IfSome found (λ texts. AreTextsBetween c.deref.result.now c.deref-2.result.now at (texts_of texts.items)))
+    (λ now at (found : Option (Vec (Vec ℕ Global) Global)). IfSome found
+    (λ texts. AreTextsBetween c.deref.result.now c.deref-2.result.now at (texts_of texts.items)))
     (λ now at (found : Option (Vec (Vec ℕ Global) Global)). at.definition ≡ c.args.index.now → IfSome found (λ ids. AreIdsInRange r at (texts_of ids.items)))
     c.args.file.now c.index_texts.new.self c.in_err-texts.field-0.0
-    (subst (λ (n : ℕ). ReadsOf g.D.Disk.history (IsNumberedIndex c.args.number n) (λ now at (found : Option (Vec (Vec ℕ Global) Global)). IfSome found (λ texts. AreTextsBetween c.deref.result.now c.deref-2.result.now at (texts_of texts.items))) (Err c.in_err-texts.field-0.0) c.args.file.now c.index_texts.new.self) c.number.ensures.number c.in_err-texts.ensures))
+    (subst (λ (n : ℕ). ReadsOf g.D.Disk.history (IsNumberedIndex c.args.number n)
+    (λ now at (found : Option (Vec (Vec ℕ Global) Global)). IfSome found
+    (λ texts. AreTextsBetween c.deref.result.now c.deref-2.result.now at (texts_of texts.items)))
+    (Err c.in_err-texts.field-0.0) c.args.file.now c.index_texts.new.self) c.number.ensures.number c.in_err-texts.ensures))
 
 pub returns : goal.returns
 returns g c =
@@ -32,8 +36,13 @@ returns g c =
     (λ now at (found : Option (Vec (Vec ℕ Global) Global)). IfSome found (λ texts. AreTextsBetween first last at (texts_of texts.items)))
     (λ now at (found : Option (Vec (Vec ℕ Global) Global)). at.definition ≡ index → IfSome found (λ ids. AreIdsInRange r at (texts_of ids.items)))
     c.args.file.now c.index_texts.new.self c.in_ok-texts.field-0 (Some c.in_ok-ids_in.field-0)
-    (subst (λ (n : ℕ). ReadsOf g.D.Disk.history (IsNumberedIndex c.args.number n) (λ now at (found : Option (Vec (Vec ℕ Global) Global)). IfSome found (λ texts. AreTextsBetween c.deref.result.now c.deref-2.result.now at (texts_of texts.items))) (Ok c.in_ok-texts.field-0) c.args.file.now c.index_texts.new.self) c.number.ensures.number c.in_ok-texts.ensures)
+    (subst (λ (n : ℕ). ReadsOf g.D.Disk.history (IsNumberedIndex c.args.number n)
+    (λ now at (found : Option (Vec (Vec ℕ Global) Global)). IfSome found
+    (λ texts. AreTextsBetween c.deref.result.now c.deref-2.result.now at (texts_of texts.items)))
+    (Ok c.in_ok-texts.field-0) c.args.file.now c.index_texts.new.self) c.number.ensures.number c.in_ok-texts.ensures)
     (λ now at is p same.
-    let between : AreTextsBetween first last at (texts_of texts.items) = subst (λ (o : Option (Vec (Vec ℕ Global) Global)). IfSome o (λ t. AreTextsBetween first last at (texts_of t.items))) c.in-Some.is p in
-    in_range r index at first last (texts_of texts.items) (texts_of c.in_ok-ids_in.field-0.items) c.requires same (c.deref.ensures.value ∙ c.in_ok-span.ensures.first) (c.deref-2.ensures.value ∙ c.in_ok-span.ensures.last) between
+    let between : AreTextsBetween first last at (texts_of texts.items) =
+    subst (λ (o : Option (Vec (Vec ℕ Global) Global)). IfSome o (λ t. AreTextsBetween first last at (texts_of t.items))) c.in-Some.is p in
+    in_range r index at first last (texts_of texts.items) (texts_of c.in_ok-ids_in.field-0.items) c.requires same
+    (c.deref.ensures.value ∙ c.in_ok-span.ensures.first) (c.deref-2.ensures.value ∙ c.in_ok-span.ensures.last) between
     (c.in_ok-ids_in.ensures ∙ ap (λ ts. ids_in index.fields (texts_of ts)) c.deref-3.ensures.value))

@@ -20,7 +20,9 @@ returns-in_err-read g c =
     (λ now at (found : FirstTexts). AreFirstTexts c.deref.result.now c.deref-2.result.now at found.are_all (texts_of found.texts.items))
     (λ now at (found : FirstIds). at.definition ≡ c.args.index.now → AreFirstIds r at found.are_all (texts_of found.ids.items))
     c.args.file.now c.first_texts.new.self c.in_err-read.field-0.0
-    (subst (λ (n : ℕ). ReadsOf g.D.Disk.history (IsNumberedIndex c.args.number n) (λ now at (found : FirstTexts). AreFirstTexts c.deref.result.now c.deref-2.result.now at found.are_all (texts_of found.texts.items)) (Err c.in_err-read.field-0.0) c.args.file.now c.first_texts.new.self) c.number.ensures.number c.in_err-read.ensures))
+    (subst (λ (n : ℕ). ReadsOf g.D.Disk.history (IsNumberedIndex c.args.number n)
+    (λ now at (found : FirstTexts). AreFirstTexts c.deref.result.now c.deref-2.result.now at found.are_all (texts_of found.texts.items))
+    (Err c.in_err-read.field-0.0) c.args.file.now c.first_texts.new.self) c.number.ensures.number c.in_err-read.ensures))
 
 pub returns-in_err-ids_of : goal.returns-in_err-ids_of
 returns-in_err-ids_of g c =
@@ -30,7 +32,9 @@ returns-in_err-ids_of g c =
     (λ now at (found : FirstTexts). AreFirstTexts c.deref.result.now c.deref-2.result.now at found.are_all (texts_of found.texts.items))
     (λ now at (found : FirstIds). at.definition ≡ c.args.index.now → AreFirstIds r at found.are_all (texts_of found.ids.items))
     _ c.args.file.now c.first_texts.new.self e.0 e.2
-    (subst (λ (n : ℕ). ReadsOf g.D.Disk.history (IsNumberedIndex c.args.number n) (λ now at (found : FirstTexts). AreFirstTexts c.deref.result.now c.deref-2.result.now at found.are_all (texts_of found.texts.items)) (Ok c.in_ok-read.read) c.args.file.now c.first_texts.new.self) c.number.ensures.number c.in_ok-read.ensures))
+    (subst (λ (n : ℕ). ReadsOf g.D.Disk.history (IsNumberedIndex c.args.number n)
+    (λ now at (found : FirstTexts). AreFirstTexts c.deref.result.now c.deref-2.result.now at found.are_all (texts_of found.texts.items))
+    (Ok c.in_ok-read.read) c.args.file.now c.first_texts.new.self) c.number.ensures.number c.in_ok-read.ensures))
 
 pub returns : goal.returns
 returns g c =
@@ -43,7 +47,10 @@ returns g c =
     (λ now at (found : FirstTexts). AreFirstTexts first last at found.are_all (texts_of found.texts.items))
     (λ now at (found : FirstIds). at.definition ≡ index → AreFirstIds r at found.are_all (texts_of found.ids.items))
     c.args.file.now c.first_texts.new.self read (record { ids = c.in_ok-ids_of.field-0; are_all = read.are_all })
-    (subst (λ (n : ℕ). ReadsOf g.D.Disk.history (IsNumberedIndex c.args.number n) (λ now at (found : FirstTexts). AreFirstTexts first last at found.are_all (texts_of found.texts.items)) (Ok read) c.args.file.now c.first_texts.new.self) c.number.ensures.number c.in_ok-read.ensures)
+    (subst (λ (n : ℕ). ReadsOf g.D.Disk.history (IsNumberedIndex c.args.number n)
+    (λ now at (found : FirstTexts). AreFirstTexts first last at found.are_all (texts_of found.texts.items)) (Ok read) c.args.file.now c.first_texts.new.self)
+    c.number.ensures.number c.in_ok-read.ensures)
     (λ now at is p same.
-    first_in_span r index at first last read.are_all (texts_of read.texts.items) (texts_of c.in_ok-ids_of.field-0.items) c.requires same (c.deref.ensures.value ∙ c.in_ok-span.ensures.first) (c.deref-2.ensures.value ∙ c.in_ok-span.ensures.last) p
+    first_in_span r index at first last read.are_all (texts_of read.texts.items) (texts_of c.in_ok-ids_of.field-0.items) c.requires same
+    (c.deref.ensures.value ∙ c.in_ok-span.ensures.first) (c.deref-2.ensures.value ∙ c.in_ok-span.ensures.last) p
     (c.in_ok-ids_of.ensures ∙ ap (λ ts. ids_of index.fields (texts_of ts)) c.deref-3.ensures.value))

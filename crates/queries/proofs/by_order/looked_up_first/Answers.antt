@@ -21,7 +21,9 @@ returns-then-is_stopped-clause-reads g c = λ sort.
     let rs = c.args.filter.now in
     let read = c.args.read.now in
     let texts = texts_of read.ids.items in
-    asks_stopped g.D.Disk.history (LeadInOrder c.args.number rs sort read.are_all texts) (λ now of (found : Option (Vec Pairs Global)). IfSome found (λ v. v.items ≡ take c.args.most (order sort (matching rs of.documents)))) c.args.file.now (sym c.if-is_stopped.ensures)
+    asks_stopped g.D.Disk.history (LeadInOrder c.args.number rs sort read.are_all texts)
+    (λ now of (found : Option (Vec Pairs Global)). IfSome found (λ v. v.items ≡ take c.args.most (order sort (matching rs of.documents)))) c.args.file.now
+    (sym c.if-is_stopped.ensures)
 
 pub ids-init : goal.ids-init
 ids-init g c =
@@ -29,8 +31,12 @@ ids-init g c =
     let read = c.args.read.now in
     let texts = texts_of read.ids.items in
     record {
-      come = λ sort. begins_so g.D.Disk.history c.args.number (LeadInOrder c.args.number rs sort read.are_all texts) texts (told_in_order c.args.number rs sort read.are_all texts) (AreInFront rs sort read.are_all c.args.most c.new-found.result.items) c.args.file.now (texts_of c.deref-id-items.result.now) (sym c.if-is_stopped.ensures) (ap texts_of c.deref-id-items.ensures.value)
-          (λ now state of asked. subst (λ (found : List Pairs). AreInFront rs sort read.are_all c.args.most found of.documents (found_by of.documents asked.ids)) (sym c.new-found.ensures.items) (none_in_front rs sort read.are_all c.args.most c.args.number texts now of asked));
+      come = λ sort. begins_so g.D.Disk.history c.args.number (LeadInOrder c.args.number rs sort read.are_all texts) texts
+          (told_in_order c.args.number rs sort read.are_all texts) (AreInFront rs sort read.are_all c.args.most c.new-found.result.items) c.args.file.now
+          (texts_of c.deref-id-items.result.now) (sym c.if-is_stopped.ensures) (ap texts_of c.deref-id-items.ensures.value)
+          (λ now state of asked. subst
+          (λ (found : List Pairs). AreInFront rs sort read.are_all c.args.most found of.documents (found_by of.documents asked.ids))
+          (sym c.new-found.ensures.items) (none_in_front rs sort read.are_all c.args.most c.args.number texts now of asked));
       within = λ k d below. absurd (omega (arith, below, ap length c.new-found.ensures.items));
     }
 
@@ -40,7 +46,9 @@ returns-then-most-len-clause-reads g c = λ sort.
     let read = c.args.read.now in
     let texts = texts_of read.ids.items in
     let now = c.ids.found.items in
-    answered g.D.Disk.history c.args.number (LeadInOrder c.args.number rs sort read.are_all texts) texts (told_in_order c.args.number rs sort read.are_all texts) (AreInFront rs sort read.are_all c.args.most now) c.args.file.now c.ids.file (texts_of (drop c.ids.id-index c.deref-id-items.result.now)) (c.ids.invariant.come sort)
+    answered g.D.Disk.history c.args.number (LeadInOrder c.args.number rs sort read.are_all texts) texts
+    (told_in_order c.args.number rs sort read.are_all texts) (AreInFront rs sort read.are_all c.args.most now) c.args.file.now c.ids.file
+    (texts_of (drop c.ids.id-index c.deref-id-items.result.now)) (c.ids.invariant.come sort)
     (λ all (found : Option (Vec Pairs Global)). IfSome found (λ v. v.items ≡ take c.args.most (order sort (matching rs all)))) (Some c.ids.found)
     (λ all left h. full_front rs sort read.are_all c.args.most now all left (omega (arith, c.if-most-len.true, c.len.ensures, c.ids.found.ok)) h)
 
@@ -56,8 +64,12 @@ returns-in_err-look_up-clause-reads g c = λ sort.
     let text : List ℕ = c.deref.result.now in
     let is = next_text c.deref-id-items.result.now c.ids.id-index c.id-item.result text c.ids-test.true c.id-item.is c.deref.ensures.value in
     let e = err_from_is_err_and c.from_residual.result c.from_residual.ensures.1 in
-    rw (e.1, e.2) (fails g.D.Disk.history c.args.number (LeadInOrder c.args.number rs sort read.are_all texts) texts (told_in_order c.args.number rs sort read.are_all texts) (AreInFront rs sort read.are_all c.args.most now) c.args.file.now c.ids.file (texts_of (drop c.ids.id-index c.deref-id-items.result.now)) (c.ids.invariant.come sort)
-    (λ now place (_ : Unit {0}). c.look_up.new.found.items ≡ c.ids.found.items ++ filter (matches rs) (with_found (stored_at place) [])) (λ now of (found : Option (Vec Pairs Global)). IfSome found (λ v. v.items ≡ take c.args.most (order sort (matching rs of.documents))))
+    rw (e.1, e.2)
+    (fails g.D.Disk.history c.args.number (LeadInOrder c.args.number rs sort read.are_all texts) texts (told_in_order c.args.number rs sort read.are_all texts)
+    (AreInFront rs sort read.are_all c.args.most now) c.args.file.now c.ids.file (texts_of (drop c.ids.id-index c.deref-id-items.result.now))
+    (c.ids.invariant.come sort)
+    (λ now place (_ : Unit {0}). c.look_up.new.found.items ≡ c.ids.found.items ++ filter (matches rs) (with_found (stored_at place) []))
+    (λ now of (found : Option (Vec Pairs Global)). IfSome found (λ v. v.items ≡ take c.args.most (order sort (matching rs of.documents))))
     c.look_up.new.file c.in_err-look_up.field-0.0 text (texts_of (drop (c.ids.id-index + 1) c.deref-id-items.result.now)) is c.in_err-look_up.ensures.reads)
 
 pub ids-preserved : goal.ids-preserved
@@ -70,7 +82,9 @@ ids-preserved g c =
     let text : List ℕ = c.deref.result.now in
     let is = next_text c.deref-id-items.result.now c.ids.id-index c.id-item.result text c.ids-test.true c.id-item.is c.deref.ensures.value in
     record {
-      come = λ sort. looks_one g.D.Disk.history c.args.number (LeadInOrder c.args.number rs sort read.are_all texts) texts (told_in_order c.args.number rs sort read.are_all texts) (AreInFront rs sort read.are_all c.args.most now) c.args.file.now c.ids.file (texts_of (drop c.ids.id-index c.deref-id-items.result.now)) (c.ids.invariant.come sort)
+      come = λ sort. looks_one g.D.Disk.history c.args.number (LeadInOrder c.args.number rs sort read.are_all texts) texts
+          (told_in_order c.args.number rs sort read.are_all texts) (AreInFront rs sort read.are_all c.args.most now) c.args.file.now c.ids.file
+          (texts_of (drop c.ids.id-index c.deref-id-items.result.now)) (c.ids.invariant.come sort)
           (λ o (_ : Unit {0}). next ≡ now ++ filter (matches rs) (with_found o [])) (AreInFront rs sort read.are_all c.args.most next)
           c.look_up.new.file text (texts_of (drop (c.ids.id-index + 1) c.deref-id-items.result.now)) tt is c.in_ok-look_up.ensures.reads
           (one_in_front rs sort read.are_all c.args.most now next (omega (arith, c.if-most-len.false, c.len.ensures, c.ids.found.ok)));
@@ -82,8 +96,11 @@ returns-then-not-are_front-clause-reads g c = λ sort.
     let rs = c.args.filter.now in
     let read = c.args.read.now in
     let texts = texts_of read.ids.items in
-    ends g.D.Disk.history c.args.number (LeadInOrder c.args.number rs sort read.are_all texts) texts (told_in_order c.args.number rs sort read.are_all texts) (AreInFront rs sort read.are_all c.args.most c.ids.found.items) c.args.file.now c.ids.file (texts_of (drop c.ids.id-index c.deref-id-items.result.now)) (c.ids.invariant.come sort)
-    (λ all (found : Option (Vec Pairs Global)). IfSome found (λ v. v.items ≡ take c.args.most (order sort (matching rs all)))) _ (ap texts_of (drop_all c.ids.id-index c.deref-id-items.result.now (omega (arith, c.ids-test.false))))
+    ends g.D.Disk.history c.args.number (LeadInOrder c.args.number rs sort read.are_all texts) texts (told_in_order c.args.number rs sort read.are_all texts)
+    (AreInFront rs sort read.are_all c.args.most c.ids.found.items) c.args.file.now c.ids.file (texts_of (drop c.ids.id-index c.deref-id-items.result.now))
+    (c.ids.invariant.come sort)
+    (λ all (found : Option (Vec Pairs Global)). IfSome found (λ v. v.items ≡ take c.args.most (order sort (matching rs all)))) _
+    (ap texts_of (drop_all c.ids.id-index c.deref-id-items.result.now (omega (arith, c.ids-test.false))))
     (λ all h. tt)
 
 pub returns-clause-reads : goal.returns-clause-reads
@@ -92,8 +109,11 @@ returns-clause-reads g c = λ sort.
     let read = c.args.read.now in
     let texts = texts_of read.ids.items in
     let now = c.ids.found.items in
-    ends g.D.Disk.history c.args.number (LeadInOrder c.args.number rs sort read.are_all texts) texts (told_in_order c.args.number rs sort read.are_all texts) (AreInFront rs sort read.are_all c.args.most now) c.args.file.now c.ids.file (texts_of (drop c.ids.id-index c.deref-id-items.result.now)) (c.ids.invariant.come sort)
-    (λ all (found : Option (Vec Pairs Global)). IfSome found (λ v. v.items ≡ take c.args.most (order sort (matching rs all)))) (Some c.ids.found) (ap texts_of (drop_all c.ids.id-index c.deref-id-items.result.now (omega (arith, c.ids-test.false))))
+    ends g.D.Disk.history c.args.number (LeadInOrder c.args.number rs sort read.are_all texts) texts (told_in_order c.args.number rs sort read.are_all texts)
+    (AreInFront rs sort read.are_all c.args.most now) c.args.file.now c.ids.file (texts_of (drop c.ids.id-index c.deref-id-items.result.now))
+    (c.ids.invariant.come sort)
+    (λ all (found : Option (Vec Pairs Global)). IfSome found (λ v. v.items ≡ take c.args.most (order sort (matching rs all)))) (Some c.ids.found)
+    (ap texts_of (drop_all c.ids.id-index c.deref-id-items.result.now (omega (arith, c.ids-test.false))))
     (λ all h.
     ⊎_elim (λ whole. whole_front rs sort read.are_all c.args.most now all whole h)
     (λ full. full_front rs sort read.are_all c.args.most now all [] (omega (arith, full, c.len-2.ensures, c.ids.found.ok)) h)

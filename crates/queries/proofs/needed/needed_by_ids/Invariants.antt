@@ -9,6 +9,8 @@ use Rattle.queries.proofs.needed.needed_by_ids.Given as goal
 
 abbrev pub invariant-ids : goal.invariant-ids
 invariant-ids g l = record {
-  come : HasLookedUp g.D.Disk.history l.number (AreIdsOf l.number (takes (pipeline_of l.pipeline)) (texts_of l.fn.ids)) (texts_of l.fn.ids) (told_by_ids l.number (takes (pipeline_of l.pipeline)) (texts_of l.fn.ids)) (λ all left. AreTakenOf (pipeline_of l.pipeline) l.needed.items all left) l.fn.file l.file (texts_of (drop l.id-index l.ids));
+  come : HasLookedUp g.D.Disk.history l.number (AreIdsOf l.number (takes (pipeline_of l.pipeline)) (texts_of l.fn.ids)) (texts_of l.fn.ids)
+      (told_by_ids l.number (takes (pipeline_of l.pipeline)) (texts_of l.fn.ids))
+      (λ all left. AreTakenOf (pipeline_of l.pipeline) l.needed.items all left) l.fn.file l.file (texts_of (drop l.id-index l.ids));
   within : AreOfWithin (pipeline_of l.pipeline) l.needed.items;
 }

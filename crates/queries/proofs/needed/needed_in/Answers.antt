@@ -17,20 +17,27 @@ returns-in_err-ids-clause-reads g c =
     let home = c.args.home.now in
     let stages = pipeline_of c.args.pipeline.now in
     let e = err_from_is_err_and c.from_residual.result c.from_residual.ensures.1 in
-    rw (e.1, e.2) (reads_refused g.D.Disk.history (IsAsked home) (λ now of (o : Option (Vec (Vec ℕ Global) Global)). IfSome o (λ ids. AreIdsOf home.number (takes stages) (texts_of ids.items) now of))
-    (λ now of (few : Vec Pairs Global). AreEnough stages few.items of.documents) c.args.file.now c.asked_ids.new.file c.in_err-ids.field-0.0 c.in_err-ids.ensures)
+    rw (e.1, e.2)
+    (reads_refused g.D.Disk.history (IsAsked home)
+    (λ now of (o : Option (Vec (Vec ℕ Global) Global)). IfSome o (λ ids. AreIdsOf home.number (takes stages) (texts_of ids.items) now of))
+    (λ now of (few : Vec Pairs Global). AreEnough stages few.items of.documents) c.args.file.now c.asked_ids.new.file c.in_err-ids.field-0.0
+    c.in_err-ids.ensures)
 
 pub returns-in-Some-clause-reads : goal.returns-in-Some-clause-reads
 returns-in-Some-clause-reads g c =
     let home = c.args.home.now in
     let stages = pipeline_of c.args.pipeline.now in
     let ids : List (List ℕ) = texts_of c.deref.result.now in
-    reads_behind g.D.Disk.history (IsAsked home) (λ now of (o : Option (Vec (Vec ℕ Global) Global)). IfSome o (λ ids. AreIdsOf home.number (takes stages) (texts_of ids.items) now of))
-    (AreIdsOf home.number (takes stages) ids) (λ now of (few : Vec Pairs Global). AreEnough stages few.items of.documents) (λ now of (few : Vec Pairs Global). AreEnough stages few.items of.documents)
+    reads_behind g.D.Disk.history (IsAsked home)
+    (λ now of (o : Option (Vec (Vec ℕ Global) Global)). IfSome o (λ ids. AreIdsOf home.number (takes stages) (texts_of ids.items) now of))
+    (AreIdsOf home.number (takes stages) ids) (λ now of (few : Vec Pairs Global). AreEnough stages few.items of.documents)
+    (λ now of (few : Vec Pairs Global). AreEnough stages few.items of.documents)
     c.args.file.now c.asked_ids.new.file c.needed_by_ids.new.file c.in_ok-ids.field-0 c.needed_by_ids.result c.in_ok-ids.ensures c.needed_by_ids.ensures.reads
     (λ now of asked told. record {
       other = of;
-      was = subst (λ ts. AreIdsOf home.number (takes stages) (texts_of ts) now of) (sym c.deref.ensures.value) (subst (λ (o : Option (Vec (Vec ℕ Global) Global)). IfSome o (λ ids. AreIdsOf home.number (takes stages) (texts_of ids.items) now of)) c.in-Some.is told);
+      was = subst (λ ts. AreIdsOf home.number (takes stages) (texts_of ts) now of) (sym c.deref.ensures.value)
+          (subst (λ (o : Option (Vec (Vec ℕ Global) Global)). IfSome o (λ ids. AreIdsOf home.number (takes stages) (texts_of ids.items) now of)) c.in-Some.is
+          told);
       right = λ few right. right;
     })
 
@@ -38,7 +45,10 @@ pub returns-in-None-clause-reads : goal.returns-in-None-clause-reads
 returns-in-None-clause-reads g c =
     let home = c.args.home.now in
     let stages = pipeline_of c.args.pipeline.now in
-    reads_behind g.D.Disk.history (IsAsked home) (λ now of (o : Option (Vec (Vec ℕ Global) Global)). IfSome o (λ ids. AreIdsOf home.number (takes stages) (texts_of ids.items) now of))
-    (λ now of. IsNumbered now of home.number) (λ now of (few : Vec Pairs Global). AreEnough stages few.items of.documents) (λ now of (few : Vec Pairs Global). AreEnough stages few.items of.documents)
-    c.args.file.now c.asked_ids.new.file c.needed_scanned.new.file c.in_ok-ids.field-0 c.needed_scanned.result c.in_ok-ids.ensures c.needed_scanned.ensures.reads
+    reads_behind g.D.Disk.history (IsAsked home)
+    (λ now of (o : Option (Vec (Vec ℕ Global) Global)). IfSome o (λ ids. AreIdsOf home.number (takes stages) (texts_of ids.items) now of))
+    (λ now of. IsNumbered now of home.number) (λ now of (few : Vec Pairs Global). AreEnough stages few.items of.documents)
+    (λ now of (few : Vec Pairs Global). AreEnough stages few.items of.documents)
+    c.args.file.now c.asked_ids.new.file c.needed_scanned.new.file c.in_ok-ids.field-0 c.needed_scanned.result c.in_ok-ids.ensures
+    c.needed_scanned.ensures.reads
     (λ now of asked told. record { other = of; was = asked.numbered; right = λ few right. right })

@@ -13,19 +13,22 @@ use Rattle.queries.proofs.needed.needed_scanned.Goals as goal
 pub returns-then-is_stopped-clause-reads : goal.returns-then-is_stopped-clause-reads
 returns-then-is_stopped-clause-reads g c =
     let stages = pipeline_of c.args.pipeline.now in
-    asks_stopped g.D.Disk.history (λ now of. IsNumbered now of c.args.number) (λ now of (few : Vec Pairs Global). AreEnough stages few.items of.documents) c.args.file.now (sym c.if-is_stopped.ensures)
+    asks_stopped g.D.Disk.history (λ now of. IsNumbered now of c.args.number)
+    (λ now of (few : Vec Pairs Global). AreEnough stages few.items of.documents) c.args.file.now (sym c.if-is_stopped.ensures)
 
 pub returns-in_err-walk-clause-reads : goal.returns-in_err-walk-clause-reads
 returns-in_err-walk-clause-reads g c =
     let stages = pipeline_of c.args.pipeline.now in
     let e = err_from_is_err_and c.from_residual.result c.from_residual.ensures.1 in
-    rw e.1 (asks_memory g.D.Disk.history (λ now of. IsNumbered now of c.args.number) (λ now of (few : Vec Pairs Global). AreEnough stages few.items of.documents) c.args.file.now e.0 e.2)
+    rw e.1 (asks_memory g.D.Disk.history (λ now of. IsNumbered now of c.args.number)
+    (λ now of (few : Vec Pairs Global). AreEnough stages few.items of.documents) c.args.file.now e.0 e.2)
 
 pub walk-init : goal.walk-init
 walk-init g c =
     let stages = pipeline_of c.args.pipeline.now in
     record {
-      come = begins g.D.Disk.history c.args.number (λ all left. AreTaken stages c.new-needed.result.items all left) c.args.file.now c.in_ok-walk.walk (sym c.if-is_stopped.ensures) c.in_ok-walk.ensures
+      come = begins g.D.Disk.history c.args.number (λ all left. AreTaken stages c.new-needed.result.items all left) c.args.file.now c.in_ok-walk.walk
+          (sym c.if-is_stopped.ensures) c.in_ok-walk.ensures
           (λ all room. subst (λ (now : List Pairs). AreTaken stages now all all) (sym c.new-needed.ensures.items) (none_taken stages all));
       within = subst (AreOfWithin stages) (sym c.new-needed.ensures.items) (none_of_within stages);
     }
@@ -34,16 +37,20 @@ pub returns-in_err-documents-clause-reads : goal.returns-in_err-documents-clause
 returns-in_err-documents-clause-reads g c =
     let stages = pipeline_of c.args.pipeline.now in
     let e = err_from_is_err_and c.from_residual-in_err-documents.result c.from_residual-in_err-documents.ensures.1 in
-    rw (e.1, e.2) (fails g.D.Disk.history c.args.number (λ all left. AreTaken stages c.walk.needed.items all left) c.args.file.now c.walk.file c.walk.walk c.walk.invariant.come
+    rw (e.1, e.2)
+    (fails g.D.Disk.history c.args.number
+    (λ all left. AreTaken stages c.walk.needed.items all left) c.args.file.now c.walk.file c.walk.walk c.walk.invariant.come
     (λ now rest (batch : Vec Pairs Global). StepsOn 64 c.next_spelled.new.walk now rest batch.items)
-    (λ now of (few : Vec Pairs Global). AreEnough stages few.items of.documents) c.next_spelled.new.self c.in_err-documents.field-0.0 c.in_err-documents.ensures.reads)
+    (λ now of (few : Vec Pairs Global). AreEnough stages few.items of.documents) c.next_spelled.new.self c.in_err-documents.field-0.0
+    c.in_err-documents.ensures.reads)
 
 pub returns-in_err-only_needed-clause-reads : goal.returns-in_err-only_needed-clause-reads
 returns-in_err-only_needed-clause-reads g c =
     let stages = pipeline_of c.args.pipeline.now in
     let e = err_from_is_err_and c.from_residual-in_err-only_needed.result c.from_residual-in_err-only_needed.ensures.1 in
     let come : HasCome g.D.Disk.history c.args.number (λ all left. Unit {0}) c.args.file.now c.next_spelled.new.self c.next_spelled.new.walk =
-    steps g.D.Disk.history c.args.number (λ all left. AreTaken stages c.walk.needed.items all left) c.args.file.now c.walk.file c.walk.walk c.walk.invariant.come
+    steps g.D.Disk.history c.args.number
+    (λ all left. AreTaken stages c.walk.needed.items all left) c.args.file.now c.walk.file c.walk.walk c.walk.invariant.come
     c.next_spelled.new.self c.next_spelled.new.walk 64 c.in_ok-documents.documents c.in_ok-documents.ensures.reads (λ all left. Unit {0}) (λ all left h. tt) in
     rw e.1 (forgets g.D.Disk.history c.args.number (λ all left. Unit {0}) c.args.file.now c.next_spelled.new.self c.next_spelled.new.walk come
     (λ now of (few : Vec Pairs Global). AreEnough stages few.items of.documents) e.0 e.2)
@@ -65,10 +72,13 @@ pub returns-in_err-needed-clause-reads : goal.returns-in_err-needed-clause-reads
 returns-in_err-needed-clause-reads g c =
     let stages = pipeline_of c.args.pipeline.now in
     let e = err_from_is_err_and c.from_residual-in_err-needed.result c.from_residual-in_err-needed.ensures.1 in
-    rw (e.1, e.2) (fails g.D.Disk.history c.args.number (λ all left. AreTaken stages c.walk.needed.items all left) c.args.file.now c.walk.file c.walk.walk c.walk.invariant.come
+    rw (e.1, e.2)
+    (fails g.D.Disk.history c.args.number
+    (λ all left. AreTaken stages c.walk.needed.items all left) c.args.file.now c.walk.file c.walk.walk c.walk.invariant.come
     (λ now rest (batch : Vec Pairs Global). StepsOn 64 c.next_spelled.new.walk now rest batch.items)
     (λ now of (few : Vec Pairs Global). AreEnough stages few.items of.documents) c.next_spelled.new.self c.in_err-needed.field-0.0
-    (read_refused g.D.Disk.history c.walk.file c.next_spelled.new.self c.walk.walk c.next_spelled.new.walk 64 c.in_ok-documents.documents c.in_ok-documents.ensures.reads c.in_err-needed.field-0.0 c.in_err-needed.ensures.refuses
+    (read_refused g.D.Disk.history c.walk.file c.next_spelled.new.self c.walk.walk c.next_spelled.new.walk 64 c.in_ok-documents.documents
+    c.in_ok-documents.ensures.reads c.in_err-needed.field-0.0 c.in_err-needed.ensures.refuses
     (λ now rest (batch : Vec Pairs Global). StepsOn 64 c.next_spelled.new.walk now rest batch.items)))
 
 pub walk-preserved : goal.walk-preserved
@@ -77,8 +87,10 @@ walk-preserved g c =
     let batch = c.in_ok-documents.documents.items in
     let next = c.in_ok-needed.needed.items in
     record {
-      come = steps g.D.Disk.history c.args.number (λ all left. AreTaken stages c.walk.needed.items all left) c.args.file.now c.walk.file c.walk.walk c.walk.invariant.come
-          c.next_spelled.new.self c.next_spelled.new.walk 64 c.in_ok-documents.documents c.in_ok-documents.ensures.reads (λ all left. AreTaken stages next all left)
+      come = steps g.D.Disk.history c.args.number
+          (λ all left. AreTaken stages c.walk.needed.items all left) c.args.file.now c.walk.file c.walk.walk c.walk.invariant.come
+          c.next_spelled.new.self c.next_spelled.new.walk 64 c.in_ok-documents.documents c.in_ok-documents.ensures.reads
+          (λ all left. AreTaken stages next all left)
           (λ all left h. batch_taken stages c.walk.needed.items next batch all left c.in_ok-needed.ensures.enough h);
       within = batch_of_within stages c.walk.needed.items next batch c.in_ok-needed.ensures.enough c.in_ok-needed.ensures.within c.walk.invariant.within;
     }

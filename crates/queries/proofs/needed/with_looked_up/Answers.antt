@@ -23,5 +23,7 @@ returns c = λ seen h.
     let stages = pipeline_of c.args.pipeline.now in
     let x : Pairs = c.in-Some.document in
     let is : takes stages x ≡ true = sym c.takes.ensures ∙ c.if-not-takes.false in
-    subst (λ (o : Option Pairs). IfOk c.with_one_more.result (λ v. IsEnough stages v.items (seen ++ filter (takes stages) (with_found o [])))) (sym c.in-Some.is)
-    (if_ok c.with_one_more.result (λ v. subst (IsEnough stages v.items) (ap (λ (ys : List Pairs). seen ++ ys) (sym (taken_alone stages x is)))) (c.with_one_more.ensures seen h is))
+    subst (λ (o : Option Pairs). IfOk c.with_one_more.result (λ v. IsEnough stages v.items (seen ++ filter (takes stages) (with_found o []))))
+    (sym c.in-Some.is)
+    (if_ok c.with_one_more.result (λ v. subst (IsEnough stages v.items) (ap (λ (ys : List Pairs). seen ++ ys) (sym (taken_alone stages x is))))
+    (c.with_one_more.ensures seen h is))

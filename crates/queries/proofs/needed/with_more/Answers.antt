@@ -36,7 +36,9 @@ documents-preserved c =
     let far : IsTaking stages before all now (x ∷ left) = subst (IsTaking stages before all now) c.in-Some.ensures.steps.0 c.documents.invariant.so in
     record {
       so = takes_next stages before all x now left next c.in_ok-these.ensures.enough far;
-      within = λ h. c.documents.invariant.within (subst (λ (ds : List Pairs). All IsWithin (filter (takes stages) ds)) (sym c.in-Some.ensures.steps.0) (within_next (takes stages) x left c.in_ok-these.ensures.within h));
+      within = λ h. c.documents.invariant.within
+          (subst (λ (ds : List Pairs). All IsWithin (filter (takes stages) ds)) (sym c.in-Some.ensures.steps.0)
+          (within_next (takes stages) x left c.in_ok-these.ensures.within h));
       over = λ h. c.documents.invariant.over (ap (list_all is_within) c.in-Some.ensures.steps.0 ∙ over_later is_within x left h);
     }
 
@@ -51,9 +53,12 @@ returns-in_err-these-clause-refuses c =
 pub returns-clause-enough : goal.returns-clause-enough
 returns-clause-enough c =
     takes_all (pipeline_of c.args.pipeline.now) c.args.these.items c.args.documents.items c.documents.these.items c.documents.document-iterator.rest.items
-    (none_left c.documents.document-iterator.rest.items (omega (arith, c.documents.document-iterator.rest.ok, c.in-None.ensures.steps.0))) c.documents.invariant.so
+    (none_left c.documents.document-iterator.rest.items (omega (arith, c.documents.document-iterator.rest.ok, c.in-None.ensures.steps.0)))
+    c.documents.invariant.so
 
 pub returns-clause-within : goal.returns-clause-within
 returns-clause-within c =
     let left = c.documents.document-iterator.rest.items in
-    c.documents.invariant.within (within_none (takes (pipeline_of c.args.pipeline.now)) left (none_left left (omega (arith, c.documents.document-iterator.rest.ok, c.in-None.ensures.steps.0))))
+    c.documents.invariant.within
+    (within_none (takes (pipeline_of c.args.pipeline.now)) left
+    (none_left left (omega (arith, c.documents.document-iterator.rest.ok, c.in-None.ensures.steps.0))))

@@ -11,6 +11,7 @@ use Rattle.queries.proofs.needed.with_more.Given as goal
 abbrev pub invariant-documents : goal.invariant-documents
 invariant-documents l = record {
   so : IsTaking (pipeline_of l.pipeline) l.fn.these.items l.fn.documents.items l.these.items l.document-iterator.rest.items;
-  within : All IsWithin (filter (takes (pipeline_of l.pipeline)) l.document-iterator.rest.items) → All IsWithin (filter (takes (pipeline_of l.pipeline)) l.fn.documents.items);
+  within : All IsWithin (filter (takes (pipeline_of l.pipeline)) l.document-iterator.rest.items)
+      → All IsWithin (filter (takes (pipeline_of l.pipeline)) l.fn.documents.items);
   over : list_all is_within l.document-iterator.rest.items ≡ false → list_all is_within l.fn.documents.items ≡ false;
 }

@@ -15,4 +15,5 @@ returns c = λ seen h taken.
       | then-len-room+in_ok-these w ↦ subst (λ (v : Vec Pairs Global). IsEnough stages v.items seen) (sym w.these-is) (w.in_ok-these.ensures seen h)
       | else-len-room w ↦ subst (λ (v : Vec Pairs Global). IsEnough stages v.items seen) (sym w.these-is) h
     ] in
-    subst (λ (ds : List Pairs). IsEnough stages ds (seen ++ c.args.document ∷ [])) (sym c.in_ok-push.ensures.items) (one_more_is_enough stages these seen c.args.document taken held)
+    subst (λ (ds : List Pairs). IsEnough stages ds (seen ++ c.args.document ∷ [])) (sym c.in_ok-push.ensures.items)
+    (one_more_is_enough stages these seen c.args.document taken held)

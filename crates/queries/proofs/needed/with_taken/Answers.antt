@@ -20,7 +20,8 @@ pub returns-clause-enough : goal.returns-clause-enough
 returns-clause-enough c =
     let stages = pipeline_of c.args.pipeline.now in
     let is : takes stages c.args.document.now ≡ true = ap (takes stages) (sym c.raw.ensures) ∙ sym c.in_ok-takes_raw.ensures ∙ c.if-not-branch.false in
-    taken_enough stages c.args.document.now is c.args.these.items c.in_ok-with_one_more.field-0.items c.in_ok-built.built c.in_ok-built.ensures.built.0 c.in_ok-with_one_more.ensures
+    taken_enough stages c.args.document.now is c.args.these.items c.in_ok-with_one_more.field-0.items c.in_ok-built.built c.in_ok-built.ensures.built.0
+    c.in_ok-with_one_more.ensures
 
 pub returns-clause-within : goal.returns-clause-within
 returns-clause-within c =

@@ -33,7 +33,8 @@ returns-clause-reads g c =
     let sort = c.args.sort.now in
     let found = c.in_ok-found.found in
     let last = c.in_ok-first_ones.field-0 in
-    let first : last.items ≡ take c.args.most (order sort found.items) = c.in_ok-first_ones.ensures.first ∙ ap (λ (ds : List Pairs). take c.args.most (order sort ds)) c.deref.ensures.value in
+    let first : last.items ≡ take c.args.most (order sort found.items) =
+    c.in_ok-first_ones.ensures.first ∙ ap (λ (ds : List Pairs). take c.args.most (order sort ds)) c.deref.ensures.value in
     reads_made g.D.Disk.history (AreIdsOf c.args.number (matches c.args.filter.now) (texts_of c.args.ids.now))
     (λ now of (v : Vec Pairs Global). v.items ≡ take (2 ^ 64 - 1) (matching c.args.filter.now of.documents))
     (λ now of (v : Vec Pairs Global). v.items ≡ take c.args.most (order sort (matching c.args.filter.now of.documents)))

@@ -17,21 +17,29 @@ returns-in_err-ids-clause-reads g c =
     let home = c.args.home.now in
     let p = matches c.args.filter.now in
     let e = err_from_is_err_and c.from_residual.result c.from_residual.ensures.1 in
-    rw (e.1, e.2) (reads_refused g.D.Disk.history (IsAsked home) (λ now of (o : Option (Vec (Vec ℕ Global) Global)). IfSome o (λ ids. AreIdsOf home.number p (texts_of ids.items) now of))
-    (λ now of (found : Vec Pairs Global). found.items ≡ take c.args.most (order c.args.sort.now (matching c.args.filter.now of.documents))) c.args.file.now c.asked_ids.new.file c.in_err-ids.field-0.0 c.in_err-ids.ensures)
+    rw (e.1, e.2)
+    (reads_refused g.D.Disk.history (IsAsked home)
+    (λ now of (o : Option (Vec (Vec ℕ Global) Global)). IfSome o (λ ids. AreIdsOf home.number p (texts_of ids.items) now of))
+    (λ now of (found : Vec Pairs Global). found.items
+    ≡ take c.args.most (order c.args.sort.now (matching c.args.filter.now of.documents))) c.args.file.now c.asked_ids.new.file c.in_err-ids.field-0.0
+    c.in_err-ids.ensures)
 
 pub returns-in-Some-clause-reads : goal.returns-in-Some-clause-reads
 returns-in-Some-clause-reads g c =
     let home = c.args.home.now in
     let p = matches c.args.filter.now in
     let ids : List (List ℕ) = texts_of c.deref.result.now in
-    reads_behind g.D.Disk.history (IsAsked home) (λ now of (o : Option (Vec (Vec ℕ Global) Global)). IfSome o (λ ids. AreIdsOf home.number p (texts_of ids.items) now of))
-    (AreIdsOf home.number p ids) (λ now of (found : Vec Pairs Global). found.items ≡ take c.args.most (order c.args.sort.now (matching c.args.filter.now of.documents)))
+    reads_behind g.D.Disk.history (IsAsked home)
+    (λ now of (o : Option (Vec (Vec ℕ Global) Global)). IfSome o (λ ids. AreIdsOf home.number p (texts_of ids.items) now of))
+    (AreIdsOf home.number p ids)
     (λ now of (found : Vec Pairs Global). found.items ≡ take c.args.most (order c.args.sort.now (matching c.args.filter.now of.documents)))
-    c.args.file.now c.asked_ids.new.file c.looked_up_in_order.new.file c.in_ok-ids.field-0 c.looked_up_in_order.result c.in_ok-ids.ensures c.looked_up_in_order.ensures.reads
+    (λ now of (found : Vec Pairs Global). found.items ≡ take c.args.most (order c.args.sort.now (matching c.args.filter.now of.documents)))
+    c.args.file.now c.asked_ids.new.file c.looked_up_in_order.new.file c.in_ok-ids.field-0 c.looked_up_in_order.result c.in_ok-ids.ensures
+    c.looked_up_in_order.ensures.reads
     (λ now of asked told. record {
       other = of;
-      was = subst (λ ts. AreIdsOf home.number p (texts_of ts) now of) (sym c.deref.ensures.value) (subst (λ (o : Option (Vec (Vec ℕ Global) Global)). IfSome o (λ ids. AreIdsOf home.number p (texts_of ids.items) now of)) c.in-Some.is told);
+      was = subst (λ ts. AreIdsOf home.number p (texts_of ts) now of) (sym c.deref.ensures.value)
+          (subst (λ (o : Option (Vec (Vec ℕ Global) Global)). IfSome o (λ ids. AreIdsOf home.number p (texts_of ids.items) now of)) c.in-Some.is told);
       right = λ found right. right;
     })
 
@@ -39,8 +47,11 @@ pub returns-in-None-clause-reads : goal.returns-in-None-clause-reads
 returns-in-None-clause-reads g c =
     let home = c.args.home.now in
     let p = matches c.args.filter.now in
-    reads_behind g.D.Disk.history (IsAsked home) (λ now of (o : Option (Vec (Vec ℕ Global) Global)). IfSome o (λ ids. AreIdsOf home.number p (texts_of ids.items) now of))
-    (λ now of. IsNumbered now of home.number) (λ now of (found : Vec Pairs Global). found.items ≡ take c.args.most (order c.args.sort.now (matching c.args.filter.now of.documents)))
+    reads_behind g.D.Disk.history (IsAsked home)
+    (λ now of (o : Option (Vec (Vec ℕ Global) Global)). IfSome o (λ ids. AreIdsOf home.number p (texts_of ids.items) now of))
+    (λ now of. IsNumbered now of home.number)
     (λ now of (found : Vec Pairs Global). found.items ≡ take c.args.most (order c.args.sort.now (matching c.args.filter.now of.documents)))
-    c.args.file.now c.asked_ids.new.file c.scanned_in_order.new.file c.in_ok-ids.field-0 c.scanned_in_order.result c.in_ok-ids.ensures c.scanned_in_order.ensures.reads
+    (λ now of (found : Vec Pairs Global). found.items ≡ take c.args.most (order c.args.sort.now (matching c.args.filter.now of.documents)))
+    c.args.file.now c.asked_ids.new.file c.scanned_in_order.new.file c.in_ok-ids.field-0 c.scanned_in_order.result c.in_ok-ids.ensures
+    c.scanned_in_order.ensures.reads
     (λ now of asked told. record { other = of; was = asked.numbered; right = λ found right. right })

@@ -15,8 +15,10 @@ documents-init g c =
     record {
       can = tt;
       finite = tt;
-      so = subst (IsSelecting p c.args.most found all found) (sym c.into_iter-document-iterator.ensures.into_iter_gives.0) (starts p c.args.most found all c.requires);
-      over = subst (λ (left : List Pairs). list_all is_within left ≡ false → list_all is_within all ≡ false) (sym c.into_iter-document-iterator.ensures.into_iter_gives.0) (λ over. over);
+      so = subst (IsSelecting p c.args.most found all found) (sym c.into_iter-document-iterator.ensures.into_iter_gives.0)
+          (starts p c.args.most found all c.requires);
+      over = subst (λ (left : List Pairs). list_all is_within left ≡ false → list_all is_within all ≡ false)
+          (sym c.into_iter-document-iterator.ensures.into_iter_gives.0) (λ over. over);
       within = λ all. all;
     }
 
@@ -31,7 +33,8 @@ documents-preserved g c =
     let now = c.documents.found.items in
     let x : Pairs = c.in-Some.document in
     let left = c.next.new.self.rest.items in
-    let far : IsSelecting p c.args.most before all now (x ∷ left) = subst (IsSelecting p c.args.most before all now) c.in-Some.ensures.steps.0 c.documents.invariant.so in
+    let far : IsSelecting p c.args.most before all now (x ∷ left) =
+    subst (IsSelecting p c.args.most before all now) c.in-Some.ensures.steps.0 c.documents.invariant.so in
     record {
       can = tt;
       finite = tt;

@@ -14,14 +14,16 @@ returns-then-len-most-clause-puts g c =
 pub returns-then-not-branch-clause-puts : goal.returns-then-not-branch-clause-puts
 returns-then-not-branch-clause-puts g c =
     let p = g.S.Selects.selects c.args.which.now in
-    one_over p c.args.most c.args.document.now c.args.found.now.items (ap p (sym c.raw.ensures) ∙ sym c.in_ok-selects_raw.ensures ∙ c.if-not-branch.true) c.requires
+    one_over p c.args.most c.args.document.now c.args.found.now.items
+    (ap p (sym c.raw.ensures) ∙ sym c.in_ok-selects_raw.ensures ∙ c.if-not-branch.true) c.requires
 
 pub returns-clause-puts : goal.returns-clause-puts
 returns-clause-puts g c =
     let p = g.S.Selects.selects c.args.which.now in
     let now = c.args.found.now.items in
     one_taken p c.args.most c.args.document.now now c.push.new.self.items (ap p (sym c.raw.ensures) ∙ sym c.in_ok-selects_raw.ensures ∙ c.if-not-branch.false)
-    (omega (arith, c.requires, c.if-len-most.false, c.len.ensures, c.args.found.now.ok)) (c.in_ok-push.ensures.items ∙ ap (λ (d : Pairs). now ++ d ∷ []) (c.in_ok-new.ensures ∙ c.in_ok-built.ensures.built.0))
+    (omega (arith, c.requires, c.if-len-most.false, c.len.ensures, c.args.found.now.ok))
+    (c.in_ok-push.ensures.items ∙ ap (λ (d : Pairs). now ++ d ∷ []) (c.in_ok-new.ensures ∙ c.in_ok-built.ensures.built.0))
 
 pub returns-clause-within : goal.returns-clause-within
 returns-clause-within g c = λ h.

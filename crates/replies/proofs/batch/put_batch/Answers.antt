@@ -15,43 +15,60 @@ documents-init g c = no_batch (projected c.args.projection.now (map g.T.AsDocume
 
 pub returns-then-i-most-clause-count : goal.returns-then-i-most-clause-count
 returns-then-i-most-clause-count g c =
-    full (projected c.args.projection.now (map g.T.AsDocument.document c.args.documents.now)) c.args.most c.documents.i c.documents.room c.args.out.now.items c.documents.out.items c.documents.invariant (omega (arith, c.if-i-most.true))
+    full (projected c.args.projection.now (map g.T.AsDocument.document c.args.documents.now)) c.args.most c.documents.i c.documents.room c.args.out.now.items
+    c.documents.out.items c.documents.invariant (omega (arith, c.if-i-most.true))
 
 pub put_item-requires : goal.put_item-requires
 put_item-requires g c =
-    one_within (projected c.args.projection.now (map g.T.AsDocument.document c.args.documents.now)) c.documents.i (project c.args.projection.now c.as_document.result.now) (drop (c.documents.i + 1) (projected c.args.projection.now (map g.T.AsDocument.document c.args.documents.now)))
-    (projected_step g.T.AsDocument.document c.args.projection.now c.args.documents.now c.documents.i c.index-documents-i.result c.as_document.result.now c.documents-test.true c.index-documents-i.is c.as_document.ensures) c.requires
+    one_within (projected c.args.projection.now (map g.T.AsDocument.document c.args.documents.now)) c.documents.i
+    (project c.args.projection.now c.as_document.result.now)
+    (drop (c.documents.i + 1) (projected c.args.projection.now (map g.T.AsDocument.document c.args.documents.now)))
+    (projected_step g.T.AsDocument.document c.args.projection.now c.args.documents.now c.documents.i c.index-documents-i.result c.as_document.result.now
+    c.documents-test.true c.index-documents-i.is c.as_document.ensures) c.requires
 
 pub returns-in-None-2-clause-count : goal.returns-in-None-2-clause-count
 returns-in-None-2-clause-count g c =
     let gs = projected c.args.projection.now (map g.T.AsDocument.document c.args.documents.now) in
     let d = project c.args.projection.now c.as_document.result.now in
     let i = c.documents.i in
-    let at = projected_step g.T.AsDocument.document c.args.projection.now c.args.documents.now i c.index-documents-i.result c.as_document.result.now c.documents-test.true c.index-documents-i.is c.as_document.ensures in
-    let grown : length c.put_item.new.out.items ≡ length c.documents.out.items + item_size i d = ap length c.in_ok-put_item.ensures.bytes ∙ length-append c.documents.out.items (element 3 (decimal i) (frame_of (pairs_bytes d))) in
-    let over : c.documents.room < item_size i d = omega (arith, grown, c.in-None.ensures, c.len.ensures, c.len-start.ensures, c.documents.out.ok, c.put_item.new.out.ok) in
+    let at = projected_step g.T.AsDocument.document c.args.projection.now c.args.documents.now i c.index-documents-i.result c.as_document.result.now
+    c.documents-test.true c.index-documents-i.is c.as_document.ensures in
+    let grown : length c.put_item.new.out.items ≡ length c.documents.out.items + item_size i d =
+    ap length c.in_ok-put_item.ensures.bytes ∙ length-append c.documents.out.items (element 3 (decimal i) (frame_of (pairs_bytes d))) in
+    let over : c.documents.room < item_size i d =
+    omega (arith, grown, c.in-None.ensures, c.len.ensures, c.len-start.ensures, c.documents.out.ok, c.put_item.new.out.ok) in
     let some : i ≢ 0 = omega (arith, c.if-i-eq0.false) in
     let stop : (i == 0 || nat_le (item_size i d) c.documents.room) ≡ false = grind (arith, nat_tests, over, some) in
-    stops gs c.args.most i c.documents.room c.args.out.now.items c.documents.out.items d (drop (i + 1) gs) at c.documents.invariant (omega (arith, c.if-i-most.false)) stop
+    stops gs c.args.most i c.documents.room c.args.out.now.items c.documents.out.items d (drop (i + 1) gs) at c.documents.invariant
+    (omega (arith, c.if-i-most.false)) stop
 
 pub documents-preserved : goal.documents-preserved
 documents-preserved g c =
     let gs = projected c.args.projection.now (map g.T.AsDocument.document c.args.documents.now) in
     let d = project c.args.projection.now c.as_document.result.now in
     let i = c.documents.i in
-    let at = projected_step g.T.AsDocument.document c.args.projection.now c.args.documents.now i c.index-documents-i.result c.as_document.result.now c.documents-test.true c.index-documents-i.is c.as_document.ensures in
-    let grown : length c.put_item.new.out.items ≡ length c.documents.out.items + item_size i d = ap length c.in_ok-put_item.ensures.bytes ∙ length-append c.documents.out.items (element 3 (decimal i) (frame_of (pairs_bytes d))) in
+    let at = projected_step g.T.AsDocument.document c.args.projection.now c.args.documents.now i c.index-documents-i.result c.as_document.result.now
+    c.documents-test.true c.index-documents-i.is c.as_document.ensures in
+    let grown : length c.put_item.new.out.items ≡ length c.documents.out.items + item_size i d =
+    ap length c.in_ok-put_item.ensures.bytes ∙ length-append c.documents.out.items (element 3 (decimal i) (frame_of (pairs_bytes d))) in
     let other : i ≢ c.args.most = omega (arith, c.if-i-most.false) in
     elim c.match-checked_sub.branch [
       | in-Some w ↦
-          let fits : item_size i d ≤ c.documents.room = omega (arith, grown, w.in-Some.ensures, c.len.ensures, c.len-start.ensures, c.documents.out.ok, c.put_item.new.out.ok) in
-          let left : c.match-checked_sub.room ≡ c.documents.room - item_size i d = omega (arith, w.room-is, grown, w.in-Some.ensures, c.len.ensures, c.len-start.ensures, c.documents.out.ok, c.put_item.new.out.ok) in
+          let fits : item_size i d ≤ c.documents.room =
+          omega (arith, grown, w.in-Some.ensures, c.len.ensures, c.len-start.ensures, c.documents.out.ok, c.put_item.new.out.ok) in
+          let left : c.match-checked_sub.room ≡ c.documents.room - item_size i d =
+          omega (arith, w.room-is, grown, w.in-Some.ensures, c.len.ensures, c.len-start.ensures, c.documents.out.ok, c.put_item.new.out.ok) in
           let test : (i == 0 || nat_le (item_size i d) c.documents.room) ≡ true = grind (arith, nat_tests, fits) in
-          goes_on gs c.args.most i c.documents.room c.args.out.now.items c.documents.out.items d (drop (i + 1) gs) at c.documents.invariant c.put_item.new.out.items c.match-checked_sub.room other c.in_ok-put_item.ensures.bytes c.in_ok-put_item.ensures.readable test left refl
+          goes_on gs c.args.most i c.documents.room c.args.out.now.items c.documents.out.items d
+          (drop (i + 1) gs) at c.documents.invariant c.put_item.new.out.items c.match-checked_sub.room other c.in_ok-put_item.ensures.bytes
+          c.in_ok-put_item.ensures.readable test left refl
       | in-None w ↦
-          let over : c.documents.room < item_size i d = omega (arith, grown, w.in-None.ensures, c.len.ensures, c.len-start.ensures, c.documents.out.ok, c.put_item.new.out.ok) in
+          let over : c.documents.room < item_size i d =
+          omega (arith, grown, w.in-None.ensures, c.len.ensures, c.len-start.ensures, c.documents.out.ok, c.put_item.new.out.ok) in
           let first : i ≡ 0 = omega (arith, w.if-i-eq0.true) in
           let left : c.match-checked_sub.room ≡ c.documents.room - item_size i d = omega (arith, w.room-is, over) in
           let test : (i == 0 || nat_le (item_size i d) c.documents.room) ≡ true = grind (arith, nat_tests, first) in
-          goes_on gs c.args.most i c.documents.room c.args.out.now.items c.documents.out.items d (drop (i + 1) gs) at c.documents.invariant c.put_item.new.out.items c.match-checked_sub.room other c.in_ok-put_item.ensures.bytes c.in_ok-put_item.ensures.readable test left refl
+          goes_on gs c.args.most i c.documents.room c.args.out.now.items c.documents.out.items d
+          (drop (i + 1) gs) at c.documents.invariant c.put_item.new.out.items c.match-checked_sub.room other c.in_ok-put_item.ensures.bytes
+          c.in_ok-put_item.ensures.readable test left refl
     ]

@@ -11,7 +11,9 @@ returns-in_err-write_shared-clause-any_moment g c =
     let h2 = g.D.Disk.history c.write_shared.new.disk in
     let inv = c.loop-shared.invariant in
     let e = c.write_shared.ensures in
-    moments_more h0 h1 h2 c.args.made.now _ (λ k here. on_pages_at c.args.made.now c.loop-shared.shared-index k c.shared-item.result c.shared-item.is (omega arith) here) e.on inv.others e.others inv.any_moment e.any_moment
+    moments_more h0 h1 h2 c.args.made.now _
+    (λ k here. on_pages_at c.args.made.now c.loop-shared.shared-index k c.shared-item.result c.shared-item.is (omega arith) here) e.on inv.others e.others
+    inv.any_moment e.any_moment
 
 pub returns-in_err-write_shared-clause-others : goal.returns-in_err-write_shared-clause-others
 returns-in_err-write_shared-clause-others g c =
@@ -20,7 +22,8 @@ returns-in_err-write_shared-clause-others g c =
     let h2 = g.D.Disk.history c.write_shared.new.disk in
     let inv = c.loop-shared.invariant in
     let e = c.write_shared.ensures in
-    others_more h0 h1 h2 c.args.made.now _ (λ k here. on_pages_at c.args.made.now c.loop-shared.shared-index k c.shared-item.result c.shared-item.is (omega arith) here) e.on inv.others e.others
+    others_more h0 h1 h2 c.args.made.now _
+    (λ k here. on_pages_at c.args.made.now c.loop-shared.shared-index k c.shared-item.result c.shared-item.is (omega arith) here) e.on inv.others e.others
 
 pub loop-shared-preserved : goal.loop-shared-preserved
 loop-shared-preserved g c =
@@ -34,9 +37,12 @@ loop-shared-preserved g c =
     let x = c.shared-item.result in
     record {
       on = goes_further h0 h1 h2 inv.on e.on;
-      any_moment = moments_more h0 h1 h2 made _ (λ k here. on_pages_at made i k x c.shared-item.is (omega arith) here) e.on inv.others e.others inv.any_moment e.any_moment;
+      any_moment =
+          moments_more h0 h1 h2 made _
+          (λ k here. on_pages_at made i k x c.shared-item.is (omega arith) here) e.on inv.others e.others inv.any_moment e.any_moment;
       others = others_more h0 h1 h2 made _ (λ k here. on_pages_at made i k x c.shared-item.is (omega arith) here) e.on inv.others e.others;
       written = λ keeps lie.
           written_step (reads (now h1)) (reads (now h2)) made i x c.shared-item.is lie (omega arith)
-          (λ k outside. ap (λ (y : Sector). y.read) (e.others keeps k outside)) (inv.written (e.on.kept keeps) lie) (c.in_ok-write_shared.ensures.written keeps);
+          (λ k outside. ap (λ (y : Sector). y.read) (e.others keeps k outside)) (inv.written (e.on.kept keeps) lie)
+          (c.in_ok-write_shared.ensures.written keeps);
     }

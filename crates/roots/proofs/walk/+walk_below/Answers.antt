@@ -1,4 +1,5 @@
-use Rattle.std.proofs.Common.{rules, arith, ◌≡◌, ◌≢◌, ◌<◌, ◌≤◌, ◌+◌, ℕ, zero, suc, List, ◌∷◌, ◌++◌, map, length, take, ap, sym, ◌∙◌, subst, refl, append-nil, inl, inr}
+use Rattle.std.proofs.Common.{rules, arith, ◌≡◌, ◌≢◌, ◌<◌, ◌≤◌, ◌+◌, ℕ, zero, suc, List, ◌∷◌, ◌++◌, map, length, take, ap, sym, ◌∙◌, subst, refl, append-nil}
+use Rattle.std.proofs.Common.{inl, inr}
 use Rattle.std.specs.Option.{option_map}
 use Rattle.std.proofs.lemmas.Bool.{cases_lt}
 use Rattle.page.specs.CellView.{arm_of as child_arm}
@@ -17,25 +18,30 @@ use Rattle.btree.proofs.ListLemmas.{at_place, long_map}
 use Rattle.roots.specs.Found.{HasFoundFan, HasFoundPairs, HasFoundPart, ReachesDepth}
 use Rattle.roots.specs.Image.{sheet_at}
 use Rattle.roots.specs.Walk.{CanReach, pages_in, pages_so_far}
-use Rattle.roots.proofs.FoundLemmas.{branch_found, child_can, child_reached, child_there, depth_failed, fan_height, fan_more, leaf_found, no_fan_found, not_past, page_there, part_moved, part_within}
+use Rattle.roots.proofs.FoundLemmas.{branch_found, child_can, child_reached, child_there, depth_failed, fan_height, fan_more, leaf_found, no_fan_found}
+use Rattle.roots.proofs.FoundLemmas.{not_past, page_there, part_moved, part_within}
 use Rattle.roots.proofs.ImageLemmas.{live_below}
 use Rattle.roots.proofs.WalkLemmas.{all_taken, at_branch, at_leaf, behind_first, can_first, can_rest, looks_failed, not_damaged, read_content, same_pages}
 use Rattle.roots.proofs.walk.+walk_below.Goals as goal
 
 pub returns-then-not-is_within-clause-reaches : goal.returns-then-not-is_within-clause-reaches
 returns-then-not-is_within-clause-reaches g t c keeps d body part can damaged =
-    not_past (option_map (λ b. b.now) c.args.high) c.args.low.now (part_within (pages_in (g.D.Disk.history c.args.disk.now) c.args.root) c.args.page c.args.level d c.args.low.now (option_map (λ b. b.now) c.args.high) body part) c.if-not-is_within.ensures
+    not_past (option_map (λ b. b.now) c.args.high) c.args.low.now
+    (part_within (pages_in (g.D.Disk.history c.args.disk.now) c.args.root) c.args.page c.args.level d c.args.low.now
+    (option_map (λ b. b.now) c.args.high) body part) c.if-not-is_within.ensures
 
 pub returns-in_err-note-clause-reaches : goal.returns-in_err-note-clause-reaches
 returns-in_err-note-clause-reaches g t c keeps d body part can =
-    depth_failed d (c.args.page ∷ pages_of d body) (pages_so_far c.args.reached.now) (pages_so_far c.note.new.self) c.from_residual.result c.in_err-note.field-0.0 (search rules)
+    depth_failed d (c.args.page ∷ pages_of d body) (pages_so_far c.args.reached.now)
+    (pages_so_far c.note.new.self) c.from_residual.result c.in_err-note.field-0.0 (search rules)
     (λ damaged. c.in_err-note.ensures.refused damaged c.args.root.pages (can_first c.args.root.pages c.args.reached.now c.args.page (pages_of d body) can)
     (live_below (reads (now (g.D.Disk.history c.args.disk.now))) c.args.root c.args.page part.at.live))
 
 pub returns-in_err-image-clause-reaches : goal.returns-in_err-image-clause-reaches
 returns-in_err-image-clause-reaches g t c keeps d body part can =
     let sheets = sheet_at (reads (now (g.D.Disk.history c.args.disk.now))) c.args.root in
-    depth_failed d (c.args.page ∷ pages_of d body) (pages_so_far c.args.reached.now) (pages_so_far c.note.new.self) c.from_residual-in_err-image.result c.in_err-image.field-0.0 (search rules)
+    depth_failed d (c.args.page ∷ pages_of d body) (pages_so_far c.args.reached.now)
+    (pages_so_far c.note.new.self) c.from_residual-in_err-image.result c.in_err-image.field-0.0 (search rules)
     (not_damaged sheets sheets c.args.page (content_of d body) c.in_err-image.field-0.0 part.at.live part.at.holds refl (c.in_err-image.ensures.sheet keeps))
 
 pub returns-in_err-walk_leaf-in-Leaf-clause-reaches : goal.returns-in_err-walk_leaf-in-Leaf-clause-reaches
@@ -45,14 +51,21 @@ returns-in_err-walk_leaf-in-Leaf-clause-reaches g t c keeps d body part can =
     let k1 = c.walk_leaf.ensures.looks.reads.on.kept keeps in
     let high = option_map (λ b. b.now) c.args.high in
     let content : content_in c.in_ok-image.image.content ≡ content_of d body =
-    read_content (sheet_at (reads (now h0)) c.args.root) c.args.page (content_of d body) (sheet_of c.in_ok-image.image) part.at.live part.at.holds (c.in_ok-image.ensures.sheet k1) in
+    read_content (sheet_at (reads (now h0)) c.args.root) c.args.page (content_of d body) (sheet_of c.in_ok-image.image) part.at.live part.at.holds
+    (c.in_ok-image.ensures.sheet k1) in
     at_leaf c.in-Leaf.leaf
-    (λ d body. IsPart (pages_in h1 c.args.root) c.args.page c.args.level d c.args.low.now high body → CanReach c.args.root.pages c.args.reached.now (c.args.page ∷ pages_of d body)
-    → ReachesDepth d (c.args.page ∷ pages_of d body) (pages_so_far c.args.reached.now) (pages_so_far c.walk_leaf.new.reached) c.from_residual-in_err-walk_leaf-in-Leaf.result)
+    (λ d body. IsPart (pages_in h1 c.args.root) c.args.page c.args.level d c.args.low.now high body
+    → CanReach c.args.root.pages c.args.reached.now (c.args.page ∷ pages_of d body)
+    → ReachesDepth d (c.args.page ∷ pages_of d body) (pages_so_far c.args.reached.now)
+    (pages_so_far c.walk_leaf.new.reached) c.from_residual-in_err-walk_leaf-in-Leaf.result)
     (λ pairs e part can.
-    depth_failed zero (c.args.page ∷ pages_of zero pairs) (pages_so_far c.args.reached.now) (pages_so_far c.walk_leaf.new.reached) c.from_residual-in_err-walk_leaf-in-Leaf.result c.in_err-walk_leaf-in-Leaf.field-0.0 (search rules)
-    (c.in_err-walk_leaf-in-Leaf.ensures.reaches keeps pairs e part.shown part.sound.1 (can_rest c.args.root.pages c.args.reached.now c.note.new.self c.args.page (pages_of zero pairs) can c.in_ok-note.ensures.marks c.in_ok-note.ensures.noted)))
-    d body (sym (ap content_in c.in-Leaf.is) ∙ content) (part_moved h0 h1 c.args.root (c.in_ok-image.ensures.looks.reads.same k1) c.args.page c.args.level d c.args.low.now high body part) can
+    depth_failed zero (c.args.page ∷ pages_of zero pairs) (pages_so_far c.args.reached.now)
+    (pages_so_far c.walk_leaf.new.reached) c.from_residual-in_err-walk_leaf-in-Leaf.result c.in_err-walk_leaf-in-Leaf.field-0.0 (search rules)
+    (c.in_err-walk_leaf-in-Leaf.ensures.reaches keeps pairs e part.shown part.sound.1
+    (can_rest c.args.root.pages c.args.reached.now c.note.new.self c.args.page
+    (pages_of zero pairs) can c.in_ok-note.ensures.marks c.in_ok-note.ensures.noted)))
+    d body (sym (ap content_in c.in-Leaf.is) ∙ content)
+    (part_moved h0 h1 c.args.root (c.in_ok-image.ensures.looks.reads.same k1) c.args.page c.args.level d c.args.low.now high body part) can
 
 pub returns-in-Leaf-clause-reaches : goal.returns-in-Leaf-clause-reaches
 returns-in-Leaf-clause-reaches g t c keeps d body part can =
@@ -61,16 +74,22 @@ returns-in-Leaf-clause-reaches g t c keeps d body part can =
     let k1 = c.walk_leaf.ensures.looks.reads.on.kept keeps in
     let high = option_map (λ b. b.now) c.args.high in
     let content : content_in c.in_ok-image.image.content ≡ content_of d body =
-    read_content (sheet_at (reads (now h0)) c.args.root) c.args.page (content_of d body) (sheet_of c.in_ok-image.image) part.at.live part.at.holds (c.in_ok-image.ensures.sheet k1) in
+    read_content (sheet_at (reads (now h0)) c.args.root) c.args.page (content_of d body) (sheet_of c.in_ok-image.image) part.at.live part.at.holds
+    (c.in_ok-image.ensures.sheet k1) in
     at_leaf c.in-Leaf.leaf
-    (λ d body. IsPart (pages_in h1 c.args.root) c.args.page c.args.level d c.args.low.now high body → CanReach c.args.root.pages c.args.reached.now (c.args.page ∷ pages_of d body)
+    (λ d body. IsPart (pages_in h1 c.args.root) c.args.page c.args.level d c.args.low.now high body
+    → CanReach c.args.root.pages c.args.reached.now (c.args.page ∷ pages_of d body)
     → ((0 ≡ d) × (pages_so_far c.walk_leaf.new.reached ≡ pages_so_far c.args.reached.now ++ c.args.page ∷ pages_of d body)))
     (λ pairs e part can. (
       refl,
-      behind_first c.args.page (pages_of zero pairs) (pages_so_far c.args.reached.now) (pages_so_far c.note.new.self) (pages_so_far c.walk_leaf.new.reached) c.in_ok-note.ensures.noted
-          (c.in_ok-walk_leaf-in-Leaf.ensures.reaches keeps pairs e part.shown part.sound.1 (can_rest c.args.root.pages c.args.reached.now c.note.new.self c.args.page (pages_of zero pairs) can c.in_ok-note.ensures.marks c.in_ok-note.ensures.noted)),
+      behind_first c.args.page (pages_of zero pairs) (pages_so_far c.args.reached.now) (pages_so_far c.note.new.self)
+          (pages_so_far c.walk_leaf.new.reached) c.in_ok-note.ensures.noted
+          (c.in_ok-walk_leaf-in-Leaf.ensures.reaches keeps pairs e part.shown part.sound.1
+          (can_rest c.args.root.pages c.args.reached.now c.note.new.self c.args.page
+          (pages_of zero pairs) can c.in_ok-note.ensures.marks c.in_ok-note.ensures.noted)),
     ))
-    d body (sym (ap content_in c.in-Leaf.is) ∙ content) (part_moved h0 h1 c.args.root (c.in_ok-image.ensures.looks.reads.same k1) c.args.page c.args.level d c.args.low.now high body part) can
+    d body (sym (ap content_in c.in-Leaf.is) ∙ content)
+    (part_moved h0 h1 c.args.root (c.in_ok-image.ensures.looks.reads.same k1) c.args.page c.args.level d c.args.low.now high body part) can
 
 pub returns-in-Leaf-clause-marks : goal.returns-in-Leaf-clause-marks
 returns-in-Leaf-clause-marks g t c limit marked = c.in_ok-walk_leaf-in-Leaf.ensures.marks limit (c.in_ok-note.ensures.marks limit marked)
@@ -82,10 +101,14 @@ returns-in-Leaf-clause-found g t c keeps =
     let k1 = c.walk_leaf.ensures.looks.reads.on.kept keeps in
     let high = option_map (λ b. b.now) c.args.high in
     let at : IsAt (pages_in h0 c.args.root) c.args.page (leaf c.in-Leaf.leaf) =
-    subst (IsAt (pages_in h0 c.args.root) c.args.page) (ap content_in c.in-Leaf.is) (page_there (reads (now h0)) c.args.root c.args.page (sheet_of c.in_ok-image.image) (c.in_ok-image.ensures.sheet k1)) in
-    let found : HasFoundPairs (pages_in h0 c.args.root) c.args.low.now high c.in-Leaf.leaf (pages_so_far c.note.new.self) (pages_so_far c.walk_leaf.new.reached) =
-    subst (λ (s : Store). HasFoundPairs s c.args.low.now high c.in-Leaf.leaf (pages_so_far c.note.new.self) (pages_so_far c.walk_leaf.new.reached)) (same_pages h0 h1 c.args.root (c.in_ok-image.ensures.looks.reads.same k1)) (c.in_ok-walk_leaf-in-Leaf.ensures.found keeps) in
-    leaf_found (pages_in h0 c.args.root) c.args.page c.args.low.now high c.in-Leaf.leaf (pages_so_far c.args.reached.now) (pages_so_far c.note.new.self) (pages_so_far c.walk_leaf.new.reached) at c.walk_leaf.ensures.lawful c.if-not-is_within.ensures
+    subst (IsAt (pages_in h0 c.args.root) c.args.page) (ap content_in c.in-Leaf.is)
+    (page_there (reads (now h0)) c.args.root c.args.page (sheet_of c.in_ok-image.image) (c.in_ok-image.ensures.sheet k1)) in
+    let found : HasFoundPairs (pages_in h0 c.args.root) c.args.low.now high c.in-Leaf.leaf (pages_so_far c.note.new.self)
+    (pages_so_far c.walk_leaf.new.reached) =
+    subst (λ (s : Store). HasFoundPairs s c.args.low.now high c.in-Leaf.leaf (pages_so_far c.note.new.self) (pages_so_far c.walk_leaf.new.reached))
+    (same_pages h0 h1 c.args.root (c.in_ok-image.ensures.looks.reads.same k1)) (c.in_ok-walk_leaf-in-Leaf.ensures.found keeps) in
+    leaf_found (pages_in h0 c.args.root) c.args.page c.args.low.now high c.in-Leaf.leaf (pages_so_far c.args.reached.now) (pages_so_far c.note.new.self)
+    (pages_so_far c.walk_leaf.new.reached) at c.walk_leaf.ensures.lawful c.if-not-is_within.ensures
     c.in_ok-note.ensures.noted found
 
 pub loop-i-init : goal.loop-i-init
@@ -95,7 +118,8 @@ loop-i-init g t c =
       marks = λ limit marked. marked;
       deep = omega arith;
       so_far = λ keeps d twigs e part can. ((λ some. absurd (omega (arith, some))), sym (append-nil (pages_so_far c.note.new.self)));
-      found = λ keeps. no_fan_found (pages_in (g.D.Disk.history c.read_sheet.new.disk) c.args.root) 0 c.args.low.now (option_map (λ b. b.now) c.args.high) c.in-Branch.branch (pages_so_far c.note.new.self);
+      found = λ keeps. no_fan_found (pages_in (g.D.Disk.history c.read_sheet.new.disk) c.args.root) 0 c.args.low.now
+          (option_map (λ b. b.now) c.args.high) c.in-Branch.branch (pages_so_far c.note.new.self);
     }
 
 pub returns-in_err-below-clause-looks : goal.returns-in_err-below-clause-looks
@@ -124,19 +148,29 @@ returns-in_err-below-clause-reaches g t c keeps d body part can =
     let child = child_arm c.child-child.result in
     let k2 = c.walk_below.ensures.looks.reads.on.kept keeps in
     let k1 = inv.only.on.kept k2 in
-    let bounds : AreBounds low high arms i from to = bounds_are low high arms i from to c.low_bound-from.ensures.first c.low_bound-from.ensures.later c.high_bound-to.ensures.last c.high_bound-to.ensures.inner in
+    let bounds : AreBounds low high arms i from to =
+    bounds_are low high arms i from to c.low_bound-from.ensures.first c.low_bound-from.ensures.later c.high_bound-to.ensures.last c.high_bound-to.ensures.inner
+    in
     let content : content_in c.in_ok-image.image.content ≡ content_of d body =
-    read_content (sheet_at (reads (now h0)) c.args.root) c.args.page (content_of d body) (sheet_of c.in_ok-image.image) part.at.live part.at.holds (c.in_ok-image.ensures.sheet k1) in
+    read_content (sheet_at (reads (now h0)) c.args.root) c.args.page (content_of d body) (sheet_of c.in_ok-image.image) part.at.live part.at.holds
+    (c.in_ok-image.ensures.sheet k1) in
     at_branch arms
-    (λ d body. IsPart (pages_in h1 c.args.root) c.args.page c.args.level d low high body → CanReach c.args.root.pages c.args.reached.now (c.args.page ∷ pages_of d body)
-    → ReachesDepth d (c.args.page ∷ pages_of d body) (pages_so_far c.args.reached.now) (pages_so_far c.walk_below.new.reached) c.from_residual-in_err-below.result)
+    (λ d body. IsPart (pages_in h1 c.args.root) c.args.page c.args.level d low high body
+    → CanReach c.args.root.pages c.args.reached.now (c.args.page ∷ pages_of d body)
+    → ReachesDepth d (c.args.page ∷ pages_of d body) (pages_so_far c.args.reached.now)
+    (pages_so_far c.walk_below.new.reached) c.from_residual-in_err-below.result)
     (λ d twigs e part can.
-    let can1 = can_rest c.args.root.pages c.args.reached.now c.note.new.self c.args.page (pages_of (suc d) twigs) can c.in_ok-note.ensures.marks c.in_ok-note.ensures.noted in
+    let can1 = can_rest c.args.root.pages c.args.reached.now c.note.new.self c.args.page
+    (pages_of (suc d) twigs) can c.in_ok-note.ensures.marks c.in_ok-note.ensures.noted in
     let a = at_place twigs i (within d arms twigs i e (omega arith)) in
-    depth_failed (suc d) (c.args.page ∷ pages_of (suc d) twigs) (pages_so_far c.args.reached.now) (pages_so_far c.walk_below.new.reached) c.from_residual-in_err-below.result c.in_err-below.field-0.0 (search rules)
-    (c.in_err-below.ensures.reaches keeps d a.mid.body (child_there h1 h2 c.args.root (inv.only.same k2) c.args.page c.args.level d low high twigs arms i a child from to e c.child-child.ensures bounds part)
-    (child_can c.args.root d twigs arms i a child e c.child-child.ensures c.args.root.pages c.note.new.self c.loop-i.reached can1 inv.marks (inv.so_far k2 d twigs e part can1).1)))
-    d body (sym (ap content_in c.in-Branch.is) ∙ content) (part_moved h0 h1 c.args.root (c.in_ok-image.ensures.looks.reads.same k1) c.args.page c.args.level d low high body part) can
+    depth_failed (suc d) (c.args.page ∷ pages_of (suc d) twigs) (pages_so_far c.args.reached.now)
+    (pages_so_far c.walk_below.new.reached) c.from_residual-in_err-below.result c.in_err-below.field-0.0 (search rules)
+    (c.in_err-below.ensures.reaches keeps d a.mid.body
+    (child_there h1 h2 c.args.root (inv.only.same k2) c.args.page c.args.level d low high twigs arms i a child from to e c.child-child.ensures bounds part)
+    (child_can c.args.root d twigs arms i a child e c.child-child.ensures c.args.root.pages c.note.new.self c.loop-i.reached can1 inv.marks
+    (inv.so_far k2 d twigs e part can1).1)))
+    d body (sym (ap content_in c.in-Branch.is) ∙ content)
+    (part_moved h0 h1 c.args.root (c.in_ok-image.ensures.looks.reads.same k1) c.args.page c.args.level d low high body part) can
 
 pub returns-then-below-depth-clause-looks : goal.returns-then-below-depth-clause-looks
 returns-then-below-depth-clause-looks g t c =
@@ -164,18 +198,26 @@ returns-then-below-depth-clause-reaches g t c keeps d body part can =
     let child = child_arm c.child-child.result in
     let k2 = c.walk_below.ensures.looks.reads.on.kept keeps in
     let k1 = inv.only.on.kept k2 in
-    let bounds : AreBounds low high arms i from to = bounds_are low high arms i from to c.low_bound-from.ensures.first c.low_bound-from.ensures.later c.high_bound-to.ensures.last c.high_bound-to.ensures.inner in
+    let bounds : AreBounds low high arms i from to =
+    bounds_are low high arms i from to c.low_bound-from.ensures.first c.low_bound-from.ensures.later c.high_bound-to.ensures.last c.high_bound-to.ensures.inner
+    in
     let content : content_in c.in_ok-image.image.content ≡ content_of d body =
-    read_content (sheet_at (reads (now h0)) c.args.root) c.args.page (content_of d body) (sheet_of c.in_ok-image.image) part.at.live part.at.holds (c.in_ok-image.ensures.sheet k1) in
+    read_content (sheet_at (reads (now h0)) c.args.root) c.args.page (content_of d body) (sheet_of c.in_ok-image.image) part.at.live part.at.holds
+    (c.in_ok-image.ensures.sheet k1) in
     at_branch arms
-    (λ d body. IsPart (pages_in h1 c.args.root) c.args.page c.args.level d low high body → CanReach c.args.root.pages c.args.reached.now (c.args.page ∷ pages_of d body) → faults.Damaged ≢ faults.Damaged)
+    (λ d body. IsPart (pages_in h1 c.args.root) c.args.page c.args.level d low high body
+    → CanReach c.args.root.pages c.args.reached.now (c.args.page ∷ pages_of d body) → faults.Damaged ≢ faults.Damaged)
     (λ d twigs e part can damaged.
-    let can1 = can_rest c.args.root.pages c.args.reached.now c.note.new.self c.args.page (pages_of (suc d) twigs) can c.in_ok-note.ensures.marks c.in_ok-note.ensures.noted in
+    let can1 = can_rest c.args.root.pages c.args.reached.now c.note.new.self c.args.page
+    (pages_of (suc d) twigs) can c.in_ok-note.ensures.marks c.in_ok-note.ensures.noted in
     let a = at_place twigs i (within d arms twigs i e (omega arith)) in
-    let there = c.in_ok-below.ensures.reaches keeps d a.mid.body (child_there h1 h2 c.args.root (inv.only.same k2) c.args.page c.args.level d low high twigs arms i a child from to e c.child-child.ensures bounds part)
-    (child_can c.args.root d twigs arms i a child e c.child-child.ensures c.args.root.pages c.note.new.self c.loop-i.reached can1 inv.marks (inv.so_far k2 d twigs e part can1).1) in
+    let there = c.in_ok-below.ensures.reaches keeps d a.mid.body
+    (child_there h1 h2 c.args.root (inv.only.same k2) c.args.page c.args.level d low high twigs arms i a child from to e c.child-child.ensures bounds part)
+    (child_can c.args.root d twigs arms i a child e c.child-child.ensures c.args.root.pages c.note.new.self c.loop-i.reached can1 inv.marks
+    (inv.so_far k2 d twigs e part can1).1) in
     absurd (omega (arith, there.0, (inv.so_far k2 d twigs e part can1).0 (omega arith))))
-    d body (sym (ap content_in c.in-Branch.is) ∙ content) (part_moved h0 h1 c.args.root (c.in_ok-image.ensures.looks.reads.same k1) c.args.page c.args.level d low high body part) can
+    d body (sym (ap content_in c.in-Branch.is) ∙ content)
+    (part_moved h0 h1 c.args.root (c.in_ok-image.ensures.looks.reads.same k1) c.args.page c.args.level d low high body part) can
 
 pub loop-i-preserved : goal.loop-i-preserved
 loop-i-preserved g t c =
@@ -191,7 +233,9 @@ loop-i-preserved g t c =
     let child = child_arm c.child-child.result in
     let below = c.in_ok-below.below in
     let s = pages_in h1 c.args.root in
-    let bounds : AreBounds low high arms i from to = bounds_are low high arms i from to c.low_bound-from.ensures.first c.low_bound-from.ensures.later c.high_bound-to.ensures.last c.high_bound-to.ensures.inner in
+    let bounds : AreBounds low high arms i from to =
+    bounds_are low high arms i from to c.low_bound-from.ensures.first c.low_bound-from.ensures.later c.high_bound-to.ensures.last c.high_bound-to.ensures.inner
+    in
     record {
       only = reads_further h1 h2 (g.D.Disk.history c.walk_below.new.disk) inv.only c.walk_below.ensures.looks.reads;
       marks = λ limit marked. c.in_ok-below.ensures.marks limit (inv.marks limit marked);
@@ -200,25 +244,31 @@ loop-i-preserved g t c =
           let k2 = c.walk_below.ensures.looks.reads.on.kept keeps in
           let a = at_place twigs i (within d arms twigs i e (omega arith)) in
           let so_far = (inv.so_far k2 d twigs e part can).1 in
-          let there = c.in_ok-below.ensures.reaches keeps d a.mid.body (child_there h1 h2 c.args.root (inv.only.same k2) c.args.page c.args.level d low high twigs arms i a child from to e c.child-child.ensures bounds part)
+          let there = c.in_ok-below.ensures.reaches keeps d a.mid.body
+          (child_there h1 h2 c.args.root
+          (inv.only.same k2) c.args.page c.args.level d low high twigs arms i a child from to e c.child-child.ensures bounds part)
           (child_can c.args.root d twigs arms i a child e c.child-child.ensures c.args.root.pages c.note.new.self c.loop-i.reached can inv.marks so_far) in (
             (λ some. there.0),
-            child_reached d twigs arms i a child e c.child-child.ensures (pages_so_far c.note.new.self) (pages_so_far c.loop-i.reached) (pages_so_far c.walk_below.new.reached) so_far there.1,
+            child_reached d twigs arms i a child e c.child-child.ensures (pages_so_far c.note.new.self) (pages_so_far c.loop-i.reached)
+                (pages_so_far c.walk_below.new.reached) so_far there.1,
           );
       found = λ keeps.
           let k2 = c.walk_below.ensures.looks.reads.on.kept keeps in
           let part : HasFoundPart s child.child below from to (pages_so_far c.loop-i.reached) (pages_so_far c.walk_below.new.reached) =
-          subst (λ (s : Store). HasFoundPart s child.child below from to (pages_so_far c.loop-i.reached) (pages_so_far c.walk_below.new.reached)) (same_pages h1 h2 c.args.root (inv.only.same k2)) (c.in_ok-below.ensures.found keeps) in
+          subst (λ (s : Store). HasFoundPart s child.child below from to (pages_so_far c.loop-i.reached) (pages_so_far c.walk_below.new.reached))
+          (same_pages h1 h2 c.args.root (inv.only.same k2)) (c.in_ok-below.ensures.found keeps) in
           let fan : HasFoundFan s below low high arms i (pages_so_far c.note.new.self) (pages_so_far c.loop-i.reached) =
           fan_height s c.loop-i.depth below low high arms i (pages_so_far c.note.new.self) (pages_so_far c.loop-i.reached)
           (elim (cases_lt 0 i) [ inl some ↦ inr (omega (arith, some)) | inr none ↦ inl (omega (arith, none)) ]) (inv.found k2) in
-          fan_more s below low high arms i child from to c.child-child.ensures bounds (pages_so_far c.note.new.self) (pages_so_far c.loop-i.reached) (pages_so_far c.walk_below.new.reached) fan part;
+          fan_more s below low high arms i child from to c.child-child.ensures bounds (pages_so_far c.note.new.self) (pages_so_far c.loop-i.reached)
+          (pages_so_far c.walk_below.new.reached) fan part;
     }
 
 pub returns-clause-looks : goal.returns-clause-looks
 returns-clause-looks g t c =
     record {
-      reads = reads_further (g.D.Disk.history c.args.disk.now) (g.D.Disk.history c.read_sheet.new.disk) (g.D.Disk.history c.loop-i.disk) c.read_sheet.ensures.looks.reads c.loop-i.invariant.only;
+      reads = reads_further (g.D.Disk.history c.args.disk.now) (g.D.Disk.history c.read_sheet.new.disk)
+          (g.D.Disk.history c.loop-i.disk) c.read_sheet.ensures.looks.reads c.loop-i.invariant.only;
       cause = tt;
     }
 
@@ -234,19 +284,24 @@ returns-clause-reaches g t c keeps d body part can =
     let arms = c.in-Branch.branch in
     let many : 2 ≤ length arms = c.len-i-end.ensures.sound.some in
     let content : content_in c.in_ok-image.image.content ≡ content_of d body =
-    read_content (sheet_at (reads (now h0)) c.args.root) c.args.page (content_of d body) (sheet_of c.in_ok-image.image) part.at.live part.at.holds (c.in_ok-image.ensures.sheet k1) in
+    read_content (sheet_at (reads (now h0)) c.args.root) c.args.page (content_of d body) (sheet_of c.in_ok-image.image) part.at.live part.at.holds
+    (c.in_ok-image.ensures.sheet k1) in
     at_branch arms
-    (λ d body. IsPart (pages_in h1 c.args.root) c.args.page c.args.level d low high body → CanReach c.args.root.pages c.args.reached.now (c.args.page ∷ pages_of d body)
+    (λ d body. IsPart (pages_in h1 c.args.root) c.args.page c.args.level d low high body
+    → CanReach c.args.root.pages c.args.reached.now (c.args.page ∷ pages_of d body)
     → ((c.loop-i.depth + 1 ≡ d) × (pages_so_far c.loop-i.reached ≡ pages_so_far c.args.reached.now ++ c.args.page ∷ pages_of d body)))
     (λ d twigs e part can.
-    let can1 = can_rest c.args.root.pages c.args.reached.now c.note.new.self c.args.page (pages_of (suc d) twigs) can c.in_ok-note.ensures.marks c.in_ok-note.ensures.noted in
+    let can1 = can_rest c.args.root.pages c.args.reached.now c.note.new.self c.args.page
+    (pages_of (suc d) twigs) can c.in_ok-note.ensures.marks c.in_ok-note.ensures.noted in
     let all : take i twigs ≡ twigs = all_taken twigs i (omega (arith, c.loop-i-test.false, ap length e, long_map (arm_of {B = Body d}) twigs)) in
     let far = inv.so_far keeps d twigs e part can1 in (
       omega (arith, far.0 (omega (arith, many, c.loop-i-test.false))),
-      behind_first c.args.page (pages_of (suc d) twigs) (pages_so_far c.args.reached.now) (pages_so_far c.note.new.self) (pages_so_far c.loop-i.reached) c.in_ok-note.ensures.noted
+      behind_first c.args.page (pages_of (suc d) twigs) (pages_so_far c.args.reached.now) (pages_so_far c.note.new.self)
+          (pages_so_far c.loop-i.reached) c.in_ok-note.ensures.noted
           (far.1 ∙ ap (λ (ws : Body (suc d)). pages_so_far c.note.new.self ++ pages_of (suc d) ws) all),
     ))
-    d body (sym (ap content_in c.in-Branch.is) ∙ content) (part_moved h0 h1 c.args.root (c.in_ok-image.ensures.looks.reads.same k1) c.args.page c.args.level d low high body part) can
+    d body (sym (ap content_in c.in-Branch.is) ∙ content)
+    (part_moved h0 h1 c.args.root (c.in_ok-image.ensures.looks.reads.same k1) c.args.page c.args.level d low high body part) can
 
 pub returns-clause-marks : goal.returns-clause-marks
 returns-clause-marks g t c limit marked = c.loop-i.invariant.marks limit (c.in_ok-note.ensures.marks limit marked)
@@ -262,8 +317,11 @@ returns-clause-found g t c keeps =
     let k1 = inv.only.on.kept keeps in
     let arms = c.in-Branch.branch in
     let at : IsAt (pages_in h0 c.args.root) c.args.page (branch arms) =
-    subst (IsAt (pages_in h0 c.args.root) c.args.page) (ap content_in c.in-Branch.is) (page_there (reads (now h0)) c.args.root c.args.page (sheet_of c.in_ok-image.image) (c.in_ok-image.ensures.sheet k1)) in
+    subst (IsAt (pages_in h0 c.args.root) c.args.page) (ap content_in c.in-Branch.is)
+    (page_there (reads (now h0)) c.args.root c.args.page (sheet_of c.in_ok-image.image) (c.in_ok-image.ensures.sheet k1)) in
     let fan : HasFoundFan (pages_in h0 c.args.root) c.loop-i.depth low high arms i (pages_so_far c.note.new.self) (pages_so_far c.loop-i.reached) =
-    subst (λ (s : Store). HasFoundFan s c.loop-i.depth low high arms i (pages_so_far c.note.new.self) (pages_so_far c.loop-i.reached)) (same_pages h0 h1 c.args.root (c.in_ok-image.ensures.looks.reads.same k1)) (inv.found keeps) in
-    branch_found (pages_in h0 c.args.root) c.args.page c.loop-i.depth (c.loop-i.depth + 1) low high arms i (pages_so_far c.args.reached.now) (pages_so_far c.note.new.self) (pages_so_far c.loop-i.reached) at c.len-i-end.ensures.sound
+    subst (λ (s : Store). HasFoundFan s c.loop-i.depth low high arms i (pages_so_far c.note.new.self) (pages_so_far c.loop-i.reached))
+    (same_pages h0 h1 c.args.root (c.in_ok-image.ensures.looks.reads.same k1)) (inv.found keeps) in
+    branch_found (pages_in h0 c.args.root) c.args.page c.loop-i.depth (c.loop-i.depth + 1) low high arms i (pages_so_far c.args.reached.now)
+    (pages_so_far c.note.new.self) (pages_so_far c.loop-i.reached) at c.len-i-end.ensures.sound
     c.if-not-is_within.ensures (omega (arith, c.loop-i-test.false)) (omega arith) c.in_ok-note.ensures.noted fan

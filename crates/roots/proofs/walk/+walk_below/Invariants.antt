@@ -20,7 +20,8 @@ invariant-loop-i g l =
       only : ReadsOnly start h;
       marks : (limit : ℕ) → IsMarked limit l.initial.reached → IsMarked limit l.reached;
       deep : l.depth + l.level < 31;
-      so_far : KeepsWord h → (d : ℕ) (twigs : Body (suc d)) → l.branch ≡ map arm_of twigs → IsPart (pages_in start l.root) l.page l.level (suc d) l.low high twigs → CanReach l.root.pages l.initial.reached (pages_of (suc d) twigs)
+      so_far : KeepsWord h → (d : ℕ) (twigs : Body (suc d)) → l.branch ≡ map arm_of twigs
+          → IsPart (pages_in start l.root) l.page l.level (suc d) l.low high twigs → CanReach l.root.pages l.initial.reached (pages_of (suc d) twigs)
           → (0 < l.i → l.depth ≡ d) × (pages_so_far l.reached ≡ pages_so_far l.initial.reached ++ pages_of (suc d) (take l.i twigs));
       found : KeepsWord h → HasFoundFan (pages_in start l.root) l.depth l.low high l.branch l.i (pages_so_far l.initial.reached) (pages_so_far l.reached);
     }

@@ -11,14 +11,16 @@ use Rattle.roots.specs.Image.{sheet_at}
 use Rattle.roots.specs.Walk.{CanReach, pages_in, pages_so_far}
 use Rattle.roots.proofs.FoundLemmas.{chain_begins, chain_found, chain_more, page_there}
 use Rattle.roots.proofs.ImageLemmas.{live_below}
-use Rattle.roots.proofs.WalkLemmas.{IsNext, begun, next_link, can_go_on, can_reach_same, reaches_failed, not_damaged, read_content, part_long, link_more, all_links, no_chain}
+use Rattle.roots.proofs.WalkLemmas.{IsNext, begun, next_link, can_go_on, can_reach_same, reaches_failed, not_damaged, read_content, part_long, link_more}
+use Rattle.roots.proofs.WalkLemmas.{all_links, no_chain}
 use Rattle.roots.proofs.walk.walk_chain.Goals as goal
 
 pub loop-left-init : goal.loop-left-init
 loop-left-init g c = record {
   only = search rules;
   marks = λ limit marked. marked;
-  so_far = λ keeps links value has next long. begun (pages_in (g.D.Disk.history c.args.disk.now) c.args.root) links value c.args.len c.args.first (pages_so_far c.args.reached.now) has next long;
+  so_far = λ keeps links value has next long. begun (pages_in (g.D.Disk.history c.args.disk.now) c.args.root) links value c.args.len c.args.first
+      (pages_so_far c.args.reached.now) has next long;
   found = λ keeps. chain_begins (pages_in (g.D.Disk.history c.args.disk.now) c.args.root) c.args.first c.args.len (pages_so_far c.args.reached.now);
 }
 
@@ -28,11 +30,14 @@ returns-in_err-note-clause-reaches g c keeps links value has next long can =
     let inv = c.loop-left.invariant in
     let page = c.loop-left.page in
     let n : IsNext s links c.loop-left.left page (pages_so_far c.args.reached.now) (pages_so_far c.loop-left.reached) =
-    next_link s links c.loop-left.left page (pages_so_far c.args.reached.now) (pages_so_far c.loop-left.reached) (omega arith) (inv.so_far keeps links value has next long) in
+    next_link s links c.loop-left.left page (pages_so_far c.args.reached.now) (pages_so_far c.loop-left.reached) (omega arith)
+    (inv.so_far keeps links value has next long) in
     let one : CanReach c.args.root.pages c.loop-left.reached (page ∷ []) =
-    can_go_on c.args.root.pages c.args.reached.now c.loop-left.reached n.front (page ∷ []) n.back (can_reach_same c.args.root.pages c.args.reached.now links (n.front ++ page ∷ n.back) n.is can) inv.marks n.reached in
+    can_go_on c.args.root.pages c.args.reached.now c.loop-left.reached n.front (page ∷ []) n.back
+    (can_reach_same c.args.root.pages c.args.reached.now links (n.front ++ page ∷ n.back) n.is can) inv.marks n.reached in
     let inside : page < c.args.root.pages = live_below (reads (now (g.D.Disk.history c.args.disk.now))) c.args.root page n.at.live in
-    reaches_failed links c.args.reached.now c.note.new.self c.from_residual.result c.in_err-note.field-0.0 (search rules) (λ damaged. c.in_err-note.ensures.refused damaged c.args.root.pages one inside)
+    reaches_failed links c.args.reached.now c.note.new.self c.from_residual.result c.in_err-note.field-0.0 (search rules)
+    (λ damaged. c.in_err-note.ensures.refused damaged c.args.root.pages one inside)
 
 -- the page that is reached next, and what was read there
 pub returns-in_err-image-clause-reaches : goal.returns-in_err-image-clause-reaches
@@ -44,9 +49,11 @@ returns-in_err-image-clause-reaches g c keeps links value has next long can =
     let page = c.loop-left.page in
     let k1 = c.read_sheet.ensures.looks.reads.on.kept keeps in
     let n : IsNext s links c.loop-left.left page (pages_so_far c.args.reached.now) (pages_so_far c.loop-left.reached) =
-    next_link s links c.loop-left.left page (pages_so_far c.args.reached.now) (pages_so_far c.loop-left.reached) (omega arith) (inv.so_far k1 links value has next long) in
+    next_link s links c.loop-left.left page (pages_so_far c.args.reached.now) (pages_so_far c.loop-left.reached) (omega arith)
+    (inv.so_far k1 links value has next long) in
     reaches_failed links c.args.reached.now c.note.new.self c.from_residual-in_err-image.result c.in_err-image.field-0.0 (search rules)
-    (not_damaged (sheet_at (reads (now h0)) c.args.root) (sheet_at (reads (now h1)) c.args.root) page (chain (next_of n.back) (take 4076 n.rest)) c.in_err-image.field-0.0 n.at.live n.at.holds
+    (not_damaged (sheet_at (reads (now h0)) c.args.root) (sheet_at (reads (now h1)) c.args.root) page
+    (chain (next_of n.back) (take 4076 n.rest)) c.in_err-image.field-0.0 n.at.live n.at.holds
     (ap (λ (t : ℕ → Sector). sheet_at (reads t) c.args.root page) (inv.only.same k1)) (c.in_err-image.ensures.sheet keeps))
 
 pub returns-in_default : goal.returns-in_default
@@ -62,9 +69,11 @@ returns-in_default g c =
           let page = c.loop-left.page in
           let k1 = c.read_sheet.ensures.looks.reads.on.kept keeps in
           let n : IsNext s links c.loop-left.left page (pages_so_far c.args.reached.now) (pages_so_far c.loop-left.reached) =
-          next_link s links c.loop-left.left page (pages_so_far c.args.reached.now) (pages_so_far c.loop-left.reached) (omega arith) (inv.so_far k1 links value has next long) in
+          next_link s links c.loop-left.left page (pages_so_far c.args.reached.now) (pages_so_far c.loop-left.reached) (omega arith)
+          (inv.so_far k1 links value has next long) in
           no_chain c.in_ok-image.image.content c.in_default.not-Chain (next_of n.back) (take 4076 n.rest)
-          (read_content (sheet_at (reads (now h0)) c.args.root) page (chain (next_of n.back) (take 4076 n.rest)) (sheet_of c.in_ok-image.image) n.at.live n.at.holds
+          (read_content (sheet_at (reads (now h0)) c.args.root) page (chain (next_of n.back) (take 4076 n.rest))
+          (sheet_of c.in_ok-image.image) n.at.live n.at.holds
           (sym (ap (λ (t : ℕ → Sector). sheet_at (reads t) c.args.root page) (inv.only.same k1)) ∙ c.in_ok-image.ensures.sheet keeps));
       marks = tt;
       found = λ keeps. tt;
@@ -78,7 +87,8 @@ returns-then-len-min-clause-reaches g c keeps links value has next long can dama
     let page = c.loop-left.page in
     let k1 = c.read_sheet.ensures.looks.reads.on.kept keeps in
     let n : IsNext s links c.loop-left.left page (pages_so_far c.args.reached.now) (pages_so_far c.loop-left.reached) =
-    next_link s links c.loop-left.left page (pages_so_far c.args.reached.now) (pages_so_far c.loop-left.reached) (omega arith) (inv.so_far k1 links value has next long) in
+    next_link s links c.loop-left.left page (pages_so_far c.args.reached.now) (pages_so_far c.loop-left.reached) (omega arith)
+    (inv.so_far k1 links value has next long) in
     let content : content_of c.in_ok-image.image.content ≡ chain (next_of n.back) (take 4076 n.rest) =
     read_content (sheet_at (reads (now h0)) c.args.root) page (chain (next_of n.back) (take 4076 n.rest)) (sheet_of c.in_ok-image.image) n.at.live n.at.holds
     (sym (ap (λ (t : ℕ → Sector). sheet_at (reads t) c.args.root page) (inv.only.same k1)) ∙ c.in_ok-image.ensures.sheet keeps) in
@@ -100,31 +110,42 @@ loop-left-preserved-else-len-min-3 g c =
       so_far = λ keeps links value has next long.
           let k1 = c.read_sheet.ensures.looks.reads.on.kept keeps in
           let n : IsNext s links c.loop-left.left page (pages_so_far c.args.reached.now) (pages_so_far c.loop-left.reached) =
-          next_link s links c.loop-left.left page (pages_so_far c.args.reached.now) (pages_so_far c.loop-left.reached) (omega arith) (inv.so_far k1 links value has next long) in
+          next_link s links c.loop-left.left page (pages_so_far c.args.reached.now) (pages_so_far c.loop-left.reached) (omega arith)
+          (inv.so_far k1 links value has next long) in
           let content : content_of c.in_ok-image.image.content ≡ chain (next_of n.back) (take 4076 n.rest) =
-          read_content (sheet_at (reads (now h0)) c.args.root) page (chain (next_of n.back) (take 4076 n.rest)) (sheet_of c.in_ok-image.image) n.at.live n.at.holds
+          read_content (sheet_at (reads (now h0)) c.args.root) page (chain (next_of n.back) (take 4076 n.rest))
+          (sheet_of c.in_ok-image.image) n.at.live n.at.holds
           (sym (ap (λ (t : ℕ → Sector). sheet_at (reads t) c.args.root page) (inv.only.same k1)) ∙ c.in_ok-image.ensures.sheet keeps) in
-          link_more s links c.loop-left.left (c.loop-left.left - c.len-left.result) page c.in-Chain.next c.in-Chain.bytes.items (pages_so_far c.args.reached.now) (pages_so_far c.loop-left.reached) (pages_so_far c.note.new.self) n
+          link_more s links c.loop-left.left (c.loop-left.left - c.len-left.result) page c.in-Chain.next c.in-Chain.bytes.items
+          (pages_so_far c.args.reached.now) (pages_so_far c.loop-left.reached) (pages_so_far c.note.new.self) n
           (sym (ap content_of c.in-Chain.is) ∙ content) (omega (arith, c.len-left.ensures, c.in-Chain.bytes.ok)) c.in_ok-note.ensures.noted;
       found = λ keeps.
           let k1 = c.read_sheet.ensures.looks.reads.on.kept keeps in
-          let sheets : sheet_at (reads (now h1)) c.args.root page ≡ sheet_at (reads (now h0)) c.args.root page = ap (λ (t : ℕ → Sector). sheet_at (reads t) c.args.root page) (inv.only.same k1) in
+          let sheets : sheet_at (reads (now h1)) c.args.root page ≡ sheet_at (reads (now h0)) c.args.root page =
+          ap (λ (t : ℕ → Sector). sheet_at (reads t) c.args.root page) (inv.only.same k1) in
           let at : IsAt s page (chain c.in-Chain.next c.in-Chain.bytes.items) =
-          subst (IsAt s page) (ap content_of c.in-Chain.is) (page_there (reads (now h0)) c.args.root page (sheet_of c.in_ok-image.image) (sym sheets ∙ c.in_ok-image.ensures.sheet keeps)) in
-          let part : length c.in-Chain.bytes.items ≡ min c.loop-left.left 4076 = omega (arith, c.if-len-min.false, c.len.ensures, c.min.ensures, c.in-Chain.bytes.ok) in
-          chain_more s c.args.first c.args.len c.loop-left.left (c.loop-left.left - c.len-left.result) page c.in-Chain.next c.in-Chain.bytes.items (pages_so_far c.args.reached.now) (pages_so_far c.loop-left.reached) (pages_so_far c.note.new.self)
+          subst (IsAt s page) (ap content_of c.in-Chain.is)
+          (page_there (reads (now h0)) c.args.root page (sheet_of c.in_ok-image.image) (sym sheets ∙ c.in_ok-image.ensures.sheet keeps)) in
+          let part : length c.in-Chain.bytes.items ≡ min c.loop-left.left 4076 =
+          omega (arith, c.if-len-min.false, c.len.ensures, c.min.ensures, c.in-Chain.bytes.ok) in
+          chain_more s c.args.first c.args.len c.loop-left.left (c.loop-left.left - c.len-left.result) page c.in-Chain.next c.in-Chain.bytes.items
+          (pages_so_far c.args.reached.now) (pages_so_far c.loop-left.reached) (pages_so_far c.note.new.self)
           (inv.found k1) (omega arith) part (omega (arith, c.len-left.ensures, c.in-Chain.bytes.ok)) at c.in_ok-note.ensures.noted;
     }
 
 pub returns-then-page-eq0-clause-reaches : goal.returns-then-page-eq0-clause-reaches
 returns-then-page-eq0-clause-reaches g c keeps links value has next long can =
-    (all_links (pages_in (g.D.Disk.history c.args.disk.now) c.args.root) links c.loop-left.left c.loop-left.page (pages_so_far c.args.reached.now) (pages_so_far c.loop-left.reached) (omega arith) (c.loop-left.invariant.so_far keeps links value has next long)).0
+    (all_links (pages_in (g.D.Disk.history c.args.disk.now) c.args.root) links c.loop-left.left c.loop-left.page (pages_so_far c.args.reached.now)
+    (pages_so_far c.loop-left.reached) (omega arith) (c.loop-left.invariant.so_far keeps links value has next long)).0
 
 pub returns-else-page-eq0-clause-reaches : goal.returns-else-page-eq0-clause-reaches
 returns-else-page-eq0-clause-reaches g c keeps links value has next long can damaged =
-    c.if-page-eq0.false (all_links (pages_in (g.D.Disk.history c.args.disk.now) c.args.root) links c.loop-left.left c.loop-left.page (pages_so_far c.args.reached.now) (pages_so_far c.loop-left.reached) (omega arith) (c.loop-left.invariant.so_far keeps links value has next long)).1
+    c.if-page-eq0.false
+    (all_links (pages_in (g.D.Disk.history c.args.disk.now) c.args.root) links c.loop-left.left c.loop-left.page (pages_so_far c.args.reached.now)
+    (pages_so_far c.loop-left.reached) (omega arith) (c.loop-left.invariant.so_far keeps links value has next long)).1
 
 pub returns-then-page-eq0-clause-found : goal.returns-then-page-eq0-clause-found
 returns-then-page-eq0-clause-found g c keeps =
-    chain_found (pages_in (g.D.Disk.history c.args.disk.now) c.args.root) c.args.first c.args.len c.loop-left.left c.loop-left.page (pages_so_far c.args.reached.now) (pages_so_far c.loop-left.reached) (c.loop-left.invariant.found keeps)
+    chain_found (pages_in (g.D.Disk.history c.args.disk.now) c.args.root) c.args.first c.args.len c.loop-left.left c.loop-left.page
+    (pages_so_far c.args.reached.now) (pages_so_far c.loop-left.reached) (c.loop-left.invariant.found keeps)
     (omega arith) (omega arith)

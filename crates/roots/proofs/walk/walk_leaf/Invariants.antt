@@ -18,5 +18,7 @@ invariant-loop-i g l =
       so_far : KeepsWord h → (pairs : List Pair) → l.leaf ≡ map item_of pairs → Shows (pages_in start l.root) zero pairs
           → Each (IsBetween l.low (option_map (λ b. b.now) l.high)) (pair_keys pairs) → CanReach l.root.pages l.initial.reached (pages_of zero pairs)
           → pages_so_far l.reached ≡ pages_so_far l.initial.reached ++ pages_of zero (take l.i pairs);
-      found : KeepsWord h → HasFoundPairs (pages_in start l.root) l.low (option_map (λ b. b.now) l.high) (take l.i l.leaf) (pages_so_far l.initial.reached) (pages_so_far l.reached);
+      found : KeepsWord h
+          → HasFoundPairs (pages_in start l.root) l.low (option_map (λ b. b.now) l.high) (take l.i l.leaf) (pages_so_far l.initial.reached)
+          (pages_so_far l.reached);
     }

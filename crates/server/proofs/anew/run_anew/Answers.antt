@@ -17,7 +17,8 @@ returns-in-Ok c =
     let disk = c.new.result in
     let drives = c.drive-out.ensures.drives in
     let word : HasTime (disk_history memory_history last) → KeepsWord (disk_history memory_history last) =
-    λ time. (goes_further (memory_history disk) (disk_history memory_history first) (disk_history memory_history last) c.in-Ok.ensures.opened.engine.on drives.on).keeps c.new.ensures.fresh.word time in
+    λ time. (goes_further (memory_history disk) (disk_history memory_history first)
+    (disk_history memory_history last) c.in-Ok.ensures.opened.engine.on drives.on).keeps c.new.ensures.fresh.word time in
     record {
       first = first;
       running = c.in-Ok.ensures.opened.engine.running;
@@ -25,7 +26,9 @@ returns-in-Ok c =
       empty = λ time.
           let held : Holds (reads (now (memory_history disk))) (collections_of first) = c.in-Ok.ensures.opened.engine.holds (drives.on.kept (word time)) in
           let same : collections_of first ≡ [] =
-          nothing_held (reads (now (memory_history disk))) (collections_of first) (ap (λ (s : ℕ → Sector). (s 0).read) c.new.ensures.zeros) (ap (λ (s : ℕ → Sector). (s 1).read) c.new.ensures.zeros) held in
-          c.in-Ok.ensures.opened.alone ∙ ap (λ (cs : List Collection). let s : ServerState = record { world = record new_world { collections = cs }; connections = [] } in s) same;
+          nothing_held (reads (now (memory_history disk))) (collections_of first) (ap (λ (s : ℕ → Sector). (s 0).read) c.new.ensures.zeros)
+          (ap (λ (s : ℕ → Sector). (s 1).read) c.new.ensures.zeros) held in
+          c.in-Ok.ensures.opened.alone
+          ∙ ap (λ (cs : List Collection). let s : ServerState = record { world = record new_world { collections = cs }; connections = [] } in s) same;
       word = word;
     }

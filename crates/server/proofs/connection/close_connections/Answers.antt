@@ -13,7 +13,8 @@ connections-preserved c =
     let is : x ≡ get_or c.connections.connections i x = ap (λ (d : Connection). get_or c.connections.connections i d) c.index-connections-i.is in
     let new = c.close_connection.new.connection in
     let closed : new ≡ closed_by x (fault_beside fs i) = c.close_connection.ensures ∙ ap (closed_by x) c.fault_beside.ensures in
-    let s = close_step c.connections.connections first fs i x new (omega (arith, c.connections-test.true, c.connections.auto.connections)) c.connections.invariant.done c.connections.invariant.left is closed in
+    let s = close_step c.connections.connections first fs i x new
+    (omega (arith, c.connections-test.true, c.connections.auto.connections)) c.connections.invariant.done c.connections.invariant.left is closed in
     let next : i + 1 ≡ suc i = omega arith in
     record {
       done = ap (λ (m : ℕ). take m (set c.connections.connections i new)) next ∙ s.done ∙ ap (λ (m : ℕ). closed_connections (take m first) fs) (sym next);

@@ -11,4 +11,5 @@ spelled_reply-requires c = omega (arith, refusal-sendable refusals.OutOfMemory, 
 pub returns : goal.returns
 unfolding reply_bytes
 returns c =
-    subst (λ (body : List ℕ). IfOk c.spelled_reply.result (λ v. v.items ≡ frame_bytes c.args.number c.args.request_id body)) c.out_of_memory_bytes.ensures c.spelled_reply.ensures
+    subst (λ (body : List ℕ). IfOk c.spelled_reply.result (λ v. v.items ≡ frame_bytes c.args.number c.args.request_id body)) c.out_of_memory_bytes.ensures
+    c.spelled_reply.ensures

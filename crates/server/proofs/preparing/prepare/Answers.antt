@@ -17,9 +17,11 @@ connections-preserved c =
     let inv = c.connections.invariant in
     record {
       refusals = call.refusals ∙ ap (λ (fs : List (ℕ × List ℕ)). fs ++ refused_at OutOfMemory d (front_of d)) inv.refusals
-          ∙ ap (λ (l : Connection). refused_frames OutOfMemory (take i ls) ++ refused_at OutOfMemory l (front_of l)) c.connection-item.is ∙ sym (refused_more OutOfMemory ls i d c.connections-test.true);
+          ∙ ap (λ (l : Connection). refused_frames OutOfMemory (take i ls) ++ refused_at OutOfMemory l (front_of l)) c.connection-item.is
+          ∙ sym (refused_more OutOfMemory ls i d c.connections-test.true);
       closed = call.closed ∙ ap (λ (fs : List (ℕ × FrameFault)). fs ++ fault_at d (front_of d)) inv.closed
           ∙ ap (λ (l : Connection). faults (take i ls) ++ fault_at l (front_of l)) c.connection-item.is ∙ sym (faults_more ls i d c.connections-test.true);
       faults = call.faults ∙ ap (λ (fs : List (Option FrameFault)). fs ++ fault_in (front_of d) ∷ []) inv.faults
-          ∙ ap (λ (l : Connection). faults_in (take i ls) ++ fault_in (front_of l) ∷ []) c.connection-item.is ∙ sym (faults_in-more ls i d c.connections-test.true);
+          ∙ ap (λ (l : Connection). faults_in (take i ls) ++ fault_in (front_of l) ∷ []) c.connection-item.is
+          ∙ sym (faults_in-more ls i d c.connections-test.true);
     }

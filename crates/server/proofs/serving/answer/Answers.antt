@@ -25,14 +25,17 @@ returns-in-Ok-clause-answer g c k read gives =
     let history = g.D.Disk.history in
     let old = c.args.engine.now in
     let new = c.execute.new.self in
-    answers_weaker (FileCause history (file_of old) (file_of new)) (IsCaused (engine_moment history old) (engine_moment history new)) (file_caused history old new c.requires.running)
+    answers_weaker (FileCause history (file_of old) (file_of new)) (IsCaused (engine_moment history old) (engine_moment history new))
+    (file_caused history old new c.requires.running)
     (world old) c.args.id read (world new) (reply_of c.execute.result)
-    (subst (λ (r : Result Pairs BsonFault). Answers (FileCause history (file_of old) (file_of new)) (world old) c.args.id r (world new) (reply_of c.execute.result)) (sym same) (c.execute.ensures.answers k))
+    (subst (λ (r : Result Pairs BsonFault). Answers (FileCause history (file_of old) (file_of new)) (world old) c.args.id r (world new)
+    (reply_of c.execute.result)) (sym same) (c.execute.ensures.answers k))
 
 pub returns-in-Err-clause-answer : goal.returns-in-Err-clause-answer
 returns-in-Err-clause-answer g c k read gives =
     let moment = engine_moment g.D.Disk.history c.args.engine.now in
-    refused_body (IsCaused moment moment) (λ planned. inl refl) (world c.args.engine.now) c.args.id c.in-Err.fault c.body_refusal.result read c.body_refusal.ensures.memory c.body_refusal.ensures.other
+    refused_body (IsCaused moment moment) (λ planned. inl refl)
+    (world c.args.engine.now) c.args.id c.in-Err.fault c.body_refusal.result read c.body_refusal.ensures.memory c.body_refusal.ensures.other
     (subst (λ body. Gives bson_faults.Memory (λ d. d) body read) c.in-Err.is gives)
 
 pub returns-in-Err-clause-goes : goal.returns-in-Err-clause-goes

@@ -9,5 +9,6 @@ use Rattle.server.proofs.serving.frame_of_answer.Goals as goal
 pub returns-in-Spelled : goal.returns-in-Spelled
 unfolding reply_bytes
 returns-in-Spelled c =
-    let spelled : c.bytes.result.now ≡ frame_of (pairs_bytes (answer_of c.args.answer.now)) = c.bytes.ensures.spelled ∙ ap (λ (ps : Pairs). frame_of (pairs_bytes ps)) (sym (ap answer_of c.in-Spelled.is)) in
+    let spelled : c.bytes.result.now ≡ frame_of (pairs_bytes (answer_of c.args.answer.now)) =
+    c.bytes.ensures.spelled ∙ ap (λ (ps : Pairs). frame_of (pairs_bytes ps)) (sym (ap answer_of c.in-Spelled.is)) in
     subst (λ (x : List ℕ). IfOk c.spelled_reply.result (λ v. v.items ≡ x)) (ap (frame_bytes c.args.number c.args.request_id) spelled) c.spelled_reply.ensures

@@ -32,7 +32,8 @@ failed fault = Err fault
 
 pub say_full-requires : goal.say_full-requires
 say_full-requires g c =
-    let same : frames_in c.deref_mut-in-Err-Full.result.now ≡ refused_frames OutOfMemory c.args.connections.now.items = ap frames_in (search rules) ∙ c.requires.refusals in
+    let same : frames_in c.deref_mut-in-Err-Full.result.now ≡ refused_frames OutOfMemory c.args.connections.now.items =
+    ap frames_in (search rules) ∙ c.requires.refusals in
     subst HaveRoom (sym same) (refused_room c.args.connections.now.items)
 
 pub returns-then-not-serve_connections-clause-settles : goal.returns-then-not-serve_connections-clause-settles
@@ -44,13 +45,15 @@ returns-then-not-serve_connections-clause-settles g c =
     let serve = c.serve_connections.ensures in
     let serves = serve.serves in
     let taken : c.deref_mut.result.now ≡ c.args.connections.now.items = search rules in
-    let after = undo_follows history e1 e2 (on_same (disk_history history e1) (disk_history history e2) c.undo_turn.ensures.disk) c.undo_turn.ensures.takes c.undo_turn.ensures.generation in
+    let after = undo_follows history e1 e2
+    (on_same (disk_history history e1) (disk_history history e2) c.undo_turn.ensures.disk) c.undo_turn.ensures.takes c.undo_turn.ensures.generation in
     let before : turn_start e1 ≡ (world e0).collections = serve.turn_start ∙ c.requires.idle in
     record {
       replies = serves.replies;
       one_each = serves.one_each ∙ ap (λ (ls : List Connection). length (calls ls)) taken;
       last = world e1;
-      runs = λ k. runs_over history e0 e1 e2 serve.goes after c.deref_mut.result.now c.args.connections.now.items taken serves.replies (serves.runs (subst KeepsWord c.undo_turn.ensures.disk k));
+      runs = λ k. runs_over history e0 e1 e2 serve.goes after c.deref_mut.result.now c.args.connections.now.items taken serves.replies
+          (serves.runs (subst KeepsWord c.undo_turn.ensures.disk k));
       ends = inr (inl c.requires.refusals, c.undo_turn.ensures.world ∙ ap (λ (cs : List Collection). after_undo cs (world e1)) before);
     }
 
@@ -77,7 +80,8 @@ returns-then-not-serve_connections-clause-quiet g c k nothing =
     let D = g.row.D.Denot in
     let serve = c.serve_connections.ensures in
     let taken : c.deref_mut.result.now ≡ c.args.connections.now.items = search rules in
-    let same = serve.quiet (subst KeepsWord c.undo_turn.ensures.disk k) (subst (λ (ls : List Connection). ChangeNothing OfAnyCause (world c.args.engine.now) (calls ls)) (sym taken) nothing) in
+    let same = serve.quiet (subst KeepsWord c.undo_turn.ensures.disk k)
+    (subst (λ (ls : List Connection). ChangeNothing OfAnyCause (world c.args.engine.now) (calls ls)) (sym taken) nothing) in
     subst (λ (f : State D). GoesFrom g.D.Disk.history (file_of c.args.engine.now) f) (sym (c.undo_turn.ensures.quiet (same ∙ c.requires.rests))) serve.goes
 
 pub returns-in-Ok-clause-settles : goal.returns-in-Ok-clause-settles
@@ -97,7 +101,8 @@ returns-in-Ok-clause-settles g c =
       replies = serves.replies;
       one_each = serves.one_each ∙ ap (λ (ls : List Connection). length (calls ls)) taken;
       last = world e1;
-      runs = λ k. runs_over history e0 e1 e2 serve.goes after c.deref_mut.result.now c.args.connections.now.items taken serves.replies (serves.runs (c.commit_turn.ensures.on.kept k));
+      runs = λ k. runs_over history e0 e1 e2 serve.goes after c.deref_mut.result.now c.args.connections.now.items taken serves.replies
+          (serves.runs (c.commit_turn.ensures.on.kept k));
       ends = inl (serves.frames (search rules) ∙ ap given none ∙ same, c.in-Ok.ensures.done);
     }
 
@@ -116,8 +121,13 @@ returns-in-Err-Memory-clause-settles g c =
       replies = serves.replies;
       one_each = serves.one_each ∙ ap (λ (ls : List Connection). length (calls ls)) taken;
       last = world e1;
-      runs = λ k. runs_over history e0 e1 e2 serve.goes after c.deref_mut.result.now c.args.connections.now.items taken serves.replies (serves.runs (c.commit_turn.ensures.on.kept k));
-      ends = inr (inl c.requires.refusals, c.in-Err-Memory.ensures.memory (ap failed c.in-Err-Memory.field-0-is) ∙ ap (λ (cs : List Collection). after_undo cs (world e1)) before);
+      runs = λ k. runs_over history e0 e1 e2 serve.goes after c.deref_mut.result.now c.args.connections.now.items taken serves.replies
+          (serves.runs (c.commit_turn.ensures.on.kept k));
+      ends = inr (
+        inl c.requires.refusals,
+        c.in-Err-Memory.ensures.memory (ap failed c.in-Err-Memory.field-0-is)
+            ∙ ap (λ (cs : List Collection). after_undo cs (world e1)) before,
+      );
     }
 
 pub returns-in-Err-Full-clause-settles : goal.returns-in-Err-Full-clause-settles
@@ -142,14 +152,20 @@ returns-in-Err-Full-clause-settles g c =
     let full = c.in-Err-Full.ensures.full (ap failed c.in-Err-Full.field-0-is) in
     let generation_was = sym (goes_generation history e0 e1 serve.goes) ∙ full.1 in
     let changing : KeepsWord (disk_history history e2) → ChangeNothing OfAnyCause (world e0) (calls c.args.connections.now.items) → ⊥ = λ k nothing.
-    let same = serve.quiet (c.commit_turn.ensures.on.kept k) (subst (λ (ls : List Connection). ChangeNothing OfAnyCause (world e0) (calls ls)) (sym taken) nothing) in
+    let same = serve.quiet (c.commit_turn.ensures.on.kept k)
+    (subst (λ (ls : List Connection). ChangeNothing OfAnyCause (world e0) (calls ls)) (sym taken) nothing) in
     not_ok c.commit_turn.result c.in-Err-Full.field-0 (c.commit_turn.ensures.quiet (same ∙ c.requires.rests)).0 c.in-Err-Full.is in
     record {
       replies = serves.replies;
       one_each = serves.one_each ∙ ap (λ (ls : List Connection). length (calls ls)) taken;
       last = world e1;
-      runs = λ k. runs_over history e0 e1 e2 serve.goes after c.deref_mut.result.now c.args.connections.now.items taken serves.replies (serves.runs (c.commit_turn.ensures.on.kept k));
-      ends = inr (inr (ap frames_in (whole new _ c.args.refusals.len long) ∙ given, λ k. (generation_was, changing k)), full.0 ∙ ap (λ (cs : List Collection). after_undo cs (world e1)) before);
+      runs = λ k. runs_over history e0 e1 e2 serve.goes after c.deref_mut.result.now c.args.connections.now.items taken serves.replies
+          (serves.runs (c.commit_turn.ensures.on.kept k));
+      ends = inr (
+        inr (ap frames_in (whole new _ c.args.refusals.len long) ∙ given, λ k. (generation_was, changing k)),
+        full.0
+            ∙ ap (λ (cs : List Collection). after_undo cs (world e1)) before,
+      );
     }
 
 pub returns-in-Err-Device-clause-breaks : goal.returns-in-Err-Device-clause-breaks
@@ -162,7 +178,8 @@ returns-in-Err-Device-clause-breaks g c _ k =
     let serves = serve.serves in
     let taken : c.deref_mut.result.now ≡ c.args.connections.now.items = search rules in
     let after = (commit_follows history e1 e2 c.commit_turn.result c.commit_turn.ensures).0 in
-    let ran = runs_over history e0 e1 e2 serve.goes after c.deref_mut.result.now c.args.connections.now.items taken serves.replies (serves.runs (c.commit_turn.ensures.on.kept k)) in
+    let ran = runs_over history e0 e1 e2 serve.goes after c.deref_mut.result.now c.args.connections.now.items taken serves.replies
+    (serves.runs (c.commit_turn.ensures.on.kept k)) in
     record {
       replies = serves.replies;
       last = world e1;
@@ -186,7 +203,8 @@ returns-in-Ok-clause-any_moment g c =
     let e1 = c.serve_connections.new.engine in
     let e2 = c.commit_turn.new.self in
     let serve = c.serve_connections.ensures in
-    moved history e0 e1 e2 c.requires.sound c.requires.running c.requires.idle serve.goes c.commit_turn.ensures.on serve.turn_start c.in-Ok.ensures.done (c.commit_turn.ensures.any_moment (serve.running ∙ c.requires.running))
+    moved history e0 e1 e2 c.requires.sound c.requires.running c.requires.idle serve.goes c.commit_turn.ensures.on serve.turn_start c.in-Ok.ensures.done
+    (c.commit_turn.ensures.any_moment (serve.running ∙ c.requires.running))
 
 pub returns-in-Ok-clause-running : goal.returns-in-Ok-clause-running
 returns-in-Ok-clause-running g c =
@@ -197,7 +215,8 @@ returns-in-Ok-clause-quiet g c k nothing =
     let D = g.row.D.Denot in
     let serve = c.serve_connections.ensures in
     let taken : c.deref_mut.result.now ≡ c.args.connections.now.items = search rules in
-    let same = serve.quiet (c.commit_turn.ensures.on.kept k) (subst (λ (ls : List Connection). ChangeNothing OfAnyCause (world c.args.engine.now) (calls ls)) (sym taken) nothing) in
+    let same = serve.quiet (c.commit_turn.ensures.on.kept k)
+    (subst (λ (ls : List Connection). ChangeNothing OfAnyCause (world c.args.engine.now) (calls ls)) (sym taken) nothing) in
     subst (λ (f : State D). GoesFrom g.D.Disk.history (file_of c.args.engine.now) f) (sym (c.commit_turn.ensures.quiet (same ∙ c.requires.rests)).1) serve.goes
 
 pub returns-in-Err-Memory-clause-on : goal.returns-in-Err-Memory-clause-on
@@ -216,7 +235,8 @@ returns-in-Err-Memory-clause-any_moment g c =
     let e1 = c.serve_connections.new.engine in
     let e2 = c.commit_turn.new.self in
     let serve = c.serve_connections.ensures in
-    moved_back history e0 e1 e2 c.requires.sound c.requires.running c.requires.idle serve.goes c.commit_turn.ensures.on serve.turn_start (c.in-Err-Memory.ensures.kept (serve.running ∙ c.requires.running) (λ e. absurd cc))
+    moved_back history e0 e1 e2 c.requires.sound c.requires.running c.requires.idle serve.goes c.commit_turn.ensures.on serve.turn_start
+    (c.in-Err-Memory.ensures.kept (serve.running ∙ c.requires.running) (λ e. absurd cc))
 
 pub returns-in-Err-Memory-clause-running : goal.returns-in-Err-Memory-clause-running
 returns-in-Err-Memory-clause-running g c =
@@ -227,7 +247,8 @@ returns-in-Err-Memory-clause-quiet g c k nothing =
     let D = g.row.D.Denot in
     let serve = c.serve_connections.ensures in
     let taken : c.deref_mut.result.now ≡ c.args.connections.now.items = search rules in
-    let same = serve.quiet (c.commit_turn.ensures.on.kept k) (subst (λ (ls : List Connection). ChangeNothing OfAnyCause (world c.args.engine.now) (calls ls)) (sym taken) nothing) in
+    let same = serve.quiet (c.commit_turn.ensures.on.kept k)
+    (subst (λ (ls : List Connection). ChangeNothing OfAnyCause (world c.args.engine.now) (calls ls)) (sym taken) nothing) in
     subst (λ (f : State D). GoesFrom g.D.Disk.history (file_of c.args.engine.now) f) (sym (c.commit_turn.ensures.quiet (same ∙ c.requires.rests)).1) serve.goes
 
 pub returns-in-Err-Full-clause-on : goal.returns-in-Err-Full-clause-on
@@ -246,7 +267,8 @@ returns-in-Err-Full-clause-any_moment g c =
     let e1 = c.serve_connections.new.engine in
     let e2 = c.commit_turn.new.self in
     let serve = c.serve_connections.ensures in
-    moved_back history e0 e1 e2 c.requires.sound c.requires.running c.requires.idle serve.goes c.commit_turn.ensures.on serve.turn_start (c.in-Err-Full.ensures.kept (serve.running ∙ c.requires.running) (λ e. absurd cc))
+    moved_back history e0 e1 e2 c.requires.sound c.requires.running c.requires.idle serve.goes c.commit_turn.ensures.on serve.turn_start
+    (c.in-Err-Full.ensures.kept (serve.running ∙ c.requires.running) (λ e. absurd cc))
 
 pub returns-in-Err-Full-clause-running : goal.returns-in-Err-Full-clause-running
 returns-in-Err-Full-clause-running g c =
@@ -257,7 +279,8 @@ returns-in-Err-Full-clause-quiet g c k nothing =
     let D = g.row.D.Denot in
     let serve = c.serve_connections.ensures in
     let taken : c.deref_mut.result.now ≡ c.args.connections.now.items = search rules in
-    let same = serve.quiet (c.commit_turn.ensures.on.kept k) (subst (λ (ls : List Connection). ChangeNothing OfAnyCause (world c.args.engine.now) (calls ls)) (sym taken) nothing) in
+    let same = serve.quiet (c.commit_turn.ensures.on.kept k)
+    (subst (λ (ls : List Connection). ChangeNothing OfAnyCause (world c.args.engine.now) (calls ls)) (sym taken) nothing) in
     subst (λ (f : State D). GoesFrom g.D.Disk.history (file_of c.args.engine.now) f) (sym (c.commit_turn.ensures.quiet (same ∙ c.requires.rests)).1) serve.goes
 
 pub returns-in-Err-Device-clause-on : goal.returns-in-Err-Device-clause-on
@@ -276,14 +299,16 @@ returns-in-Err-Device-clause-any_moment g c =
     let e1 = c.serve_connections.new.engine in
     let e2 = c.commit_turn.new.self in
     let serve = c.serve_connections.ensures in
-    moved history e0 e1 e2 c.requires.sound c.requires.running c.requires.idle serve.goes c.commit_turn.ensures.on serve.turn_start (c.in-Err-Device.ensures.stops (ap failed c.in-Err-Device.field-0-is)).0 (c.commit_turn.ensures.any_moment (serve.running ∙ c.requires.running))
+    moved history e0 e1 e2 c.requires.sound c.requires.running c.requires.idle serve.goes c.commit_turn.ensures.on serve.turn_start
+    (c.in-Err-Device.ensures.stops (ap failed c.in-Err-Device.field-0-is)).0 (c.commit_turn.ensures.any_moment (serve.running ∙ c.requires.running))
 
 pub returns-in-Err-Device-clause-quiet : goal.returns-in-Err-Device-clause-quiet
 returns-in-Err-Device-clause-quiet g c k nothing =
     let D = g.row.D.Denot in
     let serve = c.serve_connections.ensures in
     let taken : c.deref_mut.result.now ≡ c.args.connections.now.items = search rules in
-    let same = serve.quiet (c.commit_turn.ensures.on.kept k) (subst (λ (ls : List Connection). ChangeNothing OfAnyCause (world c.args.engine.now) (calls ls)) (sym taken) nothing) in
+    let same = serve.quiet (c.commit_turn.ensures.on.kept k)
+    (subst (λ (ls : List Connection). ChangeNothing OfAnyCause (world c.args.engine.now) (calls ls)) (sym taken) nothing) in
     subst (λ (f : State D). GoesFrom g.D.Disk.history (file_of c.args.engine.now) f) (sym (c.commit_turn.ensures.quiet (same ∙ c.requires.rests)).1) serve.goes
 
 pub returns-in-Err-Device-clause-stops : goal.returns-in-Err-Device-clause-stops
@@ -297,7 +322,8 @@ returns-in-Err-Device-clause-device g c _ k =
     let e1 = c.serve_connections.new.engine in
     let e2 = c.commit_turn.new.self in
     let serve = c.serve_connections.ensures in
-    failed_further history e0 e1 e2 c.requires.sound c.requires.running c.requires.idle serve.goes c.commit_turn.ensures.on k serve.running (c.in-Err-Device.ensures.device (ap failed c.in-Err-Device.field-0-is) k)
+    failed_further history e0 e1 e2 c.requires.sound c.requires.running c.requires.idle serve.goes c.commit_turn.ensures.on k serve.running
+    (c.in-Err-Device.ensures.device (ap failed c.in-Err-Device.field-0-is) k)
 
 pub returns-then-not-serve_connections-clause-moment : goal.returns-then-not-serve_connections-clause-moment
 returns-then-not-serve_connections-clause-moment g c =
@@ -305,7 +331,9 @@ returns-then-not-serve_connections-clause-moment g c =
     let e0 = c.args.engine.now in
     let e1 = c.serve_connections.new.engine in
     let e2 = c.undo_turn.new.self in
-    let undone = undo_follows history e1 e2 (on_same (disk_history history e1) (disk_history history e2) c.undo_turn.ensures.disk) c.undo_turn.ensures.takes c.undo_turn.ensures.generation in
+    let undone =
+    undo_follows history e1 e2
+    (on_same (disk_history history e1) (disk_history history e2) c.undo_turn.ensures.disk) c.undo_turn.ensures.takes c.undo_turn.ensures.generation in
     turn_follows history e0 e1 e2 c.serve_connections.ensures.goes (undone, omega (arith, c.undo_turn.ensures.generation))
 
 pub returns-then-not-serve_connections-clause-commits : goal.returns-then-not-serve_connections-clause-commits
@@ -325,7 +353,8 @@ returns-in-Ok-clause-commits g c =
     let serve = c.serve_connections.ensures in
     commits_changes g.D.Disk.history c.args.engine.now c.serve_connections.new.engine c.commit_turn.new.self (has_changes c.serve_connections.new.engine) refl
     serve.sound serve.goes (serve.turn_start ∙ c.requires.idle) c.in-Ok.ensures.done
-    (subst (λ (r : Result (Unit {0}) CommitFault). Commits g.D.Disk.history r c.serve_connections.new.engine c.commit_turn.new.self) c.in-Ok.is c.commit_turn.ensures).version
+    (subst (λ (r : Result (Unit {0}) CommitFault). Commits g.D.Disk.history r c.serve_connections.new.engine c.commit_turn.new.self) c.in-Ok.is
+    c.commit_turn.ensures).version
 
 pub returns-in-Err-Memory-clause-moment : goal.returns-in-Err-Memory-clause-moment
 returns-in-Err-Memory-clause-moment g c =
@@ -337,7 +366,8 @@ returns-in-Err-Memory-clause-moment g c =
 
 pub returns-in-Err-Memory-clause-commits : goal.returns-in-Err-Memory-clause-commits
 returns-in-Err-Memory-clause-commits g c =
-    inl (ap (λ (w : World). w.collections) (c.in-Err-Memory.ensures.memory (ap failed c.in-Err-Memory.field-0-is)) ∙ c.serve_connections.ensures.turn_start ∙ c.requires.idle)
+    inl (ap (λ (w : World). w.collections) (c.in-Err-Memory.ensures.memory (ap failed c.in-Err-Memory.field-0-is)) ∙ c.serve_connections.ensures.turn_start
+    ∙ c.requires.idle)
 
 pub returns-in-Err-Full-clause-moment : goal.returns-in-Err-Full-clause-moment
 returns-in-Err-Full-clause-moment g c =
@@ -349,7 +379,8 @@ returns-in-Err-Full-clause-moment g c =
 
 pub returns-in-Err-Full-clause-commits : goal.returns-in-Err-Full-clause-commits
 returns-in-Err-Full-clause-commits g c =
-    inl (ap (λ (w : World). w.collections) (c.in-Err-Full.ensures.full (ap failed c.in-Err-Full.field-0-is)).0 ∙ c.serve_connections.ensures.turn_start ∙ c.requires.idle)
+    inl (ap (λ (w : World). w.collections) (c.in-Err-Full.ensures.full (ap failed c.in-Err-Full.field-0-is)).0 ∙ c.serve_connections.ensures.turn_start
+    ∙ c.requires.idle)
 
 pub returns-in-Err-Device-clause-moment : goal.returns-in-Err-Device-clause-moment
 returns-in-Err-Device-clause-moment g c =
@@ -367,19 +398,23 @@ returns-then-not-serve_connections-clause-void g c none =
 pub returns-in-Ok-clause-void : goal.returns-in-Ok-clause-void
 returns-in-Ok-clause-void g c none =
     let taken : c.deref_mut.result.now ≡ c.args.connections.now.items = search rules in
-    idle_commit g.D.Disk.history c.args.engine.now c.serve_connections.new.engine c.commit_turn.new.self c.commit_turn.result c.requires.rests (c.serve_connections.ensures.idle (ap calls taken ∙ none)) c.commit_turn.ensures
+    idle_commit g.D.Disk.history c.args.engine.now c.serve_connections.new.engine c.commit_turn.new.self c.commit_turn.result c.requires.rests
+    (c.serve_connections.ensures.idle (ap calls taken ∙ none)) c.commit_turn.ensures
 
 pub returns-in-Err-Memory-clause-void : goal.returns-in-Err-Memory-clause-void
 returns-in-Err-Memory-clause-void g c none =
     let taken : c.deref_mut.result.now ≡ c.args.connections.now.items = search rules in
-    idle_commit g.D.Disk.history c.args.engine.now c.serve_connections.new.engine c.commit_turn.new.self c.commit_turn.result c.requires.rests (c.serve_connections.ensures.idle (ap calls taken ∙ none)) c.commit_turn.ensures
+    idle_commit g.D.Disk.history c.args.engine.now c.serve_connections.new.engine c.commit_turn.new.self c.commit_turn.result c.requires.rests
+    (c.serve_connections.ensures.idle (ap calls taken ∙ none)) c.commit_turn.ensures
 
 pub returns-in-Err-Full-clause-void : goal.returns-in-Err-Full-clause-void
 returns-in-Err-Full-clause-void g c none =
     let taken : c.deref_mut.result.now ≡ c.args.connections.now.items = search rules in
-    idle_commit g.D.Disk.history c.args.engine.now c.serve_connections.new.engine c.commit_turn.new.self c.commit_turn.result c.requires.rests (c.serve_connections.ensures.idle (ap calls taken ∙ none)) c.commit_turn.ensures
+    idle_commit g.D.Disk.history c.args.engine.now c.serve_connections.new.engine c.commit_turn.new.self c.commit_turn.result c.requires.rests
+    (c.serve_connections.ensures.idle (ap calls taken ∙ none)) c.commit_turn.ensures
 
 pub returns-in-Err-Device-clause-void : goal.returns-in-Err-Device-clause-void
 returns-in-Err-Device-clause-void g c none =
     let taken : c.deref_mut.result.now ≡ c.args.connections.now.items = search rules in
-    idle_commit g.D.Disk.history c.args.engine.now c.serve_connections.new.engine c.commit_turn.new.self c.commit_turn.result c.requires.rests (c.serve_connections.ensures.idle (ap calls taken ∙ none)) c.commit_turn.ensures
+    idle_commit g.D.Disk.history c.args.engine.now c.serve_connections.new.engine c.commit_turn.new.self c.commit_turn.result c.requires.rests
+    (c.serve_connections.ensures.idle (ap calls taken ∙ none)) c.commit_turn.ensures

@@ -18,14 +18,21 @@ returns-then-request-clause-serves g c =
     let given = frames_in c.args.frames.now.items in
     let connection = c.args.connection.now in
     let r = c.in-Call.request in
-    one_served (KeepsWord (disk_history g.D.Disk.history c.answer-reply.new.engine)) (IsCaused (engine_moment g.D.Disk.history c.args.engine.now) (engine_moment g.D.Disk.history c.answer-reply.new.engine)) connection c.take_call.new.connection (front_of connection) c.in-Call.number r (world c.args.engine.now) (world c.answer-reply.new.engine) (reply_of c.answer-reply.result) true given given c.in-Call.ensures.taken c.answer-reply.ensures.answer
-    (λ e. sym (append-nil given) ∙ ap (λ (b : Bool). given ++ frame_unless b connection.id c.in-Call.number r.request_id (reply_of c.answer-reply.result)) (sym c.if-request.true))
+    one_served (KeepsWord (disk_history g.D.Disk.history c.answer-reply.new.engine))
+    (IsCaused (engine_moment g.D.Disk.history c.args.engine.now) (engine_moment g.D.Disk.history c.answer-reply.new.engine)) connection
+    c.take_call.new.connection (front_of connection) c.in-Call.number r (world c.args.engine.now) (world c.answer-reply.new.engine)
+    (reply_of c.answer-reply.result) true given given c.in-Call.ensures.taken c.answer-reply.ensures.answer
+    (λ e. sym (append-nil given)
+    ∙ ap (λ (b : Bool). given ++ frame_unless b connection.id c.in-Call.number r.request_id (reply_of c.answer-reply.result)) (sym c.if-request.true))
 
 pub returns-clause-serves : goal.returns-clause-serves
 returns-clause-serves g c =
     let given = frames_in c.args.frames.now.items in
     let connection = c.args.connection.now in
-    one_served (KeepsWord (disk_history g.D.Disk.history c.answer-reply.new.engine)) (IsCaused (engine_moment g.D.Disk.history c.args.engine.now) (engine_moment g.D.Disk.history c.answer-reply.new.engine)) connection c.take_call.new.connection (front_of connection) c.in-Call.number c.in-Call.request (world c.args.engine.now) (world c.answer-reply.new.engine) (reply_of c.answer-reply.result) false given given c.in-Call.ensures.taken c.answer-reply.ensures.answer
+    one_served (KeepsWord (disk_history g.D.Disk.history c.answer-reply.new.engine))
+    (IsCaused (engine_moment g.D.Disk.history c.args.engine.now) (engine_moment g.D.Disk.history c.answer-reply.new.engine)) connection
+    c.take_call.new.connection (front_of connection) c.in-Call.number c.in-Call.request (world c.args.engine.now) (world c.answer-reply.new.engine)
+    (reply_of c.answer-reply.result) false given given c.in-Call.ensures.taken c.answer-reply.ensures.answer
     (λ e. absurd cc)
 
 pub returns-in-Ok-clause-serves : goal.returns-in-Ok-clause-serves
@@ -34,7 +41,10 @@ returns-in-Ok-clause-serves g c =
     let connection = c.args.connection.now in
     let r = c.in-Call.request in
     let reply = reply_of c.answer-reply.result in
-    one_served (KeepsWord (disk_history g.D.Disk.history c.answer-reply.new.engine)) (IsCaused (engine_moment g.D.Disk.history c.args.engine.now) (engine_moment g.D.Disk.history c.answer-reply.new.engine)) connection c.take_call.new.connection (front_of connection) c.in-Call.number r (world c.args.engine.now) (world c.answer-reply.new.engine) reply c.is_ok.result given (frames_in c.push.new.self.items) c.in-Call.ensures.taken c.answer-reply.ensures.answer
+    one_served (KeepsWord (disk_history g.D.Disk.history c.answer-reply.new.engine))
+    (IsCaused (engine_moment g.D.Disk.history c.args.engine.now) (engine_moment g.D.Disk.history c.answer-reply.new.engine)) connection
+    c.take_call.new.connection (front_of connection) c.in-Call.number r (world c.args.engine.now) (world c.answer-reply.new.engine) reply c.is_ok.result given
+    (frames_in c.push.new.self.items) c.in-Call.ensures.taken c.answer-reply.ensures.answer
     (λ e.
     let put : c.push.new.self.items ≡ c.args.frames.now.items ++ (connection.id, c.in-Ok.bytes) ∷ [] = search rules in
     ap frames_in put ∙ frames_append c.args.frames.now.items ((connection.id, c.in-Ok.bytes) ∷ [])
@@ -43,26 +53,35 @@ returns-in-Ok-clause-serves g c =
 
 pub returns-in_default-clause-serves : goal.returns-in_default-clause-serves
 returns-in_default-clause-serves g c =
-    nothing_served (KeepsWord (disk_history g.D.Disk.history c.args.engine.now)) (IsCaused (engine_moment g.D.Disk.history c.args.engine.now) (engine_moment g.D.Disk.history c.args.engine.now)) c.args.connection.now c.take_call.new.connection (front_of c.args.connection.now) c.take_call.result (world c.args.engine.now) (frames_in c.args.frames.now.items) c.take_call.ensures.taken c.in_default.not-Call
+    nothing_served (KeepsWord (disk_history g.D.Disk.history c.args.engine.now))
+    (IsCaused (engine_moment g.D.Disk.history c.args.engine.now) (engine_moment g.D.Disk.history c.args.engine.now)) c.args.connection.now
+    c.take_call.new.connection (front_of c.args.connection.now) c.take_call.result (world c.args.engine.now)
+    (frames_in c.args.frames.now.items) c.take_call.ensures.taken c.in_default.not-Call
 
 pub returns-in_default-clause-connection : goal.returns-in_default-clause-connection
-returns-in_default-clause-connection g c = taken_link c.args.connection.now c.take_call.new.connection (front_of c.args.connection.now) c.take_call.result c.take_call.ensures.taken
+returns-in_default-clause-connection g c =
+    taken_link c.args.connection.now c.take_call.new.connection (front_of c.args.connection.now) c.take_call.result c.take_call.ensures.taken
 
 pub returns-then-request-clause-connection : goal.returns-then-request-clause-connection
-returns-then-request-clause-connection g c = taken_link c.args.connection.now c.take_call.new.connection (front_of c.args.connection.now) c.take_call.result c.take_call.ensures.taken
+returns-then-request-clause-connection g c =
+    taken_link c.args.connection.now c.take_call.new.connection (front_of c.args.connection.now) c.take_call.result c.take_call.ensures.taken
 
 pub returns-in-Ok-clause-connection : goal.returns-in-Ok-clause-connection
-returns-in-Ok-clause-connection g c = taken_link c.args.connection.now c.take_call.new.connection (front_of c.args.connection.now) c.take_call.result c.take_call.ensures.taken
+returns-in-Ok-clause-connection g c =
+    taken_link c.args.connection.now c.take_call.new.connection (front_of c.args.connection.now) c.take_call.result c.take_call.ensures.taken
 
 pub returns-clause-connection : goal.returns-clause-connection
-returns-clause-connection g c = taken_link c.args.connection.now c.take_call.new.connection (front_of c.args.connection.now) c.take_call.result c.take_call.ensures.taken
+returns-clause-connection g c =
+    taken_link c.args.connection.now c.take_call.new.connection (front_of c.args.connection.now) c.take_call.result c.take_call.ensures.taken
 
 pub returns-then-request-clause-quiet : goal.returns-then-request-clause-quiet
 returns-then-request-clause-quiet g c = λ k.
     let connection = c.args.connection.now in
     let old = engine_moment g.D.Disk.history c.args.engine.now in
     let new = engine_moment g.D.Disk.history c.answer-reply.new.engine in
-    one_quiet (has_changes c.answer-reply.new.engine ≡ has_changes c.args.engine.now) (IsCaused old new) OfAnyCause (any_cause old new) connection c.take_call.new.connection (front_of connection) c.in-Call.number c.in-Call.request (world c.args.engine.now) (world c.answer-reply.new.engine) (reply_of c.answer-reply.result)
+    one_quiet (has_changes c.answer-reply.new.engine ≡ has_changes c.args.engine.now) (IsCaused old new) OfAnyCause
+    (any_cause old new) connection c.take_call.new.connection (front_of connection) c.in-Call.number c.in-Call.request (world c.args.engine.now)
+    (world c.answer-reply.new.engine) (reply_of c.answer-reply.result)
     c.in-Call.ensures.taken (c.answer-reply.ensures.answer k) (c.answer-reply.ensures.quiet k)
 
 pub returns-clause-quiet : goal.returns-clause-quiet
@@ -70,7 +89,9 @@ returns-clause-quiet g c = λ k.
     let connection = c.args.connection.now in
     let old = engine_moment g.D.Disk.history c.args.engine.now in
     let new = engine_moment g.D.Disk.history c.answer-reply.new.engine in
-    one_quiet (has_changes c.answer-reply.new.engine ≡ has_changes c.args.engine.now) (IsCaused old new) OfAnyCause (any_cause old new) connection c.take_call.new.connection (front_of connection) c.in-Call.number c.in-Call.request (world c.args.engine.now) (world c.answer-reply.new.engine) (reply_of c.answer-reply.result)
+    one_quiet (has_changes c.answer-reply.new.engine ≡ has_changes c.args.engine.now) (IsCaused old new) OfAnyCause
+    (any_cause old new) connection c.take_call.new.connection (front_of connection) c.in-Call.number c.in-Call.request (world c.args.engine.now)
+    (world c.answer-reply.new.engine) (reply_of c.answer-reply.result)
     c.in-Call.ensures.taken (c.answer-reply.ensures.answer k) (c.answer-reply.ensures.quiet k)
 
 pub returns-in-Ok-clause-quiet : goal.returns-in-Ok-clause-quiet
@@ -78,17 +99,25 @@ returns-in-Ok-clause-quiet g c = λ k.
     let connection = c.args.connection.now in
     let old = engine_moment g.D.Disk.history c.args.engine.now in
     let new = engine_moment g.D.Disk.history c.answer-reply.new.engine in
-    one_quiet (has_changes c.answer-reply.new.engine ≡ has_changes c.args.engine.now) (IsCaused old new) OfAnyCause (any_cause old new) connection c.take_call.new.connection (front_of connection) c.in-Call.number c.in-Call.request (world c.args.engine.now) (world c.answer-reply.new.engine) (reply_of c.answer-reply.result)
+    one_quiet (has_changes c.answer-reply.new.engine ≡ has_changes c.args.engine.now) (IsCaused old new) OfAnyCause
+    (any_cause old new) connection c.take_call.new.connection (front_of connection) c.in-Call.number c.in-Call.request (world c.args.engine.now)
+    (world c.answer-reply.new.engine) (reply_of c.answer-reply.result)
     c.in-Call.ensures.taken (c.answer-reply.ensures.answer k) (c.answer-reply.ensures.quiet k)
 
 pub returns-in_default-clause-goes : goal.returns-in_default-clause-goes
 returns-in_default-clause-goes g c = goes_from_itself g.D.Disk.history (file_of c.args.engine.now)
 
 pub returns-then-request-clause-idle : goal.returns-then-request-clause-idle
-returns-then-request-clause-idle g c none = absurd (is_called c.args.connection.now c.take_call.new.connection (front_of c.args.connection.now) c.in-Call.number c.in-Call.request c.in-Call.ensures.taken none)
+returns-then-request-clause-idle g c none =
+    absurd (is_called c.args.connection.now c.take_call.new.connection
+    (front_of c.args.connection.now) c.in-Call.number c.in-Call.request c.in-Call.ensures.taken none)
 
 pub returns-in-Ok-clause-idle : goal.returns-in-Ok-clause-idle
-returns-in-Ok-clause-idle g c none = absurd (is_called c.args.connection.now c.take_call.new.connection (front_of c.args.connection.now) c.in-Call.number c.in-Call.request c.in-Call.ensures.taken none)
+returns-in-Ok-clause-idle g c none =
+    absurd (is_called c.args.connection.now c.take_call.new.connection
+    (front_of c.args.connection.now) c.in-Call.number c.in-Call.request c.in-Call.ensures.taken none)
 
 pub returns-clause-idle : goal.returns-clause-idle
-returns-clause-idle g c none = absurd (is_called c.args.connection.now c.take_call.new.connection (front_of c.args.connection.now) c.in-Call.number c.in-Call.request c.in-Call.ensures.taken none)
+returns-clause-idle g c none =
+    absurd (is_called c.args.connection.now c.take_call.new.connection
+    (front_of c.args.connection.now) c.in-Call.number c.in-Call.request c.in-Call.ensures.taken none)

@@ -22,7 +22,8 @@ connections-preserved g c =
     let is : x ≡ get_or c.connections.connections i x = ap (λ (d : Connection). get_or c.connections.connections i d) c.connection-item.is in
     let inv = c.connections.invariant in
     let call = c.serve_connection-found in
-    let s = links_step c.connections.connections first i x call.new.connection (omega (arith, c.connections-test.true, c.connections.auto.connections)) inv.done inv.left is call.ensures.connection in
+    let s = links_step c.connections.connections first i x call.new.connection
+    (omega (arith, c.connections-test.true, c.connections.auto.connections)) inv.done inv.left is call.ensures.connection in
     let next : i + 1 ≡ suc i = omega arith in
     let history = g.D.Disk.history in
     let start : Moment = engine_moment history c.args.engine.now in
@@ -38,11 +39,21 @@ connections-preserved g c =
       sound = call.ensures.sound;
       goes = goes_further history (file_of c.args.engine.now) (file_of c.connections.engine) (file_of call.new.engine) inv.goes call.ensures.goes;
       running = call.ensures.running ∙ inv.running;
-      serves = subst (λ (cs : List Call). Serves word_after (IsCaused start end) cs (world c.args.engine.now) (world call.new.engine) (c.connections.all && call.result) (frames_in c.args.frames.now.items) (frames_in call.new.frames.items)) more
-          (serves_on word_after (IsCaused start end) (calls (take i first)) (call_at x (front_of x)) (world c.args.engine.now) (world c.connections.engine) (world call.new.engine) c.connections.all call.result (frames_in c.args.frames.now.items) (frames_in c.connections.frames.items) (frames_in call.new.frames.items)
-          (serves_weaker (IsCaused start middle) (IsCaused start end) (caused_wider start start middle end (follows_itself start) before after) word_after word_before call.ensures.goes.stays.reads.on.kept (calls (take i first)) (world c.args.engine.now) (world c.connections.engine) c.connections.all (frames_in c.args.frames.now.items) (frames_in c.connections.frames.items) inv.serves)
-          (serves_weaker (IsCaused middle end) (IsCaused start end) (caused_wider start middle end end before after (follows_itself end)) word_after word_after (λ k. k) (call_at x (front_of x)) (world c.connections.engine) (world call.new.engine) call.result (frames_in c.connections.frames.items) (frames_in call.new.frames.items) call.ensures.serves));
-      done = ap (λ (m : ℕ). take m (set c.connections.connections i call.new.connection)) next ∙ s.done ∙ ap (λ (m : ℕ). connections_taken (take m first)) (sym next);
+      serves = subst
+          (λ (cs : List Call). Serves word_after (IsCaused start end) cs (world c.args.engine.now) (world call.new.engine) (c.connections.all && call.result)
+          (frames_in c.args.frames.now.items) (frames_in call.new.frames.items)) more
+          (serves_on word_after (IsCaused start end) (calls (take i first)) (call_at x (front_of x)) (world c.args.engine.now) (world c.connections.engine)
+          (world call.new.engine) c.connections.all call.result (frames_in c.args.frames.now.items) (frames_in c.connections.frames.items)
+          (frames_in call.new.frames.items)
+          (serves_weaker (IsCaused start middle) (IsCaused start end)
+          (caused_wider start start middle end (follows_itself start) before after) word_after word_before call.ensures.goes.stays.reads.on.kept
+          (calls (take i first)) (world c.args.engine.now) (world c.connections.engine) c.connections.all (frames_in c.args.frames.now.items)
+          (frames_in c.connections.frames.items) inv.serves)
+          (serves_weaker (IsCaused middle end) (IsCaused start end) (caused_wider start middle end end before after (follows_itself end)) word_after word_after
+          (λ k. k) (call_at x (front_of x)) (world c.connections.engine) (world call.new.engine) call.result (frames_in c.connections.frames.items)
+          (frames_in call.new.frames.items) call.ensures.serves));
+      done = ap (λ (m : ℕ). take m (set c.connections.connections i call.new.connection)) next ∙ s.done
+          ∙ ap (λ (m : ℕ). connections_taken (take m first)) (sym next);
       left = ap (λ (m : ℕ). drop m (set c.connections.connections i call.new.connection)) next ∙ s.left ∙ ap (λ (m : ℕ). drop m first) (sym next);
       turn_start = call.ensures.turn_start ∙ inv.turn_start;
       idle = λ none. call.ensures.idle (none_next (calls (take i first)) (call_at x (front_of x)) (none_more first (i + 1) none more)) ∙ inv.idle none;
@@ -51,8 +62,10 @@ connections-preserved g c =
           let served = call.ensures.serves in
           let here : drop i first ≡ x ∷ drop (i + 1) first = drop-cons first i x s.within ∙ (λ j. sym s.same j ∷ drop (sym next j) first) in
           let rest = subst (ChangeNothing OfAnyCause (world c.connections.engine)) (ap calls here) so_far.1 in
-          let ran = runs_weaker (IsCaused middle end) OfAnyCause (any_cause middle end) (call_at x (front_of x)) (world c.connections.engine) served.replies (world call.new.engine) (served.runs k) in
-          let one = quiet_runs OfAnyCause (call_at x (front_of x)) (calls (drop (i + 1) first)) (world c.connections.engine) (world call.new.engine) served.replies ran rest in
+          let ran = runs_weaker (IsCaused middle end) OfAnyCause (any_cause middle end) (call_at x (front_of x)) (world c.connections.engine) served.replies
+          (world call.new.engine) (served.runs k) in
+          let one = quiet_runs OfAnyCause (call_at x (front_of x)) (calls (drop (i + 1) first)) (world c.connections.engine)
+          (world call.new.engine) served.replies ran rest in
           let same = call.ensures.quiet k (quiet_front OfAnyCause (call_at x (front_of x)) (calls (drop (i + 1) first)) (world c.connections.engine) rest) in
           (same ∙ so_far.0, one.1);
     }

@@ -15,10 +15,15 @@ invariant-connections g l = record {
   sound : IsSound g.D.Disk.history l.engine;
   goes : GoesFrom g.D.Disk.history (file_of l.initial.engine) (file_of l.engine);
   running : is_stopped l.engine ≡ is_stopped l.initial.engine;
-  serves : Serves (KeepsWord (disk_history g.D.Disk.history l.engine)) (IsCaused (engine_moment g.D.Disk.history l.initial.engine) (engine_moment g.D.Disk.history l.engine)) (calls (take l.connection-index l.initial.connections)) (world l.initial.engine) (world l.engine) l.all (frames_in l.initial.frames.items) (frames_in l.frames.items);
+  serves : Serves (KeepsWord (disk_history g.D.Disk.history l.engine))
+      (IsCaused (engine_moment g.D.Disk.history l.initial.engine) (engine_moment g.D.Disk.history l.engine))
+      (calls (take l.connection-index l.initial.connections)) (world l.initial.engine) (world l.engine) l.all (frames_in l.initial.frames.items)
+      (frames_in l.frames.items);
   done : take l.connection-index l.connections ≡ connections_taken (take l.connection-index l.initial.connections);
   left : drop l.connection-index l.connections ≡ drop l.connection-index l.initial.connections;
   turn_start : turn_start l.engine ≡ turn_start l.initial.engine;
   idle : calls l.initial.connections ≡ [] → l.engine ≡ l.initial.engine;
-  quiet : KeepsWord (disk_history g.D.Disk.history l.engine) → ChangeNothing OfAnyCause (world l.initial.engine) (calls l.initial.connections) → (has_changes l.engine ≡ has_changes l.initial.engine) × ChangeNothing OfAnyCause (world l.engine) (calls (drop l.connection-index l.initial.connections));
+  quiet : KeepsWord (disk_history g.D.Disk.history l.engine) → ChangeNothing OfAnyCause (world l.initial.engine) (calls l.initial.connections)
+      → (has_changes l.engine ≡ has_changes l.initial.engine)
+      × ChangeNothing OfAnyCause (world l.engine) (calls (drop l.connection-index l.initial.connections));
 }

@@ -19,9 +19,11 @@ returns-in_default c =
     let d = c.args.document in
     let old = c.args.run.now in
     let same : c.document.result.now ≡ d = c.document.ensures ∙ c.in_ok-new.ensures in
-    let at = subst (λ (x : Pairs). IsPlaceOf x c.deref.result.now None) same (subst (IsPlaceOf c.document.result.now c.deref.result.now) c.in_default.is c.place_of.ensures) in
+    let at = subst (λ (x : Pairs). IsPlaceOf x c.deref.result.now None) same
+    (subst (IsPlaceOf c.document.result.now c.deref.result.now) c.in_default.is c.place_of.ensures) in
     record {
-      placed = λ other. ap (λ (ds : List Pairs). or_refused (place (key_of d) d ds) refusals.DuplicateKey) (sym c.deref.ensures.value) ∙ ap (λ (o : Option (List Pairs)). or_refused o refusals.DuplicateKey) at;
+      placed = λ other. ap (λ (ds : List Pairs). or_refused (place (key_of d) d ds) refusals.DuplicateKey) (sym c.deref.ensures.value)
+          ∙ ap (λ (o : Option (List Pairs)). or_refused o refusals.DuplicateKey) at;
       writes = λ other. c.in_ok-push.ensures.items ∙ ap (λ (x : Pairs). old.writes.items ++ write_of_new x ∷ []) (c.in_ok-share.ensures ∙ c.in_ok-new.ensures);
     }
 
@@ -30,13 +32,16 @@ returns c =
     let d = c.args.document in
     let old = c.args.run.now.documents.items in
     let same : c.document.result.now ≡ d = c.document.ensures ∙ c.in_ok-new.ensures in
-    let at = subst (λ (x : Pairs). IsPlaceOf x c.deref.result.now (Some c.in-Some.place)) same (subst (IsPlaceOf c.document.result.now c.deref.result.now) c.in-Some.is c.place_of.ensures) in
+    let at = subst (λ (x : Pairs). IsPlaceOf x c.deref.result.now (Some c.in-Some.place)) same
+    (subst (IsPlaceOf c.document.result.now c.deref.result.now) c.in-Some.is c.place_of.ensures) in
     let spot = subst (λ (ds : List Pairs). IsPlaceOf d ds (Some c.in-Some.place)) c.deref.ensures.value at in
-    let put : c.insert.new.self.items ≡ insert old c.in-Some.place d = c.in_ok-insert.ensures.items ∙ ap (λ (x : Pairs). insert old c.in-Some.place x) c.in_ok-new.ensures in
+    let put : c.insert.new.self.items ≡ insert old c.in-Some.place d =
+    c.in_ok-insert.ensures.items ∙ ap (λ (x : Pairs). insert old c.in-Some.place x) c.in_ok-new.ensures in
     let here : IsWithin d = record { size = c.requires.stored.size; depth = c.requires.stored.depth } in
     record {
       placed = spot.1 ∙ ap (λ (xs : List Pairs). Some xs) (sym put);
-      writes = c.in_ok-push.ensures.items ∙ ap (λ (x : Pairs). c.args.run.now.writes.items ++ write_of_new x ∷ []) (c.in_ok-share.ensures ∙ c.in_ok-new.ensures);
+      writes = c.in_ok-push.ensures.items
+          ∙ ap (λ (x : Pairs). c.args.run.now.writes.items ++ write_of_new x ∷ []) (c.in_ok-share.ensures ∙ c.in_ok-new.ensures);
       within = subst (All IsWithin) (sym put) (All-inserted IsWithin old c.in-Some.place d spot.0 c.requires.within here);
       tally = refl;
       kept = refl;

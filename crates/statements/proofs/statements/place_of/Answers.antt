@@ -20,8 +20,10 @@ pub returns-in-Less : goal.returns-in-Less
 returns-in-Less c =
     let d = c.index-documents-place.result in
     let e : compare (key_of c.args.new.now) (key_of d) ≡ orders.Less =
-    ap (λ (x : Pairs). compare (key_of c.args.new.now) (key_of x)) (sym c.document.ensures) ∙ sym c.compare_ids.ensures ∙ c.in-Less.is in
-    (omega (arith, c.documents-test.true), goes_before c.args.new.now c.args.documents.now c.documents.place d c.documents-test.true c.index-documents-place.is c.documents.invariant e)
+    ap (λ (x : Pairs). compare (key_of c.args.new.now) (key_of x)) (sym c.document.ensures) ∙ sym c.compare_ids.ensures ∙ c.in-Less.is in (
+      omega (arith, c.documents-test.true),
+      goes_before c.args.new.now c.args.documents.now c.documents.place d c.documents-test.true c.index-documents-place.is c.documents.invariant e,
+    )
 
 pub returns-in-Equal : goal.returns-in-Equal
 returns-in-Equal c =
@@ -31,4 +33,7 @@ returns-in-Equal c =
     goes_nowhere c.args.new.now c.args.documents.now c.documents.place d c.documents-test.true c.index-documents-place.is c.documents.invariant e
 
 pub returns : goal.returns
-returns c = (omega arith, goes_last c.args.new.now c.args.documents.now c.documents.place (length c.args.documents.now) c.documents.invariant c.documents-test.false refl)
+returns c = (
+  omega arith,
+  goes_last c.args.new.now c.args.documents.now c.documents.place (length c.args.documents.now) c.documents.invariant c.documents-test.false refl,
+)

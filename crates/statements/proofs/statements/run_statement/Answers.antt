@@ -16,7 +16,8 @@ upsert-requires-clause-within c = c.in_ok-found.ensures.on.within
 pub returns-in_err-found-clause-gives : goal.returns-in_err-found-clause-gives
 returns-in_err-found-clause-gives c =
     let p = err_from_is_err_and c.from_residual.result c.from_residual.ensures.1 in
-    rw (p.1, p.2) (refused_statement c.args.index c.args.statement.now c.args.run.now c.update_matching.new.run c.in_err-found.field-0.0 c.in_err-found.ensures.planned)
+    rw (p.1, p.2)
+    (refused_statement c.args.index c.args.statement.now c.args.run.now c.update_matching.new.run c.in_err-found.field-0.0 c.in_err-found.ensures.planned)
 
 pub returns-then-found-clause-gives : goal.returns-then-found-clause-gives
 returns-then-found-clause-gives c =
@@ -27,8 +28,10 @@ pub returns-then-statement-clause-gives : goal.returns-then-statement-clause-giv
 returns-then-statement-clause-gives c =
     let s = c.args.statement.now in
     let asked : s.upsert ≡ true = ap (λ (x : UpdateStatement). x.upsert) (sym c.statement.view_is) ∙ c.if-statement.true in
-    let e = makes c.args.index s c.args.run.now c.update_matching.new.run c.in_ok-found.found c.in_ok-found.ensures ((λ i. not (c.if-found.false i) && asked i)) c.if-found.false in
-    subst (λ (planned : Result Listed Refusal). Gives refusals.OutOfMemory (λ u. listed_of c.upsert.new.run) c.upsert.result planned) (sym e) c.upsert.ensures.gives
+    let e = makes c.args.index s c.args.run.now c.update_matching.new.run c.in_ok-found.found c.in_ok-found.ensures
+    ((λ i. not (c.if-found.false i) && asked i)) c.if-found.false in
+    subst (λ (planned : Result Listed Refusal). Gives refusals.OutOfMemory (λ u. listed_of c.upsert.new.run) c.upsert.result planned)
+    (sym e) c.upsert.ensures.gives
 
 pub returns-in_err-found-clause-wrote : goal.returns-in_err-found-clause-wrote
 returns-in_err-found-clause-wrote c =
@@ -36,13 +39,15 @@ returns-in_err-found-clause-wrote c =
     rw (p.1, p.2) c.in_err-found.ensures.writes
 
 pub returns-then-found-clause-wrote : goal.returns-then-found-clause-wrote
-returns-then-found-clause-wrote c = found_wrote c.args.index c.args.statement.now c.args.run.now c.update_matching.new.run c.in_ok-found.found c.in_ok-found.ensures c.if-found.true
+returns-then-found-clause-wrote c =
+    found_wrote c.args.index c.args.statement.now c.args.run.now c.update_matching.new.run c.in_ok-found.found c.in_ok-found.ensures c.if-found.true
 
 pub returns-then-statement-clause-wrote : goal.returns-then-statement-clause-wrote
 returns-then-statement-clause-wrote c =
     let s = c.args.statement.now in
     let asked : s.upsert ≡ true = ap (λ (x : UpdateStatement). x.upsert) (sym c.statement.view_is) ∙ c.if-statement.true in
-    upsert_wrote c.args.index s c.args.run.now c.update_matching.new.run c.in_ok-found.found c.in_ok-found.ensures c.if-found.false asked c.upsert.result c.upsert.new.run c.upsert.ensures.wrote
+    upsert_wrote c.args.index s c.args.run.now c.update_matching.new.run c.in_ok-found.found c.in_ok-found.ensures c.if-found.false asked c.upsert.result
+    c.upsert.new.run c.upsert.ensures.wrote
 
 pub returns-clause-wrote : goal.returns-clause-wrote
 returns-clause-wrote c =

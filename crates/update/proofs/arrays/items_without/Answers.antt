@@ -12,12 +12,16 @@ use Rattle.update.proofs.arrays.items_without.Goals as goal
 
 pub from_items-requires : goal.from_items-requires
 from_items-requires c =
-    let left = filter_same _ (λ v. not (element_matches (condition_of c.args.condition.now) (tree v))) _ (λ x b f' k. search rules) _ _ c.retain.ensures.filtered in
-    subst (λ vs. IsArray (items_of vs)) (sym left) (IsArray-filter (λ v. not (element_matches (condition_of c.args.condition.now) (tree v))) c.into_items-items.result.items (subst IsArray (sym c.into_items-items.ensures.items) c.into_items-items.ensures.lawful))
+    let left = filter_same _ (λ v. not (element_matches (condition_of c.args.condition.now) (tree v))) _
+    (λ x b f' k. search rules) _ _ c.retain.ensures.filtered in
+    subst (λ vs. IsArray (items_of vs)) (sym left)
+    (IsArray-filter (λ v. not (element_matches (condition_of c.args.condition.now) (tree v))) c.into_items-items.result.items
+    (subst IsArray (sym c.into_items-items.ensures.items) c.into_items-items.ensures.lawful))
 
 pub returns : goal.returns
 returns c =
-    let left = filter_same _ (λ v. not (element_matches (condition_of c.args.condition.now) (tree v))) _ (λ x b f' k. search rules) _ _ c.retain.ensures.filtered in
+    let left = filter_same _ (λ v. not (element_matches (condition_of c.args.condition.now) (tree v))) _
+    (λ x b f' k. search rules) _ _ c.retain.ensures.filtered in
     c.from_items.ensures
     ∙ ap items_of left
     ∙ items_of-filter (condition_of c.args.condition.now) c.into_items-items.result.items

@@ -17,9 +17,13 @@ pairs-preserved c =
     elim c.if-ne.branch [
       | then-ne+in_ok-name-2+in_ok-value-2+in_ok-push-2 w ↦
           let copy : Pair = record { name = w.in_ok-name-2.name; value = w.in_ok-value-2.value } in
-          rw w.pairs-is (copied all ps c.pairs.pair-index c.pair-item.result c.pairs.pairs.items c.pairs-test.true c.pair-item.is c.pairs.invariant copy w.push-then-ne.new.self.items (same ∙ ap not w.if-ne.true) w.in_ok-name-2.ensures w.in_ok-value-2.ensures w.in_ok-push-2.ensures.items)
+          rw w.pairs-is
+          (copied all ps c.pairs.pair-index c.pair-item.result c.pairs.pairs.items c.pairs-test.true c.pair-item.is c.pairs.invariant copy
+          w.push-then-ne.new.self.items (same ∙ ap not w.if-ne.true) w.in_ok-name-2.ensures w.in_ok-value-2.ensures w.in_ok-push-2.ensures.items)
       | else-ne w ↦
-          rw w.pairs-is (passed_over all ps c.pairs.pair-index c.pair-item.result c.pairs.pairs.items c.pairs-test.true c.pair-item.is c.pairs.invariant (same ∙ ap not w.if-ne.false))
+          rw w.pairs-is
+          (passed_over all ps c.pairs.pair-index c.pair-item.result c.pairs.pairs.items c.pairs-test.true c.pair-item.is c.pairs.invariant
+          (same ∙ ap not w.if-ne.false))
     ]
 
 pub from_pairs-requires : goal.from_pairs-requires

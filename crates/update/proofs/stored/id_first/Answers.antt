@@ -20,4 +20,5 @@ returns-in-Some-eq0 c =
 pub returns-in-Some : goal.returns-in-Some
 returns-in-Some c =
     let same = id_first-at c.args.document c.in-Some.at c.levels-levels.ensures.lawful.lawful (sym c.position.ensures ∙ c.in-Some.is) in
-    if_ok_map c.moved_first.result (λ d. d ≡ to_front c.args.document c.in-Some.at) (λ d. d ≡ id_first c.args.document) (λ d h. h ∙ sym same) c.moved_first.ensures
+    if_ok_map c.moved_first.result (λ d. d ≡ to_front c.args.document c.in-Some.at) (λ d. d ≡ id_first c.args.document)
+    (λ d h. h ∙ sym same) c.moved_first.ensures

@@ -11,5 +11,8 @@ index-requires c = omega (arith, c.requires.indexed.within c.args.text.now c.in-
 
 pub returns-then-is_same : goal.returns-then-is_same
 returns-then-is_same c =
-    let within = c.requires.indexed.within c.args.text.now c.in-Some.found.now (search rules) in
-    (within, same_there c.args.self.now.groups.items c.in-Some.found.now c.index.result.now (tree c.args.id.now) within c.index.ensures (sym c.is_same.ensures ∙ c.if-is_same.true))
+    let within = c.requires.indexed.within c.args.text.now c.in-Some.found.now (search rules) in (
+      within,
+      same_there c.args.self.now.groups.items c.in-Some.found.now c.index.result.now (tree c.args.id.now) within c.index.ensures
+          (sym c.is_same.ensures ∙ c.if-is_same.true),
+    )

@@ -19,7 +19,8 @@ returns-in-Some-clause-put c =
     let new : Group = record { id = old.id; states = c.take_all.new.states } in
     on_ok c.take_all.result
     (λ took.
-    put_there fields c.args.document.now c.args.self.now.groups.items c.in-Some.at old new (tree c.get-2.result.now) c.in-Some.ensures.0 c.in-Some.ensures.1 c.requires.apart c.index_mut.ensures.value refl took
+    put_there fields c.args.document.now c.args.self.now.groups.items c.in-Some.at old new
+    (tree c.get-2.result.now) c.in-Some.ensures.0 c.in-Some.ensures.1 c.requires.apart c.index_mut.ensures.value refl took
     ∙ ap (λ (k : Tree). put_document fields (k, c.args.document.now) (entries_of c.args.self.now)) c.get-2.ensures)
     c.take_all.ensures
 
@@ -30,6 +31,8 @@ returns-in-Some-clause-indexed c =
     let new : Group = record { id = old.id; states = c.take_all.new.states } in
     on_ok c.take_all.result
     (λ took.
-    indexed_there fields c.args.document.now c.args.self.now _ c.in-Some.at old new (tree c.get-2.result.now) c.requires c.in-Some.ensures.0 refl c.index_mut.ensures.value refl
-    (put_there fields c.args.document.now c.args.self.now.groups.items c.in-Some.at old new (tree c.get-2.result.now) c.in-Some.ensures.0 c.in-Some.ensures.1 c.requires.apart c.index_mut.ensures.value refl took))
+    indexed_there fields c.args.document.now c.args.self.now _ c.in-Some.at old new
+    (tree c.get-2.result.now) c.requires c.in-Some.ensures.0 refl c.index_mut.ensures.value refl
+    (put_there fields c.args.document.now c.args.self.now.groups.items c.in-Some.at old new
+    (tree c.get-2.result.now) c.in-Some.ensures.0 c.in-Some.ensures.1 c.requires.apart c.index_mut.ensures.value refl took))
     c.take_all.ensures

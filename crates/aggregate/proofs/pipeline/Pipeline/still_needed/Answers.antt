@@ -18,5 +18,7 @@ returns g c =
     let is : behind_match stages ≡ sort_stage e.sort ∷ behind = search rules in
     let most = c.in-Some.most in
     let same : take most (order e.sort these) ≡ few =
-    ap (take most) (sym c.in_ok-ordered.ensures) ∙ take-map (λ d. g.T.AsDocument.document d.now) most c.in_ok-ordered.ordered.items ∙ ap (map (λ d. g.T.AsDocument.document d.now)) (sym c.truncate.ensures.items) in
-    λ seen h. subst (λ (ds : List Pairs). IsEnough stages ds seen) same (first_are_enough c.sorts_in_parts.ensures e.sort behind most c.in-Some.ensures stages is these seen h)
+    ap (take most) (sym c.in_ok-ordered.ensures) ∙ take-map (λ d. g.T.AsDocument.document d.now) most c.in_ok-ordered.ordered.items
+    ∙ ap (map (λ d. g.T.AsDocument.document d.now)) (sym c.truncate.ensures.items) in
+    λ seen h. subst (λ (ds : List Pairs). IsEnough stages ds seen) same
+    (first_are_enough c.sorts_in_parts.ensures e.sort behind most c.in-Some.ensures stages is these seen h)

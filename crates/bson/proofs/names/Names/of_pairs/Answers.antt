@@ -10,4 +10,5 @@ pub pairs-preserved : goal.pairs-preserved
 pairs-preserved c = λ other.
     let before = take c.pairs.pair-index c.args.pairs.now in
     let more = one_more c.args.pairs.now c.pairs.pair-index c.pair-item.result c.pairs-test.true c.pair-item.is in
-    names_pushed before c.pair-item.result c.insert.new.self c.pairs.names c.as_str.result.now c.in_ok-_is_new.ensures.names c.pairs.invariant (sym c.as_str.ensures.value) other ∙ ap (λ (ps : List Pair). stands_in (names_of ps) other) (sym more)
+    names_pushed before c.pair-item.result c.insert.new.self c.pairs.names c.as_str.result.now c.in_ok-_is_new.ensures.names c.pairs.invariant
+    (sym c.as_str.ensures.value) other ∙ ap (λ (ps : List Pair). stands_in (names_of ps) other) (sym more)

@@ -30,7 +30,9 @@ returns-in-Err-clause-only c = λ front rest ps s e.
     ap only_document (sym (length_err (document_at c.args.bytes.now) c.in-Err.fault c.in-Err.ensures)) ∙ raw_only c.args.bytes.now front rest ps s e
 
 pub returns-in-Err-clause-fault : goal.returns-in-Err-clause-fault
-returns-in-Err-clause-fault c = raw_fault c.args.bytes.now c.in-Err.fault (λ i. omega (arith, c.type_inv.bytes i)) (length_err (document_at c.args.bytes.now) c.in-Err.fault c.in-Err.ensures)
+returns-in-Err-clause-fault c =
+    raw_fault c.args.bytes.now c.in-Err.fault (λ i. omega (arith, c.type_inv.bytes i))
+    (length_err (document_at c.args.bytes.now) c.in-Err.fault c.in-Err.ensures)
 
 pub returns-in-Err-clause-memory : goal.returns-in-Err-clause-memory
 returns-in-Err-clause-memory c = fault_no c.args.bytes.now c.in-Err.fault (length_err (document_at c.args.bytes.now) c.in-Err.fault c.in-Err.ensures)

@@ -18,12 +18,17 @@ invariant_of-self c =
     (c.deepest_after-self-inside.ensures ∙ ap (λ (xs : List Value). items_levels (items_of xs)) c.deref.ensures.value)
 
 pub returns-clause-item : goal.returns-clause-item
-returns-clause-item c = item_there c.self.inside.items.items c.args.self.now c.args.at c.remove-value.result c.self.view_is (items_within c.self.inside.items.items c.args.self.now c.args.at c.self.view_is c.requires) c.remove-value.ensures.value
+returns-clause-item c =
+    item_there c.self.inside.items.items c.args.self.now c.args.at c.remove-value.result c.self.view_is
+    (items_within c.self.inside.items.items c.args.self.now c.args.at c.self.view_is c.requires) c.remove-value.ensures.value
 
 pub returns-clause-rest : goal.returns-clause-rest
-returns-clause-rest c = items_removed c.self.inside.items.items c.remove-value.new.self.items c.args.self.now c.args.at c.self.view_is c.remove-value.ensures.items
+returns-clause-rest c =
+    items_removed c.self.inside.items.items c.remove-value.new.self.items c.args.self.now c.args.at c.self.view_is c.remove-value.ensures.items
 
 pub deepest_after-self-inside-requires : goal.deepest_after-self-inside-requires
 deepest_after-self-inside-requires c = λ flat.
-    items_removed_levels c.self.inside.items.items c.remove-value.new.self.items c.deref.result.now c.args.self.now c.args.at c.remove-value.result c.self.inside.inner_levels c.levels.result c.self.view_is
-    (items_within c.self.inside.items.items c.args.self.now c.args.at c.self.view_is c.requires) c.remove-value.ensures.value c.remove-value.ensures.items c.deref.ensures.value c.self.invariant.counted c.levels.ensures.levels flat
+    items_removed_levels c.self.inside.items.items c.remove-value.new.self.items c.deref.result.now c.args.self.now c.args.at c.remove-value.result
+    c.self.inside.inner_levels c.levels.result c.self.view_is
+    (items_within c.self.inside.items.items c.args.self.now c.args.at c.self.view_is c.requires) c.remove-value.ensures.value c.remove-value.ensures.items
+    c.deref.ensures.value c.self.invariant.counted c.levels.ensures.levels flat

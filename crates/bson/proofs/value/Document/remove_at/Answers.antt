@@ -18,12 +18,17 @@ invariant_of-self c =
     (c.deepest_after-self-inside.ensures ∙ ap (λ (xs : List Pair). pairs_levels (pairs_of xs)) c.deref.ensures.value)
 
 pub returns-clause-pair : goal.returns-clause-pair
-returns-clause-pair c = pair_there c.self.inside.pairs.items c.args.self.now c.args.at c.remove-pair.result c.self.view_is (pairs_within c.self.inside.pairs.items c.args.self.now c.args.at c.self.view_is c.requires) c.remove-pair.ensures.value
+returns-clause-pair c =
+    pair_there c.self.inside.pairs.items c.args.self.now c.args.at c.remove-pair.result c.self.view_is
+    (pairs_within c.self.inside.pairs.items c.args.self.now c.args.at c.self.view_is c.requires) c.remove-pair.ensures.value
 
 pub returns-clause-rest : goal.returns-clause-rest
-returns-clause-rest c = pairs_removed c.self.inside.pairs.items c.remove-pair.new.self.items c.args.self.now c.args.at c.self.view_is c.remove-pair.ensures.items
+returns-clause-rest c =
+    pairs_removed c.self.inside.pairs.items c.remove-pair.new.self.items c.args.self.now c.args.at c.self.view_is c.remove-pair.ensures.items
 
 pub deepest_after-self-inside-requires : goal.deepest_after-self-inside-requires
 deepest_after-self-inside-requires c = λ flat.
-    pairs_removed_levels c.self.inside.pairs.items c.remove-pair.new.self.items c.deref.result.now c.args.self.now c.args.at c.remove-pair.result c.self.inside.inner_levels c.levels.result c.self.view_is
-    (pairs_within c.self.inside.pairs.items c.args.self.now c.args.at c.self.view_is c.requires) c.remove-pair.ensures.value c.remove-pair.ensures.items c.deref.ensures.value c.self.invariant.counted c.levels.ensures.levels flat
+    pairs_removed_levels c.self.inside.pairs.items c.remove-pair.new.self.items c.deref.result.now c.args.self.now c.args.at c.remove-pair.result
+    c.self.inside.inner_levels c.levels.result c.self.view_is
+    (pairs_within c.self.inside.pairs.items c.args.self.now c.args.at c.self.view_is c.requires) c.remove-pair.ensures.value c.remove-pair.ensures.items
+    c.deref.ensures.value c.self.invariant.counted c.levels.ensures.levels flat

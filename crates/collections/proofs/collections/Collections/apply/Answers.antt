@@ -14,7 +14,8 @@ returns-in-Ok g c =
     let history = g.D.Disk.history in
     let i = c.self.inside in
     subst (λ (s : State D). Applies history c.args.edits.now (Ok tt) s (record { pager = c.changed_root.new.pager; root = c.in-Ok.root })) c.self.view_is
-    (applies_done history c.args.edits.now (record { pager = i.pager; root = i.root }) c.changed_root.new.pager c.in-Ok.root (some_of c.args.edits.now (search rules)) c.changed_root.ensures.grows c.in-Ok.ensures.changes)
+    (applies_done history c.args.edits.now (record { pager = i.pager; root = i.root }) c.changed_root.new.pager c.in-Ok.root
+    (some_of c.args.edits.now (search rules)) c.changed_root.ensures.grows c.in-Ok.ensures.changes)
 
 pub returns-in-Err : goal.returns-in-Err
 returns-in-Err g c =
@@ -22,6 +23,10 @@ returns-in-Err g c =
     let history = g.D.Disk.history in
     let i = c.self.inside in
     subst (λ (s : State D). Applies history c.args.edits.now (Err c.refusal_of.result) s (record { pager = c.undo_to.new.self; root = i.root })) c.self.view_is
-    (subst (λ (refusal : Refusal). Applies history c.args.edits.now (Err refusal) (record { pager = i.pager; root = i.root }) (record { pager = c.undo_to.new.self; root = i.root })) (sym c.refusal_of.ensures)
-    (applies_undone history c.args.edits.now (record { pager = i.pager; root = i.root }) c.changed_root.new.pager c.undo_to.new.self c.in-Err.fault c.mark-mark.result.made c.mark-mark.result.retired c.changed_root.ensures.grows c.in-Err.ensures.changes
-    c.undo_to.ensures.undone c.undo_to.ensures.returns c.mark-mark.ensures.orderly c.mark-mark.ensures.made c.mark-mark.ensures.retired (some_of c.args.edits.now (search rules)) (search rules)))
+    (subst (λ (refusal : Refusal). Applies history c.args.edits.now (Err refusal) (record { pager = i.pager; root = i.root })
+    (record { pager = c.undo_to.new.self; root = i.root })) (sym c.refusal_of.ensures)
+    (applies_undone history c.args.edits.now
+    (record { pager = i.pager; root = i.root }) c.changed_root.new.pager c.undo_to.new.self c.in-Err.fault c.mark-mark.result.made c.mark-mark.result.retired
+    c.changed_root.ensures.grows c.in-Err.ensures.changes
+    c.undo_to.ensures.undone c.undo_to.ensures.returns c.mark-mark.ensures.orderly c.mark-mark.ensures.made c.mark-mark.ensures.retired
+    (some_of c.args.edits.now (search rules)) (search rules)))

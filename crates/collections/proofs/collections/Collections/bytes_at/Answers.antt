@@ -9,5 +9,6 @@ returns g c =
     let number = c.args.number in
     let id = c.args.id.now in
     let key = c.deref.result.now in
-    asks_same g.D.Disk.history (IsPlaceOf number id) (IsInTree (IsValueAt key)) (λ now place found. AreBytesAt place found) c.args.self.now c.value_at.new.self c.value_at.result c.value_at.ensures
+    asks_same g.D.Disk.history (IsPlaceOf number id) (IsInTree (IsValueAt key))
+    (λ now place found. AreBytesAt place found) c.args.self.now c.value_at.new.self c.value_at.result c.value_at.ensures
     (λ now place found at p. bytes_there now number id key (c.deref.ensures.value ∙ c.in_ok-key.ensures) place found at p)

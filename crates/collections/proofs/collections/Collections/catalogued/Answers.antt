@@ -11,13 +11,18 @@ pub returns-in_err-value-clause-reads : goal.returns-in_err-value-clause-reads
 returns-in_err-value-clause-reads g c =
     let name = c.args.namespace.now in
     let p = err_from_is_err_and c.from_residual-in_err-value.result c.from_residual-in_err-value.ensures.1 in
-    rw (p.1, p.2) (reads_refused g.D.Disk.history (IsInTree (IsValueAt c.deref.result.now)) (λ now found. option_map catalogued_of found ≡ option_map catalogued_in (find_collection now name)) c.args.self.now c.value_at.new.self c.in_err-value.field-0.0 c.in_err-value.ensures)
+    rw (p.1, p.2)
+    (reads_refused g.D.Disk.history (IsInTree (IsValueAt c.deref.result.now))
+    (λ now found. option_map catalogued_of found
+    ≡ option_map catalogued_in (find_collection now name)) c.args.self.now c.value_at.new.self c.in_err-value.field-0.0 c.in_err-value.ensures)
 
 pub returns-in_default-clause-reads : goal.returns-in_default-clause-reads
 returns-in_default-clause-reads g c =
     let name = c.args.namespace.now in
     let key = c.deref.result.now in
-    reads_on g.D.Disk.history (IsInTree (IsValueAt key)) (λ now found. option_map catalogued_of found ≡ option_map catalogued_in (find_collection now name)) c.args.self.now c.value_at.new.self c.in_ok-value.field-0 (Ok None) c.in_ok-value.ensures
+    reads_on g.D.Disk.history (IsInTree (IsValueAt key))
+    (λ now found. option_map catalogued_of found
+    ≡ option_map catalogued_in (find_collection now name)) c.args.self.now c.value_at.new.self c.in_ok-value.field-0 (Ok None) c.in_ok-value.ensures
     (λ now p. none_told now name key (c.deref.ensures.value ∙ c.in_ok-key.ensures) (subst (IsInTree (IsValueAt key) now) c.in_default.is p))
 
 pub returns-in_err-told_in-clause-reads : goal.returns-in_err-told_in-clause-reads
@@ -26,13 +31,20 @@ returns-in_err-told_in-clause-reads g c =
     let key = c.deref.result.now in
     let e = c.in_err-told_in.field-0.0 in
     let p = err_from_is_err_and c.from_residual-in_err-told_in.result c.from_residual-in_err-told_in.ensures.1 in
-    rw (p.1, p.2) (reads_on g.D.Disk.history (IsInTree (IsValueAt key)) (λ now found. option_map catalogued_of found ≡ option_map catalogued_in (find_collection now name)) c.args.self.now c.value_at.new.self c.in_ok-value.field-0 (Err e) c.in_ok-value.ensures
-    (λ now p. one_told now name key (c.deref.ensures.value ∙ c.in_ok-key.ensures) c.in-Some.value (Err e) (subst (IsInTree (IsValueAt key) now) c.in-Some.is p) (λ of kept same. c.in_err-told_in.ensures.told of kept (c.deref-2.ensures.value ∙ same))))
+    rw (p.1, p.2)
+    (reads_on g.D.Disk.history (IsInTree (IsValueAt key))
+    (λ now found. option_map catalogued_of found
+    ≡ option_map catalogued_in (find_collection now name)) c.args.self.now c.value_at.new.self c.in_ok-value.field-0 (Err e) c.in_ok-value.ensures
+    (λ now p. one_told now name key (c.deref.ensures.value ∙ c.in_ok-key.ensures) c.in-Some.value (Err e) (subst (IsInTree (IsValueAt key) now) c.in-Some.is p)
+    (λ of kept same. c.in_err-told_in.ensures.told of kept (c.deref-2.ensures.value ∙ same))))
 
 pub returns-clause-reads : goal.returns-clause-reads
 returns-clause-reads g c =
     let name = c.args.namespace.now in
     let key = c.deref.result.now in
     let told = c.in_ok-told_in.field-0 in
-    reads_on g.D.Disk.history (IsInTree (IsValueAt key)) (λ now found. option_map catalogued_of found ≡ option_map catalogued_in (find_collection now name)) c.args.self.now c.value_at.new.self c.in_ok-value.field-0 (Ok (Some told)) c.in_ok-value.ensures
-    (λ now p. one_told now name key (c.deref.ensures.value ∙ c.in_ok-key.ensures) c.in-Some.value (Ok told) (subst (IsInTree (IsValueAt key) now) c.in-Some.is p) (λ of kept same. c.in_ok-told_in.ensures.told of kept (c.deref-2.ensures.value ∙ same)))
+    reads_on g.D.Disk.history (IsInTree (IsValueAt key))
+    (λ now found. option_map catalogued_of found
+    ≡ option_map catalogued_in (find_collection now name)) c.args.self.now c.value_at.new.self c.in_ok-value.field-0 (Ok (Some told)) c.in_ok-value.ensures
+    (λ now p. one_told now name key (c.deref.ensures.value ∙ c.in_ok-key.ensures) c.in-Some.value (Ok told)
+    (subst (IsInTree (IsValueAt key) now) c.in-Some.is p) (λ of kept same. c.in_ok-told_in.ensures.told of kept (c.deref-2.ensures.value ∙ same)))

@@ -10,4 +10,5 @@ returns g c =
     let history = g.D.Disk.history in
     let i = c.self.inside in
     subst (λ (s : State D). Commits history c.commit.result s (record { pager = c.commit.new.self; root = i.root })) c.self.view_is
-    (commits_so history (record { pager = i.pager; root = i.root }) c.commit.new.self c.commit.result c.commit.ensures.commits c.commit.ensures.takes c.commit.ensures.moves)
+    (commits_so history
+    (record { pager = i.pager; root = i.root }) c.commit.new.self c.commit.result c.commit.ensures.commits c.commit.ensures.takes c.commit.ensures.moves)

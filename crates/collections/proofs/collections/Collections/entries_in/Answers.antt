@@ -24,5 +24,6 @@ returns g c =
       | in-Err w ↦ subst (λ (r : Result (Batch) Refusal). Reads history (IsInTree (IsBatchOf c.args.range)) r c.args.self.now new) (sym w.result-is)
           (subst (λ (s : State D). Reads history (IsInTree (IsBatchOf c.args.range)) (Err w.refusal_of.result) s new) c.self.view_is
           (subst (λ (e : Refusal). Reads history (IsInTree (IsBatchOf c.args.range)) (Err e) old new) (sym w.refusal_of.ensures)
-          (reads_failed history (IsBatchOf c.args.range) old pager c.entries_below.result c.entries_below.ensures (IsInTree (IsBatchOf c.args.range)) w.in-Err.fault w.in-Err.is (search rules))))
+          (reads_failed history (IsBatchOf c.args.range) old pager c.entries_below.result c.entries_below.ensures
+          (IsInTree (IsBatchOf c.args.range)) w.in-Err.fault w.in-Err.is (search rules))))
     ]

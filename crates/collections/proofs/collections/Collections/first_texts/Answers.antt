@@ -20,14 +20,20 @@ pub returns-in_err-batch : goal.returns-in_err-batch
 returns-in_err-batch g c =
     let range : Range = record { from = c.deref-2.result; to = c.as_deref.result; limit = c.args.most } in
     let p = err_from_is_err_and c.from_residual-in_err-batch.result c.from_residual-in_err-batch.ensures.1 in
-    rw (p.1, p.2) (asks_refused g.D.Disk.history (IsNumberedIndex c.args.number c.args.index) (λ now at (found : FirstTexts). AreFirstTexts c.args.first.now c.args.last.now at found.are_all (texts_of found.texts.items)) c.args.self.now c.entries_in.new.self
+    rw (p.1, p.2)
+    (asks_refused g.D.Disk.history (IsNumberedIndex c.args.number c.args.index)
+    (λ now at (found : FirstTexts). AreFirstTexts c.args.first.now c.args.last.now at found.are_all (texts_of found.texts.items)) c.args.self.now
+    c.entries_in.new.self
     (IsInTree (IsBatchOf range)) c.in_err-batch.field-0.0 c.in_err-batch.ensures)
 
 pub returns-in_err-texts : goal.returns-in_err-texts
 returns-in_err-texts g c =
     let range : Range = record { from = c.deref-2.result; to = c.as_deref.result; limit = c.args.most } in
     let p = err_from_is_err_and c.from_residual-in_err-texts.result c.from_residual-in_err-texts.ensures.1 in
-    rw (p.1, p.2) (asks_on g.D.Disk.history (IsNumberedIndex c.args.number c.args.index) (λ now at (found : FirstTexts). AreFirstTexts c.args.first.now c.args.last.now at found.are_all (texts_of found.texts.items)) c.args.self.now c.entries_in.new.self
+    rw (p.1, p.2)
+    (asks_on g.D.Disk.history (IsNumberedIndex c.args.number c.args.index)
+    (λ now at (found : FirstTexts). AreFirstTexts c.args.first.now c.args.last.now at found.are_all (texts_of found.texts.items)) c.args.self.now
+    c.entries_in.new.self
     (IsInTree (IsBatchOf range)) c.in_ok-batch.batch (Err c.in_err-texts.field-0.0) c.in_ok-batch.ensures (λ now at place q. c.in_err-texts.ensures))
 
 pub returns : goal.returns
@@ -39,8 +45,11 @@ returns g c =
     let ends : IsEndOf (key_under c.args.number c.args.index last) (option_map (λ b. b.now) range.to) =
     subst (IsEndOf (key_under c.args.number c.args.index last)) (sym c.as_deref.ensures.value)
     (subst (λ (k : List ℕ). IsEndOf k (option_map (λ v. v.items) c.in_ok-to.to)) (c.deref.ensures.value ∙ c.in_ok-until.ensures) c.in_ok-to.ensures) in
-    asks_on g.D.Disk.history (IsNumberedIndex c.args.number c.args.index) (λ now at (found : FirstTexts). AreFirstTexts c.args.first.now c.args.last.now at found.are_all (texts_of found.texts.items)) c.args.self.now c.entries_in.new.self
+    asks_on g.D.Disk.history (IsNumberedIndex c.args.number c.args.index)
+    (λ now at (found : FirstTexts). AreFirstTexts c.args.first.now c.args.last.now at found.are_all (texts_of found.texts.items)) c.args.self.now
+    c.entries_in.new.self
     (IsInTree (IsBatchOf range)) batch (Ok (record { texts = c.in_ok-texts.texts; are_all = c.is_none.result })) c.in_ok-batch.ensures
     (λ now at place p.
-    texts_asked now at c.args.number c.args.index first last range batch c.deref-3.result.now c.deref-4.result.now (texts_of c.in_ok-texts.texts.items) c.is_none.result c.is_none.ensures p place
+    texts_asked now at c.args.number c.args.index first last range batch c.deref-3.result.now c.deref-4.result.now
+    (texts_of c.in_ok-texts.texts.items) c.is_none.result c.is_none.ensures p place
     (c.deref-2.ensures.value ∙ c.in_ok-from.ensures) ends (c.deref-3.ensures.value ∙ c.in_ok-front.ensures) c.deref-4.ensures.value c.in_ok-texts.ensures)

@@ -6,4 +6,5 @@ use Rattle.collections.proofs.collections.Collections.has_any_other_key.Given as
 
 abbrev pub invariant-keys : goal.invariant-keys
 invariant-keys g l =
-    LooksOn g.D.Disk.history l.edits (any_other_key l.number l.index l.id (texts_of l.keys)) (any_other_key l.number l.index l.id (texts_of (drop l.key-index l.keys))) l.initial.self l.self
+    LooksOn g.D.Disk.history l.edits (any_other_key l.number l.index l.id (texts_of l.keys))
+    (any_other_key l.number l.index l.id (texts_of (drop l.key-index l.keys))) l.initial.self l.self

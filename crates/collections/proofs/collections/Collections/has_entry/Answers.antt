@@ -7,4 +7,7 @@ use Rattle.collections.proofs.collections.Collections.has_entry.Goals as goal
 pub returns-in_err-found : goal.returns-in_err-found
 returns-in_err-found g c =
     let p = err_from_is_err_and c.from_residual-in_err-found.result c.from_residual-in_err-found.ensures.1 in
-    rw (p.1, p.2) (tree_refused g.D.Disk.history (IsValueAt c.deref.result.now) (IsTest (has_entry c.args.number c.args.index c.args.key.now c.args.id.now)) c.args.self.now c.tree_value.new.self c.in_err-found.field-0.0 c.in_err-found.ensures)
+    rw (p.1, p.2)
+    (tree_refused g.D.Disk.history (IsValueAt c.deref.result.now)
+    (IsTest (has_entry c.args.number c.args.index c.args.key.now c.args.id.now)) c.args.self.now c.tree_value.new.self c.in_err-found.field-0.0
+    c.in_err-found.ensures)

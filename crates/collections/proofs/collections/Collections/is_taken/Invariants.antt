@@ -6,4 +6,5 @@ use Rattle.collections.proofs.collections.Collections.is_taken.Given as goal
 
 abbrev pub invariant-indexes : goal.invariant-indexes
 invariant-indexes g l =
-    LooksOn g.D.Disk.history l.edits (is_taken l.number l.id l.indexes (map (λ ks. texts_of ks.items) l.keys)) (is_taken l.number l.id (drop l.at l.indexes) (map (λ ks. texts_of ks.items) (drop l.at l.keys))) l.initial.self l.self
+    LooksOn g.D.Disk.history l.edits (is_taken l.number l.id l.indexes (map (λ ks. texts_of ks.items) l.keys))
+    (is_taken l.number l.id (drop l.at l.indexes) (map (λ ks. texts_of ks.items) (drop l.at l.keys))) l.initial.self l.self

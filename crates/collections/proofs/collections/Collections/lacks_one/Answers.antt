@@ -13,29 +13,45 @@ pub returns-in_err-lacks_key : goal.returns-in_err-lacks_key
 returns-in_err-lacks_key g c =
     let p = err_from_is_err_and c.from_residual.result c.from_residual.ensures.1 in
     let a = c.args in
-    let split = key_left a.number a.index.now a.id.now a.keys.now c.keys.key-index c.key-item.result c.deref.result.now c.keys-test.true c.key-item.is c.deref.ensures.value in
-    rw (p.1, p.2) (looks_failed g.D.Disk.history (lacks_one a.number a.index.now a.id.now (texts_of a.keys.now)) (lacks_one a.number a.index.now a.id.now (texts_of (drop c.keys.key-index a.keys.now)))
-    (lacks_key a.number a.index.now a.id.now c.deref.result.now) (lacks_one a.number a.index.now a.id.now (texts_of (drop (c.keys.key-index + 1) a.keys.now))) a.self.now c.keys.self c.lacks_key.new.self c.keys.invariant split
+    let split = key_left a.number a.index.now a.id.now a.keys.now c.keys.key-index c.key-item.result c.deref.result.now c.keys-test.true c.key-item.is
+    c.deref.ensures.value in
+    rw (p.1, p.2)
+    (looks_failed g.D.Disk.history (lacks_one a.number a.index.now a.id.now (texts_of a.keys.now))
+    (lacks_one a.number a.index.now a.id.now (texts_of (drop c.keys.key-index a.keys.now)))
+    (lacks_key a.number a.index.now a.id.now c.deref.result.now)
+    (lacks_one a.number a.index.now a.id.now (texts_of (drop (c.keys.key-index + 1) a.keys.now))) a.self.now c.keys.self c.lacks_key.new.self c.keys.invariant
+    split
     c.in_err-lacks_key.field-0.0 c.in_err-lacks_key.ensures)
 
 pub returns-then-branch : goal.returns-then-branch
 returns-then-branch g c =
     let a = c.args in
-    let split = key_left a.number a.index.now a.id.now a.keys.now c.keys.key-index c.key-item.result c.deref.result.now c.keys-test.true c.key-item.is c.deref.ensures.value in
-    looks_found g.D.Disk.history (lacks_one a.number a.index.now a.id.now (texts_of a.keys.now)) (lacks_one a.number a.index.now a.id.now (texts_of (drop c.keys.key-index a.keys.now)))
-    (lacks_key a.number a.index.now a.id.now c.deref.result.now) (lacks_one a.number a.index.now a.id.now (texts_of (drop (c.keys.key-index + 1) a.keys.now))) a.self.now c.keys.self c.lacks_key.new.self c.keys.invariant split
-    (subst (λ (b : Bool). ReadsTree g.D.Disk.history (IsTest (lacks_key a.number a.index.now a.id.now c.deref.result.now)) (Ok b) c.keys.self c.lacks_key.new.self) c.if-branch.true c.in_ok-lacks_key.ensures)
+    let split = key_left a.number a.index.now a.id.now a.keys.now c.keys.key-index c.key-item.result c.deref.result.now c.keys-test.true c.key-item.is
+    c.deref.ensures.value in
+    looks_found g.D.Disk.history (lacks_one a.number a.index.now a.id.now (texts_of a.keys.now))
+    (lacks_one a.number a.index.now a.id.now (texts_of (drop c.keys.key-index a.keys.now)))
+    (lacks_key a.number a.index.now a.id.now c.deref.result.now)
+    (lacks_one a.number a.index.now a.id.now (texts_of (drop (c.keys.key-index + 1) a.keys.now))) a.self.now c.keys.self c.lacks_key.new.self c.keys.invariant
+    split
+    (subst (λ (b : Bool). ReadsTree g.D.Disk.history (IsTest (lacks_key a.number a.index.now a.id.now c.deref.result.now))
+    (Ok b) c.keys.self c.lacks_key.new.self) c.if-branch.true c.in_ok-lacks_key.ensures)
 
 pub keys-preserved : goal.keys-preserved
 keys-preserved g c =
     let a = c.args in
-    let split = key_left a.number a.index.now a.id.now a.keys.now c.keys.key-index c.key-item.result c.deref.result.now c.keys-test.true c.key-item.is c.deref.ensures.value in
-    looks_step g.D.Disk.history (lacks_one a.number a.index.now a.id.now (texts_of a.keys.now)) (lacks_one a.number a.index.now a.id.now (texts_of (drop c.keys.key-index a.keys.now)))
-    (lacks_key a.number a.index.now a.id.now c.deref.result.now) (lacks_one a.number a.index.now a.id.now (texts_of (drop (c.keys.key-index + 1) a.keys.now))) a.self.now c.keys.self c.lacks_key.new.self c.keys.invariant split
-    (subst (λ (b : Bool). ReadsTree g.D.Disk.history (IsTest (lacks_key a.number a.index.now a.id.now c.deref.result.now)) (Ok b) c.keys.self c.lacks_key.new.self) c.if-branch.false c.in_ok-lacks_key.ensures)
+    let split = key_left a.number a.index.now a.id.now a.keys.now c.keys.key-index c.key-item.result c.deref.result.now c.keys-test.true c.key-item.is
+    c.deref.ensures.value in
+    looks_step g.D.Disk.history (lacks_one a.number a.index.now a.id.now (texts_of a.keys.now))
+    (lacks_one a.number a.index.now a.id.now (texts_of (drop c.keys.key-index a.keys.now)))
+    (lacks_key a.number a.index.now a.id.now c.deref.result.now)
+    (lacks_one a.number a.index.now a.id.now (texts_of (drop (c.keys.key-index + 1) a.keys.now))) a.self.now c.keys.self c.lacks_key.new.self c.keys.invariant
+    split
+    (subst (λ (b : Bool). ReadsTree g.D.Disk.history (IsTest (lacks_key a.number a.index.now a.id.now c.deref.result.now))
+    (Ok b) c.keys.self c.lacks_key.new.self) c.if-branch.false c.in_ok-lacks_key.ensures)
 
 pub returns : goal.returns
 returns g c =
     let a = c.args in
-    looks_end g.D.Disk.history (lacks_one a.number a.index.now a.id.now (texts_of a.keys.now)) (lacks_one a.number a.index.now a.id.now (texts_of (drop c.keys.key-index a.keys.now))) a.self.now c.keys.self
+    looks_end g.D.Disk.history (lacks_one a.number a.index.now a.id.now (texts_of a.keys.now))
+    (lacks_one a.number a.index.now a.id.now (texts_of (drop c.keys.key-index a.keys.now))) a.self.now c.keys.self
     c.keys.invariant (no_keys_left a.number a.index.now a.id.now a.keys.now c.keys.key-index c.keys-test.false)

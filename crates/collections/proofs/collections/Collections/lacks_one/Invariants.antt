@@ -5,4 +5,6 @@ use Rattle.collections.proofs.TreeReadLemmas.{LooksTo}
 use Rattle.collections.proofs.collections.Collections.lacks_one.Given as goal
 
 abbrev pub invariant-keys : goal.invariant-keys
-invariant-keys g l = LooksTo g.D.Disk.history (lacks_one l.number l.index l.id (texts_of l.keys)) (lacks_one l.number l.index l.id (texts_of (drop l.key-index l.keys))) l.initial.self l.self
+invariant-keys g l =
+    LooksTo g.D.Disk.history (lacks_one l.number l.index l.id (texts_of l.keys))
+    (lacks_one l.number l.index l.id (texts_of (drop l.key-index l.keys))) l.initial.self l.self

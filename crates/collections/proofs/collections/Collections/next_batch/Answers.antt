@@ -19,7 +19,10 @@ returns-in_err-batch-clause-reads g c =
     let walk = c.args.walk.now in
     let range : Range = record { from = c.deref.result; to = Some c.deref-2.result; limit = c.args.limit } in
     let p = err_from_is_err_and c.from_residual-in_err-batch.result c.from_residual-in_err-batch.ensures.1 in
-    rw (p.1, p.2) (asks_refused g.D.Disk.history (λ now rest. IsWalk now walk rest) (λ now rest (batch : Vec Entry Global). HasNext c.args.limit walk now rest batch.items) c.args.self.now c.entries_in.new.self (IsInTree (IsBatchOf range)) c.in_err-batch.field-0.0 c.in_err-batch.ensures)
+    rw (p.1, p.2)
+    (asks_refused g.D.Disk.history (λ now rest. IsWalk now walk rest)
+    (λ now rest (batch : Vec Entry Global). HasNext c.args.limit walk now rest batch.items) c.args.self.now c.entries_in.new.self
+    (IsInTree (IsBatchOf range)) c.in_err-batch.field-0.0 c.in_err-batch.ensures)
 
 pub returns-in_default-checked_sub-clause-reads : goal.returns-in_default-checked_sub-clause-reads
 returns-in_default-checked_sub-clause-reads g c =
@@ -30,7 +33,9 @@ returns-in_default-checked_sub-clause-reads g c =
     let batch = c.in_ok-batch.batch in
     let count = length batch.entries.items in
     let no_room : walk.left < count = omega (arith, c.in_default-checked_sub.ensures, c.len.ensures, batch.entries.ok.0) in
-    steps_on g.D.Disk.history (λ now rest (batch : Vec Entry Global). HasNext c.args.limit walk now rest batch.items) c.args.self.now c.entries_in.new.self walk c.in-Some.from c.in-Some.is range from to c.requires batch (Err refusals.StorageFailed) c.in_ok-batch.ensures
+    steps_on g.D.Disk.history
+    (λ now rest (batch : Vec Entry Global). HasNext c.args.limit walk now rest batch.items) c.args.self.now c.entries_in.new.self walk c.in-Some.from
+    c.in-Some.is range from to c.requires batch (Err refusals.StorageFailed) c.in_ok-batch.ensures
     (λ now rest w each step.
     let length_is : length (take count rest) ≡ count = omega (arith, length-take count rest, step.few) in
     absurd (has_room now walk rest w c.args.limit count batch.next step (take count rest) refl (omega (arith, length_is, no_room))))
@@ -46,7 +51,9 @@ returns-clause-reads g c =
     let left = c.in-Some-checked_sub.left in
     let sum : left + count ≡ walk.left = omega (arith, c.in-Some-checked_sub.ensures.0, c.in-Some-checked_sub.ensures.1, c.len.ensures, batch.entries.ok.0) in
     let after : Walk = record { number = walk.number; next = batch.next; left = left } in
-    steps_on g.D.Disk.history (λ now rest (batch : Vec Entry Global). HasNext c.args.limit after now rest batch.items) c.args.self.now c.entries_in.new.self walk c.in-Some.from c.in-Some.is range from to c.requires batch (Ok batch.entries) c.in_ok-batch.ensures
+    steps_on g.D.Disk.history
+    (λ now rest (batch : Vec Entry Global). HasNext c.args.limit after now rest batch.items) c.args.self.now c.entries_in.new.self walk c.in-Some.from
+    c.in-Some.is range from to c.requires batch (Ok batch.entries) c.in_ok-batch.ensures
     (λ now rest w each step.
     let length_is : length (take count rest) ≡ count = omega (arith, length-take count rest, step.few) in
     (each, next_walk now walk rest w c.args.limit count batch.next step (take count rest) refl left (omega (arith, length_is, sum))))

@@ -12,12 +12,16 @@ use Rattle.collections.proofs.collections.Collections.next_documents.Goals as go
 pub returns-in_err-batch-clause-reads : goal.returns-in_err-batch-clause-reads
 returns-in_err-batch-clause-reads g c =
     let p = err_from_is_err_and c.from_residual.result c.from_residual.ensures.1 in
-    rw (p.1, p.2) (asked_refused g.D.Disk.history (λ now rest. IsWalk now c.args.walk.now rest) (λ now rest (batch : Vec Pairs Global). StepsOn c.args.limit c.next_batch.new.walk now rest batch.items) c.args.self.now c.next_batch.new.self
-    (λ now rest (batch : Vec Entry Global). HasNext c.args.limit c.next_batch.new.walk now rest batch.items) c.in_err-batch.field-0.0 c.in_err-batch.ensures.reads)
+    rw (p.1, p.2)
+    (asked_refused g.D.Disk.history (λ now rest. IsWalk now c.args.walk.now rest)
+    (λ now rest (batch : Vec Pairs Global). StepsOn c.args.limit c.next_batch.new.walk now rest batch.items) c.args.self.now c.next_batch.new.self
+    (λ now rest (batch : Vec Entry Global). HasNext c.args.limit c.next_batch.new.walk now rest batch.items) c.in_err-batch.field-0.0
+    c.in_err-batch.ensures.reads)
 
 pub returns-clause-reads : goal.returns-clause-reads
 returns-clause-reads g c =
-    made_of g.D.Disk.history c.args.self.now c.next_batch.new.self c.args.walk.now c.next_batch.new.walk c.args.limit c.in_ok-batch.batch c.documents_of.result c.in_ok-batch.ensures.reads
+    made_of g.D.Disk.history c.args.self.now c.next_batch.new.self c.args.walk.now c.next_batch.new.walk c.args.limit c.in_ok-batch.batch c.documents_of.result
+    c.in_ok-batch.ensures.reads
     (λ ds each. c.documents_of.ensures.reads ds (subst (λ es. AreEach IsOfDocument es ds) (sym c.deref.ensures.value) each))
 
 pub returns-clause-ends : goal.returns-clause-ends

@@ -13,16 +13,25 @@ pub returns-in_err-told : goal.returns-in_err-told
 returns-in_err-told g c =
     let name = c.args.namespace.now in
     let p = err_from_is_err_and c.from_residual.result c.from_residual.ensures.1 in
-    rw (p.1, p.2) (reads_refused g.D.Disk.history (λ now found. option_map catalogued_of found ≡ option_map catalogued_in (find_collection now name)) (λ now found. found ≡ option_map (λ c. c.number) (find_collection now name)) c.args.self.now c.catalogued.new.self c.in_err-told.field-0.0 c.in_err-told.ensures.reads)
+    rw (p.1, p.2)
+    (reads_refused g.D.Disk.history (λ now found. option_map catalogued_of found ≡ option_map catalogued_in (find_collection now name))
+    (λ now found. found
+    ≡ option_map (λ c. c.number) (find_collection now name)) c.args.self.now c.catalogued.new.self c.in_err-told.field-0.0 c.in_err-told.ensures.reads)
 
 pub returns-in_default : goal.returns-in_default
 returns-in_default g c =
     let name = c.args.namespace.now in
-    reads_on g.D.Disk.history (λ now found. option_map catalogued_of found ≡ option_map catalogued_in (find_collection now name)) (λ now found. found ≡ option_map (λ c. c.number) (find_collection now name)) c.args.self.now c.catalogued.new.self c.in_ok-told.field-0 (Ok None) c.in_ok-told.ensures.reads
-    (λ now told. none_numbered (find_collection now name) (subst (λ (found : Option Catalogued). option_map catalogued_of found ≡ option_map catalogued_in (find_collection now name)) c.in_default.is told))
+    reads_on g.D.Disk.history (λ now found. option_map catalogued_of found ≡ option_map catalogued_in (find_collection now name))
+    (λ now found. found ≡ option_map (λ c. c.number) (find_collection now name)) c.args.self.now c.catalogued.new.self c.in_ok-told.field-0
+    (Ok None) c.in_ok-told.ensures.reads
+    (λ now told. none_numbered (find_collection now name)
+    (subst (λ (found : Option Catalogued). option_map catalogued_of found ≡ option_map catalogued_in (find_collection now name)) c.in_default.is told))
 
 pub returns : goal.returns
 returns g c =
     let name = c.args.namespace.now in
-    reads_on g.D.Disk.history (λ now found. option_map catalogued_of found ≡ option_map catalogued_in (find_collection now name)) (λ now found. found ≡ option_map (λ c. c.number) (find_collection now name)) c.args.self.now c.catalogued.new.self c.in_ok-told.field-0 (Ok (Some c.in-Some.told.number)) c.in_ok-told.ensures.reads
-    (λ now told. one_numbered c.in-Some.told (find_collection now name) (subst (λ (found : Option Catalogued). option_map catalogued_of found ≡ option_map catalogued_in (find_collection now name)) c.in-Some.is told))
+    reads_on g.D.Disk.history (λ now found. option_map catalogued_of found ≡ option_map catalogued_in (find_collection now name))
+    (λ now found. found ≡ option_map (λ c. c.number) (find_collection now name)) c.args.self.now c.catalogued.new.self c.in_ok-told.field-0
+    (Ok (Some c.in-Some.told.number)) c.in_ok-told.ensures.reads
+    (λ now told. one_numbered c.in-Some.told (find_collection now name)
+    (subst (λ (found : Option Catalogued). option_map catalogued_of found ≡ option_map catalogued_in (find_collection now name)) c.in-Some.is told))

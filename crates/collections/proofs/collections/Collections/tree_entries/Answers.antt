@@ -21,8 +21,10 @@ returns g c =
     elim c.match-entries_below.branch [
       | in-Ok w ↦ subst (λ (r : Result Batch Refusal). ReadsTree history right r c.args.self.now new) (sym w.result-is)
           (subst (λ (s : State D). ReadsTree history right (Ok w.in-Ok.batch) s new) c.self.view_is
-          (tree_there history right right old pager c.entries_below.result c.entries_below.ensures (λ entries batch rise holds. holds) (Ok w.in-Ok.batch) (rw w.in-Ok.is refl)))
+          (tree_there history right right old pager c.entries_below.result c.entries_below.ensures (λ entries batch rise holds. holds) (Ok w.in-Ok.batch)
+          (rw w.in-Ok.is refl)))
       | in-Err w ↦ subst (λ (r : Result Batch Refusal). ReadsTree history right r c.args.self.now new) (sym w.result-is)
           (subst (λ (s : State D). ReadsTree history right (Err w.refusal_of.result) s new) c.self.view_is
-          (tree_there history right right old pager c.entries_below.result c.entries_below.ensures (λ entries batch rise holds. holds) (Err w.refusal_of.result) (rw w.in-Err.is w.refusal_of.ensures)))
+          (tree_there history right right old pager c.entries_below.result c.entries_below.ensures (λ entries batch rise holds. holds)
+          (Err w.refusal_of.result) (rw w.in-Err.is w.refusal_of.ensures)))
     ]

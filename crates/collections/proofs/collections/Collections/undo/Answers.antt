@@ -11,4 +11,6 @@ returns g c =
     let i = c.self.inside in
     let root = c.root-self-inside.result in
     subst (λ (s : State D). Undoes history s (record { pager = c.undo_to.new.self; root = root })) c.self.view_is
-    (undoes_so history (record { pager = i.pager; root = i.root }) c.undo_to.new.self root i.begun.made i.begun.retired c.undo_to.ensures.undone c.undo_to.ensures.begun c.self.invariant.0 c.self.invariant.1 c.root-self-inside.ensures)
+    (undoes_so history
+    (record { pager = i.pager; root = i.root }) c.undo_to.new.self root i.begun.made i.begun.retired c.undo_to.ensures.undone c.undo_to.ensures.begun
+    c.self.invariant.0 c.self.invariant.1 c.root-self-inside.ensures)

@@ -24,5 +24,6 @@ returns g c =
       | in-Err w ↦ subst (λ (r : Result (Option (Vec ℕ)) Refusal). Reads history (IsInTree (IsValueAt c.args.key.now)) r c.args.self.now new) (sym w.result-is)
           (subst (λ (s : State D). Reads history (IsInTree (IsValueAt c.args.key.now)) (Err w.refusal_of.result) s new) c.self.view_is
           (subst (λ (e : Refusal). Reads history (IsInTree (IsValueAt c.args.key.now)) (Err e) old new) (sym w.refusal_of.ensures)
-          (reads_failed history (IsValueAt c.args.key.now) old pager c.value_below.result c.value_below.ensures (IsInTree (IsValueAt c.args.key.now)) w.in-Err.fault w.in-Err.is (search rules))))
+          (reads_failed history (IsValueAt c.args.key.now) old pager c.value_below.result c.value_below.ensures
+          (IsInTree (IsValueAt c.args.key.now)) w.in-Err.fault w.in-Err.is (search rules))))
     ]

@@ -8,5 +8,6 @@ pub returns : goal.returns
 returns g c =
     let D = g.row.D.Denot in
     let history = g.D.Disk.history in
-    begins_walk history c.args.self.now c.args.number (record { number = c.args.number; next = Some c.in_ok-first_key.field-0; left = 4294967295 }) c.in_ok-first_key.field-0
+    begins_walk history c.args.self.now c.args.number
+    (record { number = c.args.number; next = Some c.in_ok-first_key.field-0; left = 4294967295 }) c.in_ok-first_key.field-0
     (subst (λ (s : State D). TreesFit history s.pager) c.self.view_is c.trees_fit.ensures) refl refl c.in_ok-first_key.ensures refl

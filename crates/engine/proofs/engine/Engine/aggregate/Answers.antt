@@ -13,7 +13,9 @@ pub returns-in_err-needed-clause-performs : goal.returns-in_err-needed-clause-pe
 returns-in_err-needed-clause-performs g c =
     let w = world c.args.self.now in
     let p = err_from_is_err_and c.from_residual.result c.from_residual.ensures.1 in
-    rw (p.1, p.2) (performs_refused g.D.Disk.history c.args.self.now c.needed.new.self (run_aggregate w c.args.connection (asked_of w c.args.connection c.args.namespace.now (pipeline_of c.args.pipeline.now) c.args.most))
+    rw (p.1, p.2)
+    (performs_refused g.D.Disk.history c.args.self.now c.needed.new.self
+    (run_aggregate w c.args.connection (asked_of w c.args.connection c.args.namespace.now (pipeline_of c.args.pipeline.now) c.args.most))
     c.in_err-needed.field-0.0 c.in_err-needed.ensures.looks.reads c.in_err-needed.ensures.looks.answers)
 
 pub returns-in_err-given-clause-performs : goal.returns-in_err-given-clause-performs
@@ -22,7 +24,9 @@ returns-in_err-given-clause-performs g c =
     let stages = pipeline_of c.args.pipeline.now in
     let looks = c.in_ok-needed.ensures.looks in
     let p = err_from_is_err_and c.from_residual-in_err-given.result c.from_residual-in_err-given.ensures.1 in
-    rw (p.1, p.2) (refuses_planned g.D.Disk.history c.args.self.now c.needed.new.self (run_aggregate w c.args.connection (asked_of w c.args.connection c.args.namespace.now stages c.args.most))
+    rw (p.1, p.2)
+    (refuses_planned g.D.Disk.history c.args.self.now c.needed.new.self
+    (run_aggregate w c.args.connection (asked_of w c.args.connection c.args.namespace.now stages c.args.most))
     c.in_err-given.field-0.0 looks.reads (λ k other.
     run_aggregate-refused w c.args.connection c.args.namespace.now stages c.args.most c.in_err-given.field-0.0
     (sym (looks.answers k (none_of_lawful w.collections c.args.namespace.now c.requires.sound.lawful)) ∙ c.in_err-given.ensures.gives other)))
@@ -33,8 +37,10 @@ returns-clause-performs g c =
     let stages = pipeline_of c.args.pipeline.now in
     let looks = c.in_ok-needed.ensures.looks in
     let given = c.in_ok-given.given.items in
-    gives_behind g.D.Disk.history c.args.self.now c.needed.new.self c.give_all.new.self looks.reads c.give_all.ensures.file (ap (λ t. t.value) c.give_all.ensures.told) c.give_all.ensures.has_changes
-    c.args.connection c.args.namespace.now given c.args.most (run_aggregate w c.args.connection (asked_of w c.args.connection c.args.namespace.now stages c.args.most)) c.give_all.result
+    gives_behind g.D.Disk.history c.args.self.now c.needed.new.self c.give_all.new.self looks.reads c.give_all.ensures.file
+    (ap (λ t. t.value) c.give_all.ensures.told) c.give_all.ensures.has_changes
+    c.args.connection c.args.namespace.now given c.args.most
+    (run_aggregate w c.args.connection (asked_of w c.args.connection c.args.namespace.now stages c.args.most)) c.give_all.result
     c.requires.short c.in_ok-given.ensures.within c.give_all.ensures.runs
     (λ k. run_aggregate-is w c.args.connection c.args.namespace.now stages c.args.most given
     (sym (looks.answers k (none_of_lawful w.collections c.args.namespace.now c.requires.sound.lawful)) ∙ c.in_ok-given.ensures.gives))

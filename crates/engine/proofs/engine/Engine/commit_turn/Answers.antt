@@ -28,8 +28,10 @@ returns-in-Err-Device g c =
     let new = c.keep-in-Err-Device.new.self in
     let D = g.row.D.Denot in
     let saved = subst (λ (f : State D). files.Commits g.D.Disk.history (Err faults.Device) old.file f) (sym c.keep-in-Err-Device.ensures.file)
-    (subst (λ (r : Result (Unit {0}) CommitFault). files.Commits g.D.Disk.history r old.file c.commit-2.new.self) (c.in-Err-Device.is ∙ ap (λ (e : CommitFault). Err e) c.in-Err-Device.field-0-is) c.commit-2.ensures) in
-    cut_now g.D.Disk.history old new c.requires.sound c.if-not-self.false c.keep-in-Err-Device.ensures.rests c.keep-in-Err-Device.ensures.world c.keep-in-Err-Device.ensures.turn_start saved
+    (subst (λ (r : Result (Unit {0}) CommitFault). files.Commits g.D.Disk.history r old.file c.commit-2.new.self)
+    (c.in-Err-Device.is ∙ ap (λ (e : CommitFault). Err e) c.in-Err-Device.field-0-is) c.commit-2.ensures) in
+    cut_now g.D.Disk.history old new c.requires.sound c.if-not-self.false c.keep-in-Err-Device.ensures.rests c.keep-in-Err-Device.ensures.world
+    c.keep-in-Err-Device.ensures.turn_start saved
 
 pub returns-in-Err-Memory : goal.returns-in-Err-Memory
 returns-in-Err-Memory g c =
@@ -48,5 +50,6 @@ returns-in-Err-Full g c =
     let D = g.row.D.Denot in
     let result = c.in-Err-Full.is ∙ ap (λ (e : CommitFault). Err e) c.in-Err-Full.field-0-is in
     let undoes = subst (λ (f : State D). Undoes g.D.Disk.history f new.file) (c.commit-2.ensures.full result).1 c.take_back-in-Err-Full.ensures.file in
-    undone_after g.D.Disk.history old new c.requires.sound c.take_back-in-Err-Full.ensures.rests c.take_back-in-Err-Full.ensures.world c.take_back-in-Err-Full.ensures.turn_start undoes
+    undone_after g.D.Disk.history old new c.requires.sound c.take_back-in-Err-Full.ensures.rests c.take_back-in-Err-Full.ensures.world
+    c.take_back-in-Err-Full.ensures.turn_start undoes
     c.if-not-self.false faults.Full (λ e. absurd cc) (λ e. (c.commit-2.ensures.full result).0)

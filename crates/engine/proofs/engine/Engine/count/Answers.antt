@@ -16,7 +16,9 @@ returns-in_err-count-clause-performs g c =
     let w = world c.args.self.now in
     let asked : Count = record { namespace = c.args.namespace.now; filter = c.args.filter.now; skip = c.args.skip; limit = c.args.limit } in
     let p = err_from_is_err_and c.from_residual.result c.from_residual.ensures.1 in
-    rw (p.1, p.2) (performs_refused g.D.Disk.history c.args.self.now c.count_of.new.self (run_count w asked) c.in_err-count.field-0.0 c.in_err-count.ensures.reads c.in_err-count.ensures.answers)
+    rw (p.1, p.2)
+    (performs_refused g.D.Disk.history c.args.self.now c.count_of.new.self
+    (run_count w asked) c.in_err-count.field-0.0 c.in_err-count.ensures.reads c.in_err-count.ensures.answers)
 
 pub returns-in_err-total_reply-clause-performs : goal.returns-in_err-total_reply-clause-performs
 returns-in_err-total_reply-clause-performs g c =

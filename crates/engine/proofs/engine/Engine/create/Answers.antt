@@ -15,14 +15,18 @@ returns-in_err-reply-clause-performs g c =
     let p = err_from_is_err_and c.from_residual.result c.from_residual.ensures.1 in
     let w = world c.args.self.now in
     let name = c.args.namespace.now in
-    rw (p.1, p.2) (performs_none g.D.Disk.history no_pairs (created w.collections name) (run_create w (record { namespace = name })) c.args.self.now c.args.self.now c.requires.sound)
+    rw (p.1, p.2)
+    (performs_none g.D.Disk.history no_pairs (created w.collections name)
+    (run_create w (record { namespace = name })) c.args.self.now c.args.self.now c.requires.sound)
 
 pub returns-in_err-make_collection-clause-performs : goal.returns-in_err-make_collection-clause-performs
 returns-in_err-make_collection-clause-performs g c =
     let p = err_from_is_err_and c.from_residual-in_err-make_collection.result c.from_residual-in_err-make_collection.ensures.1 in
     let w = world c.args.self.now in
     let name = c.args.namespace.now in
-    rw (p.1, p.2) (performs_refused g.D.Disk.history no_pairs (created w.collections name) (run_create w (record { namespace = name })) c.args.self.now c.make_collection.new.self
+    rw (p.1, p.2)
+    (performs_refused g.D.Disk.history no_pairs (created w.collections name)
+    (run_create w (record { namespace = name })) c.args.self.now c.make_collection.new.self
     (run_creates w name) c.in_err-make_collection.field-0.0 c.in_err-make_collection.ensures)
 
 pub returns-clause-performs : goal.returns-clause-performs
@@ -34,7 +38,8 @@ returns-clause-performs g c =
 
 pub returns-clause-has_changes : goal.returns-clause-has_changes
 returns-clause-has_changes g c = λ k same.
-    absurd (created_differs (world c.args.self.now).collections c.args.namespace.now (world c.make_collection.new.self).collections (c.in_ok-make_collection.ensures.does k) same)
+    absurd (created_differs (world c.args.self.now).collections c.args.namespace.now (world c.make_collection.new.self).collections
+    (c.in_ok-make_collection.ensures.does k) same)
 
 pub returns-clause-sendable : goal.returns-clause-sendable
 returns-clause-sendable g c = subst IsSendable (sym c.in_ok-reply.ensures) ping-sendable

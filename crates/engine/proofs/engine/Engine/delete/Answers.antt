@@ -21,7 +21,9 @@ returns-in_err-taken-clause-performs g c =
     let old = c.args.self.now in
     let asked : Delete = record { namespace = c.args.namespace.now; deletions = c.args.deletions.now } in
     let p = err_from_is_err_and c.from_residual.result c.from_residual.ensures.1 in
-    rw (p.1, p.2) (performs_refused g.D.Disk.history old c.taken.new.self (run_delete (world old) asked) c.in_err-taken.field-0.0 c.in_err-taken.ensures.reads c.in_err-taken.ensures.answers)
+    rw (p.1, p.2)
+    (performs_refused g.D.Disk.history old c.taken.new.self
+    (run_delete (world old) asked) c.in_err-taken.field-0.0 c.in_err-taken.ensures.reads c.in_err-taken.ensures.answers)
 
 pub returns-in_err-reply-clause-performs : goal.returns-in_err-reply-clause-performs
 returns-in_err-reply-clause-performs g c =
@@ -35,7 +37,8 @@ remove-requires-clause-sound g c = c.in_ok-taken.ensures.reads.sound
 
 pub remove-requires-clause-taken : goal.remove-requires-clause-taken
 remove-requires-clause-taken g c =
-    λ k. subst (λ (cs : List Collection). IsTaken cs c.args.namespace.now c.args.deletions.now c.in_ok-taken.taken) (sym (collections_same g.D.Disk.history c.args.self.now c.taken.new.self c.in_ok-taken.ensures.reads)) (c.in_ok-taken.ensures.answers k)
+    λ k. subst (λ (cs : List Collection). IsTaken cs c.args.namespace.now c.args.deletions.now c.in_ok-taken.taken)
+    (sym (collections_same g.D.Disk.history c.args.self.now c.taken.new.self c.in_ok-taken.ensures.reads)) (c.in_ok-taken.ensures.answers k)
 
 pub returns-in_err-remove-clause-performs : goal.returns-in_err-remove-clause-performs
 returns-in_err-remove-clause-performs g c =
@@ -44,7 +47,10 @@ returns-in_err-remove-clause-performs g c =
     let ds = c.args.deletions.now in
     let e = c.in_err-remove.field-0.0 in
     let p = err_from_is_err_and c.from_residual-in_err-remove.result c.from_residual-in_err-remove.ensures.1 in
-    rw (p.1, p.2) (delete_refused g.D.Disk.history name ds old c.remove.new.self e (makes_behind g.D.Disk.history (λ cs. Ok (deleted cs name ds)) old c.taken.new.self c.remove.new.self c.in_ok-taken.ensures.reads (Err e) c.in_err-remove.ensures.makes))
+    rw (p.1, p.2)
+    (delete_refused g.D.Disk.history name ds old c.remove.new.self e
+    (makes_behind g.D.Disk.history (λ cs. Ok (deleted cs name ds)) old c.taken.new.self c.remove.new.self c.in_ok-taken.ensures.reads
+    (Err e) c.in_err-remove.ensures.makes))
 
 pub returns-in_err-remove-clause-has_changes : goal.returns-in_err-remove-clause-has_changes
 returns-in_err-remove-clause-has_changes g c = λ k same. c.in_err-remove.ensures.makes.refused ∙ c.in_ok-taken.ensures.reads.changes
@@ -60,7 +66,8 @@ returns-clause-performs g c =
     let taken = c.in_ok-taken.taken in
     let makes = c.in_ok-remove.ensures.makes in
     delete_done history name ds old new c.len.result c.in_ok-reply.reply c.in_ok-reply.ensures
-    (λ k. c.len.ensures ∙ taken.removed.ok.0 ∙ count_taken (world old).collections name ds taken (c.in_ok-taken.ensures.answers (word_before history (file_of mid) (file_of new) makes.goes k)))
+    (λ k. c.len.ensures ∙ taken.removed.ok.0
+    ∙ count_taken (world old).collections name ds taken (c.in_ok-taken.ensures.answers (word_before history (file_of mid) (file_of new) makes.goes k)))
     (makes_behind history (λ cs. Ok (deleted cs name ds)) old mid new c.in_ok-taken.ensures.reads (Ok tt) makes)
 
 pub returns-clause-has_changes : goal.returns-clause-has_changes

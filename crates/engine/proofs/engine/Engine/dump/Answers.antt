@@ -9,11 +9,13 @@ returns-in_err-number g c =
     rw (p.1, p.2) (dump_unread g.D.Disk.history c.args.self.now c.number_of.new.self c.args.namespace.now c.in_err-number.field-0.0 c.in_err-number.ensures)
 
 pub returns-in_default : goal.returns-in_default
-returns-in_default g c = dump_missing g.D.Disk.history c.args.self.now c.number_of.new.self c.args.namespace.now c.in_ok-number.field-0 c.in_ok-number.ensures c.in_default.is
+returns-in_default g c =
+    dump_missing g.D.Disk.history c.args.self.now c.number_of.new.self c.args.namespace.now c.in_ok-number.field-0 c.in_ok-number.ensures c.in_default.is
 
 pub returns-then-is_stopped : goal.returns-then-is_stopped
 returns-then-is_stopped g c =
-    dump_stopped g.D.Disk.history c.args.self.now c.number_of.new.self c.args.namespace.now c.in_ok-number.field-0 c.in_ok-number.ensures (sym c.if-is_stopped.ensures)
+    dump_stopped g.D.Disk.history c.args.self.now c.number_of.new.self c.args.namespace.now c.in_ok-number.field-0 c.in_ok-number.ensures
+    (sym c.if-is_stopped.ensures)
 
 pub returns-in_err-walk : goal.returns-in_err-walk
 returns-in_err-walk g c =

@@ -10,7 +10,8 @@ pub returns-in-Ok-clause-answers : goal.returns-in-Ok-clause-answers
 returns-in-Ok-clause-answers g c = λ k.
     let old = c.args.self.now in
     let new = c.run.new.self in
-    inl (answers_done (world old) (world new) (read_and_run (world old) c.args.connection c.args.body.now) (answer_of c.in-Ok.answer) (c.in-Ok.ensures.performs.does k))
+    inl (answers_done (world old) (world new) (read_and_run (world old) c.args.connection c.args.body.now) (answer_of c.in-Ok.answer)
+    (c.in-Ok.ensures.performs.does k))
 
 pub returns-in-Err-clause-answers : goal.returns-in-Err-clause-answers
 returns-in-Err-clause-answers g c = λ k.

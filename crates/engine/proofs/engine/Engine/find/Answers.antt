@@ -16,7 +16,9 @@ pub returns-in_err-found-clause-performs : goal.returns-in_err-found-clause-perf
 returns-in_err-found-clause-performs g c =
     let old = c.args.self.now in
     let p = err_from_is_err_and c.from_residual.result c.from_residual.ensures.1 in
-    rw (p.1, p.2) (performs_refused g.D.Disk.history old c.found.new.self (run_find (world old) c.args.connection (record { namespace = c.args.namespace.now; query = c.args.query.now; batch_size = Some c.args.most }))
+    rw (p.1, p.2)
+    (performs_refused g.D.Disk.history old c.found.new.self
+    (run_find (world old) c.args.connection (record { namespace = c.args.namespace.now; query = c.args.query.now; batch_size = Some c.args.most }))
     c.in_err-found.field-0.0 c.in_err-found.ensures.looks.reads c.in_err-found.ensures.looks.answers)
 
 pub returns-clause-performs : goal.returns-clause-performs
@@ -29,11 +31,14 @@ returns-clause-performs g c =
     let seen = c.deref.result.now in
     let documents = documents_of w.collections c.args.namespace.now in
     let within : All IsWithin seen = subst (λ (ds : List Pairs). All IsWithin ds) (sym c.deref.ensures.value) c.in_ok-found.ensures.within in
-    gives_behind g.D.Disk.history old mid c.give_found.new.self c.in_ok-found.ensures.looks.reads c.give_found.ensures.file (ap (λ t. t.value) c.give_found.ensures.told) c.give_found.ensures.has_changes
-    c.args.connection c.args.namespace.now (given q seen) c.args.most (run_find w c.args.connection (record { namespace = c.args.namespace.now; query = q; batch_size = Some c.args.most })) c.give_found.result
+    gives_behind g.D.Disk.history old mid c.give_found.new.self c.in_ok-found.ensures.looks.reads c.give_found.ensures.file
+    (ap (λ t. t.value) c.give_found.ensures.told) c.give_found.ensures.has_changes
+    c.args.connection c.args.namespace.now (given q seen) c.args.most
+    (run_find w c.args.connection (record { namespace = c.args.namespace.now; query = q; batch_size = Some c.args.most })) c.give_found.result
     c.requires.short (given_within_limits q seen within) c.give_found.ensures.runs
     (λ k.
     let same : given q seen ≡ query_result q documents =
     ap (given q) c.deref.ensures.value
-    ∙ given_enough q c.enough.result documents found.items c.enough.ensures (c.in_ok-found.ensures.looks.answers k) (omega (arith, found.ok.0, found.ok.1, found.small)) in
+    ∙ given_enough q c.enough.result documents found.items c.enough.ensures (c.in_ok-found.ensures.looks.answers k)
+    (omega (arith, found.ok.0, found.ok.1, found.small)) in
     run_find-is w c.args.connection c.args.namespace.now q c.args.most (given q seen) same)

@@ -26,5 +26,6 @@ returns-clause-runs g c =
     let counted = c.in_ok-reply.ensures.count in
     let moved : c.advance.new.self ≡ record c.args.self.now.cursors { list = advanced w.cursors at (batch_len_of cursor c.args.most) } =
     c.advance.ensures ∙ ap (λ (n : ℕ). let t : CursorTable = record c.args.self.now.cursors { list = advanced w.cursors at n } in t) counted in
-    let says = c.in_ok-reply.ensures.reply ∙ ap (λ (n : ℕ). ok_reply (batch_reply (codes "nextBatch") n cursor.rest cursor.number c.args.namespace.now)) counted in
+    let says = c.in_ok-reply.ensures.reply
+    ∙ ap (λ (n : ℕ). ok_reply (batch_reply (codes "nextBatch") n cursor.rest cursor.number c.args.namespace.now)) counted in
     ap with_ok planned ∙ (λ i. Ok (world_of c.args.self.now.told.value (sym moved i), sym says i))

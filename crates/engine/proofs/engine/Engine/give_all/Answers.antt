@@ -18,31 +18,38 @@ use Rattle.engine.proofs.engine.Engine.give_all.Goals as goal
 pub first_batch-requires-clause-within : goal.first_batch-requires-clause-within
 first_batch-requires-clause-within g c =
     let seen = c.deref.result.now in
-    let same : projected c.new-whole.result (map (λ (d : Pairs). d) seen) ≡ c.args.given.items = all_stay c.new-whole.result (map (λ (d : Pairs). d) seen) c.new-whole.ensures ∙ map-id seen ∙ c.deref.ensures.value in
+    let same : projected c.new-whole.result (map (λ (d : Pairs). d) seen) ≡ c.args.given.items =
+    all_stay c.new-whole.result (map (λ (d : Pairs). d) seen) c.new-whole.ensures ∙ map-id seen ∙ c.deref.ensures.value in
     subst (λ (es : List Pairs). All IsWithin es) (sym same) c.requires.within
 
 pub returns-in_err-reply-clause-runs : goal.returns-in_err-reply-clause-runs
 returns-in_err-reply-clause-runs g c =
     let w = world c.args.self.now in
     let seen = c.deref.result.now in
-    let same : projected c.new-whole.result (map (λ (d : Pairs). d) seen) ≡ c.args.given.items = all_stay c.new-whole.result (map (λ (d : Pairs). d) seen) c.new-whole.ensures ∙ map-id seen ∙ c.deref.ensures.value in
+    let same : projected c.new-whole.result (map (λ (d : Pairs). d) seen) ≡ c.args.given.items =
+    all_stay c.new-whole.result (map (λ (d : Pairs). d) seen) c.new-whole.ensures ∙ map-id seen ∙ c.deref.ensures.value in
     let e = err_from_is_err_and c.from_residual.result c.from_residual.ensures.1 in
     let x = c.in_err-reply.field-0.0 in
     rw (e.1, e.2) (
       refl,
       given_none w c.args.connection c.args.namespace.now c.args.given.items c.args.most x
-          (subst (λ (es : List Pairs). IsNoBatch (table w c.args.connection c.args.namespace.now c.args.given.items c.args.most) c.args.connection es c.args.most x) same c.in_err-reply.ensures.refuses),
+          (subst (λ (es : List Pairs). IsNoBatch
+          (table w c.args.connection c.args.namespace.now c.args.given.items c.args.most) c.args.connection es c.args.most x) same
+          c.in_err-reply.ensures.refuses),
     )
 
 pub returns-then-len-count-clause-runs : goal.returns-then-len-count-clause-runs
 returns-then-len-count-clause-runs g c =
     let w = world c.args.self.now in
     let seen = c.deref.result.now in
-    let same : projected c.new-whole.result (map (λ (d : Pairs). d) seen) ≡ c.args.given.items = all_stay c.new-whole.result (map (λ (d : Pairs). d) seen) c.new-whole.ensures ∙ map-id seen ∙ c.deref.ensures.value in
+    let same : projected c.new-whole.result (map (λ (d : Pairs). d) seen) ≡ c.args.given.items =
+    all_stay c.new-whole.result (map (λ (d : Pairs). d) seen) c.new-whole.ensures ∙ map-id seen ∙ c.deref.ensures.value in
     let n = c.in_ok-reply.count in
     let reply = c.in_ok-reply.reply in
     given_whole w c.args.connection c.args.namespace.now c.args.given.items c.args.most n reply
-    (subst (λ (es : List Pairs). IsFirstBatch (table w c.args.connection c.args.namespace.now c.args.given.items c.args.most) c.args.connection c.args.namespace.now es c.args.most n reply) same c.in_ok-reply.ensures.batch)
+    (subst (λ (es : List Pairs). IsFirstBatch
+    (table w c.args.connection c.args.namespace.now c.args.given.items c.args.most) c.args.connection c.args.namespace.now es c.args.most n reply) same
+    c.in_ok-reply.ensures.batch)
     (omega (arith, c.if-len-count.true, c.len.ensures, c.args.given.ok))
 
 pub open-requires-clause-within : goal.open-requires-clause-within
@@ -55,7 +62,8 @@ pub returns-clause-runs : goal.returns-clause-runs
 returns-clause-runs g c =
     let w = world c.args.self.now in
     let seen = c.deref.result.now in
-    let same : projected c.new-whole.result (map (λ (d : Pairs). d) seen) ≡ c.args.given.items = all_stay c.new-whole.result (map (λ (d : Pairs). d) seen) c.new-whole.ensures ∙ map-id seen ∙ c.deref.ensures.value in
+    let same : projected c.new-whole.result (map (λ (d : Pairs). d) seen) ≡ c.args.given.items =
+    all_stay c.new-whole.result (map (λ (d : Pairs). d) seen) c.new-whole.ensures ∙ map-id seen ∙ c.deref.ensures.value in
     let n = c.in_ok-reply.count in
     let reply = c.in_ok-reply.reply in
     let rest : map (project c.new-whole.result) c.in_ok-rest.rest.items ≡ drop n c.args.given.items =
@@ -63,6 +71,9 @@ returns-clause-runs g c =
     let over : n < length c.args.given.items = omega (arith, c.if-len-count.false, c.len.ensures, c.args.given.ok) in
     let made : world_of c.args.self.now.told.value c.open.new.self ≡ with_cursor w c.args.connection c.args.namespace.now c.args.given.items n =
     ap (world_of c.args.self.now.told.value) c.in_ok-open.ensures.ok
-    ∙ ap (λ (es : List Pairs). let x : World = record w { cursors = w.cursors ++ new_cursor w.next c.args.connection c.args.namespace.now es ∷ []; next = w.next + 1 } in x) rest in
+    ∙ ap (λ (es : List Pairs). let x : World =
+    record w { cursors = w.cursors ++ new_cursor w.next c.args.connection c.args.namespace.now es ∷ []; next = w.next + 1 } in x) rest in
     given_opened w c.args.connection c.args.namespace.now c.args.given.items c.args.most n reply (world_of c.args.self.now.told.value c.open.new.self)
-    (subst (λ (es : List Pairs). IsFirstBatch (table w c.args.connection c.args.namespace.now c.args.given.items c.args.most) c.args.connection c.args.namespace.now es c.args.most n reply) same c.in_ok-reply.ensures.batch) over made
+    (subst (λ (es : List Pairs). IsFirstBatch
+    (table w c.args.connection c.args.namespace.now c.args.given.items c.args.most) c.args.connection c.args.namespace.now es c.args.most n reply) same
+    c.in_ok-reply.ensures.batch) over made

@@ -18,7 +18,8 @@ give_shared-requires-clause-within g c =
     let ds = c.args.found.now in
     let gs = projected c.query.inside.projection (documents_at c.deref.result.now) in
     let chosen : documents_at c.deref.result.now ≡ window q.skip q.limit ds = ap documents_at c.deref.ensures.value ∙ c.in_ok-selected.ensures in
-    let found : gs ≡ given q ds = ap (map (project c.query.inside.projection)) chosen ∙ ap (λ (x : Query). map (project x.projection) (window q.skip q.limit ds)) c.query.view_is in
+    let found : gs ≡ given q ds =
+    ap (map (project c.query.inside.projection)) chosen ∙ ap (λ (x : Query). map (project x.projection) (window q.skip q.limit ds)) c.query.view_is in
     subst (λ (es : List Pairs). All IsWithin es) (sym found) (given_within_limits q ds c.requires.within)
 
 pub returns-clause-runs : goal.returns-clause-runs
@@ -28,5 +29,7 @@ returns-clause-runs g c =
     let w = world c.args.self.now in
     let gs = projected c.query.inside.projection (documents_at c.deref.result.now) in
     let chosen : documents_at c.deref.result.now ≡ window q.skip q.limit ds = ap documents_at c.deref.ensures.value ∙ c.in_ok-selected.ensures in
-    let found : gs ≡ given q ds = ap (map (project c.query.inside.projection)) chosen ∙ ap (λ (x : Query). map (project x.projection) (window q.skip q.limit ds)) c.query.view_is in
-    subst (λ (es : List Pairs). Runs w (first_batch w c.args.connection c.args.namespace.now es (batch_of c.args.most es)) (world c.give_shared.new.self) c.give_shared.result) found c.give_shared.ensures.runs
+    let found : gs ≡ given q ds =
+    ap (map (project c.query.inside.projection)) chosen ∙ ap (λ (x : Query). map (project x.projection) (window q.skip q.limit ds)) c.query.view_is in
+    subst (λ (es : List Pairs). Runs w (first_batch w c.args.connection c.args.namespace.now es (batch_of c.args.most es))
+    (world c.give_shared.new.self) c.give_shared.result) found c.give_shared.ensures.runs

@@ -37,7 +37,8 @@ open-requires-clause-within g c =
     let n = c.in_ok-reply.count in
     let left = take_all (length seen - n) (drop n seen) (omega (arith, length-drop n seen)) in
     let rest : map (project c.in_ok-projection.projection) c.in_ok-rest.rest.items ≡ drop n gs =
-    (λ i. map (project (c.in_ok-projection.ensures i)) ((c.in_ok-rest.ensures ∙ ap documents_at left) i)) ∙ ap (map (project c.args.projection.now)) (sym (drop-map (λ d. d.now) n seen)) ∙ sym (drop-map (project c.args.projection.now) n (documents_at seen)) in
+    (λ i. map (project (c.in_ok-projection.ensures i)) ((c.in_ok-rest.ensures ∙ ap documents_at left) i))
+    ∙ ap (map (project c.args.projection.now)) (sym (drop-map (λ d. d.now) n seen)) ∙ sym (drop-map (project c.args.projection.now) n (documents_at seen)) in
     subst (λ (es : List Pairs). All IsWithin es) (sym rest) (All-drop IsWithin n gs c.requires.within)
 
 pub returns-clause-runs : goal.returns-clause-runs
@@ -48,9 +49,12 @@ returns-clause-runs g c =
     let n = c.in_ok-reply.count in
     let left = take_all (length seen - n) (drop n seen) (omega (arith, length-drop n seen)) in
     let rest : map (project c.in_ok-projection.projection) c.in_ok-rest.rest.items ≡ drop n gs =
-    (λ i. map (project (c.in_ok-projection.ensures i)) ((c.in_ok-rest.ensures ∙ ap documents_at left) i)) ∙ ap (map (project c.args.projection.now)) (sym (drop-map (λ d. d.now) n seen)) ∙ sym (drop-map (project c.args.projection.now) n (documents_at seen)) in
+    (λ i. map (project (c.in_ok-projection.ensures i)) ((c.in_ok-rest.ensures ∙ ap documents_at left) i))
+    ∙ ap (map (project c.args.projection.now)) (sym (drop-map (λ d. d.now) n seen)) ∙ sym (drop-map (project c.args.projection.now) n (documents_at seen)) in
     let over : n < length gs = omega (arith, c.if-documents-count.false, projected_len (λ d. d.now) c.args.projection.now seen) in
     let made : world_of c.args.self.now.told.value c.open.new.self ≡ with_cursor w c.args.connection c.args.namespace.now gs n =
     ap (world_of c.args.self.now.told.value) c.in_ok-open.ensures.ok
-    ∙ ap (λ (es : List Pairs). let x : World = record w { cursors = w.cursors ++ new_cursor w.next c.args.connection c.args.namespace.now es ∷ []; next = w.next + 1 } in x) rest in
-    given_opened w c.args.connection c.args.namespace.now gs c.args.most n c.in_ok-reply.reply (world_of c.args.self.now.told.value c.open.new.self) c.in_ok-reply.ensures.batch over made
+    ∙ ap (λ (es : List Pairs). let x : World =
+    record w { cursors = w.cursors ++ new_cursor w.next c.args.connection c.args.namespace.now es ∷ []; next = w.next + 1 } in x) rest in
+    given_opened w c.args.connection c.args.namespace.now gs c.args.most n c.in_ok-reply.reply
+    (world_of c.args.self.now.told.value c.open.new.self) c.in_ok-reply.ensures.batch over made

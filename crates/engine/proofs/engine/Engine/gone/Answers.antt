@@ -13,9 +13,11 @@ returns-clause-sound g c =
     let old = c.args.self.now in
     let new : Engine g.row.D.Denot = record { alloc = old.alloc; cursors = c.forget.new.self; file = old.file; told = old.told; is_changed = old.is_changed } in
     keeps_sound g.D.Disk.history old new c.requires.sound c.requires.sound.file refl
-    (subst (λ (t : CursorTable). IsLawful (world_of old.told.value t)) (sym c.forget.ensures) (forgotten_lawful g.D.Disk.history old c.args.connection c.requires.sound))
+    (subst (λ (t : CursorTable). IsLawful (world_of old.told.value t)) (sym c.forget.ensures)
+    (forgotten_lawful g.D.Disk.history old c.args.connection c.requires.sound))
     c.requires.sound.quiet
 
 pub returns-clause-rested : goal.returns-clause-rested
 returns-clause-rested g c = λ rests.
-    subst (λ (t : CursorTable). are_untouched t.list ≡ true) (sym c.forget.ensures) (filter_untouched (λ (x : Cursor). not (x.connection == c.args.connection)) c.args.self.now.cursors.list rests)
+    subst (λ (t : CursorTable). are_untouched t.list ≡ true) (sym c.forget.ensures)
+    (filter_untouched (λ (x : Cursor). not (x.connection == c.args.connection)) c.args.self.now.cursors.list rests)

@@ -21,7 +21,9 @@ returns-in_err-reply-clause-performs g c =
     let w = world c.args.self.now in
     let name = c.args.namespace.now in
     let ds = documents_at c.args.documents.now in
-    rw (p.1, p.2) (performs_none g.D.Disk.history no_pairs (inserted w.collections name ds) (run_insert w (record { namespace = name; documents = ds })) c.args.self.now c.args.self.now c.requires.sound)
+    rw (p.1, p.2)
+    (performs_none g.D.Disk.history no_pairs (inserted w.collections name ds)
+    (run_insert w (record { namespace = name; documents = ds })) c.args.self.now c.args.self.now c.requires.sound)
 
 pub returns-in_err-store-clause-performs : goal.returns-in_err-store-clause-performs
 returns-in_err-store-clause-performs g c =
@@ -29,7 +31,9 @@ returns-in_err-store-clause-performs g c =
     let w = world c.args.self.now in
     let name = c.args.namespace.now in
     let ds = documents_at c.args.documents.now in
-    rw (p.1, p.2) (performs_refused g.D.Disk.history (pair (codes "n") (int (length ds)) no_pairs) (inserted w.collections name ds) (run_insert w (record { namespace = name; documents = ds })) c.args.self.now c.store.new.self
+    rw (p.1, p.2)
+    (performs_refused g.D.Disk.history (pair (codes "n") (int (length ds)) no_pairs) (inserted w.collections name ds)
+    (run_insert w (record { namespace = name; documents = ds })) c.args.self.now c.store.new.self
     (run_inserts w name ds) c.in_err-store.field-0.0 c.in_err-store.ensures)
 
 pub returns-clause-performs : goal.returns-clause-performs
@@ -39,7 +43,8 @@ returns-clause-performs g c =
     let ds = documents_at c.args.documents.now in
     let count : length c.args.documents.now ≡ length ds = sym (length-map c.args.documents.now (λ d. d.now)) in
     let said = c.in_ok-reply.ensures ∙ ap (λ (n : ℕ). ok_reply (pair (codes "n") (int n) no_pairs)) count in
-    performs_done g.D.Disk.history (pair (codes "n") (int (length ds)) no_pairs) (inserted w.collections name ds) (run_insert w (record { namespace = name; documents = ds })) c.args.self.now c.store.new.self
+    performs_done g.D.Disk.history (pair (codes "n") (int (length ds)) no_pairs) (inserted w.collections name ds)
+    (run_insert w (record { namespace = name; documents = ds })) c.args.self.now c.store.new.self
     (run_inserts w name ds) c.in_ok-reply.reply said c.in_ok-store.ensures
 
 pub returns-clause-has_changes : goal.returns-clause-has_changes

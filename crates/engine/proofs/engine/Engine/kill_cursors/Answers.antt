@@ -20,6 +20,7 @@ returns-clause-runs g c =
 
 pub returns-clause-sendable : goal.returns-clause-sendable
 returns-clause-sendable g c =
-    let few = told_few (has_cursor c.args.connection c.args.namespace.now c.args.self.now.cursors.list) no_ids c.args.ids.now 1000 (omega (arith, c.requires)) in
+    let few = told_few (has_cursor c.args.connection c.args.namespace.now c.args.self.now.cursors.list) no_ids c.args.ids.now 1000
+    (omega (arith, c.requires)) in
     let told = subst (λ (t : ToldApart). (length t.killed ≤ 1000) × (length t.not_found ≤ 1000)) (sym c.in_ok-told.ensures) few in
     subst IsSendable (sym c.in_ok-reply.ensures) (kill-sendable c.in_ok-told.told told.0 told.1)

@@ -38,10 +38,12 @@ returns-then-not-are_within-clause-looks g c =
       reads = reads_so g.D.Disk.history old (record old { file = c.names.new.self }) c.requires refl refl refl c.names.ensures.on c.names.ensures.same;
       answers = λ k.
           let read = c.in_ok-names.ensures.answers k old.told.value.start cs c.requires.file in
-          let is : c.deref-2.result.now ≡ map listed (names_in front cs) = c.deref-2.ensures.value ∙ listed_same front c.in_ok-names.names.items cs c.in_ok-listed.listed.items read
+          let is : c.deref-2.result.now ≡ map listed (names_in front cs) =
+          c.deref-2.ensures.value ∙ listed_same front c.in_ok-names.names.items cs c.in_ok-listed.listed.items read
           (c.in_ok-listed.ensures ∙ ap (λ (ns : List Name). map listed (names_behind front (map name_of ns))) c.deref.ensures.value) in
           let fit = (go_into_one front cs c.requires.lawful.kept c.requires.lawful.few).within in
-          let both : true ≡ false = sym (within_all c.deref-2.result.now (subst (All IsWithin) (sym is) fit)) ∙ sym c.are_within.ensures ∙ c.if-not-are_within.true in
+          let both : true ≡ false =
+          sym (within_all c.deref-2.result.now (subst (All IsWithin) (sym is) fit)) ∙ sym c.are_within.ensures ∙ c.if-not-are_within.true in
           absurd cc;
     }
 
@@ -59,4 +61,5 @@ returns-clause-looks g c =
 
 pub returns-clause-within : goal.returns-clause-within
 returns-clause-within g c =
-    subst (λ (ds : List Pairs). All IsWithin ds) c.deref-2.ensures.value (all_within c.deref-2.result.now (sym c.are_within.ensures ∙ c.if-not-are_within.false))
+    subst (λ (ds : List Pairs). All IsWithin ds) c.deref-2.ensures.value
+    (all_within c.deref-2.result.now (sym c.are_within.ensures ∙ c.if-not-are_within.false))

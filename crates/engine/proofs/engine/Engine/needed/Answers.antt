@@ -22,7 +22,8 @@ returns-clause-looks g c =
     of_home history c.args.namespace.now c.args.self.now mid (λ ds (few : Vec Pairs Global). AreEnough stages few.items ds)
     c.in_ok-home.field-0 c.in_ok-home.ensures.looks new home c.in-Some.is c.needed_in.result
     (asked_at_home history home mid new (λ now of (few : Vec Pairs Global). AreEnough stages few.items of.documents) c.needed_in.result sound
-    (looks_so_of history mid new sound refl refl refl (IsAsked home) (λ now of (few : Vec Pairs Global). AreEnough stages few.items of.documents) c.needed_in.result c.needed_in.ensures.reads))
+    (looks_so_of history mid new sound refl refl refl (IsAsked home)
+    (λ now of (few : Vec Pairs Global). AreEnough stages few.items of.documents) c.needed_in.result c.needed_in.ensures.reads))
 
 pub returns-in_err-home-clause-looks : goal.returns-in_err-home-clause-looks
 returns-in_err-home-clause-looks g c =
@@ -35,4 +36,5 @@ pub returns-in_default-clause-looks : goal.returns-in_default-clause-looks
 returns-in_default-clause-looks g c =
     let stages = pipeline_of c.args.pipeline.now in
     of_no_home g.D.Disk.history c.args.namespace.now c.args.self.now c.catalogued.new.self (λ ds (few : Vec Pairs Global). AreEnough stages few.items ds)
-    c.in_ok-home.field-0 c.in_ok-home.ensures.looks c.in_default.is c.new.result (subst (λ (few : List Pairs). AreEnough stages few []) (sym c.new.ensures.items) (none_enough stages [] refl))
+    c.in_ok-home.field-0 c.in_ok-home.ensures.looks c.in_default.is c.new.result
+    (subst (λ (few : List Pairs). AreEnough stages few []) (sym c.new.ensures.items) (none_enough stages [] refl))

@@ -12,7 +12,8 @@ returns-in_err-names-clause-tries g c =
     rw (p.1, p.2) (number_unread g.D.Disk.history c.args.self.now c.names.new.self c.requires.sound c.in_err-names.field-0.0 c.in_err-names.ensures)
 
 pub returns-then-len-ge-MOST_COLLECTIONS-clause-tries : goal.returns-then-len-ge-MOST_COLLECTIONS-clause-tries
-returns-then-len-ge-MOST_COLLECTIONS-clause-tries g c = number_many g.D.Disk.history c.args.self.now c.names.new.self c.requires.sound c.in_ok-names.names c.in_ok-names.ensures (omega arith)
+returns-then-len-ge-MOST_COLLECTIONS-clause-tries g c =
+    number_many g.D.Disk.history c.args.self.now c.names.new.self c.requires.sound c.in_ok-names.names c.in_ok-names.ensures (omega arith)
 
 pub returns-in_err-least_unused-clause-tries : goal.returns-in_err-least_unused-clause-tries
 returns-in_err-least_unused-clause-tries g c =
@@ -20,5 +21,7 @@ returns-in_err-least_unused-clause-tries g c =
     rw (p.1, p.2) (number_without_memory g.D.Disk.history c.args.self.now c.names.new.self c.requires.sound c.in_ok-names.names c.in_ok-names.ensures)
 
 pub returns-clause-tries : goal.returns-clause-tries
-returns-clause-tries g c = number_found g.D.Disk.history c.args.self.now c.names.new.self c.requires.sound c.in_ok-names.names c.in_ok-names.ensures c.in_ok-least_unused.field-0 (omega arith)
+returns-clause-tries g c =
+    number_found g.D.Disk.history c.args.self.now c.names.new.self c.requires.sound c.in_ok-names.names c.in_ok-names.ensures c.in_ok-least_unused.field-0
+    (omega arith)
     (c.in_ok-least_unused.ensures.number ∙ ap (λ (ns : List Name). unused (numbered ns)) c.deref.ensures.value)

@@ -26,10 +26,13 @@ indexes-preserved g c =
     let all = c.args.indexes.now in
     let i = c.indexes.index-index in
     let n = c.index-item.result in
-    let far : NotesTo history (each_index name) name all (n ∷ drop (i + 1) all) c.args.home.now c.indexes.home c.args.edits.now c.indexes.edits c.args.self.now c.indexes.self =
-    subst (λ (left : List NewIndex). NotesTo history (each_index name) name all left c.args.home.now c.indexes.home c.args.edits.now c.indexes.edits c.args.self.now c.indexes.self)
+    let far : NotesTo history (each_index name) name all
+    (n ∷ drop (i + 1) all) c.args.home.now c.indexes.home c.args.edits.now c.indexes.edits c.args.self.now c.indexes.self =
+    subst (λ (left : List NewIndex). NotesTo history
+    (each_index name) name all left c.args.home.now c.indexes.home c.args.edits.now c.indexes.edits c.args.self.now c.indexes.self)
     (drop_step all i n c.indexes-test.true c.index-item.is) c.indexes.invariant in
-    noted_on history (each_index name) name all c.args.home.now c.args.edits.now c.args.self.now c.indexes.self c.note_index.new.self n (drop (i + 1) all) c.indexes.home c.note_index.new.home
+    noted_on history (each_index name) name all c.args.home.now c.args.edits.now c.args.self.now c.indexes.self c.note_index.new.self n
+    (drop (i + 1) all) c.indexes.home c.note_index.new.home
     c.indexes.edits c.note_index.new.edits far c.in_ok-note_index.ensures.notes c.in_ok-note_index.ensures.limits
 
 pub returns-in_err-note_index-clause-notes : goal.returns-in_err-note_index-clause-notes
@@ -40,10 +43,14 @@ returns-in_err-note_index-clause-notes g c =
     let all = c.args.indexes.now in
     let i = c.indexes.index-index in
     let n = c.index-item.result in
-    let far : NotesTo history (each_index name) name all (n ∷ drop (i + 1) all) c.args.home.now c.indexes.home c.args.edits.now c.indexes.edits c.args.self.now c.indexes.self =
-    subst (λ (left : List NewIndex). NotesTo history (each_index name) name all left c.args.home.now c.indexes.home c.args.edits.now c.indexes.edits c.args.self.now c.indexes.self)
+    let far : NotesTo history (each_index name) name all
+    (n ∷ drop (i + 1) all) c.args.home.now c.indexes.home c.args.edits.now c.indexes.edits c.args.self.now c.indexes.self =
+    subst (λ (left : List NewIndex). NotesTo history
+    (each_index name) name all left c.args.home.now c.indexes.home c.args.edits.now c.indexes.edits c.args.self.now c.indexes.self)
     (drop_step all i n c.indexes-test.true c.index-item.is) c.indexes.invariant in
-    rw (p.1, p.2) (noted_refused history (each_index name) name all c.args.home.now c.args.edits.now c.args.self.now c.indexes.self c.note_index.new.self n (drop (i + 1) all) c.indexes.home c.note_index.new.home
+    rw (p.1, p.2)
+    (noted_refused history (each_index name) name all c.args.home.now c.args.edits.now c.args.self.now c.indexes.self c.note_index.new.self n
+    (drop (i + 1) all) c.indexes.home c.note_index.new.home
     c.indexes.edits c.note_index.new.edits far c.in_err-note_index.field-0.0 c.in_err-note_index.ensures.notes)
 
 pub returns-clause-notes : goal.returns-clause-notes
@@ -52,7 +59,8 @@ returns-clause-notes g c =
     let name = c.args.namespace.now in
     let all = c.args.indexes.now in
     noted_all history (each_index name) name all c.args.home.now c.args.edits.now c.args.self.now c.indexes.self c.indexes.home c.indexes.edits
-    (subst (λ (left : List NewIndex). NotesTo history (each_index name) name all left c.args.home.now c.indexes.home c.args.edits.now c.indexes.edits c.args.self.now c.indexes.self)
+    (subst (λ (left : List NewIndex). NotesTo history
+    (each_index name) name all left c.args.home.now c.indexes.home c.args.edits.now c.indexes.edits c.args.self.now c.indexes.self)
     (drop_all c.indexes.index-index all c.indexes-test.false) c.indexes.invariant)
 
 pub returns-clause-limits : goal.returns-clause-limits

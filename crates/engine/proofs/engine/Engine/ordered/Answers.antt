@@ -15,8 +15,12 @@ returns-clause-looks g c =
     let old = c.args.self.now in
     let new = record old { file = c.ordered_in.new.file } in
     let q = c.args.query.now in
-    let reads = subst (λ (x : Query). ReadsOf history (IsAsked c.args.home.now) (λ now of (found : Vec Pairs Global). found.items ≡ take c.args.most (order x.sort (matching x.filter of.documents))) c.ordered_in.result old.file c.ordered_in.new.file)
+    let reads = subst
+    (λ (x : Query). ReadsOf history (IsAsked c.args.home.now)
+    (λ now of (found : Vec Pairs Global). found.items
+    ≡ take c.args.most (order x.sort (matching x.filter of.documents))) c.ordered_in.result old.file c.ordered_in.new.file)
     c.query.view_is c.ordered_in.ensures.reads in
-    asked_at_home history c.args.home.now old new (λ now of (found : Vec Pairs Global). found.items ≡ take c.args.most (order q.sort (matching q.filter of.documents))) c.ordered_in.result c.requires
+    asked_at_home history c.args.home.now old new
+    (λ now of (found : Vec Pairs Global). found.items ≡ take c.args.most (order q.sort (matching q.filter of.documents))) c.ordered_in.result c.requires
     (looks_so_of history old new c.requires refl refl refl (IsAsked c.args.home.now)
     (λ now of (found : Vec Pairs Global). found.items ≡ take c.args.most (order q.sort (matching q.filter of.documents))) c.ordered_in.result reads)

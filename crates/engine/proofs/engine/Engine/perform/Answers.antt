@@ -22,13 +22,17 @@ pub returns-in-GetMore-clause-performs : goal.returns-in-GetMore-clause-performs
 returns-in-GetMore-clause-performs g c =
     let old = c.args.self.now in
     let new = c.get_more.new.self in
-    performs_told g.D.Disk.history old new c.args.connection (command_read c.args.command.now) _ c.requires.sound c.requires.bounded c.get_more.ensures.file c.get_more.ensures.told c.get_more.ensures.has_changes (search rules)
+    performs_told g.D.Disk.history old new c.args.connection
+    (command_read c.args.command.now) _ c.requires.sound c.requires.bounded c.get_more.ensures.file c.get_more.ensures.told c.get_more.ensures.has_changes
+    (search rules)
 
 pub returns-in-KillCursors-clause-performs : goal.returns-in-KillCursors-clause-performs
 returns-in-KillCursors-clause-performs g c =
     let old = c.args.self.now in
     let new = c.kill_cursors.new.self in
-    performs_told g.D.Disk.history old new c.args.connection (command_read c.args.command.now) _ c.requires.sound c.requires.bounded c.kill_cursors.ensures.file c.kill_cursors.ensures.told c.kill_cursors.ensures.has_changes (search rules)
+    performs_told g.D.Disk.history old new c.args.connection
+    (command_read c.args.command.now) _ c.requires.sound c.requires.bounded c.kill_cursors.ensures.file c.kill_cursors.ensures.told
+    c.kill_cursors.ensures.has_changes (search rules)
 
 pub returns-in-Find-clause-performs : goal.returns-in-Find-clause-performs
 returns-in-Find-clause-performs g c =
@@ -36,9 +40,13 @@ returns-in-Find-clause-performs g c =
     let asked : finds.Find = find_read c.in-Find.c in
     let spelled : run w c.args.connection (command_read c.args.command.now) ≡ run_find w c.args.connection asked =
     ap (λ (x : Command). run w c.args.connection (command_read x)) c.in-Find.is in
-    let called : run_find w c.args.connection (record { namespace = c.as_str-in-Find.result.now; query = asked.query; batch_size = Some c.unwrap_or-most.result }) ≡ run_find w c.args.connection (record asked { batch_size = Some (unwrap_or asked.batch_size 101) }) =
-    λ i. run_find w c.args.connection (record { namespace = c.as_str-in-Find.ensures.value i; query = asked.query; batch_size = Some (c.unwrap_or-most.ensures i) }) in
-    performs_as g.D.Disk.history c.args.self.now c.find.new.self _ _ _ _ (spelled ∙ sym (run_find-default w c.args.connection asked) ∙ sym called) c.spelled.ensures c.find.ensures.performs
+    let called : run_find w c.args.connection
+    (record { namespace = c.as_str-in-Find.result.now; query = asked.query; batch_size = Some c.unwrap_or-most.result })
+    ≡ run_find w c.args.connection (record asked { batch_size = Some (unwrap_or asked.batch_size 101) }) =
+    λ i. run_find w c.args.connection
+    (record { namespace = c.as_str-in-Find.ensures.value i; query = asked.query; batch_size = Some (c.unwrap_or-most.ensures i) }) in
+    performs_as g.D.Disk.history c.args.self.now c.find.new.self _ _ _ _
+    (spelled ∙ sym (run_find-default w c.args.connection asked) ∙ sym called) c.spelled.ensures c.find.ensures.performs
 
 pub returns-in-Aggregate-clause-performs : goal.returns-in-Aggregate-clause-performs
 returns-in-Aggregate-clause-performs g c =
@@ -46,9 +54,13 @@ returns-in-Aggregate-clause-performs g c =
     let asked : aggregates.Aggregate = aggregate_read c.in-Aggregate.c in
     let spelled : run w c.args.connection (command_read c.args.command.now) ≡ run_aggregate w c.args.connection asked =
     ap (λ (x : Command). run w c.args.connection (command_read x)) c.in-Aggregate.is in
-    let called : run_aggregate w c.args.connection (record { namespace = c.as_str-in-Aggregate.result.now; pipeline = asked.pipeline; batch_size = Some c.unwrap_or-most-in-Aggregate.result }) ≡ run_aggregate w c.args.connection (record asked { batch_size = Some (unwrap_or asked.batch_size 101) }) =
-    λ i. run_aggregate w c.args.connection (record { namespace = c.as_str-in-Aggregate.ensures.value i; pipeline = asked.pipeline; batch_size = Some (c.unwrap_or-most-in-Aggregate.ensures i) }) in
-    performs_as g.D.Disk.history c.args.self.now c.aggregate.new.self _ _ _ _ (spelled ∙ sym (run_aggregate-default w c.args.connection asked) ∙ sym called) c.spelled-in-Aggregate.ensures c.aggregate.ensures.performs
+    let called : run_aggregate w c.args.connection
+    (record { namespace = c.as_str-in-Aggregate.result.now; pipeline = asked.pipeline; batch_size = Some c.unwrap_or-most-in-Aggregate.result })
+    ≡ run_aggregate w c.args.connection (record asked { batch_size = Some (unwrap_or asked.batch_size 101) }) =
+    λ i. run_aggregate w c.args.connection
+    (record { namespace = c.as_str-in-Aggregate.ensures.value i; pipeline = asked.pipeline; batch_size = Some (c.unwrap_or-most-in-Aggregate.ensures i) }) in
+    performs_as g.D.Disk.history c.args.self.now c.aggregate.new.self _ _ _ _
+    (spelled ∙ sym (run_aggregate-default w c.args.connection asked) ∙ sym called) c.spelled-in-Aggregate.ensures c.aggregate.ensures.performs
 
 pub returns-in-Update-clause-has_changes : goal.returns-in-Update-clause-has_changes
 returns-in-Update-clause-has_changes g c = λ k unchanged none.

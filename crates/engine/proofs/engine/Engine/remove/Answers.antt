@@ -16,7 +16,8 @@ use Rattle.engine.proofs.engine.Engine.remove.Goals as goal
 
 pub returns-then-is_stopped-clause-makes : goal.returns-then-is_stopped-clause-makes
 returns-then-is_stopped-clause-makes g c =
-    remove_stopped g.D.Disk.history (Ok (deleted (world c.args.self.now).collections c.args.namespace.now c.args.deletions.now)) c.args.self.now c.requires.sound
+    remove_stopped g.D.Disk.history
+    (Ok (deleted (world c.args.self.now).collections c.args.namespace.now c.args.deletions.now)) c.args.self.now c.requires.sound
     (λ k. inr (inl (refl, inl (sym c.is_stopped.ensures ∙ c.if-is_stopped.true))))
 
 pub returns-then-is_empty-clause-makes : goal.returns-then-is_empty-clause-makes
@@ -31,7 +32,9 @@ returns-in_err-note_removed-clause-makes g c =
     let name = c.args.namespace.now in
     let ds = c.args.deletions.now in
     let taken = c.args.taken.now in
-    rw (p.1, p.2) (makes_none g.D.Disk.history (Ok (deleted now name ds)) c.args.self.now c.args.self.now c.in_err-note_removed.field-0.0 (reads_none g.D.Disk.history c.args.self.now c.requires.sound)
+    rw (p.1, p.2)
+    (makes_none g.D.Disk.history (Ok (deleted now name ds)) c.args.self.now c.args.self.now c.in_err-note_removed.field-0.0
+    (reads_none g.D.Disk.history c.args.self.now c.requires.sound)
     (λ k.
     let state = lawful_now g.D.Disk.history c.args.self.now c.requires.sound k (sym c.is_stopped.ensures ∙ c.if-is_stopped.false) in
     let lent = map-id c.deref.result.now ∙ c.deref.ensures.value in
@@ -51,7 +54,8 @@ write-requires g c κs within =
     let lent = map-id c.deref.result.now ∙ c.deref.ensures.value in
     let takes : TakesOut [] edits number indexes taken.removed.items =
     subst (λ (ds : List Pairs). TakesOut [] edits number indexes ds) lent
-    (subst (λ (es : List Edit). TakesOut es edits number indexes (map (λ (d : Pairs). d) c.deref.result.now)) c.new-edits.ensures c.in_ok-note_removed.ensures) in (
+    (subst (λ (es : List Edit). TakesOut es edits number indexes (map (λ (d : Pairs). d) c.deref.result.now)) c.new-edits.ensures c.in_ok-note_removed.ensures)
+    in (
       search rules,
       (
         search rules,

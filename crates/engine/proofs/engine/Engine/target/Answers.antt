@@ -9,11 +9,14 @@ use Rattle.engine.proofs.engine.Engine.target.Goals as goal
 pub returns-in_err-home-clause-tries : goal.returns-in_err-home-clause-tries
 returns-in_err-home-clause-tries g c =
     let p = err_from_is_err_and c.from_residual.result c.from_residual.ensures.1 in
-    rw (p.1, p.2) (target_unread g.D.Disk.history c.args.namespace.now c.args.self.now c.catalogued.new.self c.args.edits.now c.in_err-home.field-0.0 c.in_err-home.ensures.looks)
+    rw (p.1, p.2)
+    (target_unread g.D.Disk.history c.args.namespace.now c.args.self.now c.catalogued.new.self c.args.edits.now c.in_err-home.field-0.0
+    c.in_err-home.ensures.looks)
 
 pub returns-in-Some-clause-tries : goal.returns-in-Some-clause-tries
 returns-in-Some-clause-tries g c =
-    target_there g.D.Disk.history c.args.namespace.now c.args.self.now c.catalogued.new.self c.args.edits.now c.in-Some.home c.requires.none (rw c.in-Some.is at c.in_ok-home.ensures.looks)
+    target_there g.D.Disk.history c.args.namespace.now c.args.self.now c.catalogued.new.self c.args.edits.now c.in-Some.home c.requires.none
+    (rw c.in-Some.is at c.in_ok-home.ensures.looks)
 
 pub returns-in_err-number-clause-tries : goal.returns-in_err-number-clause-tries
 returns-in_err-number-clause-tries g c =
@@ -24,8 +27,10 @@ returns-in_err-number-clause-tries g c =
 pub returns-in_err-put_collection-clause-tries : goal.returns-in_err-put_collection-clause-tries
 returns-in_err-put_collection-clause-tries g c =
     let p = err_from_is_err_and c.from_residual-in_err-put_collection.result c.from_residual-in_err-put_collection.ensures.1 in
-    rw p.1 (target_without_memory g.D.Disk.history c.args.namespace.now c.args.self.now c.catalogued.new.self c.put_collection.new.self p.0 c.new_number.new.self
-    (reads_on g.D.Disk.history c.args.self.now c.catalogued.new.self c.new_number.new.self c.in_ok-home.ensures.looks.reads c.in_ok-number.ensures.tries.reads) p.2)
+    rw p.1 (target_without_memory g.D.Disk.history c.args.namespace.now c.args.self.now c.catalogued.new.self c.put_collection.new.self p.0
+    c.new_number.new.self
+    (reads_on g.D.Disk.history c.args.self.now c.catalogued.new.self c.new_number.new.self c.in_ok-home.ensures.looks.reads c.in_ok-number.ensures.tries.reads)
+    p.2)
 
 pub returns-clause-tries : goal.returns-clause-tries
 returns-clause-tries g c =

@@ -3,13 +3,16 @@ use Rattle.std.proofs.lemmas.Result.{err_from_is_err_and}
 use Rattle.engine.specs.Putting.{NotesWrites}
 use Rattle.engine.specs.View.{world}
 use Rattle.statements.specs.declared.statements.Write.{Write}
-use Rattle.engine.proofs.UpdateLemmas.{nothing_changed, nothing_replied, update_done, update_leads, update_unmade, update_unnoted, update_unsaid, update_unwritten, updated_lawful}
+use Rattle.engine.proofs.UpdateLemmas.{nothing_changed, nothing_replied, update_done, update_leads, update_unmade, update_unnoted, update_unsaid}
+use Rattle.engine.proofs.UpdateLemmas.{update_unwritten, updated_lawful}
 use Rattle.engine.proofs.engine.Engine.update.Goals as goal
 
 pub returns-in_err-ran-clause-performs : goal.returns-in_err-ran-clause-performs
 returns-in_err-ran-clause-performs g c =
     let p = err_from_is_err_and c.from_residual.result c.from_residual.ensures.1 in
-    rw (p.1, p.2) (update_unmade g.D.Disk.history c.args.namespace.now c.args.statements.now c.args.self.now c.updated.new.self c.in_err-ran.field-0.0 c.in_err-ran.ensures.tries)
+    rw (p.1, p.2)
+    (update_unmade g.D.Disk.history c.args.namespace.now c.args.statements.now c.args.self.now c.updated.new.self c.in_err-ran.field-0.0
+    c.in_err-ran.ensures.tries)
 
 pub returns-then-are_none-clause-performs : goal.returns-then-are_none-clause-performs
 returns-then-are_none-clause-performs g c =
@@ -24,8 +27,11 @@ returns-in_err-edits-clause-performs g c =
     let e = c.in_err-edits.field-0.0 in
     let some = c.are_none.ensures.some c.if-are_none.false in
     let notes : NotesWrites g.D.Disk.history c.args.namespace.now x.writes.items (Err e) c.updated.new.self c.edits_of.new.self =
-    subst (λ (ws : List Write). NotesWrites g.D.Disk.history c.args.namespace.now ws (Err e) c.updated.new.self c.edits_of.new.self) c.deref.ensures.value c.in_err-edits.ensures in
-    rw (p.1, p.2) (update_unnoted g.D.Disk.history c.args.namespace.now c.args.statements.now c.args.self.now c.updated.new.self x c.in_ok-ran.ensures.tries some c.edits_of.new.self e notes)
+    subst (λ (ws : List Write). NotesWrites g.D.Disk.history c.args.namespace.now ws (Err e) c.updated.new.self c.edits_of.new.self) c.deref.ensures.value
+    c.in_err-edits.ensures in
+    rw (p.1, p.2)
+    (update_unnoted g.D.Disk.history c.args.namespace.now c.args.statements.now c.args.self.now c.updated.new.self x c.in_ok-ran.ensures.tries some
+    c.edits_of.new.self e notes)
 
 pub returns-in_err-reply-clause-performs : goal.returns-in_err-reply-clause-performs
 returns-in_err-reply-clause-performs g c =
@@ -34,8 +40,11 @@ returns-in_err-reply-clause-performs g c =
     let edits = c.in_ok-edits.edits in
     let some = c.are_none.ensures.some c.if-are_none.false in
     let notes : NotesWrites g.D.Disk.history c.args.namespace.now x.writes.items (Ok edits) c.updated.new.self c.edits_of.new.self =
-    subst (λ (ws : List Write). NotesWrites g.D.Disk.history c.args.namespace.now ws (Ok edits) c.updated.new.self c.edits_of.new.self) c.deref.ensures.value c.in_ok-edits.ensures in
-    rw (p.1, p.2) (update_unsaid g.D.Disk.history c.args.namespace.now c.args.statements.now c.args.self.now c.updated.new.self x c.in_ok-ran.ensures.tries some c.edits_of.new.self edits notes
+    subst (λ (ws : List Write). NotesWrites g.D.Disk.history c.args.namespace.now ws (Ok edits) c.updated.new.self c.edits_of.new.self) c.deref.ensures.value
+    c.in_ok-edits.ensures in
+    rw (p.1, p.2)
+    (update_unsaid g.D.Disk.history c.args.namespace.now c.args.statements.now c.args.self.now c.updated.new.self x c.in_ok-ran.ensures.tries some
+    c.edits_of.new.self edits notes
     c.in_err-reply.field-0.0 c.in_err-reply.ensures.replies)
 
 pub write-requires : goal.write-requires
@@ -44,15 +53,18 @@ write-requires g c κs within =
     let edits = c.in_ok-edits.edits in
     let some = c.are_none.ensures.some c.if-are_none.false in
     let notes : NotesWrites g.D.Disk.history c.args.namespace.now x.writes.items (Ok edits) c.updated.new.self c.edits_of.new.self =
-    subst (λ (ws : List Write). NotesWrites g.D.Disk.history c.args.namespace.now ws (Ok edits) c.updated.new.self c.edits_of.new.self) c.deref.ensures.value c.in_ok-edits.ensures in (
+    subst (λ (ws : List Write). NotesWrites g.D.Disk.history c.args.namespace.now ws (Ok edits) c.updated.new.self c.edits_of.new.self) c.deref.ensures.value
+    c.in_ok-edits.ensures in (
       search rules,
       (
         search rules,
         (
           notes.reads.sound,
           (
-            updated_lawful c.args.namespace.now c.args.statements.now (world c.edits_of.new.self).collections notes.reads.sound.lawful c.requires.short c.requires.read,
-            update_leads g.D.Disk.history c.args.namespace.now c.args.statements.now c.args.self.now c.updated.new.self x c.in_ok-ran.ensures.tries some c.edits_of.new.self edits notes
+            updated_lawful c.args.namespace.now c.args.statements.now
+                (world c.edits_of.new.self).collections notes.reads.sound.lawful c.requires.short c.requires.read,
+            update_leads g.D.Disk.history c.args.namespace.now c.args.statements.now c.args.self.now c.updated.new.self x c.in_ok-ran.ensures.tries some
+                c.edits_of.new.self edits notes
                 c.in_ok-reply.reply c.in_ok-reply.ensures.replies,
           ),
         ),
@@ -66,8 +78,11 @@ returns-in_err-write-clause-performs g c =
     let edits = c.in_ok-edits.edits in
     let some = c.are_none.ensures.some c.if-are_none.false in
     let notes : NotesWrites g.D.Disk.history c.args.namespace.now x.writes.items (Ok edits) c.updated.new.self c.edits_of.new.self =
-    subst (λ (ws : List Write). NotesWrites g.D.Disk.history c.args.namespace.now ws (Ok edits) c.updated.new.self c.edits_of.new.self) c.deref.ensures.value c.in_ok-edits.ensures in
-    rw (p.1, p.2) (update_unwritten g.D.Disk.history c.args.namespace.now c.args.statements.now c.args.self.now c.updated.new.self x c.in_ok-ran.ensures.tries some c.edits_of.new.self edits notes
+    subst (λ (ws : List Write). NotesWrites g.D.Disk.history c.args.namespace.now ws (Ok edits) c.updated.new.self c.edits_of.new.self) c.deref.ensures.value
+    c.in_ok-edits.ensures in
+    rw (p.1, p.2)
+    (update_unwritten g.D.Disk.history c.args.namespace.now c.args.statements.now c.args.self.now c.updated.new.self x c.in_ok-ran.ensures.tries some
+    c.edits_of.new.self edits notes
     c.in_ok-reply.reply c.in_ok-reply.ensures.replies c.write.new.self c.in_err-write.field-0.0 c.in_err-write.ensures)
 
 pub returns-clause-performs : goal.returns-clause-performs
@@ -76,8 +91,10 @@ returns-clause-performs g c =
     let edits = c.in_ok-edits.edits in
     let some = c.are_none.ensures.some c.if-are_none.false in
     let notes : NotesWrites g.D.Disk.history c.args.namespace.now x.writes.items (Ok edits) c.updated.new.self c.edits_of.new.self =
-    subst (λ (ws : List Write). NotesWrites g.D.Disk.history c.args.namespace.now ws (Ok edits) c.updated.new.self c.edits_of.new.self) c.deref.ensures.value c.in_ok-edits.ensures in
-    update_done g.D.Disk.history c.args.namespace.now c.args.statements.now c.args.self.now c.updated.new.self x c.in_ok-ran.ensures.tries some c.edits_of.new.self edits notes
+    subst (λ (ws : List Write). NotesWrites g.D.Disk.history c.args.namespace.now ws (Ok edits) c.updated.new.self c.edits_of.new.self) c.deref.ensures.value
+    c.in_ok-edits.ensures in
+    update_done g.D.Disk.history c.args.namespace.now c.args.statements.now c.args.self.now c.updated.new.self x c.in_ok-ran.ensures.tries some
+    c.edits_of.new.self edits notes
     c.in_ok-reply.reply c.in_ok-reply.ensures.replies c.write.new.self c.in_ok-write.ensures
 
 pub returns-clause-has_changes : goal.returns-clause-has_changes
@@ -86,6 +103,8 @@ returns-clause-has_changes g c = λ k same none.
     let edits = c.in_ok-edits.edits in
     let some = c.are_none.ensures.some c.if-are_none.false in
     let notes : NotesWrites g.D.Disk.history c.args.namespace.now x.writes.items (Ok edits) c.updated.new.self c.edits_of.new.self =
-    subst (λ (ws : List Write). NotesWrites g.D.Disk.history c.args.namespace.now ws (Ok edits) c.updated.new.self c.edits_of.new.self) c.deref.ensures.value c.in_ok-edits.ensures in
-    nothing_changed g.D.Disk.history c.args.namespace.now c.args.statements.now c.args.self.now c.updated.new.self x c.in_ok-ran.ensures.tries some c.edits_of.new.self edits notes
+    subst (λ (ws : List Write). NotesWrites g.D.Disk.history c.args.namespace.now ws (Ok edits) c.updated.new.self c.edits_of.new.self) c.deref.ensures.value
+    c.in_ok-edits.ensures in
+    nothing_changed g.D.Disk.history c.args.namespace.now c.args.statements.now c.args.self.now c.updated.new.self x c.in_ok-ran.ensures.tries some
+    c.edits_of.new.self edits notes
     c.in_ok-reply.reply c.in_ok-reply.ensures.replies c.write.new.self c.in_ok-write.ensures k none

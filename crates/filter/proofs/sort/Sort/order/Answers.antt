@@ -19,7 +19,8 @@ take_out-document-requires c =
     let same : c.deref-place-items.result.now ≡ map (λ (p : Pairs × ℕ). p.1) ps =
     c.deref-place-items.ensures.value ∙ c.in_ok-places.ensures c.args.documents.items
     (c.in_ok-rank_all.ensures ∙ ap (λ (ds : List Pairs). map (with_keys c.args.self.now) (numbered 0 ds)) c.deref.ensures.value) in
-    let next = next_at ps i (get_or c.deref-place-items.result.now i 0) 0 (subst (λ (ns : List ℕ). i < length ns) same c.places-test.true) (ap (λ (ns : List ℕ). get_or ns i 0) same) in
+    let next = next_at ps i (get_or c.deref-place-items.result.now i 0) 0 (subst (λ (ns : List ℕ). i < length ns) same c.places-test.true)
+    (ap (λ (ns : List ℕ). get_or ns i 0) same) in
     (subst (StandIn c.places.documents.items) next.is c.places.invariant.there).0.within
 
 pub places-preserved : goal.places-preserved
@@ -36,7 +37,8 @@ places-preserved c =
     record {
       taken = taken_more ps i place next c.places.ordered.items c.push.new.self.items (map (λ (p : Pairs × ℕ). p.0) ps) c.take_out-document.result
           c.in_ok-push.ensures.items (c.take_out-document.ensures.taken no_pairs ∙ there.0.is no_pairs) c.places.invariant.taken;
-      there = subst (λ (ds : List Pairs). StandIn ds (drop (i + 1) ps)) (sym c.take_out-document.ensures.left) (still_there c.places.documents.items place (drop (i + 1) ps) apart.0 there.1);
+      there = subst (λ (ds : List Pairs). StandIn ds (drop (i + 1) ps)) (sym c.take_out-document.ensures.left)
+          (still_there c.places.documents.items place (drop (i + 1) ps) apart.0 there.1);
       apart = apart.1;
     }
 
@@ -47,5 +49,6 @@ returns c =
     let same : c.deref-place-items.result.now ≡ map (λ (p : Pairs × ℕ). p.1) ps =
     c.deref-place-items.ensures.value ∙ c.in_ok-places.ensures c.args.documents.items
     (c.in_ok-rank_all.ensures ∙ ap (λ (ds : List Pairs). map (with_keys c.args.self.now) (numbered 0 ds)) c.deref.ensures.value) in
-    taken_all ps i c.places.ordered.items (map (λ (p : Pairs × ℕ). p.0) ps) (subst (λ (ns : List ℕ). length ns ≤ i) same c.places-test.false) c.places.invariant.taken
+    taken_all ps i c.places.ordered.items (map (λ (p : Pairs × ℕ). p.0) ps)
+    (subst (λ (ns : List ℕ). length ns ≤ i) same c.places-test.false) c.places.invariant.taken
     ∙ arranged-documents c.args.self.now c.args.documents.items

@@ -24,8 +24,11 @@ index-requires g c =
     let ps = arranged c.args.self.now ds in
     let i = c.places.place-index in
     let same : c.deref-place-items.result.now ≡ map (λ (p : Pairs × ℕ). p.1) ps =
-    c.deref-place-items.ensures.value ∙ c.in_ok-places.ensures ds (c.in_ok-rank_shared.ensures ∙ ap (λ (xs : List (Bor g.row.T.Denot)). map (with_keys c.args.self.now) (numbered 0 (map doc xs))) c.deref.ensures.value) in
-    let next = next_at ps i (get_or c.deref-place-items.result.now i 0) 0 (subst (λ (ns : List ℕ). i < length ns) same c.places-test.true) (ap (λ (ns : List ℕ). get_or ns i 0) same) in
+    c.deref-place-items.ensures.value
+    ∙ c.in_ok-places.ensures ds
+    (c.in_ok-rank_shared.ensures ∙ ap (λ (xs : List (Bor g.row.T.Denot)). map (with_keys c.args.self.now) (numbered 0 (map doc xs))) c.deref.ensures.value) in
+    let next = next_at ps i (get_or c.deref-place-items.result.now i 0) 0 (subst (λ (ns : List ℕ). i < length ns) same c.places-test.true)
+    (ap (λ (ns : List ℕ). get_or ns i 0) same) in
     let within = (subst (StandIn ds) next.is c.places.invariant.there).0.within in
     omega (arith, within, length-map c.args.documents.items doc, c.args.documents.ok)
 
@@ -37,14 +40,19 @@ places-preserved g c =
     let i = c.places.place-index in
     let place = get_or c.deref-place-items.result.now i 0 in
     let same : c.deref-place-items.result.now ≡ map (λ (p : Pairs × ℕ). p.1) ps =
-    c.deref-place-items.ensures.value ∙ c.in_ok-places.ensures ds (c.in_ok-rank_shared.ensures ∙ ap (λ (xs : List (Bor g.row.T.Denot)). map (with_keys c.args.self.now) (numbered 0 (map doc xs))) c.deref.ensures.value) in
+    c.deref-place-items.ensures.value
+    ∙ c.in_ok-places.ensures ds
+    (c.in_ok-rank_shared.ensures ∙ ap (λ (xs : List (Bor g.row.T.Denot)). map (with_keys c.args.self.now) (numbered 0 (map doc xs))) c.deref.ensures.value) in
     let next = next_at ps i place 0 (subst (λ (ns : List ℕ). i < length ns) same c.places-test.true) (ap (λ (ns : List ℕ). get_or ns i 0) same) in
     let there = subst (StandIn ds) next.is c.places.invariant.there in
     let there_is : c.index.result.now ≡ get_or c.args.documents.items place c.index.result.now = search rules in
-    let is : doc c.index.result.now ≡ next.document = ap doc there_is ∙ sym (get_or-map doc c.args.documents.items place c.index.result.now) ∙ there.0.is (doc c.index.result.now) in
-    let grown : map doc c.push.new.self.items ≡ map doc c.places.ordered.items ++ doc c.index.result.now ∷ [] = ap (map doc) c.in_ok-push.ensures.items ∙ map-append doc c.places.ordered.items (c.index.result.now ∷ []) in
+    let is : doc c.index.result.now ≡ next.document =
+    ap doc there_is ∙ sym (get_or-map doc c.args.documents.items place c.index.result.now) ∙ there.0.is (doc c.index.result.now) in
+    let grown : map doc c.push.new.self.items ≡ map doc c.places.ordered.items ++ doc c.index.result.now ∷ [] =
+    ap (map doc) c.in_ok-push.ensures.items ∙ map-append doc c.places.ordered.items (c.index.result.now ∷ []) in
     record {
-      taken = taken_more ps i place next (map doc c.places.ordered.items) (map doc c.push.new.self.items) (map (λ (p : Pairs × ℕ). p.0) ps) (doc c.index.result.now) grown is c.places.invariant.taken;
+      taken = taken_more ps i place next (map doc c.places.ordered.items) (map doc c.push.new.self.items) (map (λ (p : Pairs × ℕ). p.0) ps)
+          (doc c.index.result.now) grown is c.places.invariant.taken;
       there = there.1;
     }
 
@@ -55,6 +63,9 @@ returns g c =
     let ps = arranged c.args.self.now ds in
     let i = c.places.place-index in
     let same : c.deref-place-items.result.now ≡ map (λ (p : Pairs × ℕ). p.1) ps =
-    c.deref-place-items.ensures.value ∙ c.in_ok-places.ensures ds (c.in_ok-rank_shared.ensures ∙ ap (λ (xs : List (Bor g.row.T.Denot)). map (with_keys c.args.self.now) (numbered 0 (map doc xs))) c.deref.ensures.value) in
-    taken_all ps i (map doc c.places.ordered.items) (map (λ (p : Pairs × ℕ). p.0) ps) (subst (λ (ns : List ℕ). length ns ≤ i) same c.places-test.false) c.places.invariant.taken
+    c.deref-place-items.ensures.value
+    ∙ c.in_ok-places.ensures ds
+    (c.in_ok-rank_shared.ensures ∙ ap (λ (xs : List (Bor g.row.T.Denot)). map (with_keys c.args.self.now) (numbered 0 (map doc xs))) c.deref.ensures.value) in
+    taken_all ps i (map doc c.places.ordered.items) (map (λ (p : Pairs × ℕ). p.0) ps)
+    (subst (λ (ns : List ℕ). length ns ≤ i) same c.places-test.false) c.places.invariant.taken
     ∙ arranged-documents c.args.self.now ds

@@ -5,7 +5,9 @@ use Rattle.filter.proofs.sort.Sort.order_shared.Given as goal
 
 abbrev pub invariant-places : goal.invariant-places
 invariant-places g l = record {
-  taken : map (λ d. g.T.AsDocument.document d.now) l.ordered.items ++ map (λ p. p.0) (drop l.place-index (arranged l.self (map (λ d. g.T.AsDocument.document d.now) l.fn.documents.items)))
+  taken : map (λ d. g.T.AsDocument.document d.now) l.ordered.items
+      ++ map (λ p. p.0) (drop l.place-index (arranged l.self (map (λ d. g.T.AsDocument.document d.now) l.fn.documents.items)))
       ≡ map (λ p. p.0) (arranged l.self (map (λ d. g.T.AsDocument.document d.now) l.fn.documents.items));
-  there : StandIn (map (λ d. g.T.AsDocument.document d.now) l.fn.documents.items) (drop l.place-index (arranged l.self (map (λ d. g.T.AsDocument.document d.now) l.fn.documents.items)));
+  there : StandIn (map (λ d. g.T.AsDocument.document d.now) l.fn.documents.items)
+      (drop l.place-index (arranged l.self (map (λ d. g.T.AsDocument.document d.now) l.fn.documents.items)));
 }

@@ -4,4 +4,5 @@ use Rattle.filter.proofs.sort.Sort.rank_all.Given as goal
 
 abbrev pub invariant-documents : goal.invariant-documents
 invariant-documents l =
-    map ranked_of l.all.items ++ map (with_keys l.self) (numbered (length l.all.items) (drop l.document-index l.documents)) ≡ map (with_keys l.self) (numbered 0 l.documents)
+    map ranked_of l.all.items
+    ++ map (with_keys l.self) (numbered (length l.all.items) (drop l.document-index l.documents)) ≡ map (with_keys l.self) (numbered 0 l.documents)

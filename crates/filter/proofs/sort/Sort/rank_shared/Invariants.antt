@@ -4,5 +4,6 @@ use Rattle.filter.proofs.sort.Sort.rank_shared.Given as goal
 
 abbrev pub invariant-documents : goal.invariant-documents
 invariant-documents g l =
-    map ranked_of l.all.items ++ map (with_keys l.self) (numbered (length l.all.items) (map (λ d. g.T.AsDocument.document d.now) (drop l.document-index l.documents)))
+    map ranked_of l.all.items
+    ++ map (with_keys l.self) (numbered (length l.all.items) (map (λ d. g.T.AsDocument.document d.now) (drop l.document-index l.documents)))
     ≡ map (with_keys l.self) (numbered 0 (map (λ d. g.T.AsDocument.document d.now) l.documents))

@@ -8,5 +8,6 @@ use Rattle.filter.proofs.sort.Sort.read.Given as goal
 abbrev pub invariant-pairs : goal.invariant-pairs
 invariant-pairs l = record {
   within : length l.fields.items ≤ 32;
-  same : if_ok (read_fields (32 - length l.fields.items) (pairs_of (drop l.pair-index l.pair-items))) (λ fs. Ok (map field_of l.fields.items ++ fs)) ≡ read_sort l.document;
+  same : if_ok (read_fields (32 - length l.fields.items) (pairs_of (drop l.pair-index l.pair-items))) (λ fs. Ok (map field_of l.fields.items ++ fs))
+      ≡ read_sort l.document;
 }

@@ -17,4 +17,5 @@ returns c =
     let always = always_returns_same _ _ _ (λ a r f k. search rules) in
     let same : fields ≡ c.args.self.now = ap (map field_of) c.as_slice-fields.ensures.value ∙ c.self.view_is in
     subst (λ (fs : List SortField). c.sort_by.new.self.items ≡ sorted (ranked_cmp fs) c.args.all.now.items) same
-    (sorted_once (ranked_cmp fields) (ranked_total fields) c.args.all.now.items c.sort_by.new.self.items (c.in_ok-sort_by.ensures.sorted lt weak always) (c.in_ok-sort_by.ensures.stable lt weak always))
+    (sorted_once (ranked_cmp fields) (ranked_total fields) c.args.all.now.items c.sort_by.new.self.items (c.in_ok-sort_by.ensures.sorted lt weak always)
+    (c.in_ok-sort_by.ensures.stable lt weak always))

@@ -8,5 +8,6 @@ sockets-preserved g c =
     let within : number < length c.sockets.self.sockets.items = search rules in
     record {
       sound = c.serve_socket.ensures.sound;
-      tied = tied_step c.sockets.self.lending.loans c.serve_socket.new.lending.loans c.sockets.self.sockets.items number _ c.index_mut-socket.result.now c.serve_socket.new.socket c.sockets.invariant.tied within c.index_mut-socket.ensures.value c.serve_socket.ensures.asks;
+      tied = tied_step c.sockets.self.lending.loans c.serve_socket.new.lending.loans c.sockets.self.sockets.items number _ c.index_mut-socket.result.now
+          c.serve_socket.new.socket c.sockets.invariant.tied within c.index_mut-socket.ensures.value c.serve_socket.ensures.asks;
     }

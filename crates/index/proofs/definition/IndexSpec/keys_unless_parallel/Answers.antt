@@ -35,5 +35,6 @@ returns-clause-gives c =
     let found = passed (is_too_long fs ps) refusals.KeyTooLong (all_texts fs ps) (map (λ texts. texts_of texts.items) c.in_ok-texts.texts.items)
     (sym (texts_found fs ps) ∙ sym (ap (λ (gs : List Field). texts_within 500 [] gs ps) c.fields.ensures.fields) ∙ c.in_ok-texts.ensures) in
     let keys : encoded_keys fs ps ≡ texts_of c.ascending.result.items =
-    ap ascending_set (sym (combined_is fs ps) ∙ ap (λ (all : List (List (List ℕ))). combined all ([] ∷ [])) found.1 ∙ sym c.in_ok-combined.ensures) ∙ sym c.ascending.ensures.set in
+    ap ascending_set (sym (combined_is fs ps) ∙ ap (λ (all : List (List (List ℕ))). combined all ([] ∷ [])) found.1 ∙ sym c.in_ok-combined.ensures)
+    ∙ sym c.ascending.ensures.set in
     λ i. unless (found.0 i) refusals.KeyTooLong (Ok (if sym c.if-has_parallel_arrays.ensures i then None else Some (keys i)))

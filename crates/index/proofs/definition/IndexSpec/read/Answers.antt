@@ -15,6 +15,7 @@ of_values-requires c =
     let key = c.index-pairs-2.result in
     let unique = c.index-pairs-3.result in
     let multi = c.index-pairs-4.result in
-    let five = five_pairs c.pairs-pairs.result.now i name key unique multi (omega arith) (omega arith) c.index-pairs-0.is c.index-pairs-1.is c.index-pairs-2.is c.index-pairs-3.is c.index-pairs-4.is in
+    let five = five_pairs c.pairs-pairs.result.now i name key unique multi (omega arith)
+    (omega arith) c.index-pairs-0.is c.index-pairs-1.is c.index-pairs-2.is c.index-pairs-3.is c.index-pairs-4.is in
     let both = trees i name key unique multi (subst IsPairs (sym c.pairs-pairs.ensures.pairs ∙ five) c.pairs-pairs.ensures.lawful.lawful) in
     record { named = both.0; keyed = both.1 }

@@ -6,4 +6,5 @@ use Rattle.index.proofs.EditPlaceLemmas.{has_told}
 use Rattle.index.proofs.edits.Edits.has.Goals as goal
 
 pub returns : goal.returns
-returns c = c.contains_key.ensures ∙ has_told c.args.key.now c.self.inside.noted.entries ∙ ap (λ (es : List Edit). is_among (edit_keys es) c.args.key.now) c.self.view_is
+returns c = c.contains_key.ensures ∙ has_told c.args.key.now c.self.inside.noted.entries
+    ∙ ap (λ (es : List Edit). is_among (edit_keys es) c.args.key.now) c.self.view_is

@@ -17,7 +17,8 @@ put_in_indexes-requires c = record {
 pub returns-in_err-put_document-clause-err : goal.returns-in_err-put_document-clause-err
 returns-in_err-put_document-clause-err c =
     on_err c.from_residual.result
-    (nothing_noted c.args.self.now (puts (document_entries c.args.number c.args.indexes.now c.args.document.now)) c.put_document.new.self c.in_err-put_document.ensures.err)
+    (nothing_noted c.args.self.now
+    (puts (document_entries c.args.number c.args.indexes.now c.args.document.now)) c.put_document.new.self c.in_err-put_document.ensures.err)
 
 pub returns-clause-ok : goal.returns-clause-ok
 returns-clause-ok c =
@@ -28,7 +29,9 @@ pub returns-clause-err : goal.returns-clause-err
 returns-clause-err c =
     let same = entries_are c.args.number c.args.id.now c.args.indexes.now c.args.document.now c.args.keys.now c.requires.keyed c.requires.text in
     if_err c.put_in_indexes.result
-    (λ some. behind_first (put_of (document_entry c.args.number c.args.document.now)) c.args.self.now _ c.put_document.new.self c.put_in_indexes.new.self c.in_ok-put_document.ensures.ok
+    (λ some. behind_first
+    (put_of (document_entry c.args.number c.args.document.now)) c.args.self.now _ c.put_document.new.self c.put_in_indexes.new.self
+    c.in_ok-put_document.ensures.ok
     (subst (λ (es : List Edit). NotesSome c.put_document.new.self es c.put_in_indexes.new.self) (ap puts same) some))
     c.put_in_indexes.ensures.err
 

@@ -27,7 +27,8 @@ edits-preserved c =
     record {
       can = tt;
       finite = tt;
-      noted = goes_further c.args.self.now (edits_in c.into_iter-edit-iterator.result) (edits_in c.edits.edit-iterator) (e ∷ []) left c.edits.self c.note.new.self
+      noted = goes_further c.args.self.now (edits_in c.into_iter-edit-iterator.result) (edits_in c.edits.edit-iterator)
+          (e ∷ []) left c.edits.self c.note.new.self
           c.edits.invariant.noted (ap edits_in c.in-Some.ensures.steps) c.in_ok-note.ensures.ok;
       short = short.1;
     }
@@ -38,4 +39,5 @@ returns c =
     let items = c.edits.edit-iterator in
     let all = ap edits_in c.into_iter-edit-iterator.ensures.into_iter_gives.0 ∙ c.edits-2.view_is in
     noted_goes c.args.edits old c.edits.self c.allocator-alloc.ensures.rises
-    (ends old (edits_in c.into_iter-edit-iterator.result) (edits_in items) c.edits.self c.edits.invariant.noted (ap edits_in c.in-None.ensures.steps.0) ∙ ap (λ (es : List Edit). with_edits es old) all)
+    (ends old (edits_in c.into_iter-edit-iterator.result) (edits_in items) c.edits.self c.edits.invariant.noted (ap edits_in c.in-None.ensures.steps.0)
+    ∙ ap (λ (es : List Edit). with_edits es old) all)

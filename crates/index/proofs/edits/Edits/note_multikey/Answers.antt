@@ -16,7 +16,8 @@ returns-then-not-become_multikey-clause-indexes c =
 
 pub returns-then-not-become_multikey-clause-notes : goal.returns-then-not-become_multikey-clause-notes
 returns-then-not-become_multikey-clause-notes c =
-    notes_none c.args.self.now c.args.namespace.now c.args.home.now.number c.args.home.now.indexes.items c.args.document.now (sym (returns-then-not-become_multikey-clause-indexes c))
+    notes_none c.args.self.now c.args.namespace.now c.args.home.now.number c.args.home.now.indexes.items c.args.document.now
+    (sym (returns-then-not-become_multikey-clause-indexes c))
 
 pub returns-clause-notes : goal.returns-clause-notes
 returns-clause-notes c =

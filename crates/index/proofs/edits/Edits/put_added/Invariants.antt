@@ -5,4 +5,5 @@ use Rattle.index.proofs.edits.Edits.put_added.Given as goal
 
 abbrev pub invariant-keys : goal.invariant-keys
 invariant-keys l =
-    NotesUpTo l.fn.self (puts (entries_at l.number l.index l.id (map (λ key. key.now) l.keys))) (puts (entries_at l.number l.index l.id (map (λ key. key.now) (drop l.key-index l.keys)))) l.self
+    NotesUpTo l.fn.self (puts (entries_at l.number l.index l.id (map (λ key. key.now) l.keys)))
+    (puts (entries_at l.number l.index l.id (map (λ key. key.now) (drop l.key-index l.keys)))) l.self

@@ -16,7 +16,8 @@ note-requires c = (
 pub returns-clause-leads : goal.returns-clause-leads
 returns-clause-leads c =
     on_ok c.note.result
-    (λ leads. adds_with c.args.self.now c.note.new.self c.args.namespace.now c.args.number c.utf8.namespace c.requires.name c.requires.number.0 c.requires.number.1
+    (λ leads. adds_with c.args.self.now c.note.new.self c.args.namespace.now c.args.number c.utf8.namespace c.requires.name c.requires.number.0
+    c.requires.number.1
     (put_same c.args.self.now c.note.new.self c.in_ok-key.key.items (key_under 0 0 (tree_text (words c.args.namespace.now))) c.in_ok-bytes.bytes.items
     (frame_of (pairs_bytes (catalogue_value c.args.number []))) c.in_ok-key.ensures c.in_ok-bytes.ensures leads))
     c.note.ensures.leads

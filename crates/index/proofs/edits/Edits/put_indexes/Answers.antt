@@ -25,7 +25,8 @@ returns-clause-ok c =
 pub returns-clause-goes : goal.returns-clause-goes
 returns-clause-goes c =
     on_ok c.note.result
-    (λ made. noted_goes (catalogue_put c.args.namespace.now c.args.number c.args.indexes.now ∷ []) c.args.self.now c.note.new.self c.allocator-alloc.ensures.rises made)
+    (λ made. noted_goes
+    (catalogue_put c.args.namespace.now c.args.number c.args.indexes.now ∷ []) c.args.self.now c.note.new.self c.allocator-alloc.ensures.rises made)
     (returns-clause-ok c)
 
 pub returns-clause-leads : goal.returns-clause-leads

@@ -6,4 +6,5 @@ use Rattle.index.proofs.edits.Edits.put_keys.Given as goal
 
 abbrev pub invariant-keys : goal.invariant-keys
 invariant-keys l =
-    NotesUpTo l.fn.self (puts (entries_at l.number l.index l.id (texts_of l.keys))) (puts (entries_at l.number l.index l.id (texts_of (drop l.key-index l.keys)))) l.self
+    NotesUpTo l.fn.self (puts (entries_at l.number l.index l.id (texts_of l.keys)))
+    (puts (entries_at l.number l.index l.id (texts_of (drop l.key-index l.keys)))) l.self

@@ -26,4 +26,5 @@ returns-clause-puts c =
     let front = c.args.front.now.items in
     let id = c.args.id.now in
     let is : c.range.result ≡ filter (from_front front) items = c.range.ensures.between tt in
-    c.puts_from.ensures ∙ (λ i. puts_another (c.deref.ensures.value i) id (edits_in (is i))) ∙ skipped front id items ∙ ap (puts_another front id) c.self.view_is
+    c.puts_from.ensures ∙ (λ i. puts_another (c.deref.ensures.value i) id (edits_in (is i))) ∙ skipped front id items
+    ∙ ap (puts_another front id) c.self.view_is

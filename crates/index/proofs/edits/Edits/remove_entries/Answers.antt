@@ -17,16 +17,20 @@ remove_keys-requires c = record {
 
 pub returns-clause-ok : goal.returns-clause-ok
 returns-clause-ok c =
-    let same = entries_of_one c.args.number c.args.id.now c.args.index.now c.number.result c.args.document.now (texts_of c.args.keys.now) c.number.ensures.number c.requires.keyed c.requires.text in
+    let same = entries_of_one c.args.number c.args.id.now c.args.index.now c.number.result c.args.document.now
+    (texts_of c.args.keys.now) c.number.ensures.number c.requires.keyed c.requires.text in
     on_ok c.remove_keys.result (λ made. made ∙ ap (λ (xs : List Entry). with_edits (removals xs) c.args.self.now) same) c.remove_keys.ensures.ok
 
 pub returns-clause-err : goal.returns-clause-err
 returns-clause-err c =
-    let same = entries_of_one c.args.number c.args.id.now c.args.index.now c.number.result c.args.document.now (texts_of c.args.keys.now) c.number.ensures.number c.requires.keyed c.requires.text in
-    if_err c.remove_keys.result (λ some. subst (λ (es : List Edit). NotesSome c.args.self.now es c.remove_keys.new.self) (ap removals same) some) c.remove_keys.ensures.err
+    let same = entries_of_one c.args.number c.args.id.now c.args.index.now c.number.result c.args.document.now
+    (texts_of c.args.keys.now) c.number.ensures.number c.requires.keyed c.requires.text in
+    if_err c.remove_keys.result
+    (λ some. subst (λ (es : List Edit). NotesSome c.args.self.now es c.remove_keys.new.self) (ap removals same) some) c.remove_keys.ensures.err
 
 pub returns-clause-goes : goal.returns-clause-goes
 returns-clause-goes c =
     on_ok c.remove_keys.result
-    (λ made. noted_goes (removals (index_entries c.args.number c.args.document.now c.args.index.now)) c.args.self.now c.remove_keys.new.self c.allocator-alloc.ensures.rises made)
+    (λ made. noted_goes
+    (removals (index_entries c.args.number c.args.document.now c.args.index.now)) c.args.self.now c.remove_keys.new.self c.allocator-alloc.ensures.rises made)
     (returns-clause-ok c)

@@ -20,11 +20,13 @@ pub returns-then-branch-clause-refuses : goal.returns-then-branch-clause-refuses
 returns-then-branch-clause-refuses c = λ other.
     let old = c.args.self.now in
     let taken = ap (is_taken old c.args.id.now) (sym c.deref.ensures.value) ∙ sym c.in_ok-is_taken.ensures ∙ c.if-branch.true in
-    refuses_taken old c.args.document.now c.args.id.now (texts_of c.in_ok-keys.keys.items) c.allocator.ensures.rises c.requires.text c.in_ok-keys.ensures.gives taken
+    refuses_taken old c.args.document.now c.args.id.now
+    (texts_of c.in_ok-keys.keys.items) c.allocator.ensures.rises c.requires.text c.in_ok-keys.ensures.gives taken
 
 pub returns-clause-takes : goal.returns-clause-takes
 returns-clause-takes c =
     let old = c.args.self.now in
     let clear = ap (is_taken old c.args.id.now) (sym c.deref.ensures.value) ∙ sym c.in_ok-is_taken.ensures ∙ c.if-branch.false in
-    takes_next old (record { number = old.number; index = c.note_arrays.new.self; entries = c.put_entries.new.self }) c.args.document.now c.args.id.now (texts_of c.in_ok-keys.keys.items)
+    takes_next old (record { number = old.number; index = c.note_arrays.new.self; entries = c.put_entries.new.self }) c.args.document.now c.args.id.now
+    (texts_of c.in_ok-keys.keys.items)
     c.allocator.ensures.rises c.requires.text c.in_ok-keys.ensures.gives clear refl c.note_arrays.ensures c.in_ok-put_entries.ensures.goes

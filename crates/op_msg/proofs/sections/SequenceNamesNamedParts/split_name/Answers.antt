@@ -8,7 +8,8 @@ use Rattle.op_msg.proofs.sections.SequenceNamesNamedParts.split_name.Goals as go
 pub returns-in-Sequence : goal.returns-in-Sequence
 returns-in-Sequence c =
     let x : Section × List ℕ = (section_of c.in-Ok.section, c.in-Ok.after.now) in (
-      sym c.sections.invariant.0 ∙ names_here c.sections.rest.now x c.in-Ok.ensures ∙ ap (λ (s : SectionRead). names_of (section_of s ∷ (sections_in c.in-Ok.after.now).0)) c.in-Sequence.is
+      sym c.sections.invariant.0 ∙ names_here c.sections.rest.now x c.in-Ok.ensures
+          ∙ ap (λ (s : SectionRead). names_of (section_of s ∷ (sections_in c.in-Ok.after.now).0)) c.in-Sequence.is
           ∙ ap (λ (name : List ℕ). name ∷ names_of (sections_in c.in-Ok.after.now).0) (sym c.as_bytes.ensures.value),
       omega (arith, section_shrinks c.sections.rest.now x c.in-Ok.ensures, c.sections.invariant.1),
     )
@@ -19,7 +20,8 @@ sections-smaller c = section_shrinks c.sections.rest.now (section_of c.in-Ok.sec
 pub sections-preserved : goal.sections-preserved
 sections-preserved c =
     let x : Section × List ℕ = (section_of c.in-Ok.section, c.in-Ok.after.now) in (
-      sym (names_here c.sections.rest.now x c.in-Ok.ensures ∙ ap (λ (s : SectionRead). names_of (section_of s ∷ (sections_in c.in-Ok.after.now).0)) c.in-Body.is) ∙ c.sections.invariant.0,
+      sym (names_here c.sections.rest.now x c.in-Ok.ensures
+          ∙ ap (λ (s : SectionRead). names_of (section_of s ∷ (sections_in c.in-Ok.after.now).0)) c.in-Body.is) ∙ c.sections.invariant.0,
       omega (arith, section_shrinks c.sections.rest.now x c.in-Ok.ensures, c.sections.invariant.1),
     )
 

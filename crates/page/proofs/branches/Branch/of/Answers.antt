@@ -1,4 +1,5 @@
-use Rattle.std.proofs.Common.{◌≡◌, ◌≤◌, ◌+◌, ◌-◌, ◌++◌, ◌∷◌, [], ℕ, List, length, map, take, drop, get_or, replicate, sym, ap, ◌∙◌, subst, arith, vec_len, length-append, append_assoc}
+use Rattle.std.proofs.Common.{◌≡◌, ◌≤◌, ◌+◌, ◌-◌, ◌++◌, ◌∷◌, [], ℕ, List, length, map, take, drop, get_or, replicate, sym, ap, ◌∙◌, subst, arith, vec_len}
+use Rattle.std.proofs.Common.{length-append, append_assoc}
 use Rattle.std.specs.List.{flat_map}
 use Rattle.byteorder.specs.Endian.{little_bytes}
 use Rattle.page.specs.Content.{Arm, IsArm, IsBranch, arm_size, total}
@@ -19,9 +20,17 @@ none = record { key = record { ref_ptr = (0, 0); now = [] }; page = 0 }
 abbrev rest : List Child → List Child
 rest children = take (length children - 1) (drop 1 children)
 
-at_is : (first : ℕ) (arms : List Arm) (start bytes : List ℕ) (n : ℕ) → start ≡ little_bytes 4 first → bytes ≡ start ++ flat_map arm_bytes arms → n ≡ length bytes → n ≡ 4 + total arm_size arms
+at_is : (first : ℕ) (arms : List Arm) (start bytes : List ℕ) (n : ℕ) → start ≡ little_bytes 4 first → bytes ≡ start ++ flat_map arm_bytes arms
+    → n ≡ length bytes → n ≡ 4 + total arm_size arms
 at_is first arms start bytes n begins is len =
-    omega (arith, len, ap (λ (l : List ℕ). length l) is, ap (λ (l : List ℕ). length l) begins, length-append start (flat_map arm_bytes arms), length-joined arm_bytes arm_size length-arm arms)
+    omega (
+      arith,
+      len,
+      ap (λ (l : List ℕ). length l) is,
+      ap (λ (l : List ℕ). length l) begins,
+      length-append start (flat_map arm_bytes arms),
+      length-joined arm_bytes arm_size length-arm arms,
+    )
 
 module _ (children : List Child) (sound : IsBranch (map arm_of children)) where
   split : IsBranch (arm_of (get_or children 0 none) ∷ map arm_of (rest children))
@@ -37,13 +46,18 @@ note_place-requires c =
     let arms = map arm_of (take (length children - 1) (drop 1 children)) in
     omega (
       arith,
-      at_is (get_or children 0 none).page (take i arms) c.append_number.new.bytes.items c.loop-child.bytes.items c.len.result (c.in_ok-append_number.ensures ∙ ap (λ (l : List ℕ). l ++ little_bytes 4 (get_or children 0 none).page) c.in_ok-bytes.ensures.items) c.loop-child.invariant.bytes (omega (arith, c.len.ensures, c.loop-child.bytes.ok)),
+      at_is (get_or children 0 none).page (take i arms) c.append_number.new.bytes.items c.loop-child.bytes.items c.len.result
+          (c.in_ok-append_number.ensures
+          ∙ ap (λ (l : List ℕ). l ++ little_bytes 4 (get_or children 0 none).page) c.in_ok-bytes.ensures.items) c.loop-child.invariant.bytes
+          (omega (arith, c.len.ensures, c.loop-child.bytes.ok)),
       total_take arm_size i arms,
       rest_room children c.requires,
     )
 
 pub append_to-requires : goal.append_to-requires
-append_to-requires c = sound_at arm_of (take (length c.args.children.now - 1) (drop 1 c.args.children.now)) c.loop-child.child-index _ (omega arith) IsArm (split c.args.children.now c.requires).each.1
+append_to-requires c =
+    sound_at arm_of (take (length c.args.children.now - 1) (drop 1 c.args.children.now)) c.loop-child.child-index _ (omega arith) IsArm
+    (split c.args.children.now c.requires).each.1
 
 pub loop-child-preserved : goal.loop-child-preserved
 loop-child-preserved c =
@@ -51,7 +65,10 @@ loop-child-preserved c =
     let i = c.loop-child.child-index in
     let arms = map arm_of children in
     let start = c.append_number.new.bytes.items in
-    let is = at_is (get_or c.args.children.now 0 none).page (take i arms) start c.loop-child.bytes.items c.len.result (c.in_ok-append_number.ensures ∙ ap (λ (l : List ℕ). l ++ little_bytes 4 (get_or c.args.children.now 0 none).page) c.in_ok-bytes.ensures.items) c.loop-child.invariant.bytes (omega (arith, c.len.ensures, c.loop-child.bytes.ok)) in
+    let is = at_is (get_or c.args.children.now 0 none).page (take i arms) start c.loop-child.bytes.items c.len.result
+    (c.in_ok-append_number.ensures
+    ∙ ap (λ (l : List ℕ). l ++ little_bytes 4 (get_or c.args.children.now 0 none).page) c.in_ok-bytes.ensures.items) c.loop-child.invariant.bytes
+    (omega (arith, c.len.ensures, c.loop-child.bytes.ok)) in
     record {
       bytes =
           c.in_ok-append_to.ensures ∙ ap (λ (l : List ℕ). l ++ arm_bytes (arm_of (get_or children i none))) c.loop-child.invariant.bytes
@@ -63,7 +80,8 @@ loop-child-preserved c =
     }
 
 module _ (first : Arm) (arms all : List Arm) (front : all ≡ first ∷ arms) (sound : IsBranch all) (bytes new places : List ℕ) (n : ℕ)
-    (is : bytes ≡ little_bytes 4 first.child ++ flat_map arm_bytes arms) (at : places ≡ starts arm_size 4 arms) (len : n ≡ length bytes) (made : new ≡ take 4080 bytes ++ replicate (4080 - n) 0) where
+    (is : bytes ≡ little_bytes 4 first.child ++ flat_map arm_bytes arms) (at : places ≡ starts arm_size 4 arms) (len : n ≡ length bytes)
+    (made : new ≡ take 4080 bytes ++ replicate (4080 - n) 0) where
   parts : IsBranch (first ∷ arms)
   parts = subst IsBranch front sound
 
@@ -81,7 +99,8 @@ invariant_of-result c =
     let all = c.args.children.now in
     let children = take (length all - 1) (drop 1 all) in
     let whole_list = all_taken arm_of children c.loop-child.child-index (omega arith) in
-    let start : c.append_number.new.bytes.items ≡ little_bytes 4 (arm_of (get_or all 0 none)).child = c.in_ok-append_number.ensures ∙ ap (λ (l : List ℕ). l ++ little_bytes 4 (arm_of (get_or all 0 none)).child) c.in_ok-bytes.ensures.items in
+    let start : c.append_number.new.bytes.items ≡ little_bytes 4 (arm_of (get_or all 0 none)).child =
+    c.in_ok-append_number.ensures ∙ ap (λ (l : List ℕ). l ++ little_bytes 4 (arm_of (get_or all 0 none)).child) c.in_ok-bytes.ensures.items in
     keeps (arm_of (get_or all 0 none)) (map arm_of children) (map arm_of all) (front_child arm_of all none c.requires) c.requires
     c.loop-child.bytes.items c.resize.new.self.items c.loop-child.places.items (vec_len c.loop-child.bytes)
     (c.loop-child.invariant.bytes ∙ (λ i. start i ++ flat_map arm_bytes (whole_list i)))
@@ -93,7 +112,8 @@ returns c =
     let all = c.args.children.now in
     let children = take (length all - 1) (drop 1 all) in
     let whole_list = all_taken arm_of children c.loop-child.child-index (omega arith) in
-    let start : c.append_number.new.bytes.items ≡ little_bytes 4 (arm_of (get_or all 0 none)).child = c.in_ok-append_number.ensures ∙ ap (λ (l : List ℕ). l ++ little_bytes 4 (arm_of (get_or all 0 none)).child) c.in_ok-bytes.ensures.items in
+    let start : c.append_number.new.bytes.items ≡ little_bytes 4 (arm_of (get_or all 0 none)).child =
+    c.in_ok-append_number.ensures ∙ ap (λ (l : List ℕ). l ++ little_bytes 4 (arm_of (get_or all 0 none)).child) c.in_ok-bytes.ensures.items in
     gives (arm_of (get_or all 0 none)) (map arm_of children) (map arm_of all) (front_child arm_of all none c.requires) c.requires
     c.loop-child.bytes.items c.resize.new.self.items c.loop-child.places.items (vec_len c.loop-child.bytes)
     (c.loop-child.invariant.bytes ∙ (λ i. start i ++ flat_map arm_bytes (whole_list i)))

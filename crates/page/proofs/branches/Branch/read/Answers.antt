@@ -18,14 +18,16 @@ returns-then-not-keys_rise c isnt =
     let places = c.in_ok-places.places.items in
     branch_judged c.args.count c.args.bytes.now places false (omega arith) c.in_ok-places.ensures
     (sym (branch_rises c.args.bytes.now places)
-    ∙ ap (λ (l : List ℕ). rise_above [] (map (λ at. (arm_in (drop at c.args.bytes.now)).key) l)) (sym c.deref.ensures.value) ∙ sym c.keys_rise.ensures ∙ c.if-not-keys_rise.true)
+    ∙ ap (λ (l : List ℕ). rise_above [] (map (λ at. (arm_in (drop at c.args.bytes.now)).key) l)) (sym c.deref.ensures.value) ∙ sym c.keys_rise.ensures
+    ∙ c.if-not-keys_rise.true)
 
 pub invariant_of-result : goal.invariant_of-result
 invariant_of-result c =
     let places = c.in_ok-places.places.items in
     let rises : rise (arm_keys (arms_at c.args.bytes.now places)) ≡ true =
     sym (branch_rises c.args.bytes.now places)
-    ∙ ap (λ (l : List ℕ). rise_above [] (map (λ at. (arm_in (drop at c.args.bytes.now)).key) l)) (sym c.deref.ensures.value) ∙ sym c.keys_rise.ensures ∙ c.if-not-keys_rise.false in
+    ∙ ap (λ (l : List ℕ). rise_above [] (map (λ at. (arm_in (drop at c.args.bytes.now)).key) l)) (sym c.deref.ensures.value) ∙ sym c.keys_rise.ensures
+    ∙ c.if-not-keys_rise.false in
     subst (λ (l : List ℕ). KeepsBranch l places) (sym c.in_ok-bytes.ensures.items)
     (branch_kept c.args.bytes.now c.requires (λ i. (c.type_inv.bytes i).fits) (c.args.count - 1) places c.in_ok-places.ensures (omega arith) rises)
 
@@ -34,6 +36,7 @@ returns c =
     let places = c.in_ok-places.places.items in
     let rises : rise (arm_keys (arms_at c.args.bytes.now places)) ≡ true =
     sym (branch_rises c.args.bytes.now places)
-    ∙ ap (λ (l : List ℕ). rise_above [] (map (λ at. (arm_in (drop at c.args.bytes.now)).key) l)) (sym c.deref.ensures.value) ∙ sym c.keys_rise.ensures ∙ c.if-not-keys_rise.false in
+    ∙ ap (λ (l : List ℕ). rise_above [] (map (λ at. (arm_in (drop at c.args.bytes.now)).key) l)) (sym c.deref.ensures.value) ∙ sym c.keys_rise.ensures
+    ∙ c.if-not-keys_rise.false in
     branch_judged c.args.count c.args.bytes.now places true (omega arith) c.in_ok-places.ensures rises
     ∙ ap (λ (l : List ℕ). Ok (branch (arms_at l places))) (sym c.in_ok-bytes.ensures.items)

@@ -9,7 +9,8 @@ overflow_add-result c =
     omega (
       arith,
       c.number_place.ensures,
-      place_last c.len.result c.args.self.now (omega (arith, c.len.ensures, c.self.inside.places.ok, now_long bytes places c.args.self.now c.self.invariant c.self.view_is)),
+      place_last c.len.result c.args.self.now
+          (omega (arith, c.len.ensures, c.self.inside.places.ok, now_long bytes places c.args.self.now c.self.invariant c.self.view_is)),
       now_room bytes places c.args.self.now c.self.invariant c.self.view_is,
     )
 
@@ -18,4 +19,5 @@ returns c =
     let bytes = c.self.inside.bytes.items in
     let places = c.self.inside.places.items in
     ap (λ (n : ℕ). n + 4) c.number_place.ensures
-    ∙ place_last c.len.result c.args.self.now (omega (arith, c.len.ensures, c.self.inside.places.ok, now_long bytes places c.args.self.now c.self.invariant c.self.view_is))
+    ∙ place_last c.len.result c.args.self.now
+    (omega (arith, c.len.ensures, c.self.inside.places.ok, now_long bytes places c.args.self.now c.self.invariant c.self.view_is))

@@ -20,7 +20,8 @@ invariant_of-result c =
     let bytes = c.self.inside.bytes.items in
     let places = c.self.inside.places.items in
     subst (KeepsBranch c.in_ok-bytes.bytes.items) (sym (c.in_ok-places.ensures.items ∙ c.deref-2.ensures.value))
-    (with_kept c.args.i c.args.page (omega (arith, c.ranges.page.fits)) bytes places c.in_ok-bytes.bytes.items c.args.self.now c.self.invariant c.self.view_is c.requires
+    (with_kept c.args.i c.args.page
+    (omega (arith, c.ranges.page.fits)) bytes places c.in_ok-bytes.bytes.items c.args.self.now c.self.invariant c.self.view_is c.requires
     (c.in_ok-bytes.ensures ∙ (λ j. patched (c.number_place.ensures j) c.args.page (c.deref.ensures.value j))))
 
 pub returns : goal.returns
@@ -28,5 +29,6 @@ returns c =
     let bytes = c.self.inside.bytes.items in
     let places = c.self.inside.places.items in
     ap (arms_at c.in_ok-bytes.bytes.items) (c.in_ok-places.ensures.items ∙ c.deref-2.ensures.value)
-    ∙ with_is c.args.i c.args.page (omega (arith, c.ranges.page.fits)) bytes places c.in_ok-bytes.bytes.items c.args.self.now c.self.invariant c.self.view_is c.requires
+    ∙ with_is c.args.i c.args.page
+    (omega (arith, c.ranges.page.fits)) bytes places c.in_ok-bytes.bytes.items c.args.self.now c.self.invariant c.self.view_is c.requires
     (c.in_ok-bytes.ensures ∙ (λ j. patched (c.number_place.ensures j) c.args.page (c.deref.ensures.value j)))

@@ -11,14 +11,16 @@ pub returns-then-not-self-clause-takes : goal.returns-then-not-self-clause-takes
 returns-then-not-self-clause-takes c keeps =
     let old = c.args.self.now.disk in
     let new = c.fail.new.self in
-    takes {E = DeviceFault} c.args.bytes.now (Err record {}) (replay old.clock old.calls.items blank) (replay new.clock new.calls.items blank) c.args.sector tt (c.fail.ensures.same keeps) (readable old.clock old.calls.items c.args.sector)
+    takes {E = DeviceFault} c.args.bytes.now (Err record {}) (replay old.clock old.calls.items blank) (replay new.clock new.calls.items blank) c.args.sector tt
+    (c.fail.ensures.same keeps) (readable old.clock old.calls.items c.args.sector)
 
 not_failed : (b : Bool) (left : ℕ) → (b ≡ true → left ≡ 0) → left ≡ 1 → b ≡ false
 not_failed true left spent one = absurd (omega (arith, spent refl, one))
 not_failed false left spent one = refl
 
 -- a call that was done and is answered as failed
-counted : (old new : History) (b : Bool) → b ≡ false → Ticks old new true → Ticks (record old { failures = if b then old.failures + 1 else old.failures }) (record new { failures = new.failures + 1 }) false
+counted : (old new : History) (b : Bool) → b ≡ false → Ticks old new true
+    → Ticks (record old { failures = if b then old.failures + 1 else old.failures }) (record new { failures = new.failures + 1 }) false
 counted old new true e t = absurd cc
 counted old new false e t = record {
   kept = t.kept;

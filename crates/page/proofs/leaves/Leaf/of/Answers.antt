@@ -20,7 +20,12 @@ pub note_place-requires : goal.note_place-requires
 note_place-requires c =
     let items = map item_of c.args.cells.now in
     let i = c.loop-cell.cell-index in
-    omega (arith, at_is (take i items) c.loop-cell.bytes.items c.len.result c.loop-cell.invariant.bytes (omega (arith, c.len.ensures, c.loop-cell.bytes.ok)), total_take item_size i items, c.requires.room)
+    omega (
+      arith,
+      at_is (take i items) c.loop-cell.bytes.items c.len.result c.loop-cell.invariant.bytes (omega (arith, c.len.ensures, c.loop-cell.bytes.ok)),
+      total_take item_size i items,
+      c.requires.room,
+    )
 
 abbrev none : Cell
 none = record { key = record { ref_ptr = (0, 0); now = [] }; stored = Inline (record { ref_ptr = (0, 0); now = [] }) }
@@ -32,7 +37,8 @@ pub loop-cell-preserved : goal.loop-cell-preserved
 loop-cell-preserved c =
     let cells = c.args.cells.now in
     let i = c.loop-cell.cell-index in
-    let is = at_is (take i (map item_of cells)) c.loop-cell.bytes.items c.len.result c.loop-cell.invariant.bytes (omega (arith, c.len.ensures, c.loop-cell.bytes.ok)) in
+    let is = at_is (take i (map item_of cells)) c.loop-cell.bytes.items c.len.result c.loop-cell.invariant.bytes
+    (omega (arith, c.len.ensures, c.loop-cell.bytes.ok)) in
     record {
       bytes =
           c.in_ok-append_to.ensures ∙ ap (λ (l : List ℕ). l ++ item_bytes (item_of (get_or cells i none))) c.loop-cell.invariant.bytes
@@ -42,7 +48,8 @@ loop-cell-preserved c =
           ∙ places_more item_of cells i none (omega arith) item_size 0 c.len.result (omega (arith, is));
     }
 
-module _ (items : List Item) (sound : IsLeaf items) (bytes new places : List ℕ) (n : ℕ) (is : bytes ≡ flat_map item_bytes items) (at : places ≡ starts item_size 0 items)
+module _ (items : List Item) (sound : IsLeaf items) (bytes new places : List ℕ) (n : ℕ) (is : bytes ≡ flat_map item_bytes items)
+    (at : places ≡ starts item_size 0 items)
     (len : n ≡ length bytes) (made : new ≡ take 4080 bytes ++ replicate (4080 - n) 0) where
   whole : new ≡ body_and_zeros (flat_map item_bytes items)
   whole = filled bytes (flat_map item_bytes items) new n is len (omega (arith, sound.room, length-joined item_bytes item_size length-item items)) made

@@ -26,7 +26,8 @@ overflow_add-result c =
     let seen = ap (λ (l : List Item). length l) c.self.view_is in
     omega (
       arith,
-      end_small bytes places c.self.invariant c.args.self.now c.self.view_is _ (item_of c.cell.result) (omega (arith, c.self.invariant.sound.some, long_is, seen)) c.cell.ensures
+      end_small bytes places c.self.invariant c.args.self.now c.self.view_is _ (item_of c.cell.result)
+          (omega (arith, c.self.invariant.sound.some, long_is, seen)) c.cell.ensures
           c.args.i c.index-2.result.now c.size.result (omega (arith, long_is, seen)) c.index-2.ensures c.size.ensures,
     )
 
@@ -36,5 +37,6 @@ returns c =
     let places = c.self.inside.places.items in
     let long_is = long bytes places c.self.invariant in
     let seen = ap (λ (l : List Item). length l) c.self.view_is in
-    end_seen bytes places c.self.invariant c.args.self.now c.self.view_is _ (item_of c.cell.result) (omega (arith, c.self.invariant.sound.some, long_is, seen)) c.cell.ensures
+    end_seen bytes places c.self.invariant c.args.self.now c.self.view_is _ (item_of c.cell.result)
+    (omega (arith, c.self.invariant.sound.some, long_is, seen)) c.cell.ensures
     c.args.i c.index-2.result.now c.size.result (omega (arith, long_is, seen)) c.index-2.ensures c.size.ensures

@@ -8,7 +8,8 @@ use Rattle.page.proofs.page_cache.PageCache.remove.Goals as goal
 
 pub returns-then-len-gt0-clause-this : goal.returns-then-len-gt0-clause-this
 returns-then-len-gt0-clause-this c =
-    ap (λ (x : LruCache ℕ Sheet). lookup (nat_eq c.args.page) x.entries) c.pop.ensures.entries ∙ removed_this c.args.page c.args.self.now.pages.entries c.len.ensures.valid.0
+    ap (λ (x : LruCache ℕ Sheet). lookup (nat_eq c.args.page) x.entries) c.pop.ensures.entries
+    ∙ removed_this c.args.page c.args.self.now.pages.entries c.len.ensures.valid.0
 
 pub returns-then-len-gt0-clause-others : goal.returns-then-len-gt0-clause-others
 returns-then-len-gt0-clause-others c k other =

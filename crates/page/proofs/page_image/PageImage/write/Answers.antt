@@ -13,7 +13,8 @@ pub tree_page-requires-in-Branch-clause-count : goal.tree_page-requires-in-Branc
 tree_page-requires-in-Branch-clause-count c = omega (arith, c.len-in-Branch.ensures.count, c.len-in-Branch.ensures.sound.room, few_arms c.in-Branch.branch)
 
 pub tree_page-requires-in-Branch-clause-body : goal.tree_page-requires-in-Branch-clause-body
-tree_page-requires-in-Branch-clause-body c = ap (λ (l : List ℕ). length l) c.bytes-in-Branch.ensures ∙ branch_len c.in-Branch.branch c.len-in-Branch.ensures.sound
+tree_page-requires-in-Branch-clause-body c =
+    ap (λ (l : List ℕ). length l) c.bytes-in-Branch.ensures ∙ branch_len c.in-Branch.branch c.len-in-Branch.ensures.sound
 
 pub returns-in-Leaf : goal.returns-in-Leaf
 unfolding page_bytes

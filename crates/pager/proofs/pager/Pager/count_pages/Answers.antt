@@ -9,7 +9,8 @@ pub invariant_of-self : goal.invariant_of-self
 invariant_of-self g c =
     let i = c.self.inside in
     let counts = c.count_pages.ensures.counts in
-    let only : OnlyRead g.D.Disk.history i.store c.count_pages.new.self = record { root = counts.root; stopped = counts.stopped; reads = c.count_pages.ensures.looks.reads } in
+    let only : OnlyRead g.D.Disk.history i.store c.count_pages.new.self = record
+    { root = counts.root; stopped = counts.stopped; reads = c.count_pages.ensures.looks.reads } in
     kept_read g.D.Disk.history i.store c.count_pages.new.self only i.made.items i.book i.cache c.self.invariant
 
 pub returns : goal.returns
@@ -20,5 +21,6 @@ returns g c =
     let store = c.count_pages.new.self in
     let counts = c.count_pages.ensures.counts in
     let only : OnlyRead history i.store store = record { root = counts.root; stopped = counts.stopped; reads = c.count_pages.ensures.looks.reads } in
-    subst (λ (s : State D). CountsPages history c.count_pages.result s (record { store = store; made = i.made.items; retired = i.retired.items; book = i.book })) c.self.view_is
+    subst (λ (s : State D). CountsPages history c.count_pages.result s
+    (record { store = store; made = i.made.items; retired = i.retired.items; book = i.book })) c.self.view_is
     (counts_so history i.store store only i.made.items i.book i.retired.items c.count_pages.result c.count_pages.ensures.looks counts)

@@ -7,32 +7,42 @@ use Rattle.pager.proofs.pager.PagerPages.fresh.Goals as goal
 
 pub returns-in_err-shared-clause-makes : goal.returns-in_err-shared-clause-makes
 returns-in_err-shared-clause-makes g c =
-    fresh_refused g.D.Disk.history c.self.inside.store c.self.inside.made.items c.reserve.new.self.items c.self.inside.retired.items c.self.inside.book c.take_page.new.book c.args.self.now
-    c.self.invariant.booked.count c.self.view_is c.reserve.ensures.items c.in_err-shared.field-0.0 c.in_err-shared.ensures.refused (content_in c.args.content) c.from_residual-in_err-shared.result (search rules)
+    fresh_refused g.D.Disk.history c.self.inside.store c.self.inside.made.items c.reserve.new.self.items c.self.inside.retired.items c.self.inside.book
+    c.take_page.new.book c.args.self.now
+    c.self.invariant.booked.count c.self.view_is c.reserve.ensures.items c.in_err-shared.field-0.0 c.in_err-shared.ensures.refused
+    (content_in c.args.content) c.from_residual-in_err-shared.result (search rules)
 
 pub invariant_of-self-2 : goal.invariant_of-self-2
 invariant_of-self-2 g c =
-    fresh_kept g.D.Disk.history c.self.inside.store c.self.inside.cache c.remove.new.self c.self.inside.made.items c.push.new.self.items c.self.inside.book c.take_page.new.book c.self.invariant
+    fresh_kept g.D.Disk.history c.self.inside.store c.self.inside.cache c.remove.new.self c.self.inside.made.items c.push.new.self.items c.self.inside.book
+    c.take_page.new.book c.self.invariant
     c.in_ok-shared.shared
-    (pushed_on c.push.new.self.items c.reserve.new.self.items c.self.inside.made.items c.in_ok-shared.shared c.push.result c.unwrap.result c.push.ensures.items c.unwrap.ensures c.reserve.ensures.items)
+    (pushed_on c.push.new.self.items c.reserve.new.self.items c.self.inside.made.items c.in_ok-shared.shared c.push.result c.unwrap.result c.push.ensures.items
+    c.unwrap.ensures c.reserve.ensures.items)
     c.in_ok-shared.ensures.taken c.image.result.now.page (ap (λ (m : Sheet). m.page) (sym c.image.ensures)) c.remove.ensures.this c.remove.ensures.others
     c.saturating_add-generation.result c.in_ok-shared.ensures.generation (search rules)
 
 pub returns-clause-makes : goal.returns-clause-makes
 returns-clause-makes g c =
-    fresh_done g.D.Disk.history c.self.inside.store c.self.inside.cache c.self.inside.made.items c.push.new.self.items c.self.inside.retired.items c.self.inside.book c.take_page.new.book c.args.self.now
+    fresh_done g.D.Disk.history c.self.inside.store c.self.inside.cache c.self.inside.made.items c.push.new.self.items c.self.inside.retired.items
+    c.self.inside.book c.take_page.new.book c.args.self.now
     c.self.invariant c.self.view_is c.in_ok-shared.shared
-    (pushed_on c.push.new.self.items c.reserve.new.self.items c.self.inside.made.items c.in_ok-shared.shared c.push.result c.unwrap.result c.push.ensures.items c.unwrap.ensures c.reserve.ensures.items)
-    c.in_ok-shared.ensures.taken c.image.result.now.page (ap (λ (m : Sheet). m.page) (sym c.image.ensures)) (content_in c.args.content) c.in_ok-shared.ensures.content
+    (pushed_on c.push.new.self.items c.reserve.new.self.items c.self.inside.made.items c.in_ok-shared.shared c.push.result c.unwrap.result c.push.ensures.items
+    c.unwrap.ensures c.reserve.ensures.items)
+    c.in_ok-shared.ensures.taken c.image.result.now.page (ap (λ (m : Sheet). m.page) (sym c.image.ensures))
+    (content_in c.args.content) c.in_ok-shared.ensures.content
 
 pub returns-in_err-shared-clause-stays : goal.returns-in_err-shared-clause-stays
 returns-in_err-shared-clause-stays g c =
-    fresh_stays_refused g.D.Disk.history c.self.inside.store c.self.inside.made.items c.reserve.new.self.items c.self.inside.retired.items c.self.inside.book c.take_page.new.book c.args.self.now
+    fresh_stays_refused g.D.Disk.history c.self.inside.store c.self.inside.made.items c.reserve.new.self.items c.self.inside.retired.items c.self.inside.book
+    c.take_page.new.book c.args.self.now
     c.self.invariant.booked.count c.self.view_is c.reserve.ensures.items c.in_err-shared.field-0.0 c.in_err-shared.ensures.refused
 
 pub returns-clause-stays : goal.returns-clause-stays
 returns-clause-stays g c =
-    fresh_stays g.D.Disk.history c.self.inside.store c.self.inside.cache c.self.inside.made.items c.push.new.self.items c.self.inside.retired.items c.self.inside.book c.take_page.new.book c.args.self.now
+    fresh_stays g.D.Disk.history c.self.inside.store c.self.inside.cache c.self.inside.made.items c.push.new.self.items c.self.inside.retired.items
+    c.self.inside.book c.take_page.new.book c.args.self.now
     c.self.invariant c.self.view_is c.in_ok-shared.shared
-    (pushed_on c.push.new.self.items c.reserve.new.self.items c.self.inside.made.items c.in_ok-shared.shared c.push.result c.unwrap.result c.push.ensures.items c.unwrap.ensures c.reserve.ensures.items)
+    (pushed_on c.push.new.self.items c.reserve.new.self.items c.self.inside.made.items c.in_ok-shared.shared c.push.result c.unwrap.result c.push.ensures.items
+    c.unwrap.ensures c.reserve.ensures.items)
     c.in_ok-shared.ensures.taken

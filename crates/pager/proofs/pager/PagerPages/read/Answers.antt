@@ -7,21 +7,25 @@ use Rattle.pager.proofs.pager.PagerPages.read.Goals as goal
 pub invariant_of-self : goal.invariant_of-self
 invariant_of-self g c =
     let ne = subst (λ (l : List Sheet). AllByRecursion (λ (m : Sheet). m.page ≢ c.args.page) l) c.deref.ensures.value c.in_default.ensures in
-    read_kept g.D.Disk.history c.self.inside.store c.read_page.new.store c.self.inside.cache c.read_page.new.cache c.self.inside.made.items c.self.inside.book c.args.page c.read_page.result c.self.invariant c.read_page.ensures ne
+    read_kept g.D.Disk.history c.self.inside.store c.read_page.new.store c.self.inside.cache c.read_page.new.cache c.self.inside.made.items c.self.inside.book
+    c.args.page c.read_page.result c.self.invariant c.read_page.ensures ne
 
 pub returns-clause-stays : goal.returns-clause-stays
 returns-clause-stays g c =
-    read_stays g.D.Disk.history c.self.inside.store c.read_page.new.store c.self.inside.cache c.read_page.new.cache c.self.inside.made.items c.self.inside.retired.items c.self.inside.book c.args.page c.read_page.result c.args.self.now
+    read_stays g.D.Disk.history c.self.inside.store c.read_page.new.store c.self.inside.cache c.read_page.new.cache c.self.inside.made.items
+    c.self.inside.retired.items c.self.inside.book c.args.page c.read_page.result c.args.self.now
     c.self.view_is c.read_page.ensures
 
 pub returns-clause-value : goal.returns-clause-value
 returns-clause-value g c =
     let ne = subst (λ (l : List Sheet). AllByRecursion (λ (m : Sheet). m.page ≢ c.args.page) l) c.deref.ensures.value c.in_default.ensures in
-    read_value g.D.Disk.history c.self.inside.store c.read_page.new.store c.self.inside.cache c.read_page.new.cache c.self.inside.made.items c.self.inside.retired.items c.self.inside.book c.args.page c.read_page.result c.args.self.now
+    read_value g.D.Disk.history c.self.inside.store c.read_page.new.store c.self.inside.cache c.read_page.new.cache c.self.inside.made.items
+    c.self.inside.retired.items c.self.inside.book c.args.page c.read_page.result c.args.self.now
     c.self.view_is c.self.invariant c.read_page.ensures ne
 
 pub returns-clause-cause : goal.returns-clause-cause
 returns-clause-cause g c =
     let ne = subst (λ (l : List Sheet). AllByRecursion (λ (m : Sheet). m.page ≢ c.args.page) l) c.deref.ensures.value c.in_default.ensures in
-    read_cause g.D.Disk.history c.self.inside.store c.read_page.new.store c.self.inside.cache c.read_page.new.cache c.self.inside.made.items c.self.inside.retired.items c.self.inside.book c.args.page c.read_page.result c.args.self.now
+    read_cause g.D.Disk.history c.self.inside.store c.read_page.new.store c.self.inside.cache c.read_page.new.cache c.self.inside.made.items
+    c.self.inside.retired.items c.self.inside.book c.args.page c.read_page.result c.args.self.now
     c.self.view_is c.read_page.ensures ne

@@ -8,5 +8,6 @@ names-init c =
     let text = c.args.text.now in
     record {
       all = ap (λ ps. ps ++ map (λ n. n.now) c.deref-name-items.result.now) c.in_ok-parts.ensures.items;
-      pass = subst (λ ns. AllPass (map (λ n. n.now) ns)) (sym c.deref-name-items.ensures.value) (faultless text (map (λ n. n.now) c.in_ok-names.names.items) (ap (path_fault text) c.in_ok-names.ensures ∙ sym c.fault_of.ensures ∙ c.in_default.is));
+      pass = subst (λ ns. AllPass (map (λ n. n.now) ns)) (sym c.deref-name-items.ensures.value)
+          (faultless text (map (λ n. n.now) c.in_ok-names.names.items) (ap (path_fault text) c.in_ok-names.ensures ∙ sym c.fault_of.ensures ∙ c.in_default.is));
     }

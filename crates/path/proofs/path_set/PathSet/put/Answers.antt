@@ -8,7 +8,8 @@ use Rattle.path.proofs.path_set.PathSet.put.Goals as goal
 pub invariant_of-self-2 : goal.invariant_of-self-2
 invariant_of-self-2 c =
     let old = c.self.inside.paths.keys in
-    subst AreApart (sym c.in_ok-_new.ensures.keys) (still_apart c.args.path old c.self.invariant (ap (list_any (meets c.args.path)) c.self.view_is ∙ c.requires))
+    subst AreApart (sym c.in_ok-_new.ensures.keys)
+    (still_apart c.args.path old c.self.invariant (ap (list_any (meets c.args.path)) c.self.view_is ∙ c.requires))
 
 pub returns : goal.returns
 returns c = λ other.

@@ -26,7 +26,9 @@ end_keyed None h = tt
 end_keyed (Some b) h = h
 
 spellable : (range : IndexRange) (low high : Option (Bor Value)) → low ≡ option_map (λ b. b.operand) range.low → high ≡ option_map (λ b. b.operand) range.high
-    → (r : Result Bool AllocError) → IfOk r (λ are. are ≡ true → AllByRecursion IsKeyed (range.equal.first ∷ range.equal.second ∷ range.equal.third ∷ range.equal.fourth ∷ low ∷ high ∷ [])) → IfOk r (λ is. is ≡ true → IsSpellable (range_of range))
+    → (r : Result Bool AllocError)
+    → IfOk r (λ are. are ≡ true → AllByRecursion IsKeyed (range.equal.first ∷ range.equal.second ∷ range.equal.third ∷ range.equal.fourth ∷ low ∷ high ∷ []))
+    → IfOk r (λ is. is ≡ true → IsSpellable (range_of range))
 spellable range low high is_low is_high (Err e) h = tt
 spellable range low high is_low is_high (Ok b) h = λ is.
     let all = h is in

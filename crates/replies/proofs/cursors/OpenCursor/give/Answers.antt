@@ -14,7 +14,8 @@ invariant_of-self c =
     let f = project c.self.inside.projection in
     let ds = c.self.inside.documents.items in
     let given = c.self.inside.given in
-    let later : map f (drop (given + c.args.count) ds) ≡ drop c.args.count (map f (drop given ds)) = ap (map f) (drop_more given c.args.count ds) ∙ sym (drop-map f c.args.count (drop given ds)) in
+    let later : map f (drop (given + c.args.count) ds) ≡ drop c.args.count (map f (drop given ds)) =
+    ap (map f) (drop_more given c.args.count ds) ∙ sym (drop-map f c.args.count (drop given ds)) in
     let left : length (map f (drop given ds)) ≡ length c.args.self.now.rest = ap (λ (x : Cursor). length x.rest) c.self.view_is in (
       record {
         within = subst (λ (es : List Pairs). All IsWithin es) (sym later) (All-drop IsWithin c.args.count (map f (drop given ds)) c.self.invariant.0.within);
@@ -28,7 +29,8 @@ returns c =
     let f = project c.self.inside.projection in
     let ds = c.self.inside.documents.items in
     let given = c.self.inside.given in
-    let later : map f (drop (given + c.args.count) ds) ≡ drop c.args.count (map f (drop given ds)) = ap (map f) (drop_more given c.args.count ds) ∙ sym (drop-map f c.args.count (drop given ds)) in
+    let later : map f (drop (given + c.args.count) ds) ≡ drop c.args.count (map f (drop given ds)) =
+    ap (map f) (drop_more given c.args.count ds) ∙ sym (drop-map f c.args.count (drop given ds)) in
     let made : List Pairs → Cursor = λ rest. record {
       number = c.self.inside.number;
       connection = c.self.inside.connection;

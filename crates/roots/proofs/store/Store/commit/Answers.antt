@@ -12,7 +12,8 @@ pub returns-in-Ok-clause-moves : goal.returns-in-Ok-clause-moves
 returns-in-Ok-clause-moves g c before live committed after pages turn =
     let s = c.args.self.now in
     let root : Root = record { generation = s.root.generation + 1; tree = c.args.tree; pages = c.greater.result } in
-    let is : root ≡ next_root s.root c.args.made.now c.args.tree = root_is s.root c.args.made.now c.args.tree c.greater.result c.end_of.result c.greater.ensures (c.end_of.ensures turn.inside) in
+    let is : root ≡ next_root s.root c.args.made.now c.args.tree =
+    root_is s.root c.args.made.now c.args.tree c.greater.result c.end_of.result c.greater.ensures (c.end_of.ensures turn.inside) in
     done g.D.Disk.history s c.write_commit.new.disk root (next_root s.root c.args.made.now c.args.tree) pages before after live committed is
     (c.in-Ok.ensures.moves s.root before live committed.keeps after pages turn is (omega arith))
 

@@ -8,7 +8,8 @@ pub returns-in_err-reached-clause-counts : goal.returns-in_err-reached-clause-co
 returns-in_err-reached-clause-counts g c =
     counts_so g.D.Disk.history c.from_residual.result c.args.self.now c.reached_pages.new.disk c.reached_pages.ensures.looks.reads
     (λ k. none_so c.from_residual.result _ c.in_err-reached.field-0.0 (search rules))
-    (λ k live entries holds. match_failed _ c.from_residual.result c.in_err-reached.field-0.0 (search rules) (c.in_err-reached.ensures.pages k live entries holds))
+    (λ k live entries holds. match_failed _ c.from_residual.result c.in_err-reached.field-0.0 (search rules)
+    (c.in_err-reached.ensures.pages k live entries holds))
 
 pub returns-clause-counts : goal.returns-clause-counts
 returns-clause-counts g c =
@@ -25,4 +26,5 @@ returns-clause-counts g c =
       are = counts_are image root found there.0 counts c.len.result there.1 many c.counts_of.ensures.pages c.counts_of.ensures.all;
     })
     (λ k live entries holds.
-    counts_are image root live entries counts c.len.result holds (many ∙ ap length (c.in_ok-reached.ensures.pages k live entries holds)) c.counts_of.ensures.pages c.counts_of.ensures.all)
+    counts_are image root live entries counts c.len.result holds
+    (many ∙ ap length (c.in_ok-reached.ensures.pages k live entries holds)) c.counts_of.ensures.pages c.counts_of.ensures.all)

@@ -10,7 +10,9 @@ use Rattle.server.proofs.service.CoreService.answer.Goals as goal
 pub returns-in-Err-Memory-clause-answered : goal.returns-in-Err-Memory-clause-answered
 returns-in-Err-Memory-clause-answered g c =
     let fails = subst
-    (λ (f : TurnFault). TurnFails (KeepsWord (disk_history g.D.Disk.history c.turn.new.self)) (IsCaused (moment_of g.D.Disk.history c.args.self.now) (moment_of g.D.Disk.history c.turn.new.self)) (state c.args.self.now) f (is_stopped c.args.self.now) (state c.turn.new.self))
+    (λ (f : TurnFault). TurnFails (KeepsWord (disk_history g.D.Disk.history c.turn.new.self))
+    (IsCaused (moment_of g.D.Disk.history c.args.self.now) (moment_of g.D.Disk.history c.turn.new.self)) (state c.args.self.now) f (is_stopped c.args.self.now)
+    (state c.turn.new.self))
     c.in-Err-Memory.field-0-is c.in-Err-Memory.ensures.fails in
     record {
       replies = [];

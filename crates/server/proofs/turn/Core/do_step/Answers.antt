@@ -38,19 +38,30 @@ pub returns-in-Err-Memory-clause-disk : goal.returns-in-Err-Memory-clause-disk
 returns-in-Err-Memory-clause-disk g c = unmoved g.D.Disk.history c.args.self.now c.feed.new.self c.requires.sound c.feed.ensures.disk
 
 pub returns-in-Err-Closed-clause-does : goal.returns-in-Err-Closed-clause-does
-returns-in-Err-Closed-clause-does g c = bytes_on c.args.step.now c.in-Bytes.id c.in-Bytes.chunk c.args.out.now (instant_of g.D.Disk.history c.args.self.now) (instant_of g.D.Disk.history c.feed.new.self) c.in-Bytes.is (c.in-Err-Closed.ensures.fed (λ e. absurd cc) ∙ ap (fed (state c.args.self.now) c.in-Bytes.id) c.deref.ensures.value) (same_moment g.D.Disk.history c.args.self.now c.feed.new.self c.feed.ensures.file)
+returns-in-Err-Closed-clause-does g c =
+    bytes_on c.args.step.now c.in-Bytes.id c.in-Bytes.chunk c.args.out.now (instant_of g.D.Disk.history c.args.self.now)
+    (instant_of g.D.Disk.history c.feed.new.self) c.in-Bytes.is
+    (c.in-Err-Closed.ensures.fed (λ e. absurd cc) ∙ ap (fed (state c.args.self.now) c.in-Bytes.id) c.deref.ensures.value)
+    (same_moment g.D.Disk.history c.args.self.now c.feed.new.self c.feed.ensures.file)
 
 pub returns-in-Err-Closed-clause-disk : goal.returns-in-Err-Closed-clause-disk
 returns-in-Err-Closed-clause-disk g c = unmoved g.D.Disk.history c.args.self.now c.feed.new.self c.requires.sound c.feed.ensures.disk
 
 pub returns-in-Ok-clause-does : goal.returns-in-Ok-clause-does
-returns-in-Ok-clause-does g c = bytes_on c.args.step.now c.in-Bytes.id c.in-Bytes.chunk c.args.out.now (instant_of g.D.Disk.history c.args.self.now) (instant_of g.D.Disk.history c.feed.new.self) c.in-Bytes.is (c.in-Ok.ensures.fed (λ e. absurd cc) ∙ ap (fed (state c.args.self.now) c.in-Bytes.id) c.deref.ensures.value) (same_moment g.D.Disk.history c.args.self.now c.feed.new.self c.feed.ensures.file)
+returns-in-Ok-clause-does g c =
+    bytes_on c.args.step.now c.in-Bytes.id c.in-Bytes.chunk c.args.out.now (instant_of g.D.Disk.history c.args.self.now)
+    (instant_of g.D.Disk.history c.feed.new.self) c.in-Bytes.is
+    (c.in-Ok.ensures.fed (λ e. absurd cc) ∙ ap (fed (state c.args.self.now) c.in-Bytes.id) c.deref.ensures.value)
+    (same_moment g.D.Disk.history c.args.self.now c.feed.new.self c.feed.ensures.file)
 
 pub returns-in-Ok-clause-disk : goal.returns-in-Ok-clause-disk
 returns-in-Ok-clause-disk g c = unmoved g.D.Disk.history c.args.self.now c.feed.new.self c.requires.sound c.feed.ensures.disk
 
 pub returns-in-Gone-clause-does : goal.returns-in-Gone-clause-does
-returns-in-Gone-clause-does g c = gone_on c.args.step.now c.in-Gone.id c.args.out.now (instant_of g.D.Disk.history c.args.self.now) (instant_of g.D.Disk.history c.gone.new.self) c.in-Gone.is c.gone.ensures.state (same_moment g.D.Disk.history c.args.self.now c.gone.new.self c.gone.ensures.file)
+returns-in-Gone-clause-does g c =
+    gone_on c.args.step.now c.in-Gone.id c.args.out.now (instant_of g.D.Disk.history c.args.self.now)
+    (instant_of g.D.Disk.history c.gone.new.self) c.in-Gone.is c.gone.ensures.state
+    (same_moment g.D.Disk.history c.args.self.now c.gone.new.self c.gone.ensures.file)
 
 pub returns-in-Gone-clause-disk : goal.returns-in-Gone-clause-disk
 returns-in-Gone-clause-disk g c = unmoved g.D.Disk.history c.args.self.now c.gone.new.self c.requires.sound c.gone.ensures.disk
@@ -103,13 +114,21 @@ pub returns-in-Err-clause-running : goal.returns-in-Err-clause-running
 returns-in-Err-clause-running g c other = c.in-Err.ensures.running (λ is. other (outer c.in-Err.fault is))
 
 pub returns-in-Err-Memory-clause-moment : goal.returns-in-Err-Memory-clause-moment
-returns-in-Err-Memory-clause-moment g c = subst (FollowsInTurn (moment_of g.D.Disk.history c.args.self.now)) (sym (same_moment g.D.Disk.history c.args.self.now c.feed.new.self c.feed.ensures.file)) (in_turn_itself (moment_of g.D.Disk.history c.args.self.now))
+returns-in-Err-Memory-clause-moment g c =
+    subst (FollowsInTurn (moment_of g.D.Disk.history c.args.self.now)) (sym (same_moment g.D.Disk.history c.args.self.now c.feed.new.self c.feed.ensures.file))
+    (in_turn_itself (moment_of g.D.Disk.history c.args.self.now))
 
 pub returns-in-Err-Closed-clause-moment : goal.returns-in-Err-Closed-clause-moment
-returns-in-Err-Closed-clause-moment g c = subst (FollowsInTurn (moment_of g.D.Disk.history c.args.self.now)) (sym (same_moment g.D.Disk.history c.args.self.now c.feed.new.self c.feed.ensures.file)) (in_turn_itself (moment_of g.D.Disk.history c.args.self.now))
+returns-in-Err-Closed-clause-moment g c =
+    subst (FollowsInTurn (moment_of g.D.Disk.history c.args.self.now)) (sym (same_moment g.D.Disk.history c.args.self.now c.feed.new.self c.feed.ensures.file))
+    (in_turn_itself (moment_of g.D.Disk.history c.args.self.now))
 
 pub returns-in-Ok-clause-moment : goal.returns-in-Ok-clause-moment
-returns-in-Ok-clause-moment g c = subst (FollowsInTurn (moment_of g.D.Disk.history c.args.self.now)) (sym (same_moment g.D.Disk.history c.args.self.now c.feed.new.self c.feed.ensures.file)) (in_turn_itself (moment_of g.D.Disk.history c.args.self.now))
+returns-in-Ok-clause-moment g c =
+    subst (FollowsInTurn (moment_of g.D.Disk.history c.args.self.now)) (sym (same_moment g.D.Disk.history c.args.self.now c.feed.new.self c.feed.ensures.file))
+    (in_turn_itself (moment_of g.D.Disk.history c.args.self.now))
 
 pub returns-in-Gone-clause-moment : goal.returns-in-Gone-clause-moment
-returns-in-Gone-clause-moment g c = subst (FollowsInTurn (moment_of g.D.Disk.history c.args.self.now)) (sym (same_moment g.D.Disk.history c.args.self.now c.gone.new.self c.gone.ensures.file)) (in_turn_itself (moment_of g.D.Disk.history c.args.self.now))
+returns-in-Gone-clause-moment g c =
+    subst (FollowsInTurn (moment_of g.D.Disk.history c.args.self.now)) (sym (same_moment g.D.Disk.history c.args.self.now c.gone.new.self c.gone.ensures.file))
+    (in_turn_itself (moment_of g.D.Disk.history c.args.self.now))

@@ -31,12 +31,15 @@ returns-in_err-documents-clause-lists g c =
     let fault = c.in_err-documents.field-0.0 in
     let is : c.from_residual.result ≡ Err fault = search rules in
     subst (λ (r : Listed). ListsRest history c.args.walk r old new) (sym is)
-    (list_fails history c.args.walk old (lines_in c.batches.lines) c.batches.walk c.batches.self.engine c.batches.invariant.come c.next_dumped.new.walk new fault c.in_err-documents.ensures.goes_on)
+    (list_fails history c.args.walk old
+    (lines_in c.batches.lines) c.batches.walk c.batches.self.engine c.batches.invariant.come c.next_dumped.new.walk new fault
+    c.in_err-documents.ensures.goes_on)
 
 pub returns-then-is_empty-clause-lists : goal.returns-then-is_empty-clause-lists
 returns-then-is_empty-clause-lists g c =
     let none : length c.in_ok-documents.documents.items ≡ 0 = search rules in
-    list_ends g.D.Disk.history c.args.walk c.args.self.now.engine (lines_in c.batches.lines) c.batches.walk c.batches.self.engine c.batches.invariant.come c.next_dumped.new.walk c.next_dumped.new.self.engine
+    list_ends g.D.Disk.history c.args.walk c.args.self.now.engine
+    (lines_in c.batches.lines) c.batches.walk c.batches.self.engine c.batches.invariant.come c.next_dumped.new.walk c.next_dumped.new.self.engine
     c.in_ok-documents.documents c.in_ok-documents.ensures.goes_on (nil_from_length c.in_ok-documents.documents.items none) c.batches.lines refl
 
 pub returns-in_err-put_lines-clause-lists : goal.returns-in_err-put_lines-clause-lists
@@ -46,7 +49,8 @@ returns-in_err-put_lines-clause-lists g c =
     let new = c.next_dumped.new.self.engine in
     let is : c.from_residual-in_err-put_lines.result ≡ Err faults.Memory = search rules in
     subst (λ (r : Listed). ListsRest history c.args.walk r old new) (sym is)
-    (list_memory history c.args.walk old new (reads_on history old c.batches.self.engine new c.batches.invariant.come.reads c.in_ok-documents.ensures.goes_on.reads))
+    (list_memory history c.args.walk old new
+    (reads_on history old c.batches.self.engine new c.batches.invariant.come.reads c.in_ok-documents.ensures.goes_on.reads))
 
 pub batches-preserved : goal.batches-preserved
 batches-preserved g c =
@@ -60,7 +64,8 @@ batches-preserved g c =
       sound = c.next_dumped.ensures.sound;
       same = c.next_dumped.ensures.same ∙ c.batches.invariant.same;
       come = subst (λ (lines : List (List ℕ)). HasListed history c.args.walk old lines c.next_dumped.new.walk new) (sym put)
-          (list_on history c.args.walk old before c.batches.walk c.batches.self.engine c.batches.invariant.come c.next_dumped.new.walk new c.in_ok-documents.documents c.in_ok-documents.ensures.goes_on);
+          (list_on history c.args.walk old before c.batches.walk c.batches.self.engine c.batches.invariant.come c.next_dumped.new.walk new
+          c.in_ok-documents.documents c.in_ok-documents.ensures.goes_on);
     }
 
 pub returns-clause-lists : goal.returns-clause-lists

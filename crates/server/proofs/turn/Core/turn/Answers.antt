@@ -31,8 +31,10 @@ stopped_not : (b : Bool) → b ≡ true → b ≡ false → ⊥
 stopped_not b stopped runs = absurd cc
 
 -- a turn that was ended, a moment after which nothing was done
-ends_after : (before word : Type 0) → (word → before) → (no_room : Type 0) (world_was : World) (connections : List Connection) (given : List (ℕ × List ℕ)) (left : World) (start end later : Moment) → end ≡ later
-    → EndsTurn before (IsCaused start end) no_room world_was connections given left → EndsTurn word (IsCaused start later) no_room world_was connections given left
+ends_after : (before word : Type 0) → (word → before)
+    → (no_room : Type 0) (world_was : World) (connections : List Connection) (given : List (ℕ × List ℕ)) (left : World) (start end later : Moment) → end ≡ later
+    → EndsTurn before (IsCaused start end) no_room world_was connections given left
+    → EndsTurn word (IsCaused start later) no_room world_was connections given left
 ends_after before word kept no_room world_was connections given left start end later same s = record {
   replies = s.replies;
   one_each = s.one_each;
@@ -145,8 +147,11 @@ returns g c =
     let new : Moment = engine_moment history c.forget_closed.new.engine in
     let word : Type 0 = KeepsWord (disk_history history c.forget_closed.new.engine) in
     let frames = frames_in c.in-Some.replies.items in
-    let settles = ends_after (KeepsWord (disk_history history c.run_messages.new.engine)) word (subst KeepsWord forgot.disk) (RoomRanOut old (state core)) (world core.engine) connections frames (world c.run_messages.new.engine) old
-    (engine_moment history c.run_messages.new.engine) new (sym (same_engine_moment history c.run_messages.new.engine c.forget_closed.new.engine forgot.file)) c.in-Some.ensures.settles in
+    let settles =
+    ends_after (KeepsWord (disk_history history c.run_messages.new.engine)) word (subst KeepsWord forgot.disk) (RoomRanOut old (state core))
+    (world core.engine) connections frames (world c.run_messages.new.engine) old
+    (engine_moment history c.run_messages.new.engine) new
+    (sym (same_engine_moment history c.run_messages.new.engine c.forget_closed.new.engine forgot.file)) c.in-Some.ensures.settles in
     record {
       sound = record {
         engine = forgot.sound;
@@ -155,8 +160,10 @@ returns g c =
         rests = forgot.has_changes ∙ ran.rests;
         ascending = ap are_ascending left ∙ after_ascends connections c.requires.sound.ascending;
       };
-      turns = λ k. turned word (IsCaused old new) (RoomRanOut old (state core)) core frames (world c.run_messages.new.engine) prepared.closed.items (world c.forget_closed.new.engine) _ settles closes forgets left k;
-      hands_out = handed_out word (IsCaused old new) (RoomRanOut old (state core)) core frames (world c.run_messages.new.engine) prepared.closed.items (world c.forget_closed.new.engine) _ settles closes forgets left;
+      turns = λ k. turned word (IsCaused old new) (RoomRanOut old (state core)) core frames (world c.run_messages.new.engine) prepared.closed.items
+          (world c.forget_closed.new.engine) _ settles closes forgets left k;
+      hands_out = handed_out word (IsCaused old new) (RoomRanOut old (state core)) core frames (world c.run_messages.new.engine) prepared.closed.items
+          (world c.forget_closed.new.engine) _ settles closes forgets left;
       leaves = left;
       fails = search rules;
       on = search rules;
@@ -167,11 +174,13 @@ returns g c =
       stops = search rules;
       idle = λ stopped. absurd (stopped_not (is_stopped core) stopped runs);
       device = search rules;
-      moment = subst (FollowsInTurn (engine_moment history core.engine)) (sym (same_engine_moment history c.run_messages.new.engine c.forget_closed.new.engine forgot.file)) ran.moment;
+      moment = subst (FollowsInTurn (engine_moment history core.engine))
+          (sym (same_engine_moment history c.run_messages.new.engine c.forget_closed.new.engine forgot.file)) ran.moment;
       commits = ⊎_elim
           (λ same. inl (ap (λ (w : World). w.collections) forgets ∙ forget_all_state (world c.run_messages.new.engine) prepared.closed.items ∙ same))
           (λ committed. inr (ap (λ (f : State g.row.D.Denot). views.generation f) forgot.file ∙ committed))
           c.in-Some.ensures.commits;
       void = λ none. forgot.disk ∙ ran.void none;
-      quiet = λ k nothing. subst (λ (f : State g.row.D.Denot). GoesFrom history (file_of core) f) (sym forgot.file) (ran.quiet (subst KeepsWord forgot.disk k) nothing);
+      quiet = λ k nothing. subst (λ (f : State g.row.D.Denot). GoesFrom history (file_of core) f) (sym forgot.file)
+          (ran.quiet (subst KeepsWord forgot.disk k) nothing);
     }
