@@ -1,10 +1,12 @@
 -- The search for the least free page, and for a pin.
-use Rattle.std.proofs.Common.{◌≡◌, ◌<◌, ◌≤◌, ◌+◌, ◌-◌, ℕ, zero, suc, true, false, List, [], ◌∷◌, length, drop, sym, ap, ◌∙◌, arith, Some, None, refl}
+use Rattle.std.proofs.Common.{◌≡◌, ◌<◌, ◌≤◌, ◌+◌, ◌-◌, ℕ, zero, suc, true, false, List, [], ◌∷◌, length, drop, sym, ap, ◌∙◌, arith, Some, None, refl, inl, inr}
 use Rattle.std.specs.Prelude.{◌≢◌, ◌==◌, get_or}
 use Rattle.std.specs.List.{remove}
 use Rattle.std.proofs.lemmas.Bool.Decides.{nat_tests}
+use Rattle.std.proofs.lemmas.Bool.{cases_lt}
 use Rattle.std.proofs.lemmas.List.{drop-drop, get_or-drop, drop_more, drop_all, length-drop}
 use Rattle.freelist.specs.Book.{is_free_state, first_free, least_free, without, IsStart}
+use Rattle.freelist.specs.Search.{NoneFree}
 use Rattle.freelist.specs.declared.states.PageState.{PageState}
 use Rattle.freelist.specs.declared.states.PageState.TheVariants as states
 
@@ -33,6 +35,19 @@ least_here start pages s is within here free =
 
 pub least_none : (start : ℕ) (pages : List PageState) → IsStart start pages → length pages ≤ start → None ≡ least_free pages
 least_none start pages is past = sym (least_from start pages is ∙ ap (first_free start) (drop_all start pages past))
+
+-- a block in which no page is free is passed over
+pub past_block : (page : ℕ) (pages : List PageState) → IsStart page pages → NoneFree page 256 pages → page + 256 ≤ length pages
+    → IsStart (page + 256) pages
+past_block page pages is none inside = record { after = omega (arith, is.after); within = inside; few = is.few; passed = passed }
+  where
+    passed : (k : ℕ) → 1 ≤ k → k < page + 256 → is_free_state (get_or pages k states.Retired) ≡ false
+    passed k from below = elim (cases_lt k page) [
+      | inl front ↦ is.passed k from front
+      | inr behind ↦
+          let at : page + (k - page) ≡ k = omega (arith, behind) in
+          ap (λ (j : ℕ). is_free_state (get_or pages j states.Retired)) (sym at) ∙ none (k - page) (omega (arith, behind, below))
+    ]
 
 -- ---- a pin
 

@@ -1,4 +1,5 @@
 pub mod Book
 pub mod Coding
+pub mod Search
 pub mod Sound
 pub mod Undone

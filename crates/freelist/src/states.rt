@@ -1,10 +1,15 @@
 //! What each page of a file is.
-ghost use Rattle.std.specs.Prelude.{◌≡◌, ◌<◌, ◌^◌, IfOk, replicate, slice_set, List, length, max};
+ghost use Rattle.std.specs.Prelude.{◌≡◌, ◌<◌, ◌≤◌, ◌+◌, ◌-◌, ◌*◌, true, false, IfOk, replicate, slice_set, get_or, List, length, max};
 ghost use Rattle.freelist.specs.Book.{is_in_use, is_free_state, least_free};
+ghost use Rattle.freelist.specs.Search.{NoneFree, AreFull, IsSearch};
+ghost use Rattle.freelist.specs.declared.states.PageState.TheVariants as states;
 
 use crate::book::NoMemory;
 use std::alloc::Global;
 use std::marker::Model;
+
+/// So many pages are passed over at once where none of them is free.
+const BLOCK: usize = 256;
 
 /// What a page is.
 #[derive(Clone, Copy, Debug)]
@@ -26,12 +31,49 @@ impl PageState {
     }
 }
 
+/// Whether none of a block's 256 pages is free, which is then marked.
+fn is_full(block: usize, pages: &[PageState], full: &mut [bool]) -> bool
+    requires marked { AreFull full.old pages.now }
+    requires whole { length full.old * 256 ≤ length pages.now }
+    ensures marked { AreFull full.new pages.now }
+    ensures whole { length full.new * 256 ≤ length pages.now }
+    ensures none { result ≡ true → NoneFree (block * 256) 256 pages.now }
+    ensures inside { result ≡ true → block * 256 + 256 ≤ length pages.now }
+{
+    if full.len() <= block {
+        return false;
+    }
+    if !full[block] {
+        let first = block * BLOCK;
+        let those = &pages[first..first + BLOCK];
+        full[block] = those.iter().all(|state| !state.is_free());
+    }
+    full[block]
+}
+
+/// The next page at which the search looks, behind one that isn't free.
+fn behind(page: usize, pages: &[PageState], full: &mut [bool]) -> usize
+    requires search { IsSearch page full.old pages.now }
+    requires inside { page < length pages.now }
+    requires taken { is_free_state (get_or pages.now page states.Retired) ≡ false }
+    ensures search { IsSearch result full.new pages.now }
+    ensures rises { page < result }
+{
+    if page % BLOCK == 0 && is_full(page / BLOCK, pages, full) {
+        page + BLOCK
+    } else {
+        page + 1
+    }
+}
+
 /// What each page below a file's limit is.
 #[derive(Drop)]
 pub(crate) struct PageStates {
     list: Vec<PageState>,
     /// From page 1 on, no page below this one is free.
     start: usize,
+    /// Of each block of pages, whether it is known that none of them is free.
+    full: Vec<bool>,
 }
 
 impl Model for PageStates {
@@ -39,7 +81,7 @@ impl Model for PageStates {
     ghost use Rattle.std.specs.Coded.{coded_list};
     ghost use Rattle.freelist.specs.declared.states.PageState.{PageState};
     ghost use Rattle.freelist.specs.Coding.{state_code};
-    ghost use Rattle.freelist.specs.Book.{IsStart};
+    ghost use Rattle.freelist.specs.Search.{IsSearch};
 
     ghost Value = { List PageState };
 
@@ -47,7 +89,7 @@ impl Model for PageStates {
 
     ghost view = { λ a. a.list.items };
 
-    ghost invariant = { λ a. IsStart a.start a.list.items };
+    ghost invariant = { λ a. IsSearch a.start a.full.items a.list.items };
 }
 
 impl PageStates {
@@ -61,6 +103,7 @@ impl PageStates {
         Ok(PageStates {
             list: vec![in alloc; PageState::Free; count]?,
             start: 1,
+            full: vec![in alloc; false; count / BLOCK]?,
         })
     }
 
@@ -80,7 +123,7 @@ impl PageStates {
             if self.list[self.start].is_free() {
                 return Some(self.start as u32);
             }
-            self.start += 1;
+            self.start = behind(self.start, &self.list, &mut self.full);
         }
         None
     }
@@ -93,8 +136,13 @@ impl PageStates {
         if let Some(place) = self.list.get_mut(at) {
             *place = state;
         }
-        if 0 < at && at < self.start {
-            self.start = at;
+        if state.is_free() {
+            if 0 < at && at < self.start {
+                self.start = at;
+            }
+            if let Some(full) = self.full.get_mut(at / BLOCK) {
+                *full = false;
+            }
         }
     }
 }
