@@ -119,7 +119,7 @@ pub fn encode(alloc: Global, document: &Document) -> Result<Vec<u8>, EncodeFault
     ensures large { IsErrOf result EncodeFault.TooLarge
         → message_limit < length (frame_of (pairs_bytes document.now)) }
 {
-    let mut out = Vec::new(alloc);
+    let mut out = Vec::with_capacity(alloc, document.encoded_len().min(MESSAGE_LIMIT))?;
     encode_onto(&mut out, document)?;
     Ok(out)
 }

@@ -96,7 +96,8 @@ impl<D: Disk> Engine<D> {
             home.old home.new edits.old edits.new result self.old self.new }
         ensures limits { IsWithinLimits home.new }
     {
-        let document = stored(self.alloc, document)?;
-        self.enter(edits, namespace, home, None, &document)
+        let moved = stored(self.alloc, document)?;
+        let document = moved.as_ref().unwrap_or(document);
+        self.enter(edits, namespace, home, None, document)
     }
 }

@@ -14,3 +14,4 @@ pub mod ReplayLemmas
 pub mod Sectors
 pub mod SplicingLemmas
 pub mod TwoFacts
+pub mod ZeroLemmas

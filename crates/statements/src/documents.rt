@@ -1,6 +1,7 @@
 //! What is asked of a document that is to be stored, and how it is stored.
 
 ghost use Rattle.std.specs.Prelude.{◌≡◌, ◌≢◌, Ok, Err, IfErr, IfOk, MatchResult, ◌≤◌, ◌<◌, length};
+ghost use Rattle.std.specs.Option.{unwrap_or};
 ghost use Rattle.bson.specs.Lawful.{IsDocument};
 ghost use Rattle.bson.specs.Tree.{scalar, null};
 ghost use Rattle.bson.specs.View.{tree};
@@ -18,7 +19,7 @@ use filter::Filter;
 use path::Refusal;
 use std::alloc::Global;
 use std::cmp::Ordering;
-use update::{id_first, id_of, limits_fault, names_fault};
+use update::{copy_id_first, id_of, limits_fault, names_fault};
 use value_order::{Direction, KEY_LIMIT, KeyFault, KeyPart, compare, group_text, key_text};
 
 /// The name of the field that documents are found by, which is stored first.
@@ -86,30 +87,32 @@ pub fn check_key(alloc: Global, id: &Value) -> Result<(), Refusal>
     }
 }
 
-/// The document as it is stored.
+/// A copy of the document as it is stored; `None` where it is stored as it stands.
 ///
 /// The first of these refusals: `BSONObjectTooLarge` over `STORED_LIMIT` bytes, `BadValue` over 90 levels, a name as
 /// `names_fault` judges it, `BadValue` where `_id` is missing or an array, `KeyTooLong` where its key text has more than
 /// 500 bytes.
 #[tactic(auto, unfolding(database_model::specs::Documents::checked))]
-pub fn stored(alloc: Global, document: &Document) -> Result<Document, Refusal>
+pub fn stored(alloc: Global, document: &Document) -> Result<Option<Document>, Refusal>
     ensures checked { MatchResult result
-        (λ d. (checked document.now ≡ Ok (key_of document.now)) × (d ≡ id_first document.now))
+        (λ copy. (checked document.now ≡ Ok (key_of document.now))
+        × (unwrap_or copy document.now ≡ id_first document.now))
         (λ e. e ≢ Refusal.OutOfMemory → checked document.now ≡ Err e) }
-    ensures readable { IfOk result (λ d. IsDocument d) }
+    ensures readable { IfOk result (λ copy. IsDocument (unwrap_or copy document.now)) }
 {
     if let Some(refusal) = limits_fault(document, STORED_LIMIT) {
         return Err(refusal);
     }
-    let copy = id_first(document.copy()?)?;
-    if let Some(refusal) = names_fault(&copy) {
+    let copy = copy_id_first(document)?;
+    let kept = copy.as_ref().unwrap_or(document);
+    if let Some(refusal) = names_fault(kept) {
         return Err(refusal);
     }
     let Some(id) = id_of(document) else {
         return Err(Refusal::BadValue);
     };
     check_key(alloc, id)?;
-    let _levels = copy.levels();
+    let _levels = kept.levels();
     Ok(copy)
 }
 

@@ -23,5 +23,5 @@ mod sums;
 mod upserts;
 
 pub use edit::Update;
-pub use stored::{STORED_LEVELS, id_first, id_of, limits_fault, names_fault, stored_fault};
+pub use stored::{STORED_LEVELS, copy_id_first, id_of, limits_fault, names_fault, stored_fault};
 pub use upserts::upsert_base;

@@ -1,6 +1,7 @@
 //! What is asked of a document that is to be stored.
 
-ghost use Rattle.std.specs.Prelude.{◌≡◌, ◌<◌, IfOk, option_map};
+ghost use Rattle.std.specs.Prelude.{◌≡◌, ◌<◌, IfOk, IfSome, None, option_map};
+ghost use Rattle.std.specs.Option.{unwrap_or};
 ghost use Rattle.bson.specs.Edits.{pairs_len};
 ghost use Rattle.update.specs.Fronts.{to_front};
 ghost use Rattle.bson.specs.View.{tree, pairs_of, items_of};
@@ -122,15 +123,33 @@ pub fn stored_fault(document: &Document, limit: u32) -> Option<Refusal>
     id_fault(document)
 }
 
+/// The place that `_id` is to leave so that it stands first; `None` where the document stands as it is stored.
+fn place_to_leave(document: &Document) -> Option<usize>
+    ensures stays { result ≡ None → id_first document.now ≡ document.now }
+    ensures leaves { IfSome result (λ at.
+        (at < pairs_len document.now) × (id_first document.now ≡ to_front document.now at)) }
+{
+    let _levels = document.levels();
+    document.position(ID).filter(|at| *at != 0)
+}
+
 /// The document itself with `_id` first. Nothing is copied.
 pub fn id_first(document: Document) -> Result<Document, NoMemory>
     ensures { IfOk result (λ d. d ≡ id_first document) }
 {
-    let _levels = document.levels();
-    match document.position(ID) {
+    match place_to_leave(&document) {
         None => Ok(document),
-        Some(0) => Ok(document),
         Some(at) => moved_first(document, at),
+    }
+}
+
+/// A copy of the document with `_id` first; `None` where the document itself stands so.
+pub fn copy_id_first(document: &Document) -> Result<Option<Document>, NoMemory>
+    ensures { IfOk result (λ copy. unwrap_or copy document.now ≡ id_first document.now) }
+{
+    match place_to_leave(document) {
+        None => Ok(None),
+        Some(at) => Ok(Some(moved_first(document.copy()?, at)?)),
     }
 }
 
