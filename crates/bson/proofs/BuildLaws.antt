@@ -232,7 +232,15 @@ pub refused : (ps : List Pair) (i : ℕ) (p : Pair) (levels : ℕ) (e : BuildFau
     → HoldsDocument levels (pairs_of (take i ps)) → PushFault (pairs_of (take i ps)) p.name (tree p.value) e
     → Refused (pairs_of ps) e
 refused ps i p levels e lt is holds fault =
-    record { before = pairs_of (take i ps); name = p.name; value = tree p.value; behind = pairs_of (drop (suc i) ps); parts = pairs_split ps i p lt is; lawful = holds.lawful; fault = fault }
+    record {
+      before = pairs_of (take i ps);
+      name = p.name;
+      value = tree p.value;
+      behind = pairs_of (drop (suc i) ps);
+      parts = pairs_split ps i p lt is;
+      lawful = holds.lawful;
+      fault = fault;
+    }
 
 pub one_more : (ps : List Pair) (i : ℕ) (p : Pair) → i < length ps → p ≡ get_or ps i p → take (i + 1) ps ≡ take i ps ++ p ∷ []
 one_more ps i p lt is = take_more ps i p lt ∙ ap (λ (r : Pair). take i ps ++ r ∷ []) (sym is)

@@ -88,7 +88,11 @@ element_wrong value read wrong named type bytes e fits inner failed =
             | inl here ↦ record { place = 1; seen = length n.0 + 2; stands = wrong_here refl n.0 n.1 refl k known took.1 parts here.0 here.1 }
             | inr later ↦
                 let v = inner k n.1 took.0.rest_fits later.1 in
-                record { place = length n.0 + 2 + v.place; seen = length n.0 + 2 + v.seen; stands = wrong_value n.0 n.1 k known took.1 parts later.0 (behind (length n.0 + 2) (value k n.1) e v) }
+                record {
+                  place = length n.0 + 2 + v.place;
+                  seen = length n.0 + 2 + v.seen;
+                  stands = wrong_value n.0 n.1 k known took.1 parts later.0 (behind (length n.0 + 2) (value k n.1) e v);
+                }
           ]
           | inr v ↦ absurd (ok_err (made_element n.0 v.0.0 v.0.1) e v.2)
         ]
@@ -143,7 +147,15 @@ pairs_wrong value read more reads e inner (suc most) before (type ∷ bytes) con
           record {
             place = length (pairs_bytes before) + w.place;
             seen = length (pairs_bytes before) + w.seen;
-            stands = record { before = before; type = type; bytes = bytes; parts = parts; lawful = lawful; depth = depth; element = behind (length (pairs_bytes before)) (WrongElement value (stands_in (tree_names before)) faults.Repeated type bytes) e w };
+            stands = record {
+              before = before;
+              type = type;
+              bytes = bytes;
+              parts = parts;
+              lawful = lawful;
+              depth = depth;
+              element = behind (length (pairs_bytes before)) (WrongElement value (stands_in (tree_names before)) faults.Repeated type bytes) e w;
+            };
           }
       | inr first ↦
           let bad = elim
@@ -216,7 +228,15 @@ items_wrong value read more reads e inner (suc most) before (type ∷ bytes) con
           record {
             place = length (items_bytes 0 before) + w.place;
             seen = length (items_bytes 0 before) + w.seen;
-            stands = record { before = before; type = type; bytes = bytes; parts = parts; lawful = lawful; depth = depth; element = behind (length (items_bytes 0 before)) (WrongElement value (is_no_index (items_len before)) faults.ArrayName type bytes) e w };
+            stands = record {
+              before = before;
+              type = type;
+              bytes = bytes;
+              parts = parts;
+              lawful = lawful;
+              depth = depth;
+              element = behind (length (items_bytes 0 before)) (WrongElement value (is_no_index (items_len before)) faults.ArrayName type bytes) e w;
+            };
           }
       | inr first ↦
           let bad = elim (bind_err (items_by read most (items_len before + 1) first.0.1) (λ others. Ok (item first.0.0 others)) e first.2) as
@@ -265,7 +285,11 @@ content_wrong inner bytes e failed =
     elim (bind_err (count_at 5 bytes) (λ n. ended_at faults.Length (n.0 - 5) n.1) e failed) [
       | inl bad ↦
           let is = count_err 5 bytes e bad in
-          record { place = 0; seen = 4; stands = wrong_count (record { here = refl; upto = refl; fault_is = is; judged = inl (bad ∙ ap (λ (g : BsonFault). Err g) is) }) }
+          record {
+            place = 0;
+            seen = 4;
+            stands = wrong_count (record { here = refl; upto = refl; fault_is = is; judged = inl (bad ∙ ap (λ (g : BsonFault). Err g) is) });
+          }
       | inr n ↦ after_count n.0 n.1 (unless_err (nat_le (length n.0.1) (n.0.0 - 5)) faults.Length e (ended (n.0.0 - 5) n.0.1) n.2)
     ]
   where
@@ -273,7 +297,11 @@ content_wrong inner bytes e failed =
         → ((nat_le (length n.1) (n.0 - 5) ≡ true) × (e ≡ faults.Length)) ⊎ ((nat_le (length n.1) (n.0 - 5) ≡ false) × (ended (n.0 - 5) n.1 ≡ Err e))
         → Somewhere (WrongFrame inner bytes) e
     after_count n counted (inl long) =
-        record { place = 0; seen = 4; stands = wrong_count (record { here = refl; upto = refl; fault_is = long.1; judged = inr (n, counted, leb-true (length n.1) (n.0 - 5) long.0) }) }
+        record {
+          place = 0;
+          seen = 4;
+          stands = wrong_count (record { here = refl; upto = refl; fault_is = long.1; judged = inr (n, counted, leb-true (length n.1) (n.0 - 5) long.0) });
+        }
     after_count n counted (inr fits) =
         elim (unless_err (not (slice_index n.1 (n.0 - 5) == 0)) faults.Length e
         (done {A = List ℕ × List ℕ} (take (n.0 - 5) n.1, drop (n.0 - 5 + 1) n.1)) fits.1) [
@@ -282,7 +310,15 @@ content_wrong inner bytes e failed =
                 place = 0;
                 seen = n.0;
                 stands = wrong_end
-                    (record { here = refl; count = n; upto = refl; fault_is = bad.1; counted = counted; fits = leb-false (length n.1) (n.0 - 5) fits.0; judged = eqb-ne (slice_index n.1 (n.0 - 5)) 0 (not_true (slice_index n.1 (n.0 - 5) == 0) bad.0) });
+                    (record {
+                      here = refl;
+                      count = n;
+                      upto = refl;
+                      fault_is = bad.1;
+                      counted = counted;
+                      fits = leb-false (length n.1) (n.0 - 5) fits.0;
+                      judged = eqb-ne (slice_index n.1 (n.0 - 5)) 0 (not_true (slice_index n.1 (n.0 - 5) == 0) bad.0);
+                    });
               }
           | inr o ↦ absurd (ok_err {X = List ℕ × List ℕ} (take (n.0 - 5) n.1, drop (n.0 - 5 + 1) n.1) e o.1)
         ]

@@ -78,7 +78,12 @@ behind_still : (n : ℕ) (wrong : ℕ → ℕ → BsonFault → Type 0) (place s
     → IsStill wrong at upto fault → IsStill (Behind n wrong) place seen fault
 behind_still n wrong place seen at upto fault e1 e2 (inl w) = inl (record { at = at; upto = upto; place_is = e1; seen_is = e2; inner = w })
 behind_still n wrong place seen at upto fault e1 e2 (inr e) =
-    inr (record { at = n + e.at; upto = n + e.upto; earlier = omega (arith, e.earlier, e1); stands = record { at = e.at; upto = e.upto; place_is = refl; seen_is = refl; inner = e.stands } })
+    inr (record {
+      at = n + e.at;
+      upto = n + e.upto;
+      earlier = omega (arith, e.earlier, e1);
+      stands = record { at = e.at; upto = e.upto; place_is = refl; seen_is = refl; inner = e.stands };
+    })
 
 -- ---- names
 
@@ -181,7 +186,13 @@ other_element most value stay wrong named type bytes (u ∷ other) place seen fa
     let both = agrees_cons n.0 type u bytes other (subst (λ (k : ℕ). Agrees k (type ∷ bytes) (u ∷ other)) n.1 h) in
     let one = element_stays most value stay wrong named type bytes other place n.0 fault short
     (subst (λ (k : ℕ). WrongElement value wrong named type bytes place k fault) n.1 w) both.1 in
-    record { type = u; bytes = other; is = refl; still = subst (λ (k : ℕ). IsStill (WrongElement value wrong named u other) place k fault) (sym n.1) (subst (λ (t : ℕ). IsStill (WrongElement value wrong named t other) place (suc n.0) fault) (sym both.0) one) }
+    record {
+      type = u;
+      bytes = other;
+      is = refl;
+      still = subst (λ (k : ℕ). IsStill (WrongElement value wrong named u other) place k fault) (sym n.1)
+          (subst (λ (t : ℕ). IsStill (WrongElement value wrong named t other) place (suc n.0) fault) (sym both.0) one);
+    }
 
 abbrev ContentStays : ℕ → (List ℕ → ℕ → ℕ → BsonFault → Type 0) → Type 0
 ContentStays most inner = (content other : List ℕ) (place seen : ℕ) (fault : BsonFault) → length content < most → inner content place seen fault
@@ -197,8 +208,15 @@ pairs_stay most more value stay content other place seen fault short w h =
     (omega (arith, short, size)) inner.inner g.agrees in
     still_is (Behind (length x) (WrongElement value (stands_in (tree_names w.before)) faults.Repeated o.type o.bytes))
     (WrongPair more value other) place seen fault
-    (λ p s f e. record
-    { before = w.before; type = o.type; bytes = o.bytes; parts = g.parts ∙ ap (λ (xs : List ℕ). x ++ xs) o.is; lawful = w.lawful; depth = w.depth; element = e })
+    (λ p s f e. record {
+      before = w.before;
+      type = o.type;
+      bytes = o.bytes;
+      parts = g.parts ∙ ap (λ (xs : List ℕ). x ++ xs) o.is;
+      lawful = w.lawful;
+      depth = w.depth;
+      element = e;
+    })
     (behind_still (length x)
     (WrongElement value (stands_in (tree_names w.before)) faults.Repeated o.type o.bytes) place seen inner.at inner.upto fault inner.place_is inner.seen_is
     o.still)
@@ -213,8 +231,15 @@ items_stay most more value stay content other place seen fault short w h =
     (omega (arith, short, size)) inner.inner g.agrees in
     still_is (Behind (length x) (WrongElement value (is_no_index (items_len w.before)) faults.ArrayName o.type o.bytes))
     (WrongItem more value other) place seen fault
-    (λ p s f e. record
-    { before = w.before; type = o.type; bytes = o.bytes; parts = g.parts ∙ ap (λ (xs : List ℕ). x ++ xs) o.is; lawful = w.lawful; depth = w.depth; element = e })
+    (λ p s f e. record {
+      before = w.before;
+      type = o.type;
+      bytes = o.bytes;
+      parts = g.parts ∙ ap (λ (xs : List ℕ). x ++ xs) o.is;
+      lawful = w.lawful;
+      depth = w.depth;
+      element = e;
+    })
     (behind_still (length x)
     (WrongElement value (is_no_index (items_len w.before)) faults.ArrayName o.type o.bytes) place seen inner.at inner.upto fault inner.place_is inner.seen_is
     o.still)
@@ -393,7 +418,15 @@ module _ (inner : List ℕ → ℕ → ℕ → BsonFault → Type 0) (stay : Con
       let tail = o.inside ++ o.last ∷ o.after in
       let made : ℕ × List ℕ = (n, tail) in
       let at : slice_index tail (n - 5) ≡ o.last = get_or_at o.inside o.last o.after 0 (n - 5) (omega (arith, o.long)) in
-      record { here = refl; count = made; upto = refl; fault_is = refl; counted = ap (count_at 5) o.parts ∙ count_again 5 n tail (omega arith) short; fits = omega (arith, o.long, length-append o.inside (o.last ∷ o.after)); judged = λ zero_there. last (sym at ∙ zero_there) }
+      record {
+        here = refl;
+        count = made;
+        upto = refl;
+        fault_is = refl;
+        counted = ap (count_at 5) o.parts ∙ count_again 5 n tail (omega arith) short;
+        fits = omega (arith, o.long, length-append o.inside (o.last ∷ o.after));
+        judged = λ zero_there. last (sym at ∙ zero_there);
+      }
 
   frame_stays : (bytes other : List ℕ) (place seen : ℕ) (fault : BsonFault) → length bytes < 2 ^ 31 → WrongFrame inner bytes place seen fault
       → Agrees seen bytes other → IsStill (WrongFrame inner other) place seen fault
@@ -408,7 +441,12 @@ module _ (inner : List ℕ → ℕ → ℕ → BsonFault → Type 0) (stay : Con
         | inl zero_there ↦ still_is (InFrame inner other) (WrongFrame inner other) place seen fault (λ p s f x. wrong_in x)
             (ended_stays bytes other place seen fault w (omega arith) o (eqb-true o.last 0 zero_there))
         | inr last ↦ inr
-            (record { at = 0; upto = length w.content + 5; earlier = omega (arith, w.fault_in.place_is); stands = wrong_end (unended bytes other place seen fault w size o (eqb-false o.last 0 last)) })
+            (record {
+              at = 0;
+              upto = length w.content + 5;
+              earlier = omega (arith, w.fault_in.place_is);
+              stands = wrong_end (unended bytes other place seen fault w size o (eqb-false o.last 0 last));
+            })
       ]
 
 -- ---- values
@@ -489,7 +527,12 @@ document_stays bytes other place seen fault fits (wrong_last w) h =
     let l = length_takes bytes seen fits w.counted in
     let byte = byte_same seen (seen - 1) bytes other (omega (arith, l.low)) h in
     inl (wrong_last
-    (record { here = w.here; counted = length_same bytes other (fewer 4 seen bytes other (omega (arith, l.low)) h) ∙ w.counted; fault_is = w.fault_is; judged = λ zero_there. w.judged (sym byte ∙ zero_there) }))
+    (record {
+      here = w.here;
+      counted = length_same bytes other (fewer 4 seen bytes other (omega (arith, l.low)) h) ∙ w.counted;
+      fault_is = w.fault_is;
+      judged = λ zero_there. w.judged (sym byte ∙ zero_there);
+    }))
 document_stays bytes other place seen fault fits (wrong_inside w size) h =
     let inner = WrongPair 99 (WrongValue 99) in
     let stay = pairs_stay (2 ^ 31) 99 (WrongValue 99) (values_stay 99) in
@@ -508,7 +551,12 @@ document_stays bytes other place seen fault fits (wrong_inside w size) h =
             upto = n;
             earlier = omega (arith, w.fault_in.place_is);
             stands = wrong_last
-                (record { here = refl; counted = ap length_at o.parts ∙ length_again n tail (omega arith) size (omega (arith, long, o.long)); fault_is = refl; judged = λ zero_there. eqb-false o.last 0 last (sym at ∙ zero_there) });
+                (record {
+                  here = refl;
+                  counted = ap length_at o.parts ∙ length_again n tail (omega arith) size (omega (arith, long, o.long));
+                  fault_is = refl;
+                  judged = λ zero_there. eqb-false o.last 0 last (sym at ∙ zero_there);
+                });
           })
     ]
   where

@@ -119,8 +119,11 @@ element_takes read more reads wrong fault type bytes x fits e =
     let made : (List ℕ × Tree) × List ℕ = ((name.0, value.0), value.1) in
     subst (λ (y : (List ℕ × Tree) × List ℕ). ElementRead more type bytes y.0.0 y.0.1 y.1 × (wrong y.0.0 ≡ false)) (ok_is made x c.2) (
       record {
-        takes = record
-            { parts = element_parts type (type_byte value.0) bytes name.0 name.1 (tree_bytes value.0) value.1 value.1 (type_is type k value.0 a.1 v.same_kind) n.0.parts v.takes.parts refl; rest_fits = v.takes.rest_fits };
+        takes = record {
+          parts = element_parts type (type_byte value.0) bytes name.0 name.1 (tree_bytes value.0) value.1 value.1
+              (type_is type k value.0 a.1 v.same_kind) n.0.parts v.takes.parts refl;
+          rest_fits = v.takes.rest_fits;
+        };
         is_name = n.1;
         lawful = v.lawful;
         depth = v.depth;
@@ -279,7 +282,12 @@ document_is_read more reads bytes x fits e =
     let r = pairs_take (value_at more) more reads (length content.0) [] content.0 ps frame.1 b.1 in
     let made : Tree × List ℕ = (document ps, content.1) in
     subst (λ (y : Tree × List ℕ). IsRead (suc more) kinds.Document bytes y.0 y.1) (ok_is made x b.2)
-    (record { takes = subst (λ (c : List ℕ). Takes bytes (frame_of c) content.1) r.spelled frame.0; lawful = r.lawful; depth = omega (arith, r.depth); same_kind = refl })
+    (record {
+      takes = subst (λ (c : List ℕ). Takes bytes (frame_of c) content.1) r.spelled frame.0;
+      lawful = r.lawful;
+      depth = omega (arith, r.depth);
+      same_kind = refl;
+    })
 
 array_is_read : (more : ℕ) → Reads (value_at more) more → (bytes : List ℕ) (x : Tree × List ℕ) → IsBytes bytes
     → (content_at bytes >>= λ content. items_in (value_at more) content.0 >>= λ ts. Ok (array ts, content.1)) ≡ Ok x
@@ -294,7 +302,12 @@ array_is_read more reads bytes x fits e =
     let r = items_take (value_at more) more reads (length content.0) 0 content.0 ts frame.1 b.1 in
     let made : Tree × List ℕ = (array ts, content.1) in
     subst (λ (y : Tree × List ℕ). IsRead (suc more) kinds.Array bytes y.0 y.1) (ok_is made x b.2)
-    (record { takes = subst (λ (c : List ℕ). Takes bytes (frame_of c) content.1) r.spelled frame.0; lawful = r.lawful; depth = omega (arith, r.depth); same_kind = refl })
+    (record {
+      takes = subst (λ (c : List ℕ). Takes bytes (frame_of c) content.1) r.spelled frame.0;
+      lawful = r.lawful;
+      depth = omega (arith, r.depth);
+      same_kind = refl;
+    })
 
 pub AreNew-none : (ps : Pairs) → AreNew ps []
 AreNew-none no_pairs = tt
@@ -435,8 +448,11 @@ document_takes bytes x fits e =
     ap (take len) frame_of-is.parts ∙ take_at (frame_of content.0) content.1 len (omega (arith, framed_length content.0)) in
     subst (λ (y : Pairs × ℕ). (y.1 ≤ length bytes) × Spells (take y.1 bytes) y.0) (ok_is (ps, len) x c.2) (
       l.whole,
-      record
-          { lawful = record { lawful = r.lawful; depth = r.depth }; spelled = front ∙ ap frame_of r.spelled; size = omega (arith, length-take len bytes, l.high) },
+      record {
+        lawful = record { lawful = r.lawful; depth = r.depth };
+        spelled = front ∙ ap frame_of r.spelled;
+        size = omega (arith, length-take len bytes, l.high);
+      },
     )
 
 pub document_again : (bytes : List ℕ) (ps : Pairs) (rest : List ℕ) → Spells bytes ps → document_at (bytes ++ rest) ≡ Ok (ps, length bytes)

@@ -138,7 +138,10 @@ one_page old new units first unit key page content m some here same is range =
       made = omega (arith, ap length m.made);
       child = subst (λ (s : Stub). IsChild s.load) (sym is) tt;
       small = λ h. subst IsStub (sym is)
-          (record { size = (let one : IsStub (stub_in first) = (subst (Each IsStub) (first_here units first some here) h).0 in omega (arith, one.size, ap length same)); load = range });
+          (record {
+            size = (let one : IsStub (stub_in first) = (subst (Each IsStub) (first_here units first some here) h).0 in omega (arith, one.size, ap length same));
+            load = range;
+          });
     }
 
 pub record AreFewSoFar (old new : Store) (bytes : ℕ) (above rest : List Stub) : Type 0 where
@@ -419,13 +422,23 @@ module _ (old a b c new : Store) (loose left right below front back : Sheaf) (un
         → IsFew old new loose.rank 10880 (4 * loose.rank + pages) (sheaf_in l)
     last_few l none j m =
         let f = j.behind (omega (arith, few.rank_is)) (omega (arith, parts_long)) few.size in
-        record { rank_is = f.rank_is ∙ left_rank; small = f.small; size = omega (arith, f.size, parts_size, little.1); made = omega (arith, few.made, same, m, f.made) }
+        record {
+          rank_is = f.rank_is ∙ left_rank;
+          small = f.small;
+          size = omega (arith, f.size, parts_size, little.1);
+          made = omega (arith, few.made, same, m, f.made);
+        }
 
     mid_few : (l : Loose) → AreFewJoined c new 10880 left back (sheaf_in l) → IsFew b c right.rank (stubs_size right.stubs + 5440) 4 back
         → IsFew old new loose.rank 10880 (4 * loose.rank + pages) (sheaf_in l)
     mid_few l j m =
         let f = j.level (omega (arith, m.rank_is)) in
-        record { rank_is = f.rank_is ∙ left_rank; small = f.small; size = omega (arith, f.size, m.size, parts_size, little.1); made = omega (arith, few.made, same, m.made, f.made) }
+        record {
+          rank_is = f.rank_is ∙ left_rank;
+          small = f.small;
+          size = omega (arith, f.size, m.size, parts_size, little.1);
+          made = omega (arith, few.made, same, m.made, f.made);
+        }
 
     below_few : (r : Result Loose TreeFault)
         → (Each IsStub front.stubs → Each IsStub back.stubs → IfOk r (λ l. AreFewJoined c new 10880 front back (sheaf_in l)))
@@ -446,13 +459,23 @@ module _ (old a b c new : Store) (loose left right below front back : Sheaf) (un
         → IsFew old new loose.rank 10880 (4 * loose.rank + pages) (sheaf_in l)
     end_few l j m =
         let f = j.level (omega (arith, one.rank_is)) in
-        record { rank_is = f.rank_is ∙ left_rank; small = f.small; size = omega (arith, f.size, one.size, parts_size, little.1); made = omega (arith, one.made, same, m, f.made) }
+        record {
+          rank_is = f.rank_is ∙ left_rank;
+          small = f.small;
+          size = omega (arith, f.size, one.size, parts_size, little.1);
+          made = omega (arith, one.made, same, m, f.made);
+        }
 
     amid_few : (l : Loose) → AreFewJoined c new 10880 left back (sheaf_in l) → IsFew b c below.rank (stubs_size below.stubs + stubs_size right.stubs) 0 back
         → IsFew old new loose.rank 10880 (4 * loose.rank + pages) (sheaf_in l)
     amid_few l j m =
         let f = j.level (omega (arith, m.rank_is, one.rank_is)) in
-        record { rank_is = f.rank_is ∙ left_rank; small = f.small; size = omega (arith, f.size, m.size, one.size, parts_size, little.1); made = omega (arith, one.made, same, m.made, f.made) }
+        record {
+          rank_is = f.rank_is ∙ left_rank;
+          small = f.small;
+          size = omega (arith, f.size, m.size, one.size, parts_size, little.1);
+          made = omega (arith, one.made, same, m.made, f.made);
+        }
 
     one_below_few : (r : Result Loose TreeFault)
         → (Each IsStub front.stubs → Each IsStub back.stubs → IfOk r (λ l. AreFewJoined c new 10880 front back (sheaf_in l)))

@@ -159,7 +159,10 @@ pub joining_start : (fields : List Pair) (names : List (List ℕ)) (added : List
     → ((other : List ℕ) → stands_in names other ≡ stands_in (names_of fields) other) → added ≡ [] → IsJoining (pairs_of fields) names added
 joining_start fields names added lawful same is =
     let none : joined (pairs_of fields) added ≡ pairs_of fields = ap (joined (pairs_of fields)) is ∙ append-none (pairs_of fields) in
-    record { lawful = subst IsDocument (sym none) lawful; named = λ name. same name ∙ lookup_named fields name ∙ ap (λ (ps : Pairs). is_some (lookup ps name)) (sym none) }
+    record {
+      lawful = subst IsDocument (sym none) lawful;
+      named = λ name. same name ∙ lookup_named fields name ∙ ap (λ (ps : Pairs). is_some (lookup ps name)) (sym none);
+    }
 
 -- a name that is new, or is not
 module _ (ps : Pairs) (names : List (List ℕ)) (added : List Pair) (found : Sequence) (fresh : Bool) (joining : IsJoining ps names added)

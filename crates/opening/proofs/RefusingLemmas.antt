@@ -320,7 +320,11 @@ module _ (all : List Entry) (cs : List Collection) (spells : Spells all cs) (law
   like_there : (x : Collection) → Among x p.now → IsThere x
   like_there x there =
       let home = there_of all cs holds (catalogue_entry x) (in_all (catalogue_entry x) (its_entry x there)) in
-      record { one = home.collection; there = home.there; like = same_catalogue x home.collection (kept_so_far x there) (kept_of cs home.collection lawful home.there) home.one }
+      record {
+        one = home.collection;
+        there = home.there;
+        like = same_catalogue x home.collection (kept_so_far x there) (kept_of cs home.collection lawful home.there) home.one;
+      }
 
   module _ (c : Collection) (there : Among c cs) where
     kept : IsIndexKept c
