@@ -8,13 +8,14 @@ use Rattle.bson.specs.declared.fault.BsonFault.TheVariants as faults
 use Rattle.bson.specs.declared.kind.Kind.TheVariants as kinds
 use Rattle.bson.specs.Tree.{Tree, Pairs, no_pairs, pair, append, Items, no_items, item, append_items}
 use Rattle.bson.specs.Lawful.{IsBytes, IsPairs, Lacks, pairs_levels}
-use Rattle.bson.specs.EditsLaws.{IsPairs-append, pairs_levels-append}
+use Rattle.bson.specs.EditPlaces.{IsPairs-append, pairs_levels-append}
 use Rattle.bson.specs.Spelling.{element, type_byte, tree_bytes, pairs_bytes}
 use Rattle.bson.specs.SizingLaws.{pairs_bytes-none, pairs_bytes-one, pairs_bytes-append}
 use Rattle.bson.specs.Reading.{Read, stands_in, element_by, item_by, content_at, pairs_in, items_in, value_at}
 use Rattle.bson.specs.Raw.{tree_names, pairs_spelled, Elements, rest_of, outcome_of}
 use Rattle.bson.proofs.FrameLaws.{or_false}
-use Rattle.bson.proofs.TreeLaws.{IsBytes-rest, ne-bytes_eq, element_takes, value_reads}
+use Rattle.bson.proofs.PairLaws.{IsBytes-rest, ne-bytes_eq, element_takes}
+use Rattle.bson.proofs.TreeLaws.{value_reads}
 use Rattle.bson.proofs.ReadLoopLaws.{PairsSoFar, pairs_start, pairs_step, pairs_stop, pairs_done, ItemsSoFar, items_start, items_step, items_stop, items_done}
 use Rattle.bson.proofs.ReadLoopLaws.{item_shorter, value_at_document, value_at_array}
 use Rattle.bson.proofs.RawLaws.{pairs_spelled-is}

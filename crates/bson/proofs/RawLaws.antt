@@ -18,7 +18,8 @@ use Rattle.bson.specs.Lookup.{lookup}
 use Rattle.bson.specs.Raw.{tree_names, pairs_or_none, pairs_spelled, Elements, IsFirst, number_at, len_at, value_or_null, value_spelled, SpellsValue}
 use Rattle.bson.specs.Raw.{document_or_none, document_spelled, only_length, only_document}
 use Rattle.bson.proofs.FrameLaws.{ok_is, wide32, name_again, kind_again}
-use Rattle.bson.proofs.TreeLaws.{value_reads, AreNew-none, pairs_again, document_takes, document_again}
+use Rattle.bson.proofs.PairLaws.{pairs_again}
+use Rattle.bson.proofs.TreeLaws.{value_reads, AreNew-none, document_takes, document_again}
 
 -- ---- what elements spell
 

@@ -2,8 +2,9 @@
 use Rattle.std.proofs.Common.{◌≡◌, ◌≢◌, ℕ, ◌≤◌, List, [], ◌∷◌, ◌++◌, map, refl, sym, ap, subst, ◌∙◌, arith}
 use Rattle.std.specs.Prelude.{Result, Ok, Err, Option, Some, None, option_map, is_some, MatchOption, Bool, true, false, not, ◌||◌, if◌then◌else◌}
 use Rattle.std.specs.Str.{bytes_eq}
-use Rattle.bson.proofs.TreeLaws.{ne-bytes_eq}
-use Rattle.bson.specs.EditsLaws.{append-none, append_items-none, append_items-one, pairs_of-push, IsDocument-append}
+use Rattle.bson.proofs.PairLaws.{ne-bytes_eq}
+use Rattle.bson.specs.EditPlaces.{append-none, append_items-none, append_items-one}
+use Rattle.bson.specs.EditsLaws.{pairs_of-push, IsDocument-append}
 use Rattle.bson.specs.Lawful.{Lacks, levels, IsName, IsTree, IsArray, IsDocument}
 use Rattle.bson.specs.Lookup.{lookup}
 use Rattle.bson.specs.Reading.{Read, value_at, stands_in}
