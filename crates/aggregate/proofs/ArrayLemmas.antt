@@ -5,7 +5,8 @@ use Rattle.std.proofs.lemmas.Bool.{lt-leb, le-leb}
 use Rattle.bson.specs.Tree.{Tree, array, Items, no_items, item, append_items}
 use Rattle.bson.specs.View.{tree, items_of}
 use Rattle.bson.specs.Lawful.{levels, items_levels}
-use Rattle.bson.specs.EditsLaws.{append_items-none, append_items-one, items_of-push, items_levels-append}
+use Rattle.bson.specs.EditPlaces.{append_items-none, append_items-one, items_levels-append}
+use Rattle.bson.specs.EditsLaws.{items_of-push}
 use Rattle.bson.specs.declared.value.Value.{Value}
 use Rattle.path.specs.declared.refusal.Refusal.{Refusal}
 use Rattle.path.specs.declared.refusal.Refusal.TheVariants as refusals

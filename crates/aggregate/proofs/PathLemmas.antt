@@ -10,7 +10,7 @@ use Rattle.bson.specs.Tree.{Tree, scalar, document, array, Pairs, no_pairs, pair
 use Rattle.bson.specs.Lawful.{levels, pairs_levels, items_levels, IsTree, IsPairs, IsItems, IsArray}
 use Rattle.bson.specs.Lookup.{lookup}
 use Rattle.bson.specs.View.{tree, items_of}
-use Rattle.bson.specs.EditsLaws.{append_items-none, append_items-one}
+use Rattle.bson.specs.EditPlaces.{append_items-none, append_items-one}
 use Rattle.bson.specs.declared.value.Value.{Value}
 use Rattle.filter.specs.Projection.{add_item}
 use Rattle.aggregate.specs.Operands.{dollar_path}

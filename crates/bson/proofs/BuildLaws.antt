@@ -10,8 +10,10 @@ use Rattle.std.proofs.lemmas.List.Quantifiers.{position-Some}
 use Rattle.bson.specs.Tree.{Tree, Pairs, no_pairs, pair, append, append_items, Items, item, no_items}
 use Rattle.bson.specs.View.{tree, pairs_of, items_of, names_of}
 use Rattle.bson.specs.Lawful.{levels, pairs_levels, items_levels, NoZero, IsName, Lacks, IsTree, IsDocument, IsArray, HoldsDocument, HoldsArray}
-use Rattle.bson.specs.EditsLaws.{pairs_len-pairs_of, items_len-items_of, place-absent, place-Lacks, Lacks-append, IsPairs-append, IsItems-append, pairs_of-push}
-use Rattle.bson.specs.EditsLaws.{items_of-push, pairs_levels-with_deeper, items_levels-with_deeper, pairs_levels-without_flat, items_levels-without_flat}
+use Rattle.bson.specs.EditPlaces.{Lacks-append, IsPairs-append, IsItems-append}
+use Rattle.bson.specs.EditsLaws.{pairs_len-pairs_of, items_len-items_of, place-absent, place-Lacks, pairs_of-push}
+use Rattle.bson.specs.EditPlaces.{pairs_levels-with_deeper, items_levels-with_deeper, pairs_levels-without_flat, items_levels-without_flat}
+use Rattle.bson.specs.EditsLaws.{items_of-push}
 use Rattle.bson.specs.EditsLaws.{pairs_of-set, items_of-set, pairs_of-remove, items_of-remove, pair_at-pairs_of, item_at-items_of}
 use Rattle.bson.specs.Edits.{pairs_len, items_len, place, PushFault, SetFault, ReplaceFault, Refused, pair_at, item_at, with_value, with_item, without_pair}
 use Rattle.bson.specs.Edits.{without_item}
@@ -21,7 +23,7 @@ use Rattle.bson.specs.declared.value.Value.{Value}
 use Rattle.bson.specs.declared.fault.BuildFault.{BuildFault}
 use Rattle.bson.specs.declared.fault.BuildFault.TheVariants as builds
 use Rattle.bson.proofs.FrameLaws.{or_false, NoZero-take}
-use Rattle.bson.proofs.TreeLaws.{bytes_eq-ne, ne-bytes_eq}
+use Rattle.bson.proofs.PairLaws.{bytes_eq-ne, ne-bytes_eq}
 use Rattle.bson.proofs.ReadLoopLaws.{pairs_levels-push, items_levels-push}
 
 -- ---- names
@@ -232,7 +234,15 @@ pub refused : (ps : List Pair) (i : ℕ) (p : Pair) (levels : ℕ) (e : BuildFau
     → HoldsDocument levels (pairs_of (take i ps)) → PushFault (pairs_of (take i ps)) p.name (tree p.value) e
     → Refused (pairs_of ps) e
 refused ps i p levels e lt is holds fault =
-    record { before = pairs_of (take i ps); name = p.name; value = tree p.value; behind = pairs_of (drop (suc i) ps); parts = pairs_split ps i p lt is; lawful = holds.lawful; fault = fault }
+    record {
+      before = pairs_of (take i ps);
+      name = p.name;
+      value = tree p.value;
+      behind = pairs_of (drop (suc i) ps);
+      parts = pairs_split ps i p lt is;
+      lawful = holds.lawful;
+      fault = fault;
+    }
 
 pub one_more : (ps : List Pair) (i : ℕ) (p : Pair) → i < length ps → p ≡ get_or ps i p → take (i + 1) ps ≡ take i ps ++ p ∷ []
 one_more ps i p lt is = take_more ps i p lt ∙ ap (λ (r : Pair). take i ps ++ r ∷ []) (sym is)

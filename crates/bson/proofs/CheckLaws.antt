@@ -8,13 +8,14 @@ use Rattle.bson.specs.declared.fault.BsonFault.TheVariants as faults
 use Rattle.bson.specs.declared.kind.Kind.TheVariants as kinds
 use Rattle.bson.specs.Tree.{Tree, Pairs, no_pairs, pair, append, Items, no_items, item, append_items}
 use Rattle.bson.specs.Lawful.{IsBytes, IsPairs, Lacks, pairs_levels}
-use Rattle.bson.specs.EditsLaws.{IsPairs-append, pairs_levels-append}
+use Rattle.bson.specs.EditPlaces.{IsPairs-append, pairs_levels-append}
 use Rattle.bson.specs.Spelling.{element, type_byte, tree_bytes, pairs_bytes}
 use Rattle.bson.specs.SizingLaws.{pairs_bytes-none, pairs_bytes-one, pairs_bytes-append}
 use Rattle.bson.specs.Reading.{Read, stands_in, element_by, item_by, content_at, pairs_in, items_in, value_at}
 use Rattle.bson.specs.Raw.{tree_names, pairs_spelled, Elements, rest_of, outcome_of}
 use Rattle.bson.proofs.FrameLaws.{or_false}
-use Rattle.bson.proofs.TreeLaws.{IsBytes-rest, ne-bytes_eq, element_takes, value_reads}
+use Rattle.bson.proofs.PairLaws.{IsBytes-rest, ne-bytes_eq, element_takes}
+use Rattle.bson.proofs.TreeLaws.{value_reads}
 use Rattle.bson.proofs.ReadLoopLaws.{PairsSoFar, pairs_start, pairs_step, pairs_stop, pairs_done, ItemsSoFar, items_start, items_step, items_stop, items_done}
 use Rattle.bson.proofs.ReadLoopLaws.{item_shorter, value_at_document, value_at_array}
 use Rattle.bson.proofs.RawLaws.{pairs_spelled-is}
@@ -86,7 +87,13 @@ pub record CheckedPairs (more : ℕ) (content rest : List ℕ) : Type 0 where
 
 abbrev pub pairs_unchecked : (more : ℕ) (content : List ℕ) → IsBytes content → CheckedPairs more content content
 pairs_unchecked more content fits =
-    record { front = no_pairs; so_far = pairs_start more content fits; parts = ap (λ (x : List ℕ). x ++ content) (sym pairs_bytes-none); lawful = tt; depth = omega arith }
+    record {
+      front = no_pairs;
+      so_far = pairs_start more content fits;
+      parts = ap (λ (x : List ℕ). x ++ content) (sym pairs_bytes-none);
+      lawful = tt;
+      depth = omega arith;
+    }
 
 -- and so many of them
 pub record CountedPairs (more : ℕ) (content rest : List ℕ) (count : ℕ) : Type 0 where
@@ -106,7 +113,12 @@ pub before_rest : (more : ℕ) (content rest earlier : List ℕ) (at : ℕ) (k :
 before_rest more content rest earlier at k e is le short =
     let size : length (pairs_bytes k.front) ≡ at = omega (arith, e, ap length k.parts, length-append (pairs_bytes k.front) rest) in
     let same : earlier ≡ pairs_bytes k.front = is ∙ ap (take at) k.parts ∙ take_at (pairs_bytes k.front) rest at size in
-    record { lawful = k.lawful; depth = omega (arith, k.depth, le); spelled = same; short = omega (arith, ap length same, ap length k.parts, length-append (pairs_bytes k.front) rest, short) }
+    record {
+      lawful = k.lawful;
+      depth = omega (arith, k.depth, le);
+      spelled = same;
+      short = omega (arith, ap length same, ap length k.parts, length-append (pairs_bytes k.front) rest, short);
+    }
 
 module _ (more : ℕ) (content rest earlier : List ℕ) (type : ℕ) (bytes : List ℕ) (k : CheckedPairs more content rest) (front : rest ≡ type ∷ bytes)
     (before : Elements earlier k.front) where
@@ -184,7 +196,11 @@ module _ (more : ℕ) (content rest : List ℕ) (i type : ℕ) (bytes : List ℕ
       let found = rest_ok (item_by (value_at more) i type bytes) after e in
       let lt = item_shorter more i type bytes found.0 after (IsBytes-rest type bytes items_front.fits) found.1 in
       let size = ap length front in (
-        record { front = append_items k.front (item found.0 no_items); so_far = items_step more k.front i type bytes (items_in (value_at more) content) found.0 after items_front found.1; counted = omega (arith, k.counted, lt, size) },
+        record {
+          front = append_items k.front (item found.0 no_items);
+          so_far = items_step more k.front i type bytes (items_in (value_at more) content) found.0 after items_front found.1;
+          counted = omega (arith, k.counted, lt, size);
+        },
         omega (arith, lt, size),
       )
 

@@ -27,7 +27,7 @@ use Rattle.bson.specs.SizingLaws.{pairs_bytes-none, pairs_bytes-pair, pairs_size
 use Rattle.bson.specs.Raw.{pairs_spelled, Elements}
 use Rattle.bson.proofs.FrameLaws.{unless_ok, ok_is, kind_again, zero_later}
 use Rattle.bson.proofs.RawLaws.{tree_len, pairs_spelled-is}
-use Rattle.bson.proofs.TreeLaws.{bytes_eq-ne}
+use Rattle.bson.proofs.PairLaws.{bytes_eq-ne}
 
 -- ---- one more name
 

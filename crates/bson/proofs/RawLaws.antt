@@ -18,7 +18,8 @@ use Rattle.bson.specs.Lookup.{lookup}
 use Rattle.bson.specs.Raw.{tree_names, pairs_or_none, pairs_spelled, Elements, IsFirst, number_at, len_at, value_or_null, value_spelled, SpellsValue}
 use Rattle.bson.specs.Raw.{document_or_none, document_spelled, only_length, only_document}
 use Rattle.bson.proofs.FrameLaws.{ok_is, wide32, name_again, kind_again}
-use Rattle.bson.proofs.TreeLaws.{value_reads, AreNew-none, pairs_again, document_takes, document_again}
+use Rattle.bson.proofs.PairLaws.{pairs_again}
+use Rattle.bson.proofs.TreeLaws.{value_reads, AreNew-none, document_takes, document_again}
 
 -- ---- what elements spell
 
@@ -189,8 +190,13 @@ element_step bytes k name value rest wanted e first =
     let one = length-append (element (type_byte r.1) name (tree_bytes r.1)) (pairs_bytes r.0) in
     let two = element-length (type_byte r.1) name (tree_bytes r.1) in
     let spells :
-    SpellsValue k value r.1 = record
-    { lawful = whole.lawful.1; depth = omega (arith, whole.depth); same_kind = r.6; spelled = r.5; short = omega (arith, ap length r.5, size, one, two, e.short) } in
+    SpellsValue k value r.1 = record {
+      lawful = whole.lawful.1;
+      depth = omega (arith, whole.depth);
+      same_kind = r.6;
+      spelled = r.5;
+      short = omega (arith, ap length r.5, size, one, two, e.short);
+    } in
     let same : value_spelled k value ≡ r.1 = value_spelled-is k value r.1 spells in
     record {
       elements = Elements-spelled rest r.0 r.3;
@@ -246,7 +252,11 @@ raw_found bytes n fits e =
     let found = length_ok (document_at bytes) n e in
     let took = document_takes bytes (found.0, n) fits found.1 in
     let same = document_spelled-is (take n bytes) found.0 took.1 in
-    record { within = took.0; spells = subst (Spells (take n bytes)) (sym same) took.1; gives = ap only_document found.1 ∙ ap (λ (ps : Pairs). Ok ps) (sym same) }
+    record {
+      within = took.0;
+      spells = subst (Spells (take n bytes)) (sym same) took.1;
+      gives = ap only_document found.1 ∙ ap (λ (ps : Pairs). Ok ps) (sym same);
+    }
 
 -- bytes of which all were read spell a document
 pub all_found : (bytes : List ℕ) (n : ℕ) → IsBytes bytes → only_length (document_at bytes) ≡ Ok n → n ≡ length bytes → Spells bytes (document_spelled bytes)

@@ -13,11 +13,13 @@ use Rattle.bson.specs.declared.value.Value.{Value}
 use Rattle.bson.specs.declared.value.Pair.{Pair}
 use Rattle.bson.specs.Tree.{Tree, document, array, append, append_items, Pairs, no_pairs, pair, Items, no_items, item}
 use Rattle.bson.specs.View.{tree, pairs_of, items_of, names_of}
-use Rattle.bson.specs.EditsLaws.{append-none, append-one, append_items-none, append_items-one, pairs_of-push, items_of-push}
+use Rattle.bson.specs.EditPlaces.{append-none, append-one, append_items-none, append_items-one}
+use Rattle.bson.specs.EditsLaws.{pairs_of-push, items_of-push}
 use Rattle.bson.specs.Spelling.{element, type_byte, tree_bytes}
 use Rattle.outcome.specs.Outcome.{◌>>=◌, Fails}
 use Rattle.bson.specs.Reading.{Read, element_by, item_by, stands_in, pairs_by, items_by, pairs_in, items_in, value_at, content_at}
-use Rattle.bson.proofs.TreeLaws.{IsBytes-rest, element_takes, item_takes, pairs_take, items_take, value_reads}
+use Rattle.bson.proofs.PairLaws.{IsBytes-rest, element_takes, pairs_take}
+use Rattle.bson.proofs.TreeLaws.{item_takes, items_take, value_reads}
 use Rattle.bson.specs.Lawful.{IsBytes, levels, pairs_levels, items_levels, IsDocument, IsArray}
 
 pub stands_in_names : (ps : List Pair) (name : List ℕ) → stands_in (names_of ps) name ≡ list_any (λ (p : Pair). bytes_eq name p.name) ps

@@ -22,7 +22,8 @@ use Rattle.bson.specs.Raw.{tree_names}
 use Rattle.bson.specs.FirstFault.{WrongScalar, WrongElement, wrong_type, wrong_name, wrong_here, wrong_value, WrongPair, WrongItem, WrongFrame, wrong_count}
 use Rattle.bson.specs.FirstFault.{wrong_end, wrong_in, WrongValue, WrongDocument, wrong_length, wrong_last, wrong_inside}
 use Rattle.bson.proofs.FrameLaws.{name_again, content_again, not_below, wide32, ended_again}
-use Rattle.bson.proofs.TreeLaws.{Reads, AreNew, AreNew-with, AreNew-none, regroup_element, element_again, value_reads, length_takes, IsName-decimal}
+use Rattle.bson.proofs.PairLaws.{Reads, AreNew, AreNew-with, regroup_element, element_again}
+use Rattle.bson.proofs.TreeLaws.{AreNew-none, value_reads, length_takes, IsName-decimal}
 
 abbrev Reader : Type 0
 Reader = Kind → List ℕ → Read Tree

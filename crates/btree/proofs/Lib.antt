@@ -1,3 +1,4 @@
+mod ScanLemmas
 pub mod CapacityLemmas
 pub mod ChainLemmas
 pub mod ChangeLemmas
@@ -7,6 +8,7 @@ pub mod EditLemmas
 pub mod EndLemmas
 pub mod FanLemmas
 pub mod FewLemmas
+pub mod FewParts
 pub mod GetLemmas
 pub mod HeldLemmas
 pub mod InPageLemmas
@@ -14,14 +16,13 @@ pub mod JoinLemmas
 pub mod KeyLemmas
 pub mod ListLemmas
 pub mod LooseLemmas
-pub mod OneChildLemmas
 pub mod OnceLemmas
+pub mod OneChildLemmas
 pub mod PartLemmas
 pub mod PrepareLemmas
 pub mod RaiseLemmas
 pub mod ReachLemmas
 pub mod RootLemmas
-mod ScanLemmas
 pub mod SearchLemmas
 pub mod SplitLemmas
 pub mod StoreLemmas

@@ -16,8 +16,13 @@ old_trees_stay old new root pages entries g (inr t) =
     inr (record {
       d = t.d;
       body = t.body;
-      tree = record
-          { at = g.kept root _ t.tree.at; shown = shows_kept old new g t.d t.body t.tree.shown; whole = t.tree.whole; sound = t.tree.sound; depth = t.tree.depth };
+      tree = record {
+        at = g.kept root _ t.tree.at;
+        shown = shows_kept old new g t.d t.body t.tree.shown;
+        whole = t.tree.whole;
+        sound = t.tree.sound;
+        depth = t.tree.depth;
+      };
       pages_are = t.pages_are;
       entries_are = t.entries_are;
     })

@@ -76,7 +76,14 @@ split_at (x ∷ xs) zero lt = record { mid = x; back = xs; is = refl; more = ref
 split_at (x ∷ xs) (suc i) lt =
     let r = split_at xs i (omega arith) in
     let e : suc i + 1 ≡ suc (i + 1) = omega arith in
-    record { mid = r.mid; back = r.back; is = ap (λ zs. x ∷ zs) r.is; more = ap (λ n. take n (x ∷ xs)) e ∙ ap (λ zs. x ∷ zs) r.more; long = ap suc r.long; here = r.here }
+    record {
+      mid = r.mid;
+      back = r.back;
+      is = ap (λ zs. x ∷ zs) r.is;
+      more = ap (λ n. take n (x ∷ xs)) e ∙ ap (λ zs. x ∷ zs) r.more;
+      long = ap suc r.long;
+      here = r.here;
+    }
 
 pub take_all : {X : Type 0} (xs : List X) (n : ℕ) → length xs ≤ n → take n xs ≡ xs
 take_all [] zero le = refl

@@ -54,7 +54,12 @@ module _ {D : Type 0} (history : D → History) (old : State D) (pager : PagerSt
           ((moved (Ok tt) commits moves running start now has k).any_moment k image left);
       acknowledged = λ k image is.
           let t = turn (Ok tt) commits moves running start now has k in
-          record { entries = t.after; stands = (moved (Ok tt) commits moves running start now has k).acknowledged k image is; spells = t.spells_now; state = t.now_state };
+          record {
+            entries = t.after;
+            stands = (moved (Ok tt) commits moves running start now has k).acknowledged k image is;
+            spells = t.spells_now;
+            state = t.now_state;
+          };
       begun = λ still k.
           let t = turn (Ok tt) commits moves running start now has k in
           begins history new t.pages t.after now (sym commits.tree) k (moved (Ok tt) commits moves running start now has k).begun t.spells_now t.now_state;

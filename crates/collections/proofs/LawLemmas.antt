@@ -82,8 +82,12 @@ none_lawful = record { apart = search rules; numbers = tt; kept = search rules; 
 pub zeros_hold_nothing : ZerosHoldNothing
 zeros_hold_nothing image even odd = record {
   entries = [];
-  stands = record
-      { root = no_root; pages = []; opens = (λ i. root_of (even i) (odd i)) ∙ zero_roots; holds = record { map = inl (refl, (refl, refl)); once = λ n. omega arith } };
+  stands = record {
+    root = no_root;
+    pages = [];
+    opens = (λ i. root_of (even i) (odd i)) ∙ zero_roots;
+    holds = record { map = inl (refl, (refl, refl)); once = λ n. omega arith };
+  };
   spells = record { rises = search rules; same = λ entry. (λ x. x, λ x. x) };
   state = none_lawful;
 }

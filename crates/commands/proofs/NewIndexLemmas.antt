@@ -11,7 +11,7 @@ use Rattle.std.proofs.lemmas.List.{length_push}
 use Rattle.std.proofs.lemmas.Slice.Eq.{bytes_eq-Decides}
 use Rattle.bson.specs.Tree.{Tree, no_pairs, pair, append}
 use Rattle.bson.specs.Lawful.{NoZero, IsName, Lacks, IsTree, IsPairs}
-use Rattle.bson.specs.EditsLaws.{IsPairs-append}
+use Rattle.bson.specs.EditPlaces.{IsPairs-append}
 use Rattle.outcome.specs.Outcome.{◌>>=◌, fault_or, Fails, Gives}
 use Rattle.path.specs.Parts.{is_empty, begins_with_dollar, has_zero, path_fault, parts_of}
 use Rattle.path.specs.declared.fault.PathFault.{PathFault}

@@ -9,7 +9,7 @@ use Rattle.std.proofs.lemmas.Bool.Decides.{nat_tests}
 use Rattle.std.proofs.lemmas.Slice.Eq.{bytes_eq-Decides}
 use Rattle.std.proofs.lemmas.List.{drop_all}
 use Rattle.bson.specs.Tree.{Tree, Pairs, no_pairs, pair, append}
-use Rattle.bson.specs.EditsLaws.{append-one, append-none}
+use Rattle.bson.specs.EditPlaces.{append-one, append-none}
 use Rattle.driver_replies.specs.Fields.{fact_tree, fields_of, are_new}
 use Rattle.driver_replies.specs.declared.fields.Fact.{Fact}
 use Rattle.bson.specs.Lookup.{lookup}

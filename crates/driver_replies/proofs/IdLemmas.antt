@@ -4,7 +4,7 @@ use Rattle.std.specs.Prelude.{ℤ}
 use Rattle.std.specs.Option.{option_map}
 use Rattle.std.proofs.lemmas.List.{drop_all}
 use Rattle.bson.specs.Tree.{Tree, Items, no_items, item, append_items}
-use Rattle.bson.specs.EditsLaws.{append_items-one, append_items-none}
+use Rattle.bson.specs.EditPlaces.{append_items-one, append_items-none}
 use Rattle.bson.specs.View.{tree, items_of}
 use Rattle.bson.specs.declared.value.Value.{Value}
 use Rattle.driver_replies.specs.Cursors.{number_of, with_id, wide_ids}

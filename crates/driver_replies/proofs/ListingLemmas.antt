@@ -4,7 +4,7 @@ use Rattle.std.proofs.Common.{add-one, drop-cons}
 use Rattle.std.specs.Prelude.{if◌then◌else◌}
 use Rattle.std.proofs.lemmas.List.{drop_all}
 use Rattle.bson.specs.Tree.{document, Items, no_items, item, append_items}
-use Rattle.bson.specs.EditsLaws.{append_items-one, append_items-none}
+use Rattle.bson.specs.EditPlaces.{append_items-one, append_items-none}
 use Rattle.bson.specs.Lawful.{items_levels}
 use Rattle.bson.specs.View.{tree, items_of}
 use Rattle.bson.specs.declared.value.Value.{Value}

@@ -107,7 +107,10 @@ module _ {D : Type 0} (history : D → History) (old : Engine D) (h : IsSound hi
               → MatchResult q (TellsDuplicate true keyed cs x) (HasCause history old.file new.file)
           told (Ok b) x is k right =
               let missing = id_read false (read.answers k old.told.value.start cs h.file) x is in
-              record { told = right.told ∙ ap (λ (t : Bool). t || list_any (clashes x.collection.documents d) x.collection.indexes) missing; lawful = right.lawful }
+              record {
+                told = right.told ∙ ap (λ (t : Bool). t || list_any (clashes x.collection.documents d) x.collection.indexes) missing;
+                lawful = right.lawful;
+              }
           told (Err e) x is k cause = cause_from history old.file file new.file read.on k e cause
 
   pub duplicate_of_keys : (r : Result Bool Refusal) (new : Engine D) → Asks (TellsTaken keyed) r new → Asks (TellsDuplicate false keyed) r new

@@ -72,7 +72,11 @@ module _ {D Y : Type 0} (history : D → History) (name : List ℕ) (a b : Engin
       a b c x r first second (λ p.
       let now = (world a).collections in
       let f : HasHome now name home = has_home now name home (subst (IsCatalogueOf name now) is p) in
-      record { asked = f.collection; is = f.catalogued; right = λ y right. subst (λ (ds : List Pairs). Q ds y) (sym (documents_found now name f.collection f.found)) right })
+      record {
+        asked = f.collection;
+        is = f.catalogued;
+        right = λ y right. subst (λ (ds : List Pairs). Q ds y) (sym (documents_found now name f.collection f.found)) right;
+      })
 
   -- there is none
   pub of_no_home : x ≡ None → (y : Y) → Q [] y → Looks history (λ now (y : Y). Q (documents_of now name) y) (Ok y) a b

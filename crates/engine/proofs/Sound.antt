@@ -60,12 +60,18 @@ lawful_world history engine h = record { collections = h.lawful; cursors = h.cur
 -- so is what a turn that is undone leaves, and what the end of a connection leaves
 pub undone_lawful : {D : Type 0} (history : D → History) (engine : Engine D) → IsSound history engine → IsLawful (after_undo (turn_start engine) (world engine))
 undone_lawful history engine h =
-    record { collections = h.before; cursors = All-filter (λ (c : Cursor). not c.touched) (λ (c : Cursor). All IsWithin c.rest) (world engine).cursors h.cursors }
+    record {
+      collections = h.before;
+      cursors = All-filter (λ (c : Cursor). not c.touched) (λ (c : Cursor). All IsWithin c.rest) (world engine).cursors h.cursors;
+    }
 
 pub forgotten_lawful : {D : Type 0} (history : D → History) (engine : Engine D) (connection : ℕ) → IsSound history engine
     → IsLawful (forget (world engine) connection)
 forgotten_lawful history engine connection h =
-    record { collections = h.lawful; cursors = All-filter (λ (c : Cursor). not (c.connection == connection)) (λ (c : Cursor). All IsWithin c.rest) (world engine).cursors h.cursors }
+    record {
+      collections = h.lawful;
+      cursors = All-filter (λ (c : Cursor). not (c.connection == connection)) (λ (c : Cursor). All IsWithin c.rest) (world engine).cursors h.cursors;
+    }
 
 -- ---- what a command is answered
 

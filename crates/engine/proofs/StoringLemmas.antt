@@ -47,8 +47,12 @@ module _ (cs : List Collection) (name : List ℕ) where
   -- it is there
   module _ (c : Collection) (found : find_collection cs name ≡ Some c) where
     pub it_is : collection_of cs name ≡ c
-    it_is i = record
-        { name = found_name cs name c found i; number = number_or (unused cs) (found i); documents = documents_or_none (found i); indexes = indexes_or_none (found i) }
+    it_is i = record {
+      name = found_name cs name c found i;
+      number = number_or (unused cs) (found i);
+      documents = documents_or_none (found i);
+      indexes = indexes_or_none (found i);
+    }
 
     as_it_was : states.IsLawfulState cs → put_collection (collection_of cs name) cs ≡ cs
     as_it_was h = ap (λ (x : Collection). put_collection x cs) it_is
@@ -72,8 +76,12 @@ module _ (cs : List Collection) (name : List ℕ) where
 
     module _ (home : Catalogued) (numbered : home.number ≡ unused cs) where
       made_so : empty_collection name home.number ≡ collection_of cs name
-      made_so i = record
-          { name = name; number = (numbered ∙ ap (number_or (unused cs)) (sym none)) i; documents = documents_or_none (sym none i); indexes = indexes_or_none (sym none i) }
+      made_so i = record {
+        name = name;
+        number = (numbered ∙ ap (number_or (unused cs)) (sym none)) i;
+        documents = documents_or_none (sym none i);
+        indexes = indexes_or_none (sym none i);
+      }
 
       pub noted_new : (edits : List Edit) → home.indexes.items ≡ [] → AddsCollection [] edits name home.number
           → AreNoted cs name home edits (collection_of cs name)

@@ -14,7 +14,8 @@ use Rattle.bson.specs.Tree.{Tree, document, array, Pairs, no_pairs, pair, append
 use Rattle.bson.specs.View.{tree, pairs_of, items_of, names_of}
 use Rattle.bson.specs.Lawful.{levels, pairs_levels, items_levels, NoZero, IsName, Lacks, IsTree, IsDocument, IsArray}
 use Rattle.bson.specs.Reading.{stands_in}
-use Rattle.bson.specs.EditsLaws.{pairs_of-push, items_of-push, IsDocument-append, IsArray-append, pairs_levels-append, items_levels-append}
+use Rattle.bson.specs.EditPlaces.{pairs_levels-append, items_levels-append}
+use Rattle.bson.specs.EditsLaws.{pairs_of-push, items_of-push, IsDocument-append, IsArray-append}
 use Rattle.ext_json.specs.Tokens.{first, rest, key_at}
 use Rattle.ext_json.specs.Reading.{has_name, new_name, pairs_by, is_end, items_by, most_turns, value_by, value_at, as_document, as_array, pairs_within}
 use Rattle.ext_json.specs.Reading.{items_within}

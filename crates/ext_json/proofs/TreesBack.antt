@@ -15,7 +15,7 @@ use Rattle.bson.specs.Lawful.{levels, pairs_levels, items_levels, NoZero, IsName
 use Rattle.bson.specs.Tree.{Scalar, text, binary, object_id, boolean, date, null, int32, timestamp, int64, min_key, max_key, Tree, scalar, document, array}
 use Rattle.bson.specs.Tree.{Pairs, no_pairs, pair, append, Items, no_items, item, append_items}
 use Rattle.bson.specs.Edits.{pairs_len, items_len}
-use Rattle.bson.specs.EditsLaws.{append-none, append-one, append_items-none, append_items-one}
+use Rattle.bson.specs.EditPlaces.{append-none, append-one, append_items-none, append_items-one}
 use Rattle.ext_json.specs.Written.{scalar_tokens, tree_tokens, pairs_tokens, items_tokens, document_tokens, canonical_text}
 use Rattle.ext_json.specs.Tokens.{first, rest, key_at}
 use Rattle.ext_json.specs.Wrappers.{wrapper_in}

@@ -6,7 +6,7 @@ use Rattle.std.specs.List.{list_any}
 use Rattle.bson.specs.Tree.{Tree, scalar, document, array, Pairs, no_pairs, pair, append, Items, no_items, item, append_items}
 use Rattle.bson.specs.View.{tree, pairs_of, items_of}
 use Rattle.bson.specs.Lawful.{levels, pairs_levels, items_levels, Lacks, IsTree, IsPairs, IsItems, IsDocument, IsArray}
-use Rattle.bson.specs.EditsLaws.{append-none, append-one, append_items-none, append_items-one}
+use Rattle.bson.specs.EditPlaces.{append-none, append-one, append_items-none, append_items-one}
 use Rattle.bson.specs.declared.value.Pair.{Pair}
 use Rattle.bson.specs.declared.value.Value.{Value}
 use Rattle.filter.specs.Projection.{Path, below, is_end, is_none, only, pick, add_pair, add_item, of_tree, of_pairs, of_items}

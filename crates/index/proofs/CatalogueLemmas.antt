@@ -9,7 +9,8 @@ use Rattle.std.proofs.lemmas.Bool.Decides.{nat_tests}
 use Rattle.bson.specs.Tree.{text, boolean, int32, Tree, scalar, document, Pairs, no_pairs, pair, append}
 use Rattle.bson.specs.Lawful.{pairs_levels, Lacks, IsPairs, IsDocument, IsTree}
 use Rattle.bson.specs.Lookup.{lookup}
-use Rattle.bson.specs.EditsLaws.{append-one, pairs_of-push}
+use Rattle.bson.specs.EditPlaces.{append-one}
+use Rattle.bson.specs.EditsLaws.{pairs_of-push}
 use Rattle.bson.specs.View.{tree, pairs_of}
 use Rattle.bson.specs.declared.value.Pair.{Pair}
 use Rattle.std.proofs.lemmas.Slice.Eq.{bytes_eq-Decides}

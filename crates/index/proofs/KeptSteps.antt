@@ -170,8 +170,14 @@ noted_index d ds i h = by (is_multikey i.fields d)
   where
     by : (b : Bool) → IsIndexOf ds (if b then record i { is_multi = true } else i)
     by true = record {
-      lawful = record
-          { numbered = h.lawful.numbered; most = h.lawful.most; is_text = h.lawful.is_text; named = h.lawful.named; short = h.lawful.short; fields = h.lawful.fields };
+      lawful = record {
+        numbered = h.lawful.numbered;
+        most = h.lawful.most;
+        is_text = h.lawful.is_text;
+        named = h.lawful.named;
+        short = h.lawful.short;
+        fields = h.lawful.fields;
+      };
       keys = h.keys;
       unique = h.unique;
       multi = all_of (λ e. is_multikey i.fields e ≡ true → true ≡ true) ds (λ e g f. refl);

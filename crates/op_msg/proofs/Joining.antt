@@ -2,8 +2,9 @@
 use Rattle.std.proofs.Common.{◌≡◌, ◌≢◌, ℕ, ◌≤◌, List, [], ◌∷◌, ◌++◌, map, refl, sym, ap, subst, ◌∙◌, arith}
 use Rattle.std.specs.Prelude.{Result, Ok, Err, Option, Some, None, option_map, is_some, MatchOption, Bool, true, false, not, ◌||◌, if◌then◌else◌}
 use Rattle.std.specs.Str.{bytes_eq}
-use Rattle.bson.proofs.TreeLaws.{ne-bytes_eq}
-use Rattle.bson.specs.EditsLaws.{append-none, append_items-none, append_items-one, pairs_of-push, IsDocument-append}
+use Rattle.bson.proofs.PairLaws.{ne-bytes_eq}
+use Rattle.bson.specs.EditPlaces.{append-none, append_items-none, append_items-one}
+use Rattle.bson.specs.EditsLaws.{pairs_of-push, IsDocument-append}
 use Rattle.bson.specs.Lawful.{Lacks, levels, IsName, IsTree, IsArray, IsDocument}
 use Rattle.bson.specs.Lookup.{lookup}
 use Rattle.bson.specs.Reading.{Read, value_at, stands_in}
@@ -159,7 +160,10 @@ pub joining_start : (fields : List Pair) (names : List (List ℕ)) (added : List
     → ((other : List ℕ) → stands_in names other ≡ stands_in (names_of fields) other) → added ≡ [] → IsJoining (pairs_of fields) names added
 joining_start fields names added lawful same is =
     let none : joined (pairs_of fields) added ≡ pairs_of fields = ap (joined (pairs_of fields)) is ∙ append-none (pairs_of fields) in
-    record { lawful = subst IsDocument (sym none) lawful; named = λ name. same name ∙ lookup_named fields name ∙ ap (λ (ps : Pairs). is_some (lookup ps name)) (sym none) }
+    record {
+      lawful = subst IsDocument (sym none) lawful;
+      named = λ name. same name ∙ lookup_named fields name ∙ ap (λ (ps : Pairs). is_some (lookup ps name)) (sym none);
+    }
 
 -- a name that is new, or is not
 module _ (ps : Pairs) (names : List (List ℕ)) (added : List Pair) (found : Sequence) (fresh : Bool) (joining : IsJoining ps names added)

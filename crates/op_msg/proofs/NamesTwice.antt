@@ -7,7 +7,7 @@ use Rattle.std.proofs.lemmas.List.{take-append-drop, length-append, length-take}
 use Rattle.bson.specs.Reading.{stands_in}
 use Rattle.bson.specs.RawNames.{AreNew}
 use Rattle.bson.proofs.TableLaws.{at_place, cons_is, take_front}
-use Rattle.bson.proofs.TreeLaws.{ne-bytes_eq, bytes_eq-ne}
+use Rattle.bson.proofs.PairLaws.{ne-bytes_eq, bytes_eq-ne}
 use Rattle.op_msg.specs.Frame.{has_twice}
 
 abbrev Name : Type 0

@@ -93,7 +93,15 @@ pub owed_told : (n : ℕ) (c : Collection) (d : Pairs) (x : Entry) → c.number 
 owed_told n c d x same there owes =
     let i = among_flat (index_entries n d) x c.indexes owes in
     let k = among_map (index_entry n i.0.number (key_of d)) x (encoded_keys i.0.fields d) i.2 in
-    record { document = d; there = there; index = i.0; listed = i.1; key = k.0; keyed = k.1; is = k.2 ∙ ap (λ (m : ℕ). index_entry m i.0.number (key_of d) k.0) (sym same) }
+    record {
+      document = d;
+      there = there;
+      index = i.0;
+      listed = i.1;
+      key = k.0;
+      keyed = k.1;
+      is = k.2 ∙ ap (λ (m : ℕ). index_entry m i.0.number (key_of d) k.0) (sym same);
+    }
 
 owed_once : (c : Collection) (d : Pairs) → IsIndexKept c → IsStorable d → AreOnce (owed_by c.number c.indexes d)
 owed_once c d kept good =
@@ -244,7 +252,15 @@ module _ (all done : List Entry) (pair : Entry) (p : Progress) (s : Stands all d
   key_of_it x k = record {
     collection = with_it;
     there = it_there;
-    is = record { document = k.document; there = old_documents k.document k.there; index = k.index; listed = k.listed; key = k.key; keyed = k.keyed; is = k.is };
+    is = record {
+      document = k.document;
+      there = old_documents k.document k.there;
+      index = k.index;
+      listed = k.listed;
+      key = k.key;
+      keyed = k.keyed;
+      is = k.is;
+    };
   }
 
   keyed_on : (x : Entry) → IsKeyed p.now x → IsKeyed after x
@@ -278,7 +294,11 @@ module _ (all done : List Entry) (pair : Entry) (p : Progress) (s : Stands all d
         (among_image (index_entry c.number k.index.number (key_of d)) k.key (encoded_keys k.index.fields d)
         (subst (λ (f : Pairs). Among k.key (encoded_keys k.index.fields f)) e k.keyed))))
     | inr g ↦ among_front x s.owed news
-        (s.keyed x (record { collection = c; there = there; is = record { document = k.document; there = g; index = k.index; listed = k.listed; key = k.key; keyed = k.keyed; is = k.is } }))
+        (s.keyed x (record {
+          collection = c;
+          there = there;
+          is = record { document = k.document; there = g; index = k.index; listed = k.listed; key = k.key; keyed = k.keyed; is = k.is };
+        }))
   ]
 
   keyed_back : (x : Entry) → IsKeyed after x → Among x (s.owed ++ news)

@@ -42,7 +42,12 @@ one_step all done rest pair p next rises s (inr (inl t)) =
     let now_same : with_document_at t.collection.number t.document p.now ≡ with_documents c (put_document t.document c.documents) p.now =
     ap (λ (n : ℕ). with_document_at n t.document p.now) (sym at.same) ∙ now_is all done pair p s c t.document at.there found is keyed under in
     let next_same :
-    record { now = with_documents c (put_document t.document c.documents) p.now; documents = p.documents + 1; keys = p.keys + key_count (keys_among c.indexes t.document); seen = p.seen } ≡ next =
+    record {
+      now = with_documents c (put_document t.document c.documents) p.now;
+      documents = p.documents + 1;
+      keys = p.keys + key_count (keys_among c.indexes t.document);
+      seen = p.seen;
+    } ≡ next =
     sym (t.next_is
     ∙ (λ i. record
     { now = now_same i; documents = p.documents + 1; keys = p.keys + key_count (keys_among (sym at.told i).indexes t.document); seen = p.seen })) in

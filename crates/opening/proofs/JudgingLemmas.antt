@@ -19,7 +19,8 @@ use Rattle.index.proofs.LawfulLaws.{all_of, pairs_of}
 use Rattle.index.proofs.MemberLemmas.{Among, first_of}
 use Rattle.index.proofs.OtherEditLaws.{any_there}
 use Rattle.opening.specs.Judging.{IsDocumentAt, IsIndexable, IsStoredAt, are_apart, has_number, keys_among}
-use Rattle.opening.proofs.RefusingLemmas.{any_none, document_spells}
+use Rattle.opening.proofs.RefusingCatalogues.{any_none}
+use Rattle.opening.proofs.RefusingLemmas.{document_spells}
 use Rattle.opening.proofs.TakingLemmas.{both_true, is_storable}
 
 -- ---- the numbers of indexes

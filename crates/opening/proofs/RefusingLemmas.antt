@@ -1,8 +1,7 @@
 -- No entry of lawful collections is refused, and they have as many entries of indexes as their documents have keys.
-use Rattle.std.proofs.Common.{◌≡◌, ◌⊎◌, ℕ, ◌+◌, ◌<◌, ◌≤◌, Bool, true, false, not, ◌&&◌, ◌||◌, List, [], ◌∷◌, ◌++◌, length, map, Some, inl, inr, refl, sym, ap}
+use Rattle.std.proofs.Common.{◌≡◌, ℕ, ◌+◌, ◌<◌, ◌≤◌, Bool, true, false, not, ◌&&◌, ◌||◌, List, [], ◌∷◌, ◌++◌, length, map, Some, inl, inr, refl, sym, ap}
 use Rattle.std.proofs.Common.{subst, ◌∙◌, arith, append_assoc, eqb-true, Result, Ok}
-use Rattle.std.specs.Prelude.{All, ◌==◌, if◌then◌else◌, Option}
-use Rattle.std.specs.List.{list_all, list_any}
+use Rattle.std.specs.Prelude.{All, ◌==◌, Option}
 use Rattle.std.specs.Cmp.{nat_cmp_is}
 use Rattle.std.specs.Ordering.{is_eq, nat_cmp, is_lt, ordering_then}
 use Rattle.std.specs.Cmp.Lexicographic.{slice_cmp}
@@ -11,15 +10,13 @@ use Rattle.std.specs.declared.cmp.Ordering.TheVariants as orders
 use Rattle.std.proofs.lemmas.Cmp.{tied_itself}
 use Rattle.std.proofs.lemmas.List.{length-map}
 use Rattle.outcome.specs.Outcome.{unless}
-use Rattle.bson.specs.Spelling.{frame_of, pairs_bytes, Spells as SpellsDocument}
+use Rattle.bson.specs.Spelling.{frame_of, pairs_bytes}
 use Rattle.bson.proofs.TreeLaws.{one_spelling}
 use Rattle.bson.specs.Tree.{Pairs}
-use Rattle.value_order.specs.Laws.{IsKey}
 use Rattle.value_order.specs.Order.{compare, value}
 use Rattle.value_order.specs.KeyText.{tree_text}
 use Rattle.value_order.specs.TotalLaws.{compare_total}
 use Rattle.value_order.specs.declared.texts.Direction.TheVariants as directions
-use Rattle.value_order.proofs.KeyLaws.{texts_order}
 use Rattle.btree.specs.Keys.{Each, Entry, IsUnder, Rises, key_cmp, value_at}
 use Rattle.btree.proofs.KeyLemmas.{not_both, not_under_itself}
 use Rattle.path.specs.declared.refusal.Refusal.{Refusal}
@@ -29,122 +26,32 @@ use Rattle.index.specs.Definition.{Definition, Field}
 use Rattle.index.specs.Entering.{becomes_multikey}
 use Rattle.index.specs.IndexKeys.{has_parallel_arrays, is_multikey}
 use Rattle.index.specs.KeyTexts.{encoded_keys, entry_key, is_too_long, keys_in}
-use Rattle.index.specs.LawfulState.{AreNamedApart, AreNumberedApart, IsIndexOf, IsKept as IsIndexKept, IsLawfulState as IsIndexLawful, IsStorable, ShareNoKey}
+use Rattle.index.specs.LawfulState.{IsStorable, ShareNoKey}
 use Rattle.index.specs.OtherKeys.{another_has, has_other_key}
 use Rattle.index.specs.State.{Collection, key_of, put_collection, words}
 use Rattle.index.specs.StateEntries.{Spells, catalogue_entry, document_entry, entry_keys, index_entry, key_under}
 use Rattle.index.specs.StateReads.{SpellsLawful}
-use Rattle.index.proofs.CatalogueEntries.{same_value, text_size}
-use Rattle.index.proofs.EntryLemmas.{IsDocumentOf, IsKeyOf, IsOneOf, document_among, keyed_among, same_first, same_rest, same_words}
+use Rattle.index.proofs.EntryLemmas.{IsKeyOf, IsOneOf, document_among, keyed_among, same_first}
 use Rattle.index.proofs.ExchangeLaws.{entry_value}
 use Rattle.index.proofs.FitLaws.{key_size}
-use Rattle.index.proofs.HomeLemmas.{document_or_key, inside_of, kept_of, listed_of as indexed_of, not_inside, number_fits, one_number, storable_of}
+use Rattle.index.proofs.HomeLemmas.{document_or_key, inside_of, kept_of, not_inside, number_fits, one_number, storable_of}
 use Rattle.index.proofs.KeyOfDocument.{among_test}
-use Rattle.index.proofs.LawfulLaws.{all_of}
-use Rattle.index.proofs.MemberLemmas.{Among, among_append, among_back, among_front, among_image, among_map, contains_of, first_of, of_all, of_pairs}
-use Rattle.index.proofs.OneStateLaws.{lawful_indexes}
+use Rattle.index.proofs.MemberLemmas.{Among, among_append, among_back, among_front, among_image, among_map, contains_of, of_all, of_pairs}
 use Rattle.index.proofs.OtherKeyLaws.{tells_other_key}
-use Rattle.index.proofs.PlaceLemmas.{apart_rest, name_itself}
+use Rattle.index.proofs.PlaceLemmas.{name_itself}
 use Rattle.index.proofs.ReadLaws.{in_map, there_of}
 use Rattle.index.proofs.WindowLemmas.{under_cmp}
 use Rattle.collections.specs.IndexChecks.{has_entry, is_empty_at, lacks_any, lacks_key, lacks_one}
 use Rattle.opening.specs.Judging.{HasItsKeys, IsIndexable, MakesNone, Progress, RefusesOne, Takes, bare, is_of_index, key_count, keys_among, listed_of}
-use Rattle.opening.specs.Judging.{nothing_read, numbered, stands_behind, with_document_at}
+use Rattle.opening.specs.Judging.{nothing_read, stands_behind, with_document_at}
 use Rattle.database_model.specs.Lawful.{IsStored}
-use Rattle.opening.proofs.EntriesSoFar.{IsPlain, Stands, catalogue_none, document_none, key_some, nothing_stands}
+use Rattle.opening.proofs.EntriesSoFar.{Stands, catalogue_none, document_none, key_some, nothing_stands}
 use Rattle.opening.proofs.FileEntries.{all_stand, each_before, one_step, owed_seen}
 use Rattle.opening.proofs.OnceLists.{AreOnce, once_fits, once_only, only, only_told, rises_once}
 use Rattle.opening.proofs.TakingLemmas.{find_there}
-
--- ---- lists
-
-pub any_none : {X : Type 0} (f : X → Bool) (xs : List X) → ((x : X) → Among x xs → f x ≡ false) → list_any f xs ≡ false
-any_none f [] h = refl
-any_none f (x ∷ xs) h = ap (λ (b : Bool). b || list_any f xs) (h x (inl refl)) ∙ any_none f xs (λ y there. h y (inr there))
-
-all_behind : (n : Collection) (xs : List Collection) → ((x : Collection) → Among x xs → stands_behind n (bare x) ≡ true)
-    → list_all (stands_behind n) (listed_of xs) ≡ true
-all_behind n [] h = refl
-all_behind n (x ∷ xs) h = ap (λ (b : Bool). b && list_all (stands_behind n) (listed_of xs)) (h x (inl refl)) ∙ all_behind n xs (λ y there. h y (inr there))
-
-numbered_there : (xs : List Collection) (x : Collection) → AreNumberedApart xs → Among x xs → numbered x.number (listed_of xs) ≡ Some (bare x)
-numbered_there [] x apart there = absurd there
-numbered_there (y ∷ ys) x apart there = by (y.number == x.number) refl there (numbered_there ys x apart.1)
-  where
-    by : (b : Bool) → (y.number == x.number) ≡ b → Among x (y ∷ ys) → (Among x ys → numbered x.number (listed_of ys) ≡ Some (bare x))
-        → (if b then Some (bare y) else numbered x.number (listed_of ys)) ≡ Some (bare x)
-    by true same at later = ap (λ (z : Collection). Some (bare z)) (one_number (y ∷ ys) y x apart (inl refl) at (eqb-true y.number x.number same))
-    by false other (inl e) later =
-        let itself : (y.number == x.number) ≡ true = ap (λ (z : Collection). z.number == x.number) (sym e) ∙ number_itself x.number in
-        absurd (let never : true ≡ false = sym itself ∙ other in cc)
-      where
-        number_itself : (n : ℕ) → (n == n) ≡ true
-        number_itself n = grind arith
-    by false other (inr h) later = later h
-
-names_once : (cs : List Collection) → AreNamedApart cs → AreOnce (map (λ (c : Collection). c.name) cs)
-names_once [] h = tt
-names_once (c ∷ cs) h = (
-  (λ there.
-      let m = among_map (λ (x : Collection). x.name) c.name cs there in
-      let less = first_of (λ p q. slice_cmp nat_cmp p.name q.name ≡ orders.Less) c cs m.0 h m.1 in
-      name_itself c.name (subst (λ (n : List ℕ). slice_cmp nat_cmp c.name n ≡ orders.Less) (sym m.2) less)),
-  names_once cs (apart_rest c cs h),
-)
-
--- ---- the catalogue's entries
-
-name_key : (c : Collection) → IsIndexKept c → IsKey (value (words c.name))
-name_key c kept = (kept.name, omega (arith, text_size c.name, kept.short))
-
--- their keys order as the names do
-names_order : (c d : Collection) → IsIndexKept c → IsIndexKept d → key_cmp (catalogue_entry c).key (catalogue_entry d).key ≡ slice_cmp nat_cmp c.name d.name
-names_order c d kc kd =
-    under_cmp 0 0 0 0 (tree_text (words c.name)) (tree_text (words d.name)) (omega arith) (omega arith) (omega arith) (omega arith)
-    ∙ texts_order directions.Ascending (value (words c.name)) (value (words d.name)) (name_key c kc) (name_key d kd)
-
-record IsLike (c e : Collection) : Type 0 where
-  name : c.name ≡ e.name
-  number : c.number ≡ e.number
-  indexes : c.indexes ≡ e.indexes
-
-same_catalogue : (c e : Collection) → IsIndexKept c → IsIndexKept e → IsOneOf e (catalogue_entry c) → IsLike c e
-same_catalogue c e kept other (inl same) =
-    let parts = same_value c.number e.number c.indexes e.indexes kept.most other.most kept.few other.few (lawful_indexes c.indexes c.documents kept.indexes)
-    (lawful_indexes e.indexes e.documents other.indexes)
-    (ap (λ (y : Entry). y.value) same) in
-    record {
-      name = same_words c.name e.name (same_rest 0 0 0 0 (tree_text (words c.name)) (tree_text (words e.name)) (ap (λ (y : Entry). y.key) same));
-      number = parts.0;
-      indexes = parts.1;
-    }
-same_catalogue c e kept other (inr inside) =
-    absurd (not_inside c e (catalogue_entry c) (catalogue_entry c) other refl (inside_of e (catalogue_entry c) inside) refl)
-
-plain_one : (now : List Collection) (x : Entry) (h : IsPlain now x) → IsOneOf h.collection x
-plain_one now x h = at h.is
-  where
-    at : (x ≡ catalogue_entry h.collection) ⊎ IsDocumentOf h.collection x → IsOneOf h.collection x
-    at (inl e) = inl e
-    at (inr d) = inr (inl d)
-
-bare_kept : (c : Collection) → IsIndexKept c → IsIndexKept (bare c)
-bare_kept c kept = record {
-  name = kept.name;
-  short = kept.short;
-  least = kept.least;
-  most = kept.most;
-  rising = λ i j d lt below. absurd (omega (arith, below));
-  storable = λ k d below. absurd (omega (arith, below));
-  indexes = all_of (IsIndexOf []) c.indexes (λ i there. record {
-    lawful = (indexed_of c i kept there).lawful;
-    keys = λ k d below. absurd (omega (arith, below));
-    unique = λ u j k d lt below. absurd (omega (arith, below));
-    multi = λ k d below. absurd (omega (arith, below));
-  });
-  distinct = kept.distinct;
-  few = kept.few;
-}
+use Rattle.opening.proofs.RefusingCatalogues.{any_none, all_behind, numbered_there, names_once}
+use Rattle.opening.proofs.RefusingCatalogues.{names_order, IsLike, same_catalogue, plain_one}
+use Rattle.opening.proofs.RefusingCatalogues.{bare_kept}
 
 -- ---- the documents' entries
 
@@ -320,7 +227,11 @@ module _ (all : List Entry) (cs : List Collection) (spells : Spells all cs) (law
   like_there : (x : Collection) → Among x p.now → IsThere x
   like_there x there =
       let home = there_of all cs holds (catalogue_entry x) (in_all (catalogue_entry x) (its_entry x there)) in
-      record { one = home.collection; there = home.there; like = same_catalogue x home.collection (kept_so_far x there) (kept_of cs home.collection lawful home.there) home.one }
+      record {
+        one = home.collection;
+        there = home.there;
+        like = same_catalogue x home.collection (kept_so_far x there) (kept_of cs home.collection lawful home.there) home.one;
+      }
 
   module _ (c : Collection) (there : Among c cs) where
     kept : IsIndexKept c

@@ -205,7 +205,13 @@ module _ {X : Type 0} (size : List ℕ → ℕ) (read : List ℕ → X) (bytes_o
         let next : r.behind ≡ starts (λ x. length (bytes_of x)) (at + length (bytes_of (read b))) (map (λ p. read (drop p bytes)) r.behind) =
         rest.placed ∙ ap (λ (k : ℕ). starts (λ x. length (bytes_of x)) (at + k) (map (λ p. read (drop p bytes)) r.behind)) (sym long) in
         subst (Found bytes (suc n) at) r.all
-        (record { count = ap (λ (k : ℕ). suc k) rest.count; whole = ((ends, small_size), rest.whole); zeros = rest.zeros; spelled = joined; placed = λ i. at ∷ next i })
+        (record {
+          count = ap (λ (k : ℕ). suc k) rest.count;
+          whole = ((ends, small_size), rest.whole);
+          zeros = rest.zeros;
+          spelled = joined;
+          placed = λ i. at ∷ next i;
+        })
 
   module _ (width : X → ℕ) (Sound : X → Type 0) (len : (x : X) → length (bytes_of x) ≡ width x)
       (back : (x : X) (rest : List ℕ) → Sound x → read (bytes_of x ++ rest) ≡ x)

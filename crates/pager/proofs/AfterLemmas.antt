@@ -174,8 +174,13 @@ module _ {D : Type 0} (history : D → History) (store : Store D) (cache : PageC
         ∙ there;
     ascending = so.ascending;
     each = all_weaker (IsNew (durable_root store).generation cache) (IsNew (durable_root new).generation cache)
-        (λ m one. record
-        { inside = one.inside; some = one.some; small = one.small; until = subst (λ (r : Root). m.generation ≤ r.generation + 1) (sym leaves.still) one.until; uncached = one.uncached }) made so.each;
+        (λ m one. record {
+          inside = one.inside;
+          some = one.some;
+          small = one.small;
+          until = subst (λ (r : Root). m.generation ≤ r.generation + 1) (sym leaves.still) one.until;
+          uncached = one.uncached;
+        }) made so.each;
     booked = so.booked;
   }
     where

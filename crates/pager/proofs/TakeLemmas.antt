@@ -211,7 +211,13 @@ module _ {D : Type 0} (history : D → History) (store : Store D) (cache : PageC
       each = all_more (IsNew (durable_root store).generation after_cache) made sheet
           (all_both (IsNew (durable_root store).generation cache) (λ (m : Sheet). m.page < sheet.page)
           (IsNew (durable_root store).generation after_cache) new_still made kept_so.each below_all)
-          (record { inside = omega (arith, page_below book sheet.page least, kept_so.booked.limit); some = some; small = small; until = until; uncached = this });
+          (record {
+            inside = omega (arith, page_below book sheet.page least, kept_so.booked.limit);
+            some = some;
+            small = small;
+            until = until;
+            uncached = this;
+          });
       booked = record {
         sound = (stays_sound book kept_so.booked.sound).taken sheet.page least;
         no_pins = kept_so.booked.no_pins;

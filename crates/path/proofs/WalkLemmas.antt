@@ -10,7 +10,8 @@ use Rattle.bson.specs.Tree.{Tree, scalar, null, document, array, Pairs, no_pairs
 use Rattle.bson.specs.Lookup.{lookup}
 use Rattle.bson.specs.Lawful.{levels, pairs_levels, items_levels}
 use Rattle.bson.specs.Edits.{place, pair_at, pairs_len, put, with_value, without_pair, item_at}
-use Rattle.bson.specs.EditsLaws.{place-there, place-absent, pairs_levels-put, pairs_levels-cut, items_levels-with_item}
+use Rattle.bson.specs.EditPlaces.{items_levels-with_item}
+use Rattle.bson.specs.EditsLaws.{place-there, place-absent, pairs_levels-put, pairs_levels-cut}
 use Rattle.path.specs.declared.refusal.Refusal.{Refusal}
 use Rattle.path.specs.declared.refusal.Refusal.TheVariants as refusals
 use Rattle.outcome.specs.Outcome.{Gives}

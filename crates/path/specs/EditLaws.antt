@@ -10,7 +10,7 @@ use Rattle.bson.specs.Lawful.{levels, IsTree, IsPairs, IsItems}
 use Rattle.bson.specs.Lookup.{lookup}
 use Rattle.bson.specs.Edits.{put, cut, items_len, item_at, with_item}
 use Rattle.bson.specs.EditsLaws.{lookup-put, lookup-put_other, lookup-cut, lookup-cut_other}
-use Rattle.bson.specs.EditsLaws.{item_at-with_item, item_at-with_item_other}
+use Rattle.bson.specs.EditPlaces.{item_at-with_item, item_at-with_item_other}
 use Rattle.path.specs.declared.refusal.Refusal.{Refusal}
 use Rattle.path.specs.declared.refusal.Refusal.TheVariants as refusals
 use Rattle.path.specs.Parts.{index_of}

@@ -17,8 +17,9 @@ use Rattle.bson.specs.Tree.{Tree, scalar, null, document, array, Pairs, no_pairs
 use Rattle.bson.specs.Tree.{no_items, item}
 use Rattle.bson.specs.Lookup.{lookup}
 use Rattle.bson.specs.Edits.{put, items_len, item_at, with_item}
-use Rattle.bson.specs.EditsLaws.{lookup-put_other, lookup-put, lookup-cut_other, item_at-with_item}
-use Rattle.bson.specs.EditsLaws.{item_at-with_item_other}
+use Rattle.bson.specs.EditPlaces.{item_at-with_item}
+use Rattle.bson.specs.EditsLaws.{lookup-put_other, lookup-put, lookup-cut_other}
+use Rattle.bson.specs.EditPlaces.{item_at-with_item_other}
 use Rattle.path.specs.declared.refusal.Refusal.{Refusal}
 use Rattle.path.specs.Parts.{index_of, is_empty, is_front, meets}
 use Rattle.path.specs.Place.{value_at}

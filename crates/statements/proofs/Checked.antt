@@ -159,7 +159,13 @@ passed false false (Some r) id t e = absurd cc
 passed false false None None t e = absurd cc
 passed false false None (Some u) t e =
     let k = of_key u t (nat_lt 500 (length (tree_text u))) e in
-    record { small = refl; flat = refl; named = refl; found = ap (λ (x : Tree). Some x) k.0; short = ap (λ (x : Tree). nat_lt 500 (length (tree_text x))) (sym k.0) ∙ k.1 }
+    record {
+      small = refl;
+      flat = refl;
+      named = refl;
+      found = ap (λ (x : Tree). Some x) k.0;
+      short = ap (λ (x : Tree). nat_lt 500 (length (tree_text x))) (sym k.0) ∙ k.1;
+    }
 
 -- a document that passed is lawful as it is stored, and keeps its `_id`
 pub record Keeps (ps : Pairs) (t : Tree) : Type 0 where

@@ -58,7 +58,12 @@ module _ (c : Collection) (cs : List Collection) (i : ℕ) (s : UpdateStatement)
       let made : put_collection (with_documents u.collections c.name stored) u.collections ≡ put_collection (record c { documents = stored }) cs =
       ap (λ (o : Option Collection). put_collection (record (or_empty c.name (unused u.collections) o) { documents = stored }) u.collections) found
       ∙ put_again stored in
-      λ k. record { collections = made k; matched = counted l.matched; modified = l.modified; upserted = append_items l.upserted (item (document (upserted_entry i (key_of new))) no_items) }
+      λ k. record {
+        collections = made k;
+        matched = counted l.matched;
+        modified = l.modified;
+        upserted = append_items l.upserted (item (document (upserted_entry i (key_of new))) no_items);
+      }
 
   upsert_there : upsert c.name i s u ≡ each_in c cs (upsert_listed i s l)
   upsert_there =

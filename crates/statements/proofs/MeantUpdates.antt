@@ -351,7 +351,17 @@ each_alike : (i : ℕ) (ss : List UpdateStatement) (ms : List Marked) (a n : ℕ
     → IsRising (all_of ms) → All IsStored (all_of ms)
     → NoneIs (is_updated ss) (others_of ms) → NoneIs (has_key_of (made_by ss)) (others_of ms)
     → RunsAlike ms (run_each i ss (listed_with (meant_of ms) a n u)) (run_each i ss (listed_with (all_of ms) a n u))
-each_alike i [] ms a n u read rising stored none free = record { next = ms; matched = a; modified = n; upserted = u; among = refl; all = refl; rest = refl; rising = rising; stored = stored }
+each_alike i [] ms a n u read rising stored none free = record {
+  next = ms;
+  matched = a;
+  modified = n;
+  upserted = u;
+  among = refl;
+  all = refl;
+  rest = refl;
+  rising = rising;
+  stored = stored;
+}
 each_alike i (s ∷ ss) ms a n u read rising stored none free =
     at (run_listed i s (listed_with (meant_of ms) a n u)) (run_listed i s (listed_with (all_of ms) a n u))
     (run_alike i s ms a n u (read 0 s (omega arith)) rising stored (first_unmatched s ss (others_of ms) none) (first_free s ss (others_of ms) free))

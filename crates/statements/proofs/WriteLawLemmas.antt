@@ -226,13 +226,22 @@ left_by i s l m read stored e P changed made =
         let both = and_both c.found s.upsert asked in
         let n = step_of (upsert_document s)
         (λ new. or_refused (place (key_of new) new l.documents) refusals.DuplicateKey >>= (λ stored. Ok (with_listed i new stored l))) m f in
-        made n.0 (record
-        { makes = both.1; none = sym (found_is s (none_changed l) l.documents c is) ∙ both.0; is = n.1; placed = placed n.0 (place (key_of n.0) n.0 l.documents) n.2 })
+        made n.0 (record {
+          makes = both.1;
+          none = sym (found_is s (none_changed l) l.documents c is) ∙ both.0;
+          is = n.1;
+          placed = placed n.0 (place (key_of n.0) n.0 l.documents) n.2;
+        })
     at c is false asked f =
         let same : listed_to l c ≡ m = cc in
         let kept = from_kept s read (none_changed l) l.documents c no_stored stored refl is in
-        changed c (record
-        { is = is; left = ap (λ (x : Listed). x.documents) (sym same); keys = kept.0; stored = kept.1; writes = writes (list_any (matches s.filter) l.documents) refl })
+        changed c (record {
+          is = is;
+          left = ap (λ (x : Listed). x.documents) (sym same);
+          keys = kept.0;
+          stored = kept.1;
+          writes = writes (list_any (matches s.filter) l.documents) refl;
+        })
       where
         unasked : c.found ≡ false → s.upsert ≡ false
         unasked none = ap (λ (b : Bool). not b && s.upsert) (sym none) ∙ asked

@@ -8,8 +8,9 @@ use Rattle.std.proofs.lemmas.List.{drop_all}
 use Rattle.bson.specs.Tree.{Tree, Pairs, no_pairs, pair, append}
 use Rattle.bson.specs.View.{tree, pairs_of}
 use Rattle.bson.specs.Edits.{place, pair_at, without_pair}
-use Rattle.bson.specs.EditsLaws.{append-none, append-one, pairs_of-push, place-there, place-absent, pair_at-pairs_of, pairs_of-remove, lookup-absent}
-use Rattle.bson.specs.EditsLaws.{IsPairs-without_pair, pairs_levels-without_pair}
+use Rattle.bson.specs.EditPlaces.{append-none, append-one}
+use Rattle.bson.specs.EditsLaws.{pairs_of-push, place-there, place-absent, pair_at-pairs_of, pairs_of-remove, lookup-absent}
+use Rattle.bson.specs.EditPlaces.{IsPairs-without_pair, pairs_levels-without_pair}
 use Rattle.bson.specs.Lookup.{lookup}
 use Rattle.bson.specs.Lawful.{levels, pairs_levels, IsName, Lacks, IsTree, IsPairs, IsDocument}
 use Rattle.bson.specs.declared.value.Pair.{Pair}

@@ -6,8 +6,11 @@ use Rattle.btree.proofs.ChainLemmas.{next_retired, retiring, retired_on, not_cha
 use Rattle.btree.proofs.chain.retire_chain.Goals as goal
 
 pub loop-left-init : goal.loop-left-init
-loop-left-init g c = record
-    { grows = grows_itself (g.P.Pages.store c.args.pages.now); few = λ k. refl; chained = λ links value has next long k. retiring (g.P.Pages.store c.args.pages.now) links value _ _ has next long }
+loop-left-init g c = record {
+  grows = grows_itself (g.P.Pages.store c.args.pages.now);
+  few = λ k. refl;
+  chained = λ links value has next long k. retiring (g.P.Pages.store c.args.pages.now) links value _ _ has next long;
+}
 
 pub returns-in_err-shared-clause-retires : goal.returns-in_err-shared-clause-retires
 returns-in_err-shared-clause-retires g c =

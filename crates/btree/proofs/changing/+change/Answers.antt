@@ -16,7 +16,8 @@ use Rattle.btree.proofs.ChangingLemmas.{at_leaf, begins, behind_later, branch_de
 use Rattle.btree.specs.Change.{IsBehind}
 use Rattle.btree.specs.Turn.{IsHeld}
 use Rattle.btree.proofs.EndLemmas.{last_is_child, within_up_to}
-use Rattle.btree.proofs.FewLemmas.{all_mine, branch_few, branch_two, children_few, few_alone, few_on, few_or_one_on, few_small, unit_little}
+use Rattle.btree.proofs.FewParts.{branch_few}
+use Rattle.btree.proofs.FewLemmas.{all_mine, branch_two, children_few, few_alone, few_on, few_or_one_on, few_small, unit_little}
 use Rattle.btree.proofs.SplitLemmas.{two_parts}
 use Rattle.btree.proofs.ListLemmas.{long_append, long_map}
 use Rattle.btree.proofs.OneChildLemmas.{amid, amid_turned, key_little, prepared_child}

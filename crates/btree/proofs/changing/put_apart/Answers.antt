@@ -3,7 +3,8 @@ use Rattle.btree.specs.Few.{IsFewOrOne}
 use Rattle.btree.specs.LooseView.{stub_in}
 use Rattle.btree.specs.Turn.{sheaf_in}
 use Rattle.btree.proofs.EndLemmas.{within_up_to}
-use Rattle.btree.proofs.FewLemmas.{branch_few, branch_two, children_few, few_small}
+use Rattle.btree.proofs.FewParts.{branch_few}
+use Rattle.btree.proofs.FewLemmas.{branch_two, children_few, few_small}
 use Rattle.btree.proofs.HeldLemmas.{held_later, turns_failed}
 use Rattle.btree.proofs.ListLemmas.{long_map}
 use Rattle.btree.proofs.OneChildLemmas.{apart_done, left_there, right_there}

@@ -2,7 +2,7 @@ use Rattle.std.proofs.Common.{◌∷◌, ◌++◌, [], ◌∙◌, arith, inl, in
 use Rattle.btree.specs.LooseView.{stub_in}
 use Rattle.btree.proofs.ChangingLemmas.{each_of_all, leaf_changed}
 use Rattle.btree.proofs.EditLemmas.{not_edited}
-use Rattle.btree.proofs.FewLemmas.{leaf_few}
+use Rattle.btree.proofs.FewParts.{leaf_few}
 use Rattle.btree.proofs.InPageLemmas.{leaf_written, none, one_few}
 use Rattle.btree.proofs.in_page.write_leaf.Goals as goal
 

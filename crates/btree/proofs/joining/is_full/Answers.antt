@@ -1,6 +1,6 @@
 use Rattle.std.proofs.Common.{◌<◌, arith, length, map, rules}
 use Rattle.btree.specs.LooseView.{stub_in}
-use Rattle.btree.proofs.FewLemmas.{size_many}
+use Rattle.btree.proofs.FewParts.{size_many}
 use Rattle.btree.proofs.ListLemmas.{long_map}
 use Rattle.btree.proofs.joining.is_full.Goals as goal
 

@@ -2,7 +2,7 @@ use Rattle.std.proofs.Common.{◌∙◌, sym, ap, map, refl}
 use Rattle.btree.specs.Loose.{arm_stub, item_stub, under_key}
 use Rattle.btree.specs.View.{content_in}
 use Rattle.btree.proofs.HeldLemmas.{branch_stubs, leaf_stubs, taken}
-use Rattle.btree.proofs.FewLemmas.{few_of_branch, few_of_leaf}
+use Rattle.btree.proofs.FewParts.{few_of_branch, few_of_leaf}
 use Rattle.btree.proofs.opening.units_of.Goals as goal
 
 pub returns-in-Leaf-clause-holds : goal.returns-in-Leaf-clause-holds

@@ -1,5 +1,5 @@
 use Rattle.std.proofs.Common.{◌∙◌}
-use Rattle.btree.proofs.FewLemmas.{one_page}
+use Rattle.btree.proofs.FewParts.{one_page}
 use Rattle.btree.proofs.parts.write_part.Goals as goal
 
 pub returns-clause-one : goal.returns-clause-one

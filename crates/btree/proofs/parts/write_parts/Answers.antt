@@ -3,7 +3,7 @@ use Rattle.btree.proofs.ListLemmas.{long_map}
 use Rattle.btree.specs.LooseView.{stub_in}
 use Rattle.btree.proofs.StoreLemmas.{grows_itself, grows_trans}
 use Rattle.btree.specs.Loose.{stubs_size}
-use Rattle.btree.proofs.FewLemmas.{AreFewSoFar, few_done, few_none, few_step}
+use Rattle.btree.proofs.FewParts.{AreFewSoFar, few_done, few_none, few_step}
 use Rattle.btree.proofs.RaiseLemmas.{ArePartly, partly_done, partly_failed, partly_none, partly_step, writes_failed}
 use Rattle.btree.proofs.parts.write_parts.Goals as goal
 

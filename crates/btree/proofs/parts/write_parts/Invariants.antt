@@ -5,7 +5,7 @@ use Rattle.btree.specs.LooseView.{stub_in}
 use Rattle.btree.specs.Store.{Grows, KeepsWord}
 use Rattle.btree.specs.Tree.{Body, Shows}
 use Rattle.btree.specs.Turn.{MayFill}
-use Rattle.btree.proofs.FewLemmas.{AreFewSoFar}
+use Rattle.btree.proofs.FewParts.{AreFewSoFar}
 use Rattle.btree.proofs.RaiseLemmas.{ArePartly}
 use Rattle.btree.proofs.parts.write_parts.Given as goal
 

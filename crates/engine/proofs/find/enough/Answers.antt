@@ -7,8 +7,13 @@ use Rattle.engine.proofs.find.enough.Goals as goal
 pub returns : goal.returns
 returns c =
     let opened :
-    Query = record
-    { filter = c.query.inside.filter; sort = c.query.inside.sort; skip = c.query.inside.skip; limit = c.query.inside.limit; projection = c.query.inside.projection } in
+    Query = record {
+      filter = c.query.inside.filter;
+      sort = c.query.inside.sort;
+      skip = c.query.inside.skip;
+      limit = c.query.inside.limit;
+      projection = c.query.inside.projection;
+    } in
     subst (λ (q : Query). Suffices q c.saturating_add.result) c.query.view_is
     (front_suffices opened c.saturating_add.result c.if-query-eq0.false c.saturating_add.ensures)
 

@@ -2,7 +2,7 @@ use Rattle.std.proofs.Common.{◌≡◌, ℤ, suc, ◌+◌, ◌∷◌, List, dro
 use Rattle.std.specs.Prelude.{pos}
 use Rattle.std.proofs.lemmas.List.{drop_all}
 use Rattle.bson.specs.Tree.{Items, scalar, int64, append_items}
-use Rattle.bson.specs.EditsLaws.{append_items-none, append_items-one}
+use Rattle.bson.specs.EditPlaces.{append_items-none, append_items-one}
 use Rattle.database_model.specs.KillCursors.{id_items}
 use Rattle.engine.proofs.kill_cursors.id_array.Goals as goal
 

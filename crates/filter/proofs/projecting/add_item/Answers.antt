@@ -2,7 +2,8 @@ use Rattle.std.proofs.Common.{sym, ap, ◌∙◌}
 use Rattle.std.specs.Prelude.{option_map}
 use Rattle.bson.specs.Tree.{no_items, append_items}
 use Rattle.bson.specs.View.{tree, items_of}
-use Rattle.bson.specs.EditsLaws.{items_of-push, append_items-none}
+use Rattle.bson.specs.EditPlaces.{append_items-none}
+use Rattle.bson.specs.EditsLaws.{items_of-push}
 use Rattle.filter.specs.Projection.{add_item}
 use Rattle.filter.proofs.projecting.add_item.Goals as goal
 

@@ -2,7 +2,8 @@ use Rattle.std.proofs.Common.{sym, ap, ◌∙◌}
 use Rattle.std.specs.Prelude.{option_map}
 use Rattle.bson.specs.Tree.{no_pairs, append, pair}
 use Rattle.bson.specs.View.{tree, pairs_of}
-use Rattle.bson.specs.EditsLaws.{pairs_of-push, append-none}
+use Rattle.bson.specs.EditPlaces.{append-none}
+use Rattle.bson.specs.EditsLaws.{pairs_of-push}
 use Rattle.bson.specs.declared.value.Pair.{Pair}
 use Rattle.filter.specs.Projection.{add_pair}
 use Rattle.filter.proofs.projecting.add_pair.Goals as goal

@@ -1,7 +1,7 @@
 use Rattle.std.proofs.Common.{◌∙◌, sym, ap, List}
 use Rattle.std.proofs.lemmas.List.{drop_all}
 use Rattle.bson.specs.Tree.{append}
-use Rattle.bson.specs.EditsLaws.{append-none}
+use Rattle.bson.specs.EditPlaces.{append-none}
 use Rattle.bson.specs.View.{pairs_of}
 use Rattle.index.specs.Definition.{Field, direction_value, key_document}
 use Rattle.index.proofs.CatalogueLemmas.{pair_more}

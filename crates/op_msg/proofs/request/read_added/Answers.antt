@@ -1,6 +1,6 @@
 use Rattle.std.proofs.Common.{List, ap, ◌∙◌}
 use Rattle.std.proofs.lemmas.Result.{err_from_is_err_and}
-use Rattle.bson.specs.EditsLaws.{append-none}
+use Rattle.bson.specs.EditPlaces.{append-none}
 use Rattle.bson.specs.View.{pairs_of}
 use Rattle.bson.specs.Tree.{Pairs}
 use Rattle.bson.specs.declared.value.Pair.{Pair}

@@ -4,7 +4,8 @@ use Rattle.std.specs.Option.{option_and_then}
 use Rattle.bson.specs.Tree.{Tree, scalar, null}
 use Rattle.bson.specs.View.{tree}
 use Rattle.bson.specs.Edits.{place, pairs_len, with_value, without_pair, items_len, with_item, item_at}
-use Rattle.bson.specs.EditsLaws.{pairs_len-with_value, with_value-twice, put-place, cut-place, place-absent, with_item-twice}
+use Rattle.bson.specs.EditPlaces.{pairs_len-with_value, with_value-twice, with_item-twice}
+use Rattle.bson.specs.EditsLaws.{put-place, cut-place, place-absent}
 use Rattle.path.specs.Parts.{index_of}
 use Rattle.path.specs.Edits.{cut_off, cut_item}
 use Rattle.path.specs.Place.{value_at}

@@ -3,7 +3,8 @@ use Rattle.std.specs.Prelude.{option_map}
 use Rattle.bson.specs.Tree.{Tree, scalar, null, Pairs, Items}
 use Rattle.bson.specs.View.{tree}
 use Rattle.bson.specs.Edits.{place, pairs_len, with_value, items_len, with_item}
-use Rattle.bson.specs.EditsLaws.{place-absent, pairs_len-with_value, with_value-twice, put-place, put-absent, items_len-items_of, with_item-twice}
+use Rattle.bson.specs.EditPlaces.{pairs_len-with_value, with_value-twice, with_item-twice}
+use Rattle.bson.specs.EditsLaws.{place-absent, put-place, put-absent, items_len-items_of}
 use Rattle.path.specs.Parts.{index_of}
 use Rattle.path.specs.Edits.{write}
 use Rattle.path.proofs.IndexLemmas.{write_item-there, write_item-new, write_item-far, put_item-within, put_item-end, items_len-with_item}

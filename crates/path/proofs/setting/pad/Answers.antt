@@ -1,7 +1,7 @@
 use Rattle.std.proofs.Common.{◌<◌, ap, ◌∙◌, arith}
 use Rattle.bson.specs.Tree.{scalar, null, item, no_items}
 use Rattle.bson.specs.Edits.{items_len}
-use Rattle.bson.specs.EditsLaws.{items_len-append}
+use Rattle.bson.specs.EditPlaces.{items_len-append}
 use Rattle.path.specs.Edits.{put_item}
 use Rattle.path.proofs.IndexLemmas.{put_item-padded}
 use Rattle.path.proofs.setting.pad.Goals as goal

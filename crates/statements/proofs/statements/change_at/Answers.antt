@@ -46,8 +46,12 @@ returns-clause-changes c =
     c.document.ensures ∙ c.index.ensures ∙ get_or_default old.documents.items c.args.place c.index.result.now no_pairs c.requires.there in
     let made = subst (λ o. IfSome o (IsChange u c.document.result.now)) c.in-Some.is c.in_ok-found.ensures.some in
     let change = subst (λ (d : Pairs). IsChange u d c.in-Some.new) here made in
-    let new : Run = record
-    { documents = c.replace_at-old.new.documents; writes = c.push.new.self; keeps_old = old.keeps_old; tally = record old.tally { matched = c.counted-run.result; modified = c.counted-run-2.result } } in
+    let new : Run = record {
+      documents = c.replace_at-old.new.documents;
+      writes = c.push.new.self;
+      keeps_old = old.keeps_old;
+      tally = record old.tally { matched = c.counted-run.result; modified = c.counted-run-2.result };
+    } in
     let before = c.if_kept-old.result in
     changes_some u c.args.place old new c.counted-run.ensures refl refl c.requires.within c.requires.there c.requires.read c.in-Some.new change
     (c.replace_at-old.ensures.new ∙ ap (λ (d : Pairs). set old.documents.items c.args.place d) (c.in_ok-share.ensures ∙ c.in_ok-new.ensures))
