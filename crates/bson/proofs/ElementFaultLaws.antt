@@ -12,14 +12,15 @@ use Rattle.bson.specs.Lawful.{IsBytes, IsName, IsPairs, IsItems, pairs_levels, i
 use Rattle.outcome.specs.Outcome.{◌>>=◌, unless}
 use Rattle.bson.specs.Spelling.{element, type_byte, tree_bytes, pairs_bytes, items_bytes}
 use Rattle.bson.specs.Edits.{items_len}
-use Rattle.bson.specs.EditsLaws.{IsPairs-append, IsItems-append, pairs_levels-append, items_levels-append, items_len-append}
+use Rattle.bson.specs.EditPlaces.{IsPairs-append, IsItems-append, pairs_levels-append, items_levels-append, items_len-append}
 use Rattle.bson.specs.SizingLaws.{pairs_bytes-append, pairs_bytes-one, items_bytes-append}
 use Rattle.bson.specs.Reading.{Read, zero_at, name_at, kind_of, element_by, item_by}
 use Rattle.bson.specs.Reading.{pairs_by, items_by, stands_in, is_no_index}
 use Rattle.bson.specs.Raw.{tree_names}
 use Rattle.bson.specs.FirstFault.{Behind, WrongElement, wrong_type, wrong_name, wrong_here, wrong_value, WrongPair, WrongItem}
 use Rattle.bson.proofs.FrameLaws.{done, Takes, name_takes}
-use Rattle.bson.proofs.TreeLaws.{Reads, IsBytes-rest, element_takes, item_takes}
+use Rattle.bson.proofs.PairLaws.{Reads, IsBytes-rest, element_takes}
+use Rattle.bson.proofs.TreeLaws.{item_takes}
 use Rattle.bson.proofs.CheckLaws.{tree_names-append, Lacks-from_names}
 
 -- the place of a fault, and how far it is looked at
@@ -45,7 +46,7 @@ unless_err false fault e read failed = inr (refl, failed)
 pub ok_err : {X : Type 0} (x : X) (e : BsonFault) → done x ≡ Err e → ⊥
 ok_err x e h = cc
 
-abbrev Reader : Type 0
+abbrev pub Reader : Type 0
 Reader = Kind → List ℕ → Read Tree
 
 -- ---- elements
@@ -53,10 +54,10 @@ Reader = Kind → List ℕ → Read Tree
 abbrev pub Element : Type 0
 Element = (List ℕ × Tree) × List ℕ
 
-abbrev named_value : List ℕ → Read Tree → Result Element BsonFault
+abbrev pub named_value : List ℕ → Read Tree → Result Element BsonFault
 named_value name r = r >>= λ v. Ok ((name, v.0), v.1)
 
-abbrev made_element : List ℕ → Tree → List ℕ → Element
+abbrev pub made_element : List ℕ → Tree → List ℕ → Element
 made_element name t rest = ((name, t), rest)
 
 element_wrong : (value : Kind → List ℕ → ℕ → ℕ → BsonFault → Type 0) (read : Reader) (wrong : List ℕ → Bool) (named : BsonFault) (type : ℕ) (bytes : List ℕ)
@@ -94,12 +95,12 @@ element_wrong value read wrong named type bytes e fits inner failed =
 -- ---- element after element
 
 -- the pairs before, and one more
-record GrownPairs (more : ℕ) (content : List ℕ) (before : Pairs) (name : List ℕ) (t : Tree) (after bytes : List ℕ) : Type 0 where
-  shorter : length after ≤ length bytes
-  fits : IsBytes after
-  parts : content ≡ pairs_bytes (append before (pair name t no_pairs)) ++ after
-  lawful : IsPairs (append before (pair name t no_pairs))
-  depth : pairs_levels (append before (pair name t no_pairs)) ≤ more
+pub record GrownPairs (more : ℕ) (content : List ℕ) (before : Pairs) (name : List ℕ) (t : Tree) (after bytes : List ℕ) : Type 0 where
+  pub shorter : length after ≤ length bytes
+  pub fits : IsBytes after
+  pub parts : content ≡ pairs_bytes (append before (pair name t no_pairs)) ++ after
+  pub lawful : IsPairs (append before (pair name t no_pairs))
+  pub depth : pairs_levels (append before (pair name t no_pairs)) ≤ more
 
 pairs_grown : (read : Reader) (more : ℕ) → Reads read more → (before : Pairs) (type : ℕ) (bytes content : List ℕ) (x : Element) → IsBytes (type ∷ bytes)
     → content ≡ pairs_bytes before ++ type ∷ bytes → IsPairs before → pairs_levels before ≤ more
@@ -175,13 +176,13 @@ item_wrong value read i type bytes e fits inner failed =
     ]
 
 -- the items before, and one more
-record GrownItems (more : ℕ) (content : List ℕ) (before : Items) (t : Tree) (after bytes : List ℕ) : Type 0 where
-  shorter : length after ≤ length bytes
-  fits : IsBytes after
-  parts : content ≡ items_bytes 0 (append_items before (item t no_items)) ++ after
-  lawful : IsItems (append_items before (item t no_items))
-  depth : items_levels (append_items before (item t no_items)) ≤ more
-  count : items_len before + 1 ≡ items_len (append_items before (item t no_items))
+pub record GrownItems (more : ℕ) (content : List ℕ) (before : Items) (t : Tree) (after bytes : List ℕ) : Type 0 where
+  pub shorter : length after ≤ length bytes
+  pub fits : IsBytes after
+  pub parts : content ≡ items_bytes 0 (append_items before (item t no_items)) ++ after
+  pub lawful : IsItems (append_items before (item t no_items))
+  pub depth : items_levels (append_items before (item t no_items)) ≤ more
+  pub count : items_len before + 1 ≡ items_len (append_items before (item t no_items))
 
 items_grown : (read : Reader) (more : ℕ) → Reads read more → (before : Items) (type : ℕ) (bytes content : List ℕ) (x : Tree × List ℕ) → IsBytes (type ∷ bytes)
     → content ≡ items_bytes 0 before ++ type ∷ bytes → IsItems before → items_levels before ≤ more

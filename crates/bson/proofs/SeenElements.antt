@@ -33,9 +33,9 @@ pub fewer : (m n : ℕ) (bytes other : List ℕ) → m ≤ n → Agrees n bytes 
 fewer m n bytes other le h = record { long = h.long; front = sym (take_take m n other le) ∙ ap (take m) h.front ∙ take_take m n bytes le }
 
 -- behind a front that was seen
-record Behind_front (upto : ℕ) (x rest other : List ℕ) : Type 0 where
-  parts : other ≡ x ++ drop (length x) other
-  agrees : Agrees upto rest (drop (length x) other)
+pub record Behind_front (upto : ℕ) (x rest other : List ℕ) : Type 0 where
+  pub parts : other ≡ x ++ drop (length x) other
+  pub agrees : Agrees upto rest (drop (length x) other)
 
 pub front_seen : (x rest other : List ℕ) (upto seen : ℕ) → seen ≡ length x + upto → Agrees seen (x ++ rest) other → Behind_front upto x rest other
 front_seen x rest other upto seen is h =
@@ -91,7 +91,7 @@ zero_same (suc b ∷ bytes) (c ∷ other) long front =
         let both : c ∷ take (suc n) other ≡ b ∷ take (suc n) bytes = subst (λ (k : ℕ). take (suc k) (c ∷ other) ≡ take (suc k) (b ∷ bytes)) is front in
         (cc, cc)
 
-abbrev two_tests : Bool → Bool → List ℕ → List ℕ → Read (List ℕ)
+abbrev pub two_tests : Bool → Bool → List ℕ → List ℕ → Read (List ℕ)
 two_tests long wrong name rest = unless long faults.Name (unless wrong faults.Name (Ok (name, rest)))
 
 tests_same : (long wrong : Bool) (name rest other : List ℕ) (e : BsonFault) → two_tests long wrong name rest ≡ Err e → two_tests long wrong name other ≡ Err e
@@ -112,7 +112,7 @@ name_same bytes other e h failed =
 
 -- ---- elements
 
-abbrev Wrong_at : Type 1
+abbrev pub Wrong_at : Type 1
 Wrong_at = ℕ → ℕ → BsonFault → Type 0
 
 -- values stay wrong, behind bytes that are no more than so many
@@ -157,12 +157,12 @@ element_seen value wrong named type bytes place seen fault (wrong_value name res
     (length name + 1 + inner.upto, omega (arith, inner.seen_is))
 
 -- an element with its type byte, where others stand for it
-record OtherElement (value : Kind → List ℕ → ℕ → ℕ → BsonFault → Type 0) (wrong : List ℕ → Bool) (named : BsonFault) (other : List ℕ) (place seen : ℕ)
+pub record OtherElement (value : Kind → List ℕ → ℕ → ℕ → BsonFault → Type 0) (wrong : List ℕ → Bool) (named : BsonFault) (other : List ℕ) (place seen : ℕ)
     (fault : BsonFault) : Type 0 where
-  type : ℕ
-  bytes : List ℕ
-  is : other ≡ type ∷ bytes
-  still : IsStill (WrongElement value wrong named type bytes) place seen fault
+  pub type : ℕ
+  pub bytes : List ℕ
+  pub is : other ≡ type ∷ bytes
+  pub still : IsStill (WrongElement value wrong named type bytes) place seen fault
 
 other_element : (most : ℕ) (value : Kind → List ℕ → ℕ → ℕ → BsonFault → Type 0) → ValuesStay most value
     → (wrong : List ℕ → Bool) (named : BsonFault) (type : ℕ) (bytes other : List ℕ) (place seen : ℕ) (fault : BsonFault)

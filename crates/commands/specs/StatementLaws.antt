@@ -71,7 +71,7 @@ few_items t ts e =
     )
 
 -- some documents, and not too many
-abbrev AreFew : List Pairs → Type 0
+abbrev pub AreFew : List Pairs → Type 0
 AreFew ds = (length ds ≤ 1000) × (1 ≤ length ds)
 
 pub few : (t : Tree) (ds : List Pairs) → documents_in t ≡ Ok ds → AreFew ds
@@ -82,7 +82,7 @@ few t ds e =
       omega (arith, as_many document_in s.0 ds s.2, items.1),
     )
 
-abbrev FewAt : Option (List Pairs) → Type 0
+abbrev pub FewAt : Option (List Pairs) → Type 0
 FewAt None = Unit {0}
 FewAt (Some ds) = AreFew ds
 
@@ -129,7 +129,7 @@ few_there (Some es) ds h e = let same : es ≡ ds = cc in subst AreFew same h
 
 -- ---- updates
 
-abbrev ReadAt : Option Change → Type 0
+abbrev pub ReadAt : Option Change → Type 0
 ReadAt None = Unit {0}
 ReadAt (Some u) = IsRead u
 
