@@ -38,7 +38,7 @@ id_is_flat reply (Some v) lawful e = id-levels reply (tree v.now) lawful (sym e)
 
 -- ---- statements in the form in which they are asked
 
-id-in-filter : (id : List ℕ) (ps : Pairs) → pairs_levels ps ≤ 97 → pairs_levels (with_id id ps) ≤ 97
+pub id-in-filter : (id : List ℕ) (ps : Pairs) → pairs_levels ps ≤ 97 → pairs_levels (with_id id ps) ≤ 97
 id-in-filter id ps short = at (lookup ps (codes "q")) refl
   where
     left : Pairs

@@ -3,3 +3,4 @@ mod IdLemmas
 mod ListingLemmas
 mod BatchLemmas
 mod BatchLawLemmas
+pub mod ModifyingLemmas

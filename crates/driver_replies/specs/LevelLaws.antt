@@ -39,3 +39,8 @@ pub cut_is : (ps qs : Pairs) (name : List ℕ) → IsDocument ps → qs ≡ cut 
     → lookup qs name ≡ None
 cut_is ps qs name lawful is =
     ap (λ (rs : Pairs). lookup rs name) is ∙ lookup-cut ps name lawful.lawful
+
+-- what a part of a command holds has room below a name
+pub part_levels : (ps : Pairs) (name : List ℕ) (t : Tree) → pairs_levels ps ≤ 90
+    → lookup ps name ≡ Some t → levels t ≤ 99
+part_levels ps name t short e = omega (arith, found-levels ps name t e, short)

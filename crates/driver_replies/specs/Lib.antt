@@ -9,3 +9,4 @@ pub mod Cursors
 pub mod Listing
 pub mod Dropping
 pub mod LevelLaws
+pub mod Modifying

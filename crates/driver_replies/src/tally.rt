@@ -23,7 +23,7 @@ pub struct Tally {
 }
 
 /// The number of the refusal that a reply is.
-pub(crate) fn refused(reply: &Document) -> Option<i32>
+pub fn refused(reply: &Document) -> Option<i32>
     ensures { result ≡ refused reply.now }
 {
     match reply.get("code") {
@@ -67,7 +67,7 @@ fn first_id_in(value: Option<&Value>) -> Option<&Value>
 }
 
 /// The `_id` of the document that an upsert made.
-fn upserted_id(reply: &Document) -> Option<&Value>
+pub(crate) fn upserted_id(reply: &Document) -> Option<&Value>
     ensures id { option_map (λ v. tree v.now) result ≡ upserted_id reply.now }
     ensures flat { IfSome result (λ v. levels (tree v.now) ≤ 97) }
 {

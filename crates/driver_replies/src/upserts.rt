@@ -45,7 +45,7 @@ fn has_no_id(value: Option<&Value>) -> bool
 }
 
 /// Whether a statement is an upsert that says no `_id`.
-fn is_upsert(statement: &Document) -> bool
+pub(crate) fn is_upsert(statement: &Document) -> bool
     ensures { result ≡ is_upsert statement.now }
 {
     is_true(statement.get("upsert")) && is_open(statement.get("q")) && has_no_id(statement.get("u"))

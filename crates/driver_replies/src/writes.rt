@@ -1,6 +1,7 @@
 //! The commands that write, each of which has several statements.
 
 ghost use Rattle.std.specs.Prelude.{◌≡◌};
+ghost use Rattle.driver_replies.specs.Modifying.{write_name};
 ghost use Rattle.driver_replies.specs.Writes.{write_of, field_of, is_update};
 
 use crate::tables::named;
@@ -28,6 +29,17 @@ pub fn write_of(name: &str) -> Option<Write>
 }
 
 impl Write {
+    /// Its name.
+    pub(crate) fn name(self) -> &'static str
+        ensures { result.now ≡ write_name self }
+    {
+        match self {
+            Write::Insert => "insert",
+            Write::Update => "update",
+            Write::Delete => "delete",
+        }
+    }
+
     /// The field that holds its statements.
     pub fn field(self) -> &'static str
         ensures { result.now ≡ field_of self }

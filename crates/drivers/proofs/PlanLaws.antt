@@ -6,11 +6,13 @@ use Rattle.std.specs.Str.{bytes_eq}
 use Rattle.std.proofs.lemmas.Slice.Eq.{bytes_eq-Decides}
 use Rattle.bson.specs.Tree.{Tree, Pairs, no_pairs, pair, Items, append}
 use Rattle.bson.specs.Lookup.{lookup}
-use Rattle.drivers.specs.Answering.{wait_of, kill_wait, collections_wait, batch_wait, write_wait, other_wait, is_single}
+use Rattle.drivers.specs.Answering.{wait_of, kill_wait, collections_wait, batch_wait, write_wait, other_wait, is_modification, is_single}
 use Rattle.drivers.specs.Cleaning.{own_rule, is_kept, kept}
 use Rattle.driver_replies.specs.Cursors.{ids_of, ids_in, no_kills}
 use Rattle.drivers.specs.Laws.{IgnoredLeavesThePlan}
 use Rattle.driver_replies.specs.Listing.{name_in}
+use Rattle.driver_replies.specs.Modifying.{part_in, or_empty, modification_of}
+use Rattle.driver_replies.specs.declared.modifying.Modification.{Modification}
 use Rattle.drivers.specs.Rules.{rule_of}
 use Rattle.driver_replies.specs.Texts.{text_or_none}
 use Rattle.driver_replies.specs.Writes.{is_true, write_of, field_of, is_alone, is_ordered_in, batch_of}
@@ -80,6 +82,26 @@ no_rule_filter : is_none (rule_of (codes "filter")) ≡ true
 unfolding rule_of
 no_rule_filter = refl
 
+no_rule_query : is_none (rule_of (codes "query")) ≡ true
+unfolding rule_of
+no_rule_query = refl
+
+no_rule_update : is_none (rule_of (codes "update")) ≡ true
+unfolding rule_of
+no_rule_update = refl
+
+no_rule_remove : is_none (rule_of (codes "remove")) ≡ true
+unfolding rule_of
+no_rule_remove = refl
+
+no_rule_new : is_none (rule_of (codes "new")) ≡ true
+unfolding rule_of
+no_rule_new = refl
+
+no_rule_upsert : is_none (rule_of (codes "upsert")) ≡ true
+unfolding rule_of
+no_rule_upsert = refl
+
 -- two commands in which what stands under a name without a rule is the same, and so are the fields that are kept
 record AreAlike (ps qs : Pairs) : Type 0 where
   found : (other : List ℕ) → is_none (rule_of other) ≡ true → lookup ps other ≡ lookup qs other
@@ -116,6 +138,29 @@ other-alike : (ids : FreshIds) (ps qs : Pairs) (write : Option Write) → AreAli
 other-alike ids ps qs None h = refl
 other-alike ids ps qs (Some write) h = write-alike ids ps qs write h
 
+modification-alike : (ids : FreshIds) (ps qs : Pairs) → AreAlike ps qs → modification_of ids ps ≡ modification_of ids qs
+modification-alike ids ps qs h =
+    ap (λ (x : Option Tree). made x (lookup ps (codes "update")) (lookup ps (codes "remove")) (lookup ps (codes "new")) (lookup ps (codes "upsert")))
+    (h.found (codes "query") no_rule_query)
+    ∙ ap (λ (x : Option Tree). made (lookup qs (codes "query")) x (lookup ps (codes "remove")) (lookup ps (codes "new")) (lookup ps (codes "upsert")))
+    (h.found (codes "update") no_rule_update)
+    ∙ ap (λ (x : Option Tree). made (lookup qs (codes "query")) (lookup qs (codes "update")) x (lookup ps (codes "new")) (lookup ps (codes "upsert")))
+    (h.found (codes "remove") no_rule_remove)
+    ∙ ap (λ (x : Option Tree). made (lookup qs (codes "query")) (lookup qs (codes "update")) (lookup qs (codes "remove")) x (lookup ps (codes "upsert")))
+    (h.found (codes "new") no_rule_new)
+    ∙ ap (made (lookup qs (codes "query")) (lookup qs (codes "update")) (lookup qs (codes "remove")) (lookup qs (codes "new")))
+    (h.found (codes "upsert") no_rule_upsert)
+  where
+    made : Option Tree → Option Tree → Option Tree → Option Tree → Option Tree → Modification
+    made query update remove new upsert = record {
+      filter = or_empty (part_in query);
+      update = or_empty (part_in update);
+      is_removal = is_true remove;
+      wants_new = is_true new;
+      may_insert = is_true upsert;
+      ids = ids;
+    }
+
 single-alike : (command : List ℕ) (t : Tree) (ps qs : Pairs) → AreAlike (pair command t ps) (pair command t qs)
     → is_single (pair command t ps) ≡ is_single (pair command t qs)
 single-alike command t ps qs h =
@@ -124,12 +169,16 @@ single-alike command t ps qs h =
 wait-alike : (ids : FreshIds) (command : List ℕ) (t : Tree) (ps qs : Pairs) → AreAlike (pair command t ps) (pair command t qs)
     → wait_of ids (pair command t ps) ≡ wait_of ids (pair command t qs)
 wait-alike ids command t ps qs h =
-    ap (λ (w : Wait). choose w (collections_wait whole) (is_single whole) (other_wait ids whole (write_of command))) (kill-alike whole other h)
-    ∙ ap (λ (x : Option Tree). choose (kill_wait other (ids_of other)) (waits.Collections (name_in x)) (is_single whole)
+    ap (λ (w : Wait). choose w (collections_wait whole) (modification_of ids whole) (is_single whole) (other_wait ids whole (write_of command)))
+    (kill-alike whole other h)
+    ∙ ap (λ (x : Option Tree). choose (kill_wait other (ids_of other)) (waits.Collections (name_in x)) (modification_of ids whole) (is_single whole)
     (other_wait ids whole (write_of command))) (h.found (codes "filter") no_rule_filter)
-    ∙ ap (λ (b : Bool). choose (kill_wait other (ids_of other)) (collections_wait other) b (other_wait ids whole (write_of command)))
-    (single-alike command t ps qs h)
-    ∙ ap (choose (kill_wait other (ids_of other)) (collections_wait other) (is_single other)) (other-alike ids whole other (write_of command) h)
+    ∙ ap (λ (m : Modification). choose (kill_wait other (ids_of other)) (collections_wait other) m (is_single whole)
+    (other_wait ids whole (write_of command))) (modification-alike ids whole other h)
+    ∙ ap (λ (b : Bool). choose (kill_wait other (ids_of other)) (collections_wait other) (modification_of ids other) b
+    (other_wait ids whole (write_of command))) (single-alike command t ps qs h)
+    ∙ ap (choose (kill_wait other (ids_of other)) (collections_wait other) (modification_of ids other) (is_single other))
+    (other-alike ids whole other (write_of command) h)
   where
     whole : Pairs
     whole = pair command t ps
@@ -137,9 +186,10 @@ wait-alike ids command t ps qs h =
     other : Pairs
     other = pair command t qs
 
-    choose : Wait → Wait → Bool → Wait → Wait
-    choose kill listed single rest = if bytes_eq command (codes "killCursors") then kill else if bytes_eq command (codes "listCollections") then listed
-        else if bytes_eq command (codes "dropDatabase") then waits.Listed else if bytes_eq command (codes "explain") then waits.Explained else if single
+    choose : Wait → Wait → Modification → Bool → Wait → Wait
+    choose kill listed m single rest = if bytes_eq command (codes "killCursors") then kill else if bytes_eq command (codes "listCollections") then listed
+        else if bytes_eq command (codes "dropDatabase") then waits.Listed else if bytes_eq command (codes "explain") then waits.Explained
+        else if is_modification command then waits.Found m else if single
         then waits.Single else rest
 
 pub ignored_leaves_the_plan : IgnoredLeavesThePlan

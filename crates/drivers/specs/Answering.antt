@@ -2,7 +2,7 @@
 -- has under 36 bytes, which one driver takes for cut. Two refusals are told by drivers and programs
 -- from their texts: that a collection isn't there, and that a key is there already (MongoDB manual,
 -- error codes).
-use Rattle.std.specs.Prelude.{ℕ, ℤ, pos, negsuc, Bool, false, ◌==◌, if◌then◌else◌, List, ◌++◌}
+use Rattle.std.specs.Prelude.{ℕ, ℤ, pos, negsuc, Bool, true, false, ◌||◌, ◌==◌, if◌then◌else◌, List, ◌++◌}
 use Rattle.std.specs.Prelude.{codes, Option, Some, None, Result, Ok, Err}
 use Rattle.bson.specs.Tree.{Tree, scalar, document, array, int32, int64, Pairs, no_pairs, pair}
 use Rattle.bson.specs.Tree.{append, Items, no_items, item}
@@ -13,7 +13,11 @@ use Rattle.driver_replies.specs.Fields.{words}
 use Rattle.drivers.specs.Rules.{is_zero}
 use Rattle.driver_replies.specs.Texts.{text_or_none, collection_of}
 use Rattle.driver_replies.specs.WriteErrors.{refused_statement}
-use Rattle.driver_replies.specs.Tallies.{no_tally, with_reply, write_reply}
+use Rattle.driver_replies.specs.Tallies.{refused, no_tally, with_reply, write_reply}
+use Rattle.driver_replies.specs.Modifying.{part_in, modification_of, find_one, subject_of, made_by}
+use Rattle.driver_replies.specs.Modifying.{change_one, insert_one, inserts, nothing_done, done_with}
+use Rattle.driver_replies.specs.Modifying.{modified_reply}
+use Rattle.driver_replies.specs.declared.modifying.Modification.{Modification}
 use Rattle.driver_replies.specs.Writes.{is_true, write_of, field_of, is_alone, is_ordered_in}
 use Rattle.driver_replies.specs.Writes.{batch_of, next_command, after_reply, batch_reply}
 use Rattle.drivers.specs.Cleaning.{kept}
@@ -68,12 +72,18 @@ abbrev pub other_wait : FreshIds → Pairs → Option Write → Wait
 other_wait ids body None = waits.Plain
 other_wait ids body (Some write) = write_wait ids body write
 
+-- a findAndModify has two names
+abbrev pub is_modification : List ℕ → Bool
+is_modification name =
+    bytes_eq name (codes "findAndModify") || bytes_eq name (codes "findandmodify")
+
 abbrev pub wait_of : FreshIds → Pairs → Wait
 wait_of ids body =
     if bytes_eq (name_of body) (codes "killCursors") then kill_wait body (ids_of body) else
     if bytes_eq (name_of body) (codes "listCollections") then collections_wait body else
     if bytes_eq (name_of body) (codes "dropDatabase") then waits.Listed else
     if bytes_eq (name_of body) (codes "explain") then waits.Explained else
+    if is_modification (name_of body) then waits.Found (modification_of ids body) else
     if is_single body then waits.Single else
     other_wait ids body (write_of (name_of body))
 
@@ -237,6 +247,76 @@ drop_on plan ts reply =
     if is_gone reply then drop_step plan (without_item ts 0) else
     (record plan { wait = waits.Plain }, final plan reply)
 
+-- ---- a findAndModify
+
+abbrev pub told_step : Plan → Pairs → Plan × Step
+told_step plan reply =
+    (record plan { wait = waits.Plain }, unheard plan.more_to_come (steps.Reply reply))
+
+-- A document was changed, deleted or made: what is told of it, as it was or as it is now.
+abbrev pub modified : Plan → Modification → Bool → Option Pairs → Pairs → Plan × Step
+modified plan m is_new was subject =
+    if m.wants_new then (
+      record plan { wait = waits.Again m is_new subject },
+      steps.Ask (find_one plan.database plan.collection subject),
+    ) else told_step plan (modified_reply (done_with m.is_removal is_new subject) was)
+
+abbrev pub changed_by : Option Pairs → Plan → Modification → Bool → Option Pairs → Pairs
+    → Plan × Step
+changed_by None plan m is_new was reply =
+    (record plan { wait = waits.Plain }, final plan reply)
+changed_by (Some subject) plan m is_new was reply = modified plan m is_new was subject
+
+-- The document that was found was changed or deleted, or one was made; a refusal ends it.
+abbrev pub changed : Option ℤ → Plan → Modification → Option Pairs → Pairs → Plan × Step
+changed (Some code) plan m was reply = (record plan { wait = waits.Plain }, final plan reply)
+changed None plan m (Some ps) reply = changed_by (subject_of ps) plan m false (Some ps) reply
+changed None plan m None reply = changed_by (made_by reply) plan m true None reply
+
+-- The document that was found is changed or deleted.
+abbrev pub change_found : Option Pairs → Plan → Modification → Pairs → Pairs → Plan × Step
+change_found None plan m ps reply = (record plan { wait = waits.Plain }, final plan reply)
+change_found (Some subject) plan m ps reply = (
+  record plan { wait = waits.Changed m (Some ps) },
+  steps.Ask (change_one plan.database plan.collection m subject),
+)
+
+abbrev pub found_part : Option Pairs → Plan → Modification → Pairs → Plan × Step
+found_part None plan m reply = (record plan { wait = waits.Plain }, final plan reply)
+found_part (Some ps) plan m reply = change_found (subject_of ps) plan m ps reply
+
+-- No document was found: one is made, where that is wanted.
+abbrev pub found_none : Plan → Modification → Plan × Step
+found_none plan m =
+    if inserts m then (
+      record plan { wait = waits.Changed m None },
+      steps.Ask (insert_one plan.database plan.collection m),
+    ) else told_step plan (modified_reply (nothing_done m) None)
+
+-- The first document was found, or none was; a refusal ends it.
+abbrev pub found : Option Items → Plan → Modification → Pairs → Plan × Step
+found None plan m reply = (record plan { wait = waits.Plain }, final plan reply)
+found (Some no_items) plan m reply = found_none plan m
+found (Some (item t ts)) plan m reply = found_part (part_in (Some t)) plan m reply
+
+abbrev pub first_part : Items → Option Pairs
+first_part no_items = None
+first_part (item t ts) = part_in (Some t)
+
+-- The document was found again, as it is now.
+abbrev pub found_again : Option Items → Plan → Modification → Bool → Pairs → Pairs → Plan × Step
+found_again None plan m is_new subject reply =
+    (record plan { wait = waits.Plain }, final plan reply)
+found_again (Some ts) plan m is_new subject reply =
+    told_step plan (modified_reply (done_with m.is_removal is_new subject) (first_part ts))
+
+-- Nobody else may ask the database before the answer.
+abbrev pub asks_alone : Wait → Bool
+asks_alone (waits.Found m) = true
+asks_alone (waits.Changed m was) = true
+asks_alone (waits.Again m is_new subject) = true
+asks_alone other = false
+
 -- What is done where the database was asked and answered so, and what is kept then.
 abbrev pub answered_by : Wait → Plan → Pairs → Plan × Step
 answered_by waits.Plain plan reply = (record plan { wait = waits.Plain }, final plan reply)
@@ -264,6 +344,11 @@ answered_by waits.Explained plan reply = (
   record plan { wait = waits.Plain },
   final plan (explained (lookup reply (codes "plan")) reply),
 )
+answered_by (waits.Found m) plan reply =
+    found (batch_in (lookup reply (codes "cursor"))) plan m reply
+answered_by (waits.Changed m was) plan reply = changed (refused reply) plan m was reply
+answered_by (waits.Again m is_new subject) plan reply =
+    found_again (batch_in (lookup reply (codes "cursor"))) plan m is_new subject reply
 
 abbrev pub answered : Plan → Pairs → Plan × Step
 answered plan reply = answered_by plan.wait plan reply

@@ -27,6 +27,7 @@ commands_by_name =
     ++ each (commands.Forwarded askeds.ListIndexes) (codes "listIndexes" ∷ [])
     ++ each (commands.Forwarded askeds.DropDatabase) (codes "dropDatabase" ∷ [])
     ++ each (commands.Forwarded askeds.Explain) (codes "explain" ∷ [])
+    ++ each (commands.Forwarded askeds.Modify) (codes "findAndModify" ∷ codes "findandmodify" ∷ [])
 
 -- what is done with a command of this name; nothing where it is unknown
 unfoldable pub command_of : List ℕ → Option Command

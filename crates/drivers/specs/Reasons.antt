@@ -33,6 +33,8 @@ abbrev pub row_of : Reason → Row
 row_of reasons.TooManyServers =
     says 2 (codes "BadValue") (codes "docpage is one server: w is 0 or 1")
 row_of reasons.FieldType = names 14 (codes "TypeMismatch") (codes "field '") (codes "': wrong type")
+row_of reasons.NoChoice =
+    says 9 (codes "FailedToParse") (codes "a 'findAndModify' has 'update', or 'remove' without 'new'")
 row_of reasons.NoAuthentication =
     says 18 (codes "AuthenticationFailed") (codes "docpage has no authentication")
 row_of reasons.NoTransactions = says 20 (codes "IllegalOperation")

@@ -3,12 +3,15 @@
 -- wire protocol, OP_MSG, moreToCome).
 use Rattle.std.specs.Prelude.{ℕ, ℤ, pos, Bool, true, false, List, [], codes, Option, Some, None}
 use Rattle.std.specs.Prelude.{Result, Ok, Err}
-use Rattle.std.specs.Option.{option_and_then}
-use Rattle.bson.specs.Tree.{Tree, scalar, document, int64, Pairs, no_pairs, pair}
+use Rattle.std.specs.Prelude.{◌||◌, is_some, if◌then◌else◌}
+use Rattle.std.specs.Option.{option_and_then, option_or}
+use Rattle.bson.specs.Tree.{Tree, scalar, document, boolean, int64, Pairs, no_pairs, pair}
 use Rattle.bson.specs.Lookup.{lookup}
 use Rattle.bson.specs.Edits.{put}
 use Rattle.driver_replies.specs.Dropping.{list_command}
-use Rattle.driver_replies.specs.Texts.{text_or_none}
+use Rattle.driver_replies.specs.Modifying.{part_in, find_first}
+use Rattle.driver_replies.specs.Texts.{text_or_none, collection_of}
+use Rattle.driver_replies.specs.Writes.{is_true}
 use Rattle.driver_replies.specs.Fields.{ok, int, words}
 use Rattle.drivers.specs.Handshake.{handshake_reply, build_reply}
 use Rattle.drivers.specs.Reasons.{refusal_reply, row_of}
@@ -55,11 +58,58 @@ abbrev pub ask_explain : Option Tree → Pairs → Step
 ask_explain (Some (document find)) body = explain_unless (first_refused askeds.Find find) find body
 ask_explain other body = steps.Ask body
 
+-- ---- a findAndModify
+
+-- A part of it is a document that is nested no deeper than those that are stored.
+abbrev pub part_fault_of : List ℕ → Option Tree → Option (List ℕ × Reason)
+part_fault_of name None = None
+part_fault_of name (Some t) =
+    if is_some (part_in (Some t)) then None else Some (name, reasons.FieldType)
+
+abbrev pub part_fault : List ℕ → Pairs → Option (List ℕ × Reason)
+part_fault name body = part_fault_of name (lookup body name)
+
+abbrev pub truth_fault_of : List ℕ → Option Tree → Option (List ℕ × Reason)
+truth_fault_of name None = None
+truth_fault_of name (Some (scalar (boolean b))) = None
+truth_fault_of name (Some other) = Some (name, reasons.FieldType)
+
+abbrev pub flag_fault : List ℕ → Pairs → Option (List ℕ × Reason)
+flag_fault name body = truth_fault_of name (lookup body name)
+
+-- It updates a document or deletes one, and what was deleted is told as it was.
+abbrev pub choice_fault : Pairs → Option (List ℕ × Reason)
+choice_fault body =
+    if is_true (lookup body (codes "remove"))
+    then (if is_some (lookup body (codes "update")) || is_true (lookup body (codes "new"))
+    then Some (codes "remove", reasons.NoChoice) else None)
+    else (if is_some (lookup body (codes "update"))
+    then None else Some (codes "update", reasons.NoChoice))
+
+-- why it is refused, if it is
+abbrev pub modify_fault : Pairs → Option (List ℕ × Reason)
+modify_fault body =
+    option_or (part_fault (codes "query") body)
+    (option_or (part_fault (codes "sort") body)
+    (option_or (part_fault (codes "update") body)
+    (option_or (flag_fault (codes "remove") body)
+    (option_or (flag_fault (codes "new") body)
+    (option_or (flag_fault (codes "upsert") body) (choice_fault body))))))
+
+-- The first document is found first.
+abbrev pub modify_unless : Option (List ℕ × Reason) → Pairs → Step
+modify_unless None body =
+    steps.Ask (find_first (text_or_none (lookup body (codes "$db"))) (collection_of body) body)
+modify_unless (Some x) body = steps.Reply (refusal_reply x.1 x.0)
+
+-- ---- commands
+
 abbrev pub ask : Asked → Pairs → Step
 ask askeds.GetMore body = ask_owner (cursor_of body) body
 ask askeds.KillCursors body = kill_first (option_and_then first_id (ids_of body)) body
 ask askeds.DropDatabase body = list_first body
 ask askeds.Explain body = ask_explain (lookup body (codes "explain")) body
+ask askeds.Modify body = modify_unless (modify_fault body) body
 ask other body = steps.Ask body
 
 -- A command for the database: without the fields that it doesn't have, unless one of them is

@@ -2,13 +2,26 @@
 
 ghost use Rattle.std.specs.Prelude.{◌≡◌, map, option_map};
 ghost use Rattle.bson.specs.View.{tree, pairs_of};
-ghost use Rattle.drivers.specs.Cleaning.{truth, read_over, listing_rule, own_rule, rule_in, is_kept, field_fault, first_refused, kept};
+ghost use Rattle.drivers.specs.Cleaning.{truth, read_over, listing_rule, modify_rule, own_rule, rule_in, is_kept, field_fault, first_refused, kept};
 
 use crate::command::Asked;
 use crate::options::{fault_of, is_one_of};
 use crate::reason::Reason;
 use crate::rules::{Rule, rule_of};
 use bson::{Document, Pair, Value};
+
+/// The fields by which a `findAndModify` says what it does.
+const MODIFY_FIELDS: [&str; 9] = [
+    "findAndModify",
+    "findandmodify",
+    "query",
+    "sort",
+    "update",
+    "remove",
+    "new",
+    "upsert",
+    "$db",
+];
 
 /// A field of this name is true or false, and not the database's.
 fn truth(word: &str, name: &str) -> Option<Rule>
@@ -40,6 +53,16 @@ fn listing_rule(name: &str) -> Option<Rule>
     read_over(&["cursor", "nameOnly"], name)
 }
 
+/// The rule of a field of `findAndModify`: one that would be lost is refused.
+fn modify_rule(name: &str) -> Option<Rule>
+    ensures { result ≡ modify_rule name.now }
+{
+    if is_one_of(&MODIFY_FIELDS, name) || rule_of(name).is_some() {
+        return None;
+    }
+    Some(Rule::Unsupported)
+}
+
 /// The rule of a field that this command alone has.
 fn own_rule(asked: Asked, name: &str) -> Option<Rule>
     ensures { result ≡ own_rule asked name.now }
@@ -54,6 +77,7 @@ fn own_rule(asked: Asked, name: &str) -> Option<Rule>
         Asked::ListIndexes => read_over(&["cursor"], name),
         Asked::DropDatabase => None,
         Asked::Explain => read_over(&["verbosity"], name),
+        Asked::Modify => modify_rule(name),
     }
 }
 

@@ -41,6 +41,8 @@ pub(crate) enum Asked {
     DropDatabase,
     /// An `explain`, which holds a `find`.
     Explain,
+    /// A `findAndModify`, which finds a document and changes it.
+    Modify,
 }
 
 /// What is done with a command.
@@ -53,7 +55,7 @@ pub(crate) enum Command {
 }
 
 /// The commands by their names.
-const COMMANDS: [(&str, Command); 28] = [
+const COMMANDS: [(&str, Command); 30] = [
     ("hello", Command::Own(Own::Hello)),
     ("isMaster", Command::Own(Own::IsMaster)),
     ("ismaster", Command::Own(Own::IsMaster)),
@@ -85,6 +87,8 @@ const COMMANDS: [(&str, Command); 28] = [
     ("listIndexes", Command::Forwarded(Asked::ListIndexes)),
     ("dropDatabase", Command::Forwarded(Asked::DropDatabase)),
     ("explain", Command::Forwarded(Asked::Explain)),
+    ("findAndModify", Command::Forwarded(Asked::Modify)),
+    ("findandmodify", Command::Forwarded(Asked::Modify)),
 ];
 
 /// What is done with a command of this name; nothing where it is unknown.

@@ -11,6 +11,7 @@ mod handshake;
 mod incoming;
 pub mod laws;
 mod message;
+mod modifying;
 mod options;
 mod place;
 mod plan;

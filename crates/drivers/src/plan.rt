@@ -9,7 +9,7 @@ ghost use Rattle.driver_replies.specs.Cursors.{ids_of, first_id};
 ghost use Rattle.drivers.specs.Starting.{name_of, started};
 ghost use Rattle.driver_replies.specs.Listing.{batch_in, retold};
 ghost use Rattle.drivers.specs.declared.plan.Wait.TheVariants as waits;
-ghost use Rattle.drivers.specs.Answering.{is_single, kill_wait, collections_wait, batch_wait, write_wait, other_wait, wait_of, plan_for, plan_in, plan_of, final, reworded, error_step, drop_next, drop_step, drop_listed, drop_on, next_statement, whole_step, statement_step, end_cursor, cursor_left, kill_next, killed, answered_by, answered};
+ghost use Rattle.drivers.specs.Answering.{is_single, kill_wait, collections_wait, batch_wait, write_wait, other_wait, wait_of, is_modification, plan_for, plan_in, plan_of, asks_alone, final, reworded, error_step, drop_next, drop_step, drop_listed, drop_on, next_statement, whole_step, statement_step, end_cursor, cursor_left, kill_next, killed, answered_by, answered};
 
 use crate::answering::{cursor_left, end, kill_command, reword, widen};
 use crate::cleaning::kept;
@@ -21,9 +21,9 @@ use crate::starting::{name_of, start, unheard};
 use crate::step::Step;
 use bson::{Array, Document, NoMemory, Text};
 use driver_replies::{
-    Batch, FreshIds, Kills, Tally, Write, collection_of, drop_command, drop_first, dropped_reply,
-    first_batch, first_id, ids_of, is_alone, is_gone, is_ordered_in, is_true, name_in,
-    refused_statement, retold, text_or_none, write_of,
+    Batch, FreshIds, Kills, Modification, Part, Tally, Write, collection_of, drop_command,
+    drop_first, dropped_reply, first_batch, first_id, ids_of, is_alone, is_gone, is_ordered_in,
+    is_true, name_in, refused_statement, retold, text_or_none, write_of,
 };
 use std::alloc::Global;
 use std::mem;
@@ -53,6 +53,12 @@ pub enum Wait {
     Collections(Option<Text>),
     /// It says a plan, and makes the answer.
     Explained,
+    /// It tells the first document, if there is one, which is changed.
+    Found(Modification),
+    /// It says that the document that was found so was changed, or that one was made.
+    Changed(Modification, Option<Part>),
+    /// It tells the document again that this finds, which may be a new one.
+    Again(Modification, bool, Part),
 }
 
 /// What is kept of a message until the database has answered: whether the driver wants no reply, the database and the collection
@@ -129,6 +135,13 @@ fn other_wait(alloc: Global, ids: FreshIds, body: &Document) -> Result<Wait, NoM
     }
 }
 
+/// Whether a command is a `findAndModify`, by one of its two names.
+fn is_modification(name: &str) -> bool
+    ensures { result ≡ is_modification name.now }
+{
+    name == "findAndModify" || name == "findandmodify"
+}
+
 /// What the first reply to a command is to.
 fn wait_of(alloc: Global, ids: FreshIds, body: &Document) -> Result<Wait, NoMemory>
     ensures { IfOk result (λ w. w ≡ wait_of ids body.now) }
@@ -144,6 +157,9 @@ fn wait_of(alloc: Global, ids: FreshIds, body: &Document) -> Result<Wait, NoMemo
     }
     if name_of(body) == "explain" {
         return Ok(Wait::Explained);
+    }
+    if is_modification(name_of(body)) {
+        return Ok(Wait::Found(Modification::new(alloc, ids, body)?));
     }
     if is_single(body) {
         return Ok(Wait::Single);
@@ -195,8 +211,18 @@ impl Plan {
         Ok((plan, step))
     }
 
+    /// Whether nobody else may ask the database before the answer.
+    pub fn asks_alone(&self) -> bool
+        ensures { result ≡ asks_alone self.now.wait }
+    {
+        matches!(
+            self.wait,
+            Wait::Found(_) | Wait::Changed(..) | Wait::Again(..)
+        )
+    }
+
     /// The answer that a reply of the database makes.
-    fn final_step(&self, alloc: Global, mut reply: Document) -> Result<Step, NoMemory>
+    pub(crate) fn final_step(&self, alloc: Global, mut reply: Document) -> Result<Step, NoMemory>
         ensures { IfOk result (λ s. s ≡ final self.now reply) }
     {
         let database = self.database.as_str();
@@ -377,6 +403,11 @@ impl Plan {
             Wait::Kill(kills) => self.killed(alloc, kills, reply),
             Wait::Collections(wanted) => self.retell(alloc, &wanted, reply),
             Wait::Explained => self.final_step(alloc, explained(alloc, reply)?),
+            Wait::Found(modification) => self.found(alloc, modification, reply),
+            Wait::Changed(modification, was) => self.changed(alloc, modification, was, reply),
+            Wait::Again(modification, is_new, subject) => {
+                self.found_again(alloc, modification, is_new, subject, reply)
+            }
         }
     }
 }

@@ -15,6 +15,8 @@ pub(crate) enum Reason {
     TooManyServers,
     /// A field of another type than it takes.
     FieldType,
+    /// Neither one thing nor the other is asked for, or both.
+    NoChoice,
     /// A client wants to say who it is.
     NoAuthentication,
     /// A command of a transaction, or one that could be sent again.
@@ -53,6 +55,12 @@ impl Reason {
         let (code, name, before, behind) = match self {
             Reason::TooManyServers => (2, "BadValue", "docpage is one server: w is 0 or 1", None),
             Reason::FieldType => (14, "TypeMismatch", "field '", Some("': wrong type")),
+            Reason::NoChoice => (
+                9,
+                "FailedToParse",
+                "a 'findAndModify' has 'update', or 'remove' without 'new'",
+                None,
+            ),
             Reason::NoAuthentication => (
                 18,
                 "AuthenticationFailed",

@@ -13,6 +13,7 @@ use crate::cleaning::{first_refused, kept};
 use crate::command::{Asked, Command, Own, command_of};
 use crate::handshake::{build_reply, handshake_reply, ok_reply};
 use crate::message::{BodyFault, Form, Message};
+use crate::modifying::modify_first;
 use crate::reason::{Reason, refusal_reply};
 use crate::server_info::ServerInfo;
 use crate::step::Step;
@@ -108,6 +109,7 @@ fn ask(alloc: Global, asked: Asked, body: Document) -> Result<Step, NoMemory>
         Asked::KillCursors => kill_first(alloc, body),
         Asked::DropDatabase => list_first(alloc, &body),
         Asked::Explain => ask_explain(alloc, body),
+        Asked::Modify => modify_first(alloc, &body),
         _ => Ok(Step::Ask(body)),
     }
 }

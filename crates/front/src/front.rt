@@ -1,7 +1,7 @@
 //! Sockets of drivers before a server.
 
 ghost use Rattle.server.specs.Durable.{IsSound};
-ghost use Rattle.std.specs.Prelude.{◌≡◌, ◌<◌, IfOk, map};
+ghost use Rattle.std.specs.Prelude.{◌≡◌, ◌<◌, IfOk, length, map};
 ghost use Rattle.sockets.specs.Handing.{Hands, Closes};
 ghost use Rattle.front.specs.Tying.{AreTied};
 ghost use Rattle.front.specs.Fronting.{frame_to, answers_from, closing, closed_from, answered};
@@ -40,6 +40,8 @@ pub struct Front<C: Clock, D: Disk> {
     cursors: OpenCursors,
     // the socket that is served first in the next turn
     first: usize,
+    // the socket during whose message nobody else may ask
+    alone: Option<usize>,
     // where the object ids of the next message begin
     next_id: u64,
 }
@@ -60,6 +62,7 @@ impl<C: Clock + Drop, D: Disk + Drop> Front<C, D> {
             lending: Lending::new(),
             cursors: OpenCursors::new(alloc),
             first: 0,
+            alone: None,
             next_id,
         })
     }
@@ -72,6 +75,48 @@ impl<C: Clock + Drop, D: Disk + Drop> Front<C, D> {
         }
     }
 
+    /// Does what can be done of a socket. Whether others may still ask in this turn.
+    fn ask_one(&mut self, number: usize, time: i64) -> bool
+        requires sound { IsSound D.history self.old.core }
+        requires tied { AreTied self.old.lending.loans self.old.sockets.items }
+        requires inside { number < length self.old.sockets.items }
+        requires number { number < 1024 }
+        ensures sound { IsSound D.history self.new.core }
+        ensures tied { AreTied self.new.lending.loans self.new.sockets.items }
+    {
+        let info = info(number, time, fresh_ids(&mut self.next_id, time));
+        let socket = &mut self.sockets[number];
+        serve_socket(
+            &mut self.core,
+            &mut self.lending,
+            &self.cursors,
+            number,
+            &info,
+            socket,
+        );
+        if self.sockets[number].asks_alone() {
+            self.alone = Some(number);
+            return false;
+        }
+        true
+    }
+
+    /// Goes on with the message during which nobody else may ask. Whether there is one.
+    fn ask_alone(&mut self, time: i64) -> bool
+        requires sound { IsSound D.history self.old.core }
+        requires tied { AreTied self.old.lending.loans self.old.sockets.items }
+        ensures sound { IsSound D.history self.new.core }
+        ensures tied { AreTied self.new.lending.loans self.new.sockets.items }
+    {
+        let Some(number) = self.alone.take() else {
+            return false;
+        };
+        if PLACES <= number || self.sockets.len() <= number {
+            return false;
+        }
+        self.sockets[number].asks_alone() && !self.ask_one(number, time)
+    }
+
     /// Takes messages of sockets, each in its turn, and asks the server what they want to know, as far as connections are at rest.
     fn ask_all(&mut self)
         requires sound { IsSound D.history self.old.core }
@@ -80,6 +125,9 @@ impl<C: Clock + Drop, D: Disk + Drop> Front<C, D> {
         ensures tied { AreTied self.new.lending.loans self.new.sockets.items }
     {
         let time = self.time();
+        if self.ask_alone(time) {
+            return;
+        }
         let first = self.first % PLACES;
         'sockets: for step in 0..PLACES {
             let number = (first + step) % PLACES;
@@ -90,16 +138,10 @@ impl<C: Clock + Drop, D: Disk + Drop> Front<C, D> {
                 self.first = number;
                 return;
             }
-            let info = info(number, time, fresh_ids(&mut self.next_id, time));
-            let socket = &mut self.sockets[number];
-            serve_socket(
-                &mut self.core,
-                &mut self.lending,
-                &self.cursors,
-                number,
-                &info,
-                socket,
-            );
+            if !self.ask_one(number, time) {
+                self.first = number + 1;
+                return;
+            }
         }
     }
 

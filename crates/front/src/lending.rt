@@ -1,6 +1,6 @@
 //! Which connections of the server are lent, and what for.
 
-ghost use Rattle.std.specs.Prelude.{◌≡◌, ◌<◌, IfSome, true, None, Some, is_none, map, replicate, slice_set};
+ghost use Rattle.std.specs.Prelude.{◌≡◌, ◌<◌, IfSome, true, None, Some, is_none, is_some, map, replicate, slice_set};
 ghost use Rattle.std.specs.List.{list_any};
 ghost use Rattle.front.specs.Lending.{loan_at, is_at_rest, fewer, better, least_used, left_borrower, orphaned, after_end};
 
@@ -45,6 +45,13 @@ impl Lending {
         ensures { result ≡ list_any is_none self.now.loans }
     {
         self.loans.iter().any(|loan| loan.is_none())
+    }
+
+    /// Whether any connection is lent.
+    pub fn has_loans(&self) -> bool
+        ensures { result ≡ list_any is_some self.now.loans }
+    {
+        self.loans.iter().any(|loan| loan.is_some())
     }
 
     /// Lends a connection that is at rest.

@@ -86,7 +86,7 @@ fn ask_question<D: Disk>(
 }
 
 /// Does what can be done of a socket: takes a message where it works on none, and asks the server, where a connection can be lent
-/// to it.
+/// to it. A message during which nobody else may ask waits until no connection is lent.
 pub(crate) fn serve_socket<D: Disk>(
     core: &mut Core<D>,
     lending: &mut Lending,
@@ -101,6 +101,9 @@ pub(crate) fn serve_socket<D: Disk>(
     ensures asks { Asks number lending.old.loans lending.new.loans socket.old socket.new }
 {
     socket.begin(core.allocator(), info);
+    if socket.asks_alone() && lending.has_loans() {
+        return;
+    }
     ask_question(core, lending, cursors, number, socket);
 }
 

@@ -104,6 +104,14 @@ impl Socket {
         });
     }
 
+    /// Whether nobody else may ask the database before the message that is worked on is answered.
+    pub fn asks_alone(&self) -> bool {
+        match &self.job {
+            Some(job) => job.plan.asks_alone(),
+            None => false,
+        }
+    }
+
     /// What the database is to be asked for the message that is worked on.
     pub fn question(&self) -> Option<&Question>
         ensures { IfSome result (λ _. (is_asked self.now.job ≡ false)
