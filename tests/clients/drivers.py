@@ -5,11 +5,13 @@ import os, shutil, signal, socket, subprocess, sys, tempfile, threading, traceba
 import bson
 import pymongo
 from pymongo import DeleteOne, InsertOne, ReplaceOne, UpdateMany, UpdateOne
+from pymongo.collection import ReturnDocument
 from pymongo.errors import BulkWriteError, DuplicateKeyError, OperationFailure
 
 PROGRAM = os.path.abspath(sys.argv[1])
 FOLDER = tempfile.mkdtemp(prefix="drivers.")
 PATIENCE = 20.0
+AFTER = ReturnDocument.AFTER
 PROCESSES = []
 
 
@@ -203,6 +205,56 @@ def upserts(server):
     expect(people.count_documents({"tag": "x"}), 1)
 
 
+def modifications(server):
+    """Documents that are found and changed in one go."""
+    jobs = server.client().test.modified
+    jobs.insert_many([{"_id": n, "rank": 9 - n, "state": "new"} for n in range(5)])
+    taken = jobs.find_one_and_update({"state": "new"}, {"$set": {"state": "taken"}}, sort=[("rank", 1)])
+    expect(taken, {"_id": 4, "rank": 5, "state": "new"})
+    expect(jobs.find_one_and_update({"_id": 4}, {"$inc": {"rank": 1}}, return_document=AFTER), {"_id": 4, "rank": 6, "state": "taken"})
+    expect(jobs.find_one_and_delete({"state": "new"}, sort=[("rank", -1)]), {"_id": 0, "rank": 9, "state": "new"})
+    expect(jobs.find_one_and_delete({"_id": 0}), None)
+    expect(jobs.find_one_and_replace({"_id": 1}, {"other": True}), {"_id": 1, "rank": 8, "state": "new"})
+    expect(jobs.find_one({"_id": 1}), {"_id": 1, "other": True})
+    expect(jobs.find_one_and_update({"state": "lost"}, {"$set": {"a": 1}}), None)
+    expect(jobs.find_one_and_update({"_id": "x"}, {"$set": {"a": 1}}, upsert=True), None)
+    expect(jobs.find_one({"_id": "x"}), {"_id": "x", "a": 1})
+    made = jobs.find_one_and_update({"name": "Ada"}, {"$set": {"a": 2}}, upsert=True, return_document=AFTER)
+    expect((type(made.pop("_id")), made), (bson.ObjectId, {"name": "Ada", "a": 2}))
+    told = server.client().test.command("findAndModify", "modified", query={"_id": 2}, update={"$set": {"a": 3}}, new=True)
+    expect((told["lastErrorObject"], told["value"]["a"]), ({"n": 1, "updatedExisting": True}, 3))
+    told = server.client().test.command("findAndModify", "modified", query={"_id": 77}, remove=True)
+    expect((told["lastErrorObject"], told["value"]), ({"n": 0}, None))
+    for code, fields in ((9, {}), (9, {"remove": True, "update": {"a": 1}}), (14, {"update": [{"$set": {"a": 1}}]}), (14, {"remove": 1}),
+                         (72, {"update": {"$set": {"a": 1}}, "fields": {"a": 1}}), (14, {"update": {"$inc": {"state": 1}}})):
+        refused(OperationFailure, lambda: server.client().test.command("findAndModify", "modified", query={"_id": 2}, **fields), code)
+    expect(jobs.find_one({"_id": 2}), {"_id": 2, "rank": 7, "state": "new", "a": 3})
+    # a counter that many raise at the same time: each is told another number, and others change it between
+    jobs.insert_one({"_id": "counter", "n": 0})
+    client, told = server.client(), []
+
+    def raise_it():
+        counters = client.test.modified
+        for _ in range(20):
+            counters.update_one({"_id": "counter"}, {"$inc": {"others": 1}})
+            told.append(counters.find_one_and_update({"_id": "counter"}, {"$inc": {"n": 1}}, return_document=AFTER)["n"])
+
+    expect(all_of([raise_it] * 16), [])
+    expect(sorted(told), list(range(1, 321)))
+    expect(jobs.find_one({"_id": "counter"}), {"_id": "counter", "n": 320, "others": 320})
+    # a queue from which each takes another job
+    queue = client.test.queue
+    queue.insert_many([{"_id": n, "state": 0} for n in range(200)])
+    mine = []
+
+    def take():
+        while (job := queue.find_one_and_delete({"state": 0}, sort=[("_id", 1)])) is not None:
+            mine.append(job["_id"])
+
+    expect(all_of([take] * 8), [])
+    expect((sorted(mine), queue.count_documents({})), (list(range(200)), 0))
+
+
 def deletes(server):
     people = server.client().test.deleted
     people.insert_many([{"_id": n, "odd": n % 2} for n in range(20)])
@@ -389,7 +441,7 @@ OTHERS = [other_driver("ruby", ["ruby", "-rmongo", "-e", "1"], ["ruby", f"{HERE}
           other_driver("node", NODE + ["-e", "require('mongodb')"], NODE + [f"{HERE}/drivers.js"]),
           other_driver("c", ["sh", "-c", COMPILE], [f"{FOLDER}/session"])]
 
-CASES = [handshake, inserts, finds, cursors, abandoned_cursors, updates, batches, upserts, deletes, counts, indexes, collections, refusals,
+CASES = [handshake, inserts, finds, cursors, abandoned_cursors, updates, batches, upserts, modifications, deletes, counts, indexes, collections, refusals,
          unacknowledged, pool, clients, idle_sockets, killed]
 
 
