@@ -1,5 +1,10 @@
 pub mod LeastLaws
+pub mod ListRowsLemmas
+pub mod ListedBooks
+pub mod Marking
+pub mod ReadingLists
 pub mod Rewinding
 mod Searching
 pub mod SoundBooks
 pub mod Undoing
+pub mod WrittenLists

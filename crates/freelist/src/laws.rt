@@ -1,5 +1,6 @@
 //! Laws of the definitions, each the contract of a function that does nothing.
 
+ghost use Rattle.freelist.specs.ListLaws.{WrittenIsRead, PagesSuffice, ReadingIsExact, FreeIsComplement, BookOfPartition, ListRows};
 ghost use Rattle.freelist.specs.Sound.{TakesLeast, NoneIsFree, IsFreeByDefinition, OpensSound, CallsStaySound};
 ghost use Rattle.freelist.specs.Undone.{UndoingLeadsBack};
 
@@ -32,4 +33,35 @@ pub fn calls_stay_sound()
 /// Undoing to a mark gives the book of the mark.
 pub fn undoing_leads_back()
     ensures { UndoingLeadsBack }
+{}
+
+/// A list that was written is read: pages that hold it are a list on these pages that names these.
+pub fn written_is_read()
+    ensures { WrittenIsRead }
+{}
+
+/// A list on as many pages as it needs names all that it should.
+pub fn pages_suffice()
+    ensures { PagesSuffice }
+{}
+
+/// From a first page on, pages hold one list at most.
+pub fn reading_is_exact()
+    ensures { ReadingIsExact }
+{}
+
+/// Where each page of a file is in use, of its list or named by it, the pages below the page count that the book has free
+/// are those that the list names.
+pub fn free_is_complement()
+    ensures { FreeIsComplement }
+{}
+
+/// That book is told by the list alone.
+pub fn book_of_partition()
+    ensures { BookOfPartition }
+{}
+
+/// Lists worked by hand.
+pub fn list_rows()
+    ensures { ListRows }
 {}

@@ -3,7 +3,11 @@
 
 mod book;
 pub mod laws;
+mod list;
+mod list_fault;
 mod states;
 mod turns;
 
 pub use book::{FreePages, Mark, NoMemory};
+pub use list::{FreeList, ListPage, ListPages, read_list};
+pub use list_fault::ListFault;
