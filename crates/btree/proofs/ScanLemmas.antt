@@ -1,17 +1,18 @@
 -- Entries of a range, part after part.
-use Rattle.std.proofs.Common.{◌≡◌, ℕ, zero, suc, ◌+◌, ◌<◌, ◌≤◌, List, [], ◌∷◌, ◌++◌, ◌&&◌, not, length, map, take, get_or, Option, Some, None, is_some, Vec}
+use Rattle.std.proofs.Common.{◌≡◌, ℕ, zero, suc, ◌+◌, ◌<◌, ◌≤◌, List, [], ◌∷◌, ◌++◌, ◌&&◌, not, length, map, take, drop, get_or, Option, Some, None, Vec}
 use Rattle.std.proofs.Common.{Global, Result, Ok, Err, Bool, true, false, refl, sym, ap, ◌∙◌, subst, arith, append_assoc, append-nil}
+use Rattle.std.proofs.lemmas.List.{take-append-drop}
 use Rattle.std.specs.declared.cmp.Ordering.TheVariants.{Less, Equal, Greater}
 use Rattle.std.specs.Ordering.{is_lt}
-use Rattle.std.specs.Option.{option_map}
-use Rattle.btree.specs.declared.scanning.Batch.{Batch}
+use Rattle.btree.specs.declared.scanning.Entry.{Entry as KeptEntry}
+use Rattle.btree.specs.declared.scanning.Filling.{Filling}
 use Rattle.page.specs.Content.{Item, Arm, branch, leaf}
 use Rattle.btree.specs.Keys.{Pair, Entry, entry_of, Each, Rises, IsUnder, IsNotUnder, IsWithin, IsPast, key_cmp, keep_if, is_within, window}
 use Rattle.btree.specs.Search.{IsPlace, IsChildPlace, AreBounds}
 use Rattle.std.specs.Result.{IsErrAnd}
 use Rattle.btree.specs.declared.pages.TreeFault.{TreeFault}
 use Rattle.btree.specs.Calls.{IsAnswer, IsBatch, IsPart}
-use Rattle.btree.specs.Scan.{Holds, entry_in}
+use Rattle.btree.specs.Scan.{Fills, Holds, entry_in}
 use Rattle.btree.proofs.StoreLemmas.{cause_later, part_kept, shows_kept}
 use Rattle.btree.specs.Store.{Store, Frame, HasCause}
 use Rattle.btree.specs.Tree.{Twig, Body, HasChain, Shows, IsSound, IsWhole, arm_of, entries_of, item_of, pair_keys, pairs_of, twig_keys, with_low}
@@ -26,6 +27,14 @@ window_append from to (x ∷ xs) ys =
     elim (not (is_lt (key_cmp x.key from)) && is_within to x.key) as
     (λ b. keep_if b x (window from to (xs ++ ys)) ≡ keep_if b x (window from to xs) ++ window from to ys)
     [ true ↦ ap (λ zs. x ∷ zs) (window_append from to xs ys) | false ↦ window_append from to xs ys ]
+
+-- what comes behind the first ones
+pub rest_behind : (from : List ℕ) (to : Option (List ℕ)) (all : List Entry) (pairs : List Pair) (i : ℕ)
+    → (all ++ window from to (map entry_of (take i pairs))) ++ window from to (map entry_of (drop i pairs)) ≡ all ++ window from to (map entry_of pairs)
+rest_behind from to all pairs i =
+    append_assoc all (window from to (map entry_of (take i pairs))) (window from to (map entry_of (drop i pairs)))
+    ∙ ap (λ zs. all ++ zs) (sym (window_append from to (map entry_of (take i pairs)) (map entry_of (drop i pairs)))
+    ∙ ap (window from to) (sym (map_append entry_of (take i pairs) (drop i pairs)) ∙ ap (map entry_of) (take-append-drop i pairs)))
 
 pub not_less : (a b : List ℕ) → IsNotUnder a b → is_lt (key_cmp a b) ≡ false
 not_less a b h = elim (key_cmp a b) as (λ r. (r ≡ Less → ⊥) → is_lt r ≡ false) [ Less ↦ (λ n. absurd (n refl)) | Equal ↦ (λ n. refl) | Greater ↦ (λ n. refl) ] h
@@ -168,17 +177,6 @@ module _ (from : List ℕ) (to : Option (List ℕ)) (items : List Item) (pairs :
         ∙ ap (λ zs. all ++ (window from to (map entry_of (take i pairs)) ++ zs)) (sym (window_one from to (entry_of h.pair) h.not_under w))
         ∙ ap (λ zs. all ++ zs) (sym (window_append from to (map entry_of (take i pairs)) (entry_of h.pair ∷ [])) ∙ ap (window from to) (sym h.more))
 
-    pub ends_full : IsWithin to h.pair.key
-        → (all ++ window from to (map entry_of (take i pairs))) ++ entry_of h.pair ∷ window from to (map entry_of h.back) ≡ all
-        ++ window from to (map entry_of pairs)
-    ends_full w =
-        append_assoc all (window from to (map entry_of (take i pairs))) (entry_of h.pair ∷ window from to (map entry_of h.back))
-        ∙ ap (λ zs. all ++ (window from to (map entry_of (take i pairs)) ++ zs))
-        (ap (λ zs. zs ++ window from to (map entry_of h.back)) (sym (window_one from to (entry_of h.pair) h.not_under w))
-        ∙ sym (window_append from to (entry_of h.pair ∷ []) (map entry_of h.back)))
-        ∙ ap (λ zs. all ++ zs)
-        (sym (window_append from to (map entry_of (take i pairs)) (entry_of h.pair ∷ map entry_of h.back)) ∙ ap (window from to) (sym h.whole))
-
     pub ends_past : IsPast to h.pair.key → all ++ window from to (map entry_of (take i pairs)) ≡ all ++ window from to (map entry_of pairs)
     ends_past p =
         ap (λ zs. all ++ zs) (sym (append-nil (window from to (map entry_of (take i pairs))))
@@ -301,25 +299,16 @@ module _ (s : Store) (level d : ℕ) (twigs : List (Twig (Body d))) (i child : �
       ∙ ap (λ zs. all ++ zs)
       (sym (window_append to_key to (entries_of (suc d) (take i twigs)) (entries_of d h.body ++ h.others)) ∙ ap (window to_key to) (sym h.whole))
 
--- a batch that is full stays so
-pub full_stays : (limit : ℕ) (all others : List Entry) (batch : Batch) → is_some batch.next ≡ true → Holds limit all batch → Holds limit (all ++ others) batch
-full_stays limit all others batch some h = go (option_map (λ (v : Vec ℕ Global). v.items) batch.next) (has batch.next some) h
-  where
-    has : (o : Option (Vec ℕ Global)) → is_some o ≡ true → is_some (option_map (λ (v : Vec ℕ Global). v.items) o) ≡ true
-    has None e = cc
-    has (Some v) e = refl
+-- a batch before any entry
+abbrev pub filling : Global → ℕ → Vec KeptEntry Global → Filling
+filling alloc limit entries = record { alloc = alloc; limit = limit; batch = record { entries = entries; next = None } }
 
-    go : (o : Option (List ℕ)) → is_some o ≡ true → IsBatch limit all (map entry_in batch.entries.items) o
-        → IsBatch limit (all ++ others) (map entry_in batch.entries.items) o
-    go None e h = cc
-    go (Some k) e h =
-        record {
-          next = h.next;
-          others = h.others ++ others;
-          is = ap (λ es. es ++ others) h.is ∙ append_assoc (map entry_in batch.entries.items) (h.next ∷ h.others) others;
-          key_is = h.key_is;
-          full = h.full;
-        }
+pub fills_none : (alloc : Global) (limit : ℕ) (entries : Vec KeptEntry Global) → entries.items ≡ []
+    → Fills (filling alloc limit entries) [] (filling alloc limit entries)
+fills_none alloc limit entries e = (refl, subst (λ es. IsBatch limit [] (map entry_in es) None) (sym e) (refl, omega arith))
+
+pub filled : (start now : Filling) (all : List Entry) → Fills start all now → Holds start.limit all now.batch
+filled start now all h = subst (λ n. Holds n all now.batch) h.0 h.1
 
 -- ---- the program's steps below a branch
 

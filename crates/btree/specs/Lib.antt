@@ -2,6 +2,7 @@ pub mod Calls
 pub mod Change
 pub mod EditView
 pub mod Few
+pub mod Fold
 pub mod Keys
 pub mod Laws
 pub mod Loose

@@ -1,13 +1,12 @@
 -- Entries that a scan hands out.
-use Rattle.std.specs.Prelude.{ℕ, List, map, Result}
+use Rattle.std.specs.Prelude.{◌≡◌, ◌<◌, ℕ, List, None, length, map}
 use Rattle.std.specs.Option.{option_map}
 use Rattle.btree.specs.declared.scanning.Entry.{Entry as KeptEntry}
 use Rattle.btree.specs.declared.scanning.Batch.{Batch}
+use Rattle.btree.specs.declared.scanning.Filling.{Filling}
 use Rattle.btree.specs.declared.scanning.Range.{Range}
 use Rattle.btree.specs.Keys.{Entry, window}
-use Rattle.btree.specs.Calls.{IsBatch, Yields}
-use Rattle.btree.specs.Store.{Store}
-use Rattle.btree.specs.declared.pages.TreeFault.{TreeFault}
+use Rattle.btree.specs.Calls.{IsBatch}
 
 abbrev pub entry_in : KeptEntry → Entry
 entry_in e = record { key = e.key.items; value = e.value.items }
@@ -20,6 +19,10 @@ Holds limit all batch =
 abbrev pub within : Range → List Entry → List Entry
 within range entries = window range.from.now (option_map (λ b. b.now) range.to) entries
 
--- so it is, or there is a cause
-abbrev pub Scanned : {X : Type 0} → Store → Store → Type 0 → Result X TreeFault → Type 0
-Scanned old new so result = Yields old new (λ done. so) result
+-- what entries make of a batch that was empty
+abbrev pub Fills : Filling → List Entry → Filling → Type 0
+Fills start all now = (now.limit ≡ start.limit) × Holds now.limit all now.batch
+
+-- there is room for another entry
+abbrev pub HasRoom : Filling → Type 0
+HasRoom now = (now.batch.next ≡ None) × (length now.batch.entries.items < now.limit)

@@ -15,7 +15,7 @@ use std::alloc::Global;
 pub(crate) const LINK: usize = 4076;
 
 /// The bytes of a chain.
-fn chain_bytes<P: Pages>(
+pub(crate) fn chain_bytes<P: Pages>(
     alloc: Global,
     pages: &mut P,
     first: u32,

@@ -5,6 +5,7 @@ mod chain;
 mod changing;
 mod cutting;
 mod editing;
+mod folding;
 mod in_page;
 mod joining;
 pub mod laws;
@@ -19,6 +20,7 @@ mod scanning;
 mod search;
 
 pub use editing::Edit;
+pub use folding::{Bounds, Fold, fold_entries};
 pub use lookup::get;
 pub use pages::{Pages, TreeFault};
 pub use root::{change, insert, remove};

@@ -1,20 +1,15 @@
 // Entries in ascending order of their keys, a batch at a time.
-ghost use Rattle.std.specs.Prelude.{◌≡◌, ◌++◌, ◌∷◌, [], Ok, ℕ, zero, List, map, IfErr, MatchResult, true, false};
-ghost use Rattle.std.specs.Option.{option_map};
-ghost use Rattle.btree.specs.Keys.{Pair, Rises, entry_of, Entry as MapEntry};
-ghost use Rattle.btree.specs.Store.{Grows, HasCause, IsSame, KeepsWord, Store};
-ghost use Rattle.btree.specs.Tree.{Body, HasChain, IsTree, Shows, entries_of, item_of, pair_keys};
-ghost use Rattle.btree.specs.View.{item_in};
-ghost use Rattle.btree.specs.Calls.{IsPart, Yields};
-ghost use Rattle.btree.specs.Scan.{Holds, Scanned, entry_in, within};
+ghost use Rattle.std.specs.Prelude.{◌≡◌, ◌++◌, ◌∷◌, [], Ok, ℕ, List, MatchResult, false, true};
+ghost use Rattle.btree.specs.Fold.{entry_at};
+ghost use Rattle.btree.specs.Keys.{Entry as MapEntry};
+ghost use Rattle.btree.specs.Store.{Grows, IsSame, KeepsWord, Store};
+ghost use Rattle.btree.specs.Tree.{Body, IsTree, entries_of};
+ghost use Rattle.btree.specs.Calls.{Yields};
+ghost use Rattle.btree.specs.declared.scanning.Filling.{Filling};
+ghost use Rattle.btree.specs.Scan.{Fills, HasRoom, Holds, within};
 
-use crate::chain::value_bytes;
-use crate::search::{
-    branch_child, child_of_key, high_bound, is_within, leaf_cell, lies_between, low_bound,
-    place_of_key,
-};
+use crate::folding::{Bounds, Fold, fold_entries};
 use crate::{Pages, TreeFault};
-use page::{Cell, Leaf, PageContent};
 use std::alloc::{AllocError, Global};
 
 /// A key and its value.
@@ -41,133 +36,57 @@ pub struct Batch {
     pub next: Option<Vec<u8>>,
 }
 
-// A cell as an entry of its own.
-fn entry_at<P: Pages>(alloc: Global, pages: &mut P, cell: Cell<'_>) -> Result<Entry, TreeFault>
-    ensures grows { Grows (P.store pages.old) (P.store pages.new) }
-    ensures same { KeepsWord (P.store pages.new)
-        → IsSame (P.store pages.old) (P.store pages.new) }
-    ensures reads { (x : Pair) → item_in cell.entry ≡ item_of x → HasChain (P.store pages.old) x
-        → Yields (P.store pages.old) (P.store pages.new) (λ e. entry_in e ≡ entry_of x) result }
-{
-    let key = Vec::from_slice(alloc, cell.key)?;
-    let value = value_bytes(alloc, pages, cell.stored)?;
-    Ok(Entry { key, value })
-}
-
-// Hands out a cell, or notes its key where the batch is full; whether there may be more.
-fn hand_out<P: Pages>(
+// A batch as far as it is filled.
+#[derive(Drop)]
+struct Filling {
     alloc: Global,
-    pages: &mut P,
     limit: usize,
-    batch: &mut Batch,
-    cell: Cell<'_>,
-) -> Result<bool, TreeFault>
-    ensures grows { Grows (P.store pages.old) (P.store pages.new) }
-    ensures same { KeepsWord (P.store pages.new)
-        → IsSame (P.store pages.old) (P.store pages.new) }
-    ensures failed { (x : Pair) → item_in cell.entry ≡ item_of x → HasChain (P.store pages.old) x
-        → KeepsWord (P.store pages.new)
-        → IfErr result (HasCause (P.store pages.old) (P.store pages.new)) }
-    ensures more { (x : Pair) (all : List MapEntry) → item_in cell.entry ≡ item_of x
-        → HasChain (P.store pages.old) x
-        → Holds limit all batch.old → KeepsWord (P.store pages.new) → result ≡ Ok true
-        → Holds limit (all ++ entry_of x ∷ []) batch.new }
-    ensures full { (x : Pair) (all others : List MapEntry) → item_in cell.entry ≡ item_of x
-        → HasChain (P.store pages.old) x
-        → Holds limit all batch.old → KeepsWord (P.store pages.new) → result ≡ Ok false
-        → Holds limit (all ++ entry_of x ∷ others) batch.new }
-{
-    if batch.next.is_some() {
-        return Ok(false);
-    }
-    if batch.entries.len() >= limit {
-        batch.next = Some(Vec::from_slice(alloc, cell.key)?);
-        return Ok(false);
-    }
-    let entry = entry_at(alloc, pages, cell)?;
-    batch.entries.push(entry).map_err(AllocError::from)?;
-    Ok(true)
+    batch: Batch,
 }
 
-// Hands out the cells of a leaf.
-fn scan_leaf<P: Pages>(
-    alloc: Global,
-    pages: &mut P,
-    leaf: &Leaf,
-    range: Range<'_>,
-    batch: &mut Batch,
-) -> Result<(), TreeFault>
-    ensures grows { Grows (P.store pages.old) (P.store pages.new) }
-    ensures same { KeepsWord (P.store pages.new)
-        → IsSame (P.store pages.old) (P.store pages.new) }
-    ensures scans { (pairs : List Pair) (all : List MapEntry) → leaf.now ≡ map item_of pairs
-        → Rises (pair_keys pairs) → Shows (P.store pages.old) zero pairs
-        → Holds range.entry.limit all batch.old
-        → Scanned (P.store pages.old) (P.store pages.new)
-        (Holds range.entry.limit (all ++ within range.entry
-        (map entry_of pairs)) batch.new) result }
-{
-    for i in place_of_key(leaf, range.from)..leaf.len() {
-        let cell = leaf_cell(leaf, i);
-        if !is_within(cell.key, range.to) {
-            return Ok(());
+impl Filling {
+    // Whether an entry has no room, so that its key is noted where it is the first such one.
+    fn passes_over(&mut self, key: &[u8]) -> Result<bool, AllocError>
+        ensures over { (start : Filling) (all : List MapEntry) (value : List ℕ)
+            → Fills start all self.old → result ≡ Ok true
+            → Fills start (all ++ entry_at key.now value ∷ []) self.new }
+        ensures room { result ≡ Ok false → (self.new ≡ self.old) × HasRoom self.old }
+    {
+        if self.batch.next.is_some() {
+            return Ok(true);
         }
-        if !hand_out(alloc, pages, range.limit, batch, cell)? {
-            return Ok(());
+        if self.batch.entries.len() >= self.limit {
+            self.batch.next = Some(Vec::from_slice(self.alloc, key)?);
+            return Ok(true);
         }
+        Ok(false)
     }
-    Ok(())
 }
 
-// Hands out the entries below a page whose keys lie between the bounds.
-fn scan_below<P: Pages>(
-    alloc: Global,
-    pages: &mut P,
-    page: u32,
-    level: u32,
-    low: &[u8],
-    high: Option<&[u8]>,
-    range: Range<'_>,
-    batch: &mut Batch,
-) -> Result<(), TreeFault>
-    ensures grows { Grows (P.store pages.old) (P.store pages.new) }
-    ensures same { KeepsWord (P.store pages.new)
-        → IsSame (P.store pages.old) (P.store pages.new) }
-    ensures scans { (d : ℕ) (body : Body d) (all : List MapEntry)
-        → IsPart (P.store pages.old) page level d low.now
-        (option_map (λ b. b.now) high.entry) body → Holds range.entry.limit all batch.old
-        → Scanned (P.store pages.old) (P.store pages.new)
-        (Holds range.entry.limit (all ++ within range.entry
-        (entries_of d body)) batch.new) result }
-{
-    let shared = pages.read(page)?;
-    if !lies_between(&shared.image().content, low, high) {
-        return Err(TreeFault::Order);
+// Copies of entries, at most so many, and the key of the one behind them.
+impl Fold for Filling {
+    ghost makes = { Fills };
+
+    fn is_done(&self) -> bool {
+        self.batch.next.is_some()
     }
-    let branch = match &shared.image().content {
-        PageContent::Leaf(leaf) => return scan_leaf(alloc, pages, leaf, range, batch),
-        PageContent::Branch(branch) => branch,
-        _ => return Err(TreeFault::Kind),
-    };
-    if level >= 31 {
-        return Err(TreeFault::Order);
+
+    fn take_key(&mut self, key: &[u8]) -> Result<bool, AllocError> {
+        self.passes_over(key)
     }
-    if branch.len() == 0 {
-        return Err(TreeFault::Length);
-    }
-    for i in child_of_key(branch, range.from)..branch.len() {
-        let from = low_bound(branch, i, low);
-        let to = high_bound(branch, i, high);
-        let child = branch_child(branch, i).page;
-        if batch.next.is_some() {
+
+    fn take(&mut self, key: &[u8], value: &[u8]) -> Result<(), AllocError> {
+        if self.passes_over(key)? {
             return Ok(());
         }
-        if !is_within(from, range.to) {
-            return Ok(());
-        }
-        scan_below(alloc, pages, child, level + 1, from, to, range, batch)?;
+        let key = Vec::from_slice(self.alloc, key)?;
+        let value = Vec::from_slice(self.alloc, value)?;
+        self.batch
+            .entries
+            .push(Entry { key, value })
+            .map_err(AllocError::from)?;
+        Ok(())
     }
-    Ok(())
 }
 
 /// The entries of the tree with this root (0 is the empty tree) in a range, at most `limit` of them, in
@@ -187,13 +106,18 @@ pub fn scan<P: Pages>(
         (λ batch. Holds range.entry.limit (within range.entry (entries_of d body)) batch)
         result }
 {
-    let mut batch = Batch {
-        entries: Vec::new(alloc),
-        next: None,
+    let mut filling = Filling {
+        alloc,
+        limit: range.limit,
+        batch: Batch {
+            entries: Vec::new(alloc),
+            next: None,
+        },
     };
-    if root == 0 {
-        return Ok(batch);
-    }
-    scan_below(alloc, pages, root, 0, &[], None, range, &mut batch)?;
-    Ok(batch)
+    let bounds = Bounds {
+        from: range.from,
+        to: range.to,
+    };
+    fold_entries(alloc, pages, root, bounds, &mut filling)?;
+    Ok(filling.batch)
 }

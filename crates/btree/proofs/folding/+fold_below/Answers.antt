@@ -5,38 +5,38 @@ use Rattle.page.specs.Format.{Sheet}
 use Rattle.btree.specs.Tree.{Body, arm_of, entries_of}
 use Rattle.btree.specs.View.{content_in}
 use Rattle.btree.specs.Calls.{IsAnswer}
-use Rattle.btree.specs.Scan.{Holds, within}
+use Rattle.btree.specs.Fold.{between}
 use Rattle.btree.proofs.StoreLemmas.{answer_failed, frame_same, frame_trans, grows_itself, grows_trans, part_kept, same_itself, same_trans}
 use Rattle.btree.proofs.ListLemmas.{long_map}
 use Rattle.btree.proofs.GetLemmas.{not_between, too_deep, bounds_are}
-use Rattle.btree.proofs.ScanLemmas.{at_branch, scan_leaf_below, none_before, child_here, child_on, child_past, child_rest, full_stays, scan_failed, take_all}
-use Rattle.btree.proofs.scanning.+scan_below.Goals as goal
+use Rattle.btree.proofs.ScanLemmas.{at_branch, scan_leaf_below, none_before, child_here, child_on, child_past, child_rest, scan_failed, take_all}
+use Rattle.btree.proofs.folding.+fold_below.Goals as goal
 
-pub returns-in_err-shared-clause-scans : goal.returns-in_err-shared-clause-scans
-returns-in_err-shared-clause-scans g t c =
-    λ d body all part held k.
+pub returns-in_err-shared-clause-folds : goal.returns-in_err-shared-clause-folds
+returns-in_err-shared-clause-folds g t c =
+    λ start all d body part made k.
     answer_failed (g.P.Pages.store c.args.pages.now) (g.P.Pages.store c.read.new.self) _ _ _ c.from_residual.ensures.1
     (c.in_err-shared.ensures.cause k _ part.at)
 
-pub returns-then-not-lies_between-clause-scans : goal.returns-then-not-lies_between-clause-scans
-returns-then-not-lies_between-clause-scans g t c =
-    λ d body all part held k.
+pub returns-then-not-lies_between-clause-folds : goal.returns-then-not-lies_between-clause-folds
+returns-then-not-lies_between-clause-folds g t c =
+    λ start all d body part made k.
     not_between (g.P.Pages.store c.args.pages.now) _ _ _ _ _ _
     (c.in_ok-shared.ensures.value k ∙ ap (λ (s : Sheet). s.content) (sym c.image.ensures)) c.lies_between.ensures c.if-not-lies_between.true d body part
 
-pub returns-in-Leaf-clause-scans : goal.returns-in-Leaf-clause-scans
-returns-in-Leaf-clause-scans g t c =
-    λ d body all part held k.
-    let w = (c.scan_leaf.ensures.grows.frame k).word in
-    scan_leaf_below (g.P.Pages.store c.args.pages.now) (g.P.Pages.store c.read.new.self) (g.P.Pages.store c.scan_leaf.new.pages) c.args.page c.args.level _ _ _
-    (λ es. Holds c.args.range.limit (all ++ within c.args.range es) c.scan_leaf.new.batch) _
+pub returns-in-Leaf-clause-folds : goal.returns-in-Leaf-clause-folds
+returns-in-Leaf-clause-folds g t c =
+    λ start all d body part made k.
+    let w = (c.fold_leaf.ensures.grows.frame k).word in
+    scan_leaf_below (g.P.Pages.store c.args.pages.now) (g.P.Pages.store c.read.new.self) (g.P.Pages.store c.fold_leaf.new.pages) c.args.page c.args.level _ _ _
+    (λ es. g.F.Fold.makes start (all ++ between c.args.bounds es) c.fold_leaf.new.fold) _
     (frame_same (g.P.Pages.store c.args.pages.now) (g.P.Pages.store c.read.new.self) (c.in_ok-shared.ensures.same w))
     (c.in_ok-shared.ensures.value w ∙ ap (λ (s : Sheet). s.content) (sym c.image-2.ensures) ∙ ap content_in c.in-Leaf.is)
-    (λ pairs e rise shown. c.scan_leaf.ensures.scans pairs all e rise shown held k) d body part
+    (λ pairs e rise shown. c.fold_leaf.ensures.folds start all pairs e rise shown made k) d body part
 
-pub returns-then-len-eq0-clause-scans : goal.returns-then-len-eq0-clause-scans
-returns-then-len-eq0-clause-scans g t c =
-    λ d body all part held k.
+pub returns-then-len-eq0-clause-folds : goal.returns-then-len-eq0-clause-folds
+returns-then-len-eq0-clause-folds g t c =
+    λ start all d body part made k.
     let none : length c.in-Branch.branch ≡ 0 = search rules in
     too_deep (g.P.Pages.store c.args.pages.now) _ _ _ _ _
     (c.in_ok-shared.ensures.value k ∙ ap (λ (s : Sheet). s.content) (sym c.image-2.ensures) ∙ ap content_in c.in-Branch.is) (inr none) d body part
@@ -46,60 +46,61 @@ loop-i-init g t c =
     record {
       grows = grows_itself (g.P.Pages.store c.read.new.self);
       same = same_itself (g.P.Pages.store c.read.new.self);
-      holds = λ d twigs all e part held k. subst (λ es. Holds c.args.range.limit es c.args.batch.now)
+      made = λ start all d twigs e part made k. subst (λ es. g.F.Fold.makes start es c.args.fold.now)
           (sym (append-nil all)
           ∙ ap (λ es. all ++ es)
           (sym (none_before (g.P.Pages.store c.read.new.self) c.args.page c.args.level d c.args.low.now (option_map (λ b. b.now) c.args.high) twigs _ e part
-          c.args.range.from.now (option_map (λ b. b.now) c.args.range.to) c.child_of_key-i.result c.child_of_key-i.ensures))) held;
+          c.args.bounds.from.now (option_map (λ b. b.now) c.args.bounds.to) c.child_of_key-i.result c.child_of_key-i.ensures))) made;
+      lent = λ start h. h;
     }
 
-pub returns-then-is_some-clause-scans : goal.returns-then-is_some-clause-scans
-returns-then-is_some-clause-scans g t c =
-    λ d body all part held k.
+pub returns-then-is_done-clause-folds : goal.returns-then-is_done-clause-folds
+returns-then-is_done-clause-folds g t c =
+    λ start all d body part made k.
     let w = (c.loop-i.invariant.grows.frame k).word in
     at_branch (g.P.Pages.store c.args.pages.now) (g.P.Pages.store c.read.new.self) c.args.page c.args.level _ _ c.in-Branch.branch
     (c.in_ok-shared.ensures.value w ∙ ap (λ (s : Sheet). s.content) (sym c.image-2.ensures) ∙ ap content_in c.in-Branch.is)
     (frame_same (g.P.Pages.store c.args.pages.now) (g.P.Pages.store c.read.new.self) (c.in_ok-shared.ensures.same w))
-    (λ d body. Holds c.args.range.limit (all ++ within c.args.range (entries_of d body)) c.loop-i.batch)
+    (λ d body. g.F.Fold.makes start (all ++ between c.args.bounds (entries_of d body)) c.loop-i.fold)
     (λ d twigs e p.
     let here = child_here (g.P.Pages.store c.read.new.self) c.args.page c.args.level d c.args.low.now
     (option_map (λ b. b.now) c.args.high) twigs _ e p c.loop-i.i _ _ _ (omega (arith, c.loop-i-test.true))
     (bounds_are _ _ _ _ _ _ c.low_bound-from.ensures.first c.low_bound-from.ensures.later c.high_bound-to.ensures.last c.high_bound-to.ensures.inner)
     (λ a. sym (ap (λ (x : Arm). x.child) (c.branch_child-child.ensures a))) in
-    subst (λ es. Holds c.args.range.limit es c.loop-i.batch)
-    (child_rest (g.P.Pages.store c.read.new.self) c.args.level d twigs c.loop-i.i _ _ c.args.range.from.now _
-    (option_map (λ b. b.now) c.args.range.to) here all)
-    (full_stays c.args.range.limit _ _ c.loop-i.batch (search rules) (c.loop-i.invariant.holds d twigs all e p held k)))
+    subst (λ es. g.F.Fold.makes start es c.loop-i.fold)
+    (child_rest (g.P.Pages.store c.read.new.self) c.args.level d twigs c.loop-i.i _ _ c.args.bounds.from.now _
+    (option_map (λ b. b.now) c.args.bounds.to) here all)
+    (c.is_done.ensures c.if-is_done.true start _ _ (c.loop-i.invariant.made start all d twigs e p made k)))
     d body part
 
-pub returns-then-not-is_within-clause-scans : goal.returns-then-not-is_within-clause-scans
-returns-then-not-is_within-clause-scans g t c =
-    λ d body all part held k.
+pub returns-then-not-is_within-clause-folds : goal.returns-then-not-is_within-clause-folds
+returns-then-not-is_within-clause-folds g t c =
+    λ start all d body part made k.
     let w = (c.loop-i.invariant.grows.frame k).word in
     at_branch (g.P.Pages.store c.args.pages.now) (g.P.Pages.store c.read.new.self) c.args.page c.args.level _ _ c.in-Branch.branch
     (c.in_ok-shared.ensures.value w ∙ ap (λ (s : Sheet). s.content) (sym c.image-2.ensures) ∙ ap content_in c.in-Branch.is)
     (frame_same (g.P.Pages.store c.args.pages.now) (g.P.Pages.store c.read.new.self) (c.in_ok-shared.ensures.same w))
-    (λ d body. Holds c.args.range.limit (all ++ within c.args.range (entries_of d body)) c.loop-i.batch)
+    (λ d body. g.F.Fold.makes start (all ++ between c.args.bounds (entries_of d body)) c.loop-i.fold)
     (λ d twigs e p.
     let here = child_here (g.P.Pages.store c.read.new.self) c.args.page c.args.level d c.args.low.now
     (option_map (λ b. b.now) c.args.high) twigs _ e p c.loop-i.i _ _ _ (omega (arith, c.loop-i-test.true))
     (bounds_are _ _ _ _ _ _ c.low_bound-from.ensures.first c.low_bound-from.ensures.later c.high_bound-to.ensures.last c.high_bound-to.ensures.inner)
     (λ a. sym (ap (λ (x : Arm). x.child) (c.branch_child-child.ensures a))) in
-    subst (λ es. Holds c.args.range.limit es c.loop-i.batch)
-    (child_past (g.P.Pages.store c.read.new.self) c.args.level d twigs c.loop-i.i _ _ c.args.range.from.now _
-    (option_map (λ b. b.now) c.args.range.to) here all c.if-not-is_within.ensures) (c.loop-i.invariant.holds d twigs all e p held k))
+    subst (λ es. g.F.Fold.makes start es c.loop-i.fold)
+    (child_past (g.P.Pages.store c.read.new.self) c.args.level d twigs c.loop-i.i _ _ c.args.bounds.from.now _
+    (option_map (λ b. b.now) c.args.bounds.to) here all c.if-not-is_within.ensures) (c.loop-i.invariant.made start all d twigs e p made k))
     d body part
 
-pub returns-in_err-scan_below-clause-scans : goal.returns-in_err-scan_below-clause-scans
-returns-in_err-scan_below-clause-scans g t c =
-    λ d body all part held k.
-    let v = (c.in_err-scan_below.ensures.grows.frame k).word in
+pub returns-in_err-fold_below-clause-folds : goal.returns-in_err-fold_below-clause-folds
+returns-in_err-fold_below-clause-folds g t c =
+    λ start all d body part made k.
+    let v = (c.in_err-fold_below.ensures.grows.frame k).word in
     let w = (c.loop-i.invariant.grows.frame v).word in
     at_branch (g.P.Pages.store c.args.pages.now) (g.P.Pages.store c.read.new.self) c.args.page c.args.level _ _ c.in-Branch.branch
     (c.in_ok-shared.ensures.value w ∙ ap (λ (s : Sheet). s.content) (sym c.image-2.ensures) ∙ ap content_in c.in-Branch.is)
     (frame_same (g.P.Pages.store c.args.pages.now) (g.P.Pages.store c.read.new.self) (c.in_ok-shared.ensures.same w))
-    (λ d body. IsAnswer (g.P.Pages.store c.args.pages.now) (g.P.Pages.store c.scan_below.new.pages)
-    (λ done. Holds c.args.range.limit (all ++ within c.args.range (entries_of d body)) c.scan_below.new.batch) c.from_residual-in_err-scan_below.result)
+    (λ d body. IsAnswer (g.P.Pages.store c.args.pages.now) (g.P.Pages.store c.fold_below.new.pages)
+    (λ done. g.F.Fold.makes start (all ++ between c.args.bounds (entries_of d body)) c.fold_below.new.fold) c.from_residual-in_err-fold_below.result)
     (λ d twigs e p.
     let here = child_here (g.P.Pages.store c.read.new.self) c.args.page c.args.level d c.args.low.now
     (option_map (λ b. b.now) c.args.high) twigs _ e p c.loop-i.i _ _ _ (omega (arith, c.loop-i-test.true))
@@ -108,40 +109,41 @@ returns-in_err-scan_below-clause-scans g t c =
     let grows = frame_trans (g.P.Pages.store c.args.pages.now) (g.P.Pages.store c.read.new.self) (g.P.Pages.store c.loop-i.pages)
     (frame_same (g.P.Pages.store c.args.pages.now) (g.P.Pages.store c.read.new.self) (c.in_ok-shared.ensures.same w)) (c.loop-i.invariant.grows.frame v) in
     scan_failed (g.P.Pages.store c.args.pages.now) (g.P.Pages.store c.loop-i.pages)
-    (g.P.Pages.store c.scan_below.new.pages) _ _ _ grows c.from_residual-in_err-scan_below.ensures.1
-    (c.in_err-scan_below.ensures.scans d here.body _ (part_kept _ _ (c.loop-i.invariant.grows.frame v) _ _ d _ _ here.body here.part)
-    (c.loop-i.invariant.holds d twigs all e p held v) k))
+    (g.P.Pages.store c.fold_below.new.pages) _ _ _ grows c.from_residual-in_err-fold_below.ensures.1
+    (c.in_err-fold_below.ensures.folds start _ d here.body (part_kept _ _ (c.loop-i.invariant.grows.frame v) _ _ d _ _ here.body here.part)
+    (c.loop-i.invariant.made start all d twigs e p made v) k))
     d body part
 
 pub loop-i-preserved : goal.loop-i-preserved
 loop-i-preserved g t c =
     record {
       grows = grows_trans (g.P.Pages.store c.read.new.self) (g.P.Pages.store c.loop-i.pages)
-          (g.P.Pages.store c.scan_below.new.pages) c.loop-i.invariant.grows c.in_ok-scan_below.ensures.grows;
-      same = λ k. let now = c.in_ok-scan_below.ensures.same k in same_trans _ _ _ (c.loop-i.invariant.same now.word) now;
-      holds = λ d twigs all e p held k.
-          let v = (c.in_ok-scan_below.ensures.grows.frame k).word in
+          (g.P.Pages.store c.fold_below.new.pages) c.loop-i.invariant.grows c.in_ok-fold_below.ensures.grows;
+      same = λ k. let now = c.in_ok-fold_below.ensures.same k in same_trans _ _ _ (c.loop-i.invariant.same now.word) now;
+      made = λ start all d twigs e p made k.
+          let v = (c.in_ok-fold_below.ensures.grows.frame k).word in
           let here = child_here (g.P.Pages.store c.read.new.self) c.args.page c.args.level d c.args.low.now
           (option_map (λ b. b.now) c.args.high) twigs _ e p c.loop-i.i _ _ _ (omega (arith, c.loop-i-test.true))
           (bounds_are _ _ _ _ _ _ c.low_bound-from.ensures.first c.low_bound-from.ensures.later c.high_bound-to.ensures.last c.high_bound-to.ensures.inner)
           (λ a. sym (ap (λ (x : Arm). x.child) (c.branch_child-child.ensures a))) in
-          subst (λ es. Holds c.args.range.limit es c.scan_below.new.batch)
-          (child_on (g.P.Pages.store c.read.new.self) c.args.level d twigs c.loop-i.i _ _ c.args.range.from.now _
-          (option_map (λ b. b.now) c.args.range.to) here all)
-          (c.in_ok-scan_below.ensures.scans d here.body _ (part_kept _ _ (c.loop-i.invariant.grows.frame v) _ _ d _ _ here.body here.part)
-          (c.loop-i.invariant.holds d twigs all e p held v) k);
+          subst (λ es. g.F.Fold.makes start es c.fold_below.new.fold)
+          (child_on (g.P.Pages.store c.read.new.self) c.args.level d twigs c.loop-i.i _ _ c.args.bounds.from.now _
+          (option_map (λ b. b.now) c.args.bounds.to) here all)
+          (c.in_ok-fold_below.ensures.folds start _ d here.body (part_kept _ _ (c.loop-i.invariant.grows.frame v) _ _ d _ _ here.body here.part)
+          (c.loop-i.invariant.made start all d twigs e p made v) k);
+      lent = λ start h. c.in_ok-fold_below.ensures.lent start (c.loop-i.invariant.lent start h);
     }
 
-pub returns-clause-scans : goal.returns-clause-scans
-returns-clause-scans g t c =
-    λ d body all part held k.
+pub returns-clause-folds : goal.returns-clause-folds
+returns-clause-folds g t c =
+    λ start all d body part made k.
     let w = (c.loop-i.invariant.grows.frame k).word in
     at_branch (g.P.Pages.store c.args.pages.now) (g.P.Pages.store c.read.new.self) c.args.page c.args.level _ _ c.in-Branch.branch
     (c.in_ok-shared.ensures.value w ∙ ap (λ (s : Sheet). s.content) (sym c.image-2.ensures) ∙ ap content_in c.in-Branch.is)
     (frame_same (g.P.Pages.store c.args.pages.now) (g.P.Pages.store c.read.new.self) (c.in_ok-shared.ensures.same w))
-    (λ d body. Holds c.args.range.limit (all ++ within c.args.range (entries_of d body)) c.loop-i.batch)
+    (λ d body. g.F.Fold.makes start (all ++ between c.args.bounds (entries_of d body)) c.loop-i.fold)
     (λ d twigs e p.
-    subst (λ ts. Holds c.args.range.limit (all ++ within c.args.range (entries_of (suc d) ts)) c.loop-i.batch)
+    subst (λ ts. g.F.Fold.makes start (all ++ between c.args.bounds (entries_of (suc d) ts)) c.loop-i.fold)
     (take_all twigs c.loop-i.i (omega (arith, ap length e, long_map (arm_of {B = Body d}) twigs, c.loop-i-test.false)))
-    (c.loop-i.invariant.holds d twigs all e p held k))
+    (c.loop-i.invariant.made start all d twigs e p made k))
     d body part

@@ -1,0 +1,16 @@
+use Rattle.std.proofs.Common.{◌≡◌, ◌++◌, zero, List, map, take}
+use Rattle.btree.specs.Keys.{Pair, Entry, Rises, entry_of}
+use Rattle.btree.specs.Store.{Grows, IsSame, KeepsWord}
+use Rattle.btree.specs.Tree.{Shows, item_of, pair_keys}
+use Rattle.btree.specs.Fold.{HasTaken, between}
+use Rattle.btree.proofs.folding.fold_leaf.Given as goal
+
+abbrev pub invariant-loop-i : goal.invariant-loop-i
+invariant-loop-i g l = record {
+  grows : Grows (g.P.Pages.store l.initial.pages) (g.P.Pages.store l.pages);
+  same : KeepsWord (g.P.Pages.store l.pages) → IsSame (g.P.Pages.store l.initial.pages) (g.P.Pages.store l.pages);
+  made : (start : g.row.F.Denot) (all : List Entry) (pairs : List Pair) → l.leaf ≡ map item_of pairs → Rises (pair_keys pairs)
+      → Shows (g.P.Pages.store l.initial.pages) zero pairs → g.F.Fold.makes start all l.initial.fold
+      → KeepsWord (g.P.Pages.store l.pages) → g.F.Fold.makes start (all ++ between l.bounds (map entry_of (take l.i pairs))) l.fold;
+  lent : (start : g.row.F.Denot) → HasTaken g.F.Fold.makes start l.initial.fold → HasTaken g.F.Fold.makes start l.fold;
+}
