@@ -20,3 +20,4 @@ pub mod Streams
 pub mod Batches
 pub mod Taking
 pub mod Serving
+pub mod UpdateReplies
