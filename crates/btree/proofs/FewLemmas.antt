@@ -27,6 +27,7 @@ use Rattle.btree.proofs.EditLemmas.{edits_more}
 use Rattle.btree.proofs.ListLemmas.{each_append, each_back, each_front, get_here, long_append, long_map}
 use Rattle.btree.proofs.HeldLemmas.{under_long}
 use Rattle.btree.proofs.FewParts.{both_size, size_many, items_size}
+use Rattle.btree.specs.declared.editing.Edit.{Edit as ProgramEdit}
 
 -- ---- what is joined
 

@@ -28,6 +28,7 @@ use Rattle.commands.specs.Update.{statement_field, read_statement, UpdateFields}
 use Rattle.commands.specs.Update.{update_statements_in}
 use Rattle.commands.specs.Update.{IsRead}
 use Rattle.commands.specs.Command.{update}
+use Rattle.update.specs.Update.{Update as Change}
 
 pub short : (database name namespace : List ℕ) → namespace_of database name ≡ Ok namespace
     → length namespace ≤ 255

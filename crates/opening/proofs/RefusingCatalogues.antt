@@ -28,6 +28,8 @@ use Rattle.opening.specs.Judging.{bare, listed_of}
 use Rattle.opening.specs.Judging.{numbered, stands_behind}
 use Rattle.opening.proofs.EntriesSoFar.{IsPlain}
 use Rattle.opening.proofs.OnceLists.{AreOnce}
+use Rattle.index.specs.LawfulState.{IsKept as IsIndexKept}
+use Rattle.index.proofs.HomeLemmas.{listed_of as indexed_of}
 
 pub any_none : {X : Type 0} (f : X → Bool) (xs : List X) → ((x : X) → Among x xs → f x ≡ false) → list_any f xs ≡ false
 any_none f [] h = refl

@@ -52,6 +52,10 @@ use Rattle.opening.proofs.TakingLemmas.{find_there}
 use Rattle.opening.proofs.RefusingCatalogues.{any_none, all_behind, numbered_there, names_once}
 use Rattle.opening.proofs.RefusingCatalogues.{names_order, IsLike, same_catalogue, plain_one}
 use Rattle.opening.proofs.RefusingCatalogues.{bare_kept}
+use Rattle.bson.specs.Spelling.{Spells as SpellsDocument}
+use Rattle.index.specs.LawfulState.{IsKept as IsIndexKept}
+use Rattle.index.specs.LawfulState.{IsLawfulState as IsIndexLawful}
+use Rattle.index.proofs.HomeLemmas.{listed_of as indexed_of}
 
 -- ---- the documents' entries
 

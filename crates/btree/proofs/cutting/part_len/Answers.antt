@@ -4,7 +4,7 @@ use Rattle.btree.specs.Loose.{IsPart, Stub, value, stub_size, stubs_size}
 use Rattle.btree.specs.LooseView.{stub_in}
 use Rattle.btree.proofs.ListLemmas.{long_map}
 use Rattle.btree.proofs.CuttingLemmas.{each_at, behind_is, behind_long, none_fits, take_over, part_front, part_half}
-use Rattle.btree.proofs.FewLemmas.{full_half, full_whole}
+use Rattle.btree.proofs.FewParts.{full_half, full_whole}
 use Rattle.btree.proofs.cutting.part_len.Goals as goal
 
 none : Stub
