@@ -86,15 +86,20 @@ choice_fault body =
     else (if is_some (lookup body (codes "update"))
     then None else Some (codes "update", reasons.NoChoice))
 
+abbrev pub parts_fault : Pairs → Option (List ℕ × Reason)
+parts_fault body =
+    option_or (part_fault (codes "query") body)
+    (option_or (part_fault (codes "sort") body) (part_fault (codes "update") body))
+
+abbrev pub flags_fault : Pairs → Option (List ℕ × Reason)
+flags_fault body =
+    option_or (flag_fault (codes "remove") body)
+    (option_or (flag_fault (codes "new") body) (flag_fault (codes "upsert") body))
+
 -- why it is refused, if it is
 abbrev pub modify_fault : Pairs → Option (List ℕ × Reason)
 modify_fault body =
-    option_or (part_fault (codes "query") body)
-    (option_or (part_fault (codes "sort") body)
-    (option_or (part_fault (codes "update") body)
-    (option_or (flag_fault (codes "remove") body)
-    (option_or (flag_fault (codes "new") body)
-    (option_or (flag_fault (codes "upsert") body) (choice_fault body))))))
+    option_or (parts_fault body) (option_or (flags_fault body) (choice_fault body))
 
 -- The first document is found first.
 abbrev pub modify_unless : Option (List ℕ × Reason) → Pairs → Step

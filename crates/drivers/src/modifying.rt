@@ -7,7 +7,7 @@ ghost use Rattle.driver_replies.specs.Listing.{batch_in};
 ghost use Rattle.driver_replies.specs.Modifying.{subject_of};
 ghost use Rattle.driver_replies.specs.Tallies.{refused};
 ghost use Rattle.drivers.specs.Answering.{told_step, modified, changed_by, changed, change_found, found_none, found, first_part, found_again};
-ghost use Rattle.drivers.specs.Starting.{part_fault, flag_fault, choice_fault, modify_fault, modify_unless};
+ghost use Rattle.drivers.specs.Starting.{part_fault, parts_fault, flag_fault, flags_fault, choice_fault, modify_fault, modify_unless};
 ghost use Rattle.drivers.specs.declared.plan.Wait.TheVariants as waits;
 
 use crate::plan::{Plan, Wait};
@@ -58,19 +58,41 @@ fn choice_fault(body: &Document) -> Option<(&'static str, Reason)>
     Some(("update", Reason::NoChoice))
 }
 
+/// Why one of the parts of a `findAndModify` is refused, if one is.
+fn parts_fault(body: &Document) -> Option<(&'static str, Reason)>
+    ensures { option_map (λ x. (x.0.now, x.1)) result ≡ parts_fault body.now }
+{
+    if let Some(fault) = part_fault("query", body) {
+        return Some(fault);
+    }
+    if let Some(fault) = part_fault("sort", body) {
+        return Some(fault);
+    }
+    part_fault("update", body)
+}
+
+/// Why one of the fields of a `findAndModify` that are true or false is refused, if one is.
+fn flags_fault(body: &Document) -> Option<(&'static str, Reason)>
+    ensures { option_map (λ x. (x.0.now, x.1)) result ≡ flags_fault body.now }
+{
+    if let Some(fault) = flag_fault("remove", body) {
+        return Some(fault);
+    }
+    if let Some(fault) = flag_fault("new", body) {
+        return Some(fault);
+    }
+    flag_fault("upsert", body)
+}
+
 /// Why a `findAndModify` is refused, if it is.
 fn modify_fault(body: &Document) -> Option<(&'static str, Reason)>
     ensures { option_map (λ x. (x.0.now, x.1)) result ≡ modify_fault body.now }
 {
-    'parts: for name in ["query", "sort", "update"] {
-        if let Some(fault) = part_fault(name, body) {
-            return Some(fault);
-        }
+    if let Some(fault) = parts_fault(body) {
+        return Some(fault);
     }
-    'flags: for name in ["remove", "new", "upsert"] {
-        if let Some(fault) = flag_fault(name, body) {
-            return Some(fault);
-        }
+    if let Some(fault) = flags_fault(body) {
+        return Some(fault);
     }
     choice_fault(body)
 }
