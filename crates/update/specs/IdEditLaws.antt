@@ -67,8 +67,8 @@ ActionAvoids (rename new) = begins_with_id new ≡ false
 ActionAvoids other = Unit {0}
 
 pub record EditAvoids (e : Edit) : Type 0 where
-  path : begins_with_id e.path ≡ false
-  action : ActionAvoids e.action
+  pub path : begins_with_id e.path ≡ false
+  pub action : ActionAvoids e.action
 
 abbrev pub AllAvoid : List Edit → Type 0
 AllAvoid [] = Unit {0}

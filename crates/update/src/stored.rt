@@ -130,7 +130,11 @@ fn place_to_leave(document: &Document) -> Option<usize>
         (at < pairs_len document.now) × (id_first document.now ≡ to_front document.now at)) }
 {
     let _levels = document.levels();
-    document.position(ID).filter(|at| *at != 0)
+    match document.position(ID) {
+        None => None,
+        Some(0) => None,
+        Some(at) => Some(at),
+    }
 }
 
 /// The document itself with `_id` first. Nothing is copied.
