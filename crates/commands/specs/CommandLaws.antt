@@ -49,6 +49,7 @@ use Rattle.commands.specs.Command.{Command, ping, insert, find, count, delete, u
 use Rattle.commands.specs.Command.{create, drop, list_collections, create_indexes, drop_indexes}
 use Rattle.commands.specs.Command.{list_indexes, explain, as_command, command_of, IsBounded}
 use Rattle.commands.specs.Command.{get_more, kill_cursors, hello}
+use Rattle.commands.specs.StatementLaws.{reads_by_field}
 use Rattle.commands.specs.StatementLaws.{short, as_many, few_items, few, few_fields, few_there}
 use Rattle.commands.specs.StatementLaws.{AreRead, ReadsAt}
 

@@ -217,7 +217,7 @@ module _ (found next : UpdateFields) (name : List ℕ) (t : Tree) (h : ReadsAt f
   abbrev with_common : CommonFields → Result UpdateFields Refusal
   with_common common = Ok (record found { common = common })
 
-  reads_by_field : (b : Bool)
+  pub reads_by_field : (b : Bool)
       → (if b then (update_statements_in t >>= with_statements)
       else (common_field found.common name t >>= with_common)) ≡ Ok next → ReadsAt next.statements
   reads_by_field true e =
