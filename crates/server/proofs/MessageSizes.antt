@@ -16,8 +16,7 @@ use Rattle.bson.specs.declared.fault.BsonFault.{BsonFault}
 use Rattle.bson.specs.declared.fault.BsonFault.TheVariants as bson_faults
 use Rattle.bson.specs.declared.kind.Kind.TheVariants as kinds
 use Rattle.bson.proofs.FrameLaws.{IsBytes-drop, IsBytes-take}
-use Rattle.bson.proofs.PairLaws.{IsBytes-rest}
-use Rattle.bson.proofs.TreeLaws.{document_takes, value_reads}
+use Rattle.bson.proofs.TreeLaws.{IsBytes-rest, document_takes, value_reads}
 use Rattle.outcome.specs.Outcome.{◌>>=◌, unless}
 use Rattle.op_msg.specs.Frame.{Frame, Part, Sequence, Section, body, sequence, number_at, part_at, or_section, name_at, each_from, each_by, is_more, each_in}
 use Rattle.op_msg.specs.Frame.{sequence_in, body_at, sequence_at, section_at, sections_in, bodies_of, sequences_of, names_of, has_twice, only_of, body_of_all}

@@ -6,7 +6,7 @@ use Rattle.std.proofs.lemmas.Bool.{ltb-true}
 use Rattle.std.proofs.lemmas.Fmt.{length-decimal-le}
 use Rattle.bson.specs.Tree.{Tree, document, array, Pairs, no_pairs, pair, Items, no_items, item, append_items}
 use Rattle.bson.specs.Edits.{items_len}
-use Rattle.bson.specs.EditPlaces.{items_len-append}
+use Rattle.bson.specs.EditsLaws.{items_len-append}
 use Rattle.bson.specs.SizingLaws.{frame_of-length, pairs_size-pair, pairs_bytes-none, items_bytes-none, items_size-push}
 use Rattle.bson.specs.Spelling.{tree_bytes, pairs_bytes, items_bytes}
 use Rattle.index.specs.State.{Collection, find_collection}
