@@ -15,4 +15,3 @@ pub mod Ascending
 pub mod AnewLemmas
 pub mod Reading
 pub mod Dumping
-pub mod MessageSizes

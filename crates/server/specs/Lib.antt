@@ -20,4 +20,3 @@ pub mod Streams
 pub mod Batches
 pub mod Taking
 pub mod Serving
-pub mod UpdateReplies

@@ -1,4 +1,4 @@
-//! Laws of runs: what a crash leaves of one, what the definitions say of chunks, of the first frames, and of the replies of updates.
+//! Laws of runs: what a crash leaves of one, what the definitions say of chunks, and of the first frames.
 
 ghost use Rattle.server.specs.Batches.{BatchesCutTheList};
 ghost use Rattle.server.specs.Chunks.{ChunksJoin};
@@ -6,7 +6,6 @@ ghost use Rattle.server.specs.InOrder.{CallsAscend};
 ghost use Rattle.server.specs.Prefix.{FindsAPrefix};
 ghost use Rattle.server.specs.Rows.{FirstRows};
 ghost use Rattle.server.specs.Streams.{TakesTheStream};
-ghost use Rattle.server.specs.UpdateReplies.{UpdateRepliesFit};
 
 use page::Disk;
 
@@ -41,9 +40,4 @@ pub fn calls_ascend()
 /// The bytes of the first replies, from the bytes of the first frames.
 pub fn first_rows()
     ensures { FirstRows }
-{}
-
-/// No message within the limit is refused for the length of an update's reply: what an update comes to is what its statements come to.
-pub fn update_replies_fit()
-    ensures { UpdateRepliesFit }
 {}

@@ -21,9 +21,3 @@ pub mod ListedUpdates
 pub mod PlacingLemmas
 pub mod UpsertLemmas
 pub mod ShortIndexes
-pub mod AskedSizes
-pub mod EditsLeaveId
-pub mod UpsertedIds
-pub mod StatementSizes
-pub mod UpsertedSizes
-pub mod ReplyRooms

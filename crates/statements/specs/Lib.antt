@@ -2,4 +2,3 @@ pub mod Places
 pub mod Redoing
 pub mod WriteLaws
 pub mod Updating
-pub mod ReplyRoom

@@ -1,6 +1,5 @@
-//! Laws of what the statements of an update write and of its reply, each the contract of a function that does nothing.
+//! Laws of what the statements of an update write, each the contract of a function that does nothing.
 
-ghost use Rattle.statements.specs.ReplyRoom.{RepliesHaveRoom};
 ghost use Rattle.statements.specs.WriteLaws.{UnchangedWriteNothing, WritesJoin, WritesLead, WritesOfMeant, WritesReplace, WritesStored};
 
 /// What the statements of an update write, put among the documents, gives what they make of these, byte by byte.
@@ -31,9 +30,4 @@ pub fn writes_stored()
 /// An update writes over the documents that its statements may mean what it writes over all of them.
 pub fn writes_of_meant()
     ensures { WritesOfMeant }
-{}
-
-/// An update whose statements are within the limit of a message is never refused for the length of its reply.
-pub fn replies_have_room()
-    ensures { RepliesHaveRoom }
 {}
