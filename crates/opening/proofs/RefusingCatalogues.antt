@@ -77,9 +77,9 @@ names_order c d kc kd =
     ∙ texts_order directions.Ascending (value (words c.name)) (value (words d.name)) (name_key c kc) (name_key d kd)
 
 pub record IsLike (c e : Collection) : Type 0 where
-  name : c.name ≡ e.name
-  number : c.number ≡ e.number
-  indexes : c.indexes ≡ e.indexes
+  pub name : c.name ≡ e.name
+  pub number : c.number ≡ e.number
+  pub indexes : c.indexes ≡ e.indexes
 
 pub same_catalogue : (c e : Collection) → IsIndexKept c → IsIndexKept e → IsOneOf e (catalogue_entry c) → IsLike c e
 same_catalogue c e kept other (inl same) =
