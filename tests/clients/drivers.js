@@ -19,6 +19,9 @@ async function main() {
   const made = (await people.updateOne({ name: "Grace" }, { $set: { born: 1906 } }, { upsert: true })).upsertedId._id;
   assert(made instanceof ObjectId);
   assert((await people.findOne({ name: "Grace" }))._id.equals(made));
+  const told = await people.findOneAndUpdate({ name: "Ada" }, { $inc: { born: 1 } }, { returnOriginal: false, sort: { _id: 1 } });
+  assert.deepStrictEqual([told.value.born, told.lastErrorObject.updatedExisting], [1816, true]);
+  assert.strictEqual((await people.findOneAndDelete({ _id: 302 })).value._id, 302);
   await people.createIndex({ half: 1 });
   assert.deepStrictEqual((await people.indexes()).map((index) => index.name), ["_id_", "half_1"]);
   const groups = await people.aggregate([{ $group: { _id: null, most: { $max: "$half" } } }]).toArray();

@@ -22,6 +22,8 @@ expect($fault->result->inserted_count, 2);
 expect($people->update_one({ name => "Ada" }, { '$set' => { born => 1815 } })->modified_count, 1);
 my $made = $people->update_one({ name => "Grace" }, { '$set' => { born => 1906 } }, { upsert => 1 })->upserted_id;
 expect($people->find_one({ name => "Grace" })->{_id}, $made);
+expect($people->find_one_and_update({ name => "Ada" }, { '$inc' => { born => 1 } }, { returnDocument => 'after' })->{born}, 1816);
+expect($people->find_one_and_delete({ _id => 302 })->{_id}, 302);
 $people->indexes->create_one([half => 1]);
 expect(join(" ", map { $_->{name} } $people->indexes->list->all), "_id_ half_1");
 expect($people->aggregate([{ '$group' => { _id => undef, most => { '$max' => '$half' } } }])->next->{most}, 150);

@@ -25,6 +25,8 @@ expect(people.update_one({ name: "Ada" }, { "$set" => { born: 1815 } }).modified
 made = people.update_one({ name: "Grace" }, { "$set" => { born: 1906 } }, upsert: true).upserted_id
 expect(made.class, BSON::ObjectId)
 expect(people.find(name: "Grace").first["_id"], made)
+expect(people.find_one_and_update({ name: "Ada" }, { "$inc" => { born: 1 } }, return_document: :after)["born"], 1816)
+expect(people.find_one_and_delete(_id: 302)["_id"], 302)
 people.indexes.create_one({ half: 1 })
 expect(people.indexes.map { |index| index["name"] }, %w[_id_ half_1])
 expect(people.aggregate([{ "$group" => { _id: nil, most: { "$max" => "$half" } } }]).first["most"], 150)
