@@ -1,6 +1,7 @@
 //! `insert`: documents are stored, all or none.
 
 ghost use Rattle.std.specs.Prelude.{◌≡◌, ◌≤◌, IfOk, length};
+ghost use Rattle.std.specs.Option.{unwrap_or};
 ghost use Rattle.commands.specs.View.{documents_at};
 ghost use Rattle.database_model.specs.Documents.{insert_all, insert_one};
 ghost use Rattle.database_model.specs.Insert.{inserted, run_insert};
@@ -20,6 +21,16 @@ use page::Disk;
 use path::Refusal;
 use replies::insert_reply;
 use statements::stored;
+
+/// The document as it is stored: its copy with `_id` first, or itself where that stands first.
+fn as_stored<'a>(moved: &'a Option<Document>, document: &'a Document) -> &'a Document
+    ensures { result.now ≡ unwrap_or moved.now document.now }
+{
+    match moved {
+        Some(moved) => moved,
+        None => document,
+    }
+}
 
 impl<D: Disk> Engine<D> {
     /// Stores documents, all or none.
@@ -97,7 +108,7 @@ impl<D: Disk> Engine<D> {
         ensures limits { IsWithinLimits home.new }
     {
         let moved = stored(self.alloc, document)?;
-        let document = moved.as_ref().unwrap_or(document);
+        let document = as_stored(&moved, document);
         self.enter(edits, namespace, home, None, document)
     }
 }
