@@ -5,9 +5,9 @@ use Rattle.front.proofs.front.Front.ask_one.Goals as goal
 pub returns-then-asks_alone-clause-tied : goal.returns-then-asks_alone-clause-tied
 returns-then-asks_alone-clause-tied g c =
     tied_step c.args.self.now.lending.loans c.serve_socket.new.lending.loans c.args.self.now.sockets.items c.args.number _ c.index_mut-socket.result.now
-    c.requires.tied c.requires.inside c.index_mut-socket.ensures.value c.serve_socket.ensures.asks
+    c.serve_socket.new.socket c.requires.tied c.requires.inside c.index_mut-socket.ensures.value c.serve_socket.ensures.asks
 
 pub returns-clause-tied : goal.returns-clause-tied
 returns-clause-tied g c =
     tied_step c.args.self.now.lending.loans c.serve_socket.new.lending.loans c.args.self.now.sockets.items c.args.number _ c.index_mut-socket.result.now
-    c.requires.tied c.requires.inside c.index_mut-socket.ensures.value c.serve_socket.ensures.asks
+    c.serve_socket.new.socket c.requires.tied c.requires.inside c.index_mut-socket.ensures.value c.serve_socket.ensures.asks
