@@ -197,6 +197,7 @@ module _ {D : Type 0} (history : D → History) (name : List ℕ) (ns : List New
         ap (λ (c : Collection). put_collection c cs) same
         ∙ put_same t.0 cs h.lawful.apart (subst (λ (m : List ℕ). find_collection cs m ≡ Some t.0) named t.1) in
         planned_next cs name ns p a ∙ ap (λ (ds : List Collection). Ok ds) stays;
+    left = tt;
     refused = tt;
   }
 
@@ -310,6 +311,7 @@ module _ {D : Type 0} (history : D → History) (name : List ℕ) (ns : List New
                 let told : d ≡ ok_reply reply =
                 said ∙ (λ i. ok_reply (create_indexes_reply ((before_is ∙ counts.0) i) ((after_is ∙ counts.1) i) (a.is_new i))) in
                 (performs_done history reply (Planned cs) run old new (run_indexes (world old) name ns) d told makes).does k;
+            left = tt;
             refused = tt;
           }
 

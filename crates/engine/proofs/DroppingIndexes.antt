@@ -267,6 +267,7 @@ module _ {D : Type 0} (history : D → History) (name : List ℕ) (away : Droppe
         let same : put_collection (left_of c) ds ≡ ds =
         ap (λ (js : List Definition). put_collection (record c { indexes = js }) ds) stay ∙ put_same c ds h.lawful.apart (found_as ds t) in
         planned_left ds t ∙ ap (λ (es : List Collection). Ok es) same;
+    left = tt;
     refused = tt;
   }
 
@@ -419,6 +420,7 @@ module _ {D : Type 0} (history : D → History) (name : List ℕ) (away : Droppe
                 ∙ ap (λ (o : Option Collection). 1 + length (indexes_or_none o)) (sym t.found) in
                 (performs_done history (drop_indexes_reply told) planned run old new (run_drops (world old) name away) d
                 (said ∙ ap (λ (x : ℕ). ok_reply (drop_indexes_reply x)) counted) makes).does k;
+            left = tt;
             refused = tt;
           }
 

@@ -355,5 +355,6 @@ module _ {D : Type 0} (history : D → History) (name : List ℕ) (old mid : Eng
                 ∙ ap (λ (o : Option Collection). 1 + length (indexes_or_none o)) (sym t.found) in
                 (performs_done history (drop_reply told name) (dropped (world old).collections name) run old new (run_drops (world old) name) d
                 (said ∙ ap (λ (x : ℕ). ok_reply (drop_reply x name)) counted) makes).does k;
+            left = tt;
             refused = tt;
           }

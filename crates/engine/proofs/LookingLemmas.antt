@@ -131,6 +131,7 @@ module _ {D : Type 0} (history : D → History) (old new : Engine D) (planned : 
     goes = reads.goes;
     start = start_same history old new reads;
     does = λ k. (world_same history old new reads, inr (of_file history (file_of old) (file_of new) e (cause k), λ k. inl (cause k)));
+    left = world_same history old new reads;
     refused = reads.changes;
   }
 
@@ -142,12 +143,13 @@ module _ {D : Type 0} (history : D → History) (old new : Engine D) (planned : 
     goes = reads.goes;
     start = start_same history old new reads;
     does = does;
-    refused = either r;
+    left = on_err r (world_same history old new reads);
+    refused = on_err r reads.changes;
   }
     where
-      either : (x : Result Pairs Refusal) → OnErr x (has_changes new ≡ has_changes old)
-      either (Ok reply) = tt
-      either (Err e) = reads.changes
+      on_err : {P : Type 0} (x : Result Pairs Refusal) → P → OnErr x P
+      on_err (Ok reply) it = tt
+      on_err (Err e) it = it
 
 pub performs_memory : {D : Type 0} (history : D → History) (old new : Engine D) (planned : Result (World × Pairs) Refusal) (e : Refusal)
     → e ≡ refusals.OutOfMemory → OnlyReads history old new → Performs history planned (Err e) old new
@@ -172,9 +174,14 @@ module _ {D : Type 0} (history : D → History) (old mid new : Engine D) (reads 
     goes = goes_on history (file_of old) (file_of mid) (file_of new) reads.goes done.goes;
     start = done.start ∙ start_same history old mid reads;
     does = λ k. either r (same k) (done.does k);
+    left = unchanged r done.left;
     refused = kept r done.refused;
   }
     where
+      unchanged : (x : Result Pairs Refusal) → OnErr x (world new ≡ world mid) → OnErr x (world new ≡ world old)
+      unchanged (Ok reply) h = tt
+      unchanged (Err e) h = h ∙ world_same history old mid reads
+
       kept : (x : Result Pairs Refusal) → OnErr x (has_changes new ≡ has_changes mid) → OnErr x (has_changes new ≡ has_changes old)
       kept (Ok reply) h = tt
       kept (Err e) h = h ∙ reads.changes

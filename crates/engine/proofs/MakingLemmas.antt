@@ -57,6 +57,7 @@ module _ {D : Type 0} (history : D → History) where
     start = ap (λ (k : Known). k.start) reads.told;
     cursors = reads.cursors;
     does = λ k. (now_same history old new reads, elim (why k) [ inl is ↦ inl is | inr cause ↦ inr (inl cause) ]);
+    left = now_same history old new reads;
     refused = reads.changes;
   }
 
@@ -74,6 +75,7 @@ module _ {D : Type 0} (history : D → History) where
       cursors = w.cursors ∙ reads.cursors;
       does = λ k. ap plan (sym (now_same history old mid reads)) ∙ plans (word_before history mid.file new.file w.goes k)
           ∙ ap (λ (cs : List Collection). Ok cs) (sym w.ok);
+      left = tt;
       refused = tt;
     }
     makes_written (Err e) plans w = record {
@@ -88,6 +90,7 @@ module _ {D : Type 0} (history : D → History) where
             (subst (λ (cs : List Collection). HasWriteCause history (planned_or cs (plan cs)) mid.file new.file e) (now_same history old mid reads)
             (w.cause k))),
       );
+      left = w.err.0 ∙ now_same history old mid reads;
       refused = w.err.1 ∙ reads.changes;
     }
 
@@ -101,6 +104,7 @@ module _ {D : Type 0} (history : D → History) where
       start = m.start ∙ ap (λ (k : Known). k.start) reads.told;
       cursors = m.cursors ∙ reads.cursors;
       does = λ k. ap plan (sym (now_same history old mid reads)) ∙ m.does k;
+      left = tt;
       refused = tt;
     }
     makes_behind (Err e) m = record {
@@ -120,6 +124,7 @@ module _ {D : Type 0} (history : D → History) where
                   (subst (λ (cs : List Collection). HasWriteCause history (planned_or cs (plan cs)) mid.file new.file e) same cause))
             ],
           );
+      left = m.left ∙ now_same history old mid reads;
       refused = m.refused ∙ reads.changes;
     }
 
@@ -136,6 +141,7 @@ module _ {D : Type 0} (history : D → History) (reply : Pairs) (planned : Resul
     goes = laws.goes_from_itself history old.file;
     start = refl;
     does = λ k. (refl, inr (inl refl, λ k. inl (inl refl)));
+    left = refl;
     refused = refl;
   }
 
@@ -146,6 +152,7 @@ module _ {D : Type 0} (history : D → History) (reply : Pairs) (planned : Resul
       goes = makes.goes;
       start = makes.start;
       does = λ k. ap with_ok (is ∙ ap (with_reply (world old) reply) (makes.does k)) ∙ there;
+      left = tt;
       refused = tt;
     }
       where
@@ -163,6 +170,7 @@ module _ {D : Type 0} (history : D → History) (reply : Pairs) (planned : Resul
       goes = makes.goes;
       start = makes.start;
       does = λ k. let d = makes.does k in (same d.0, why d.1);
+      left = same makes.left;
       refused = makes.refused;
     }
       where

@@ -167,6 +167,7 @@ module _ {D : Type 0} (history : D → History) where
       start = refl;
       cursors = refl;
       does = λ k. ap (λ (cs : List Collection). Ok cs) (none_deleted (world old).collections name deletions t (is k) h.lawful.apart none);
+      left = tt;
       refused = tt;
     }
 
@@ -198,5 +199,6 @@ module _ {D : Type 0} (history : D → History) where
       start = m.start;
       does = λ k. (performs_done history (pair (codes "n") (total count) no_pairs) (planned old) (run (world old)) old new runs d
           (said ∙ ap (λ (x : ℕ). ok_reply (pair (codes "n") (total x) no_pairs)) (many k)) m).does k;
+      left = tt;
       refused = tt;
     }

@@ -114,9 +114,14 @@ module _ {D : Type 0} (history : D → History) (old new : Engine D) (planned : 
     goes = subst (λ (f : State D). GoesFrom history old.file f) (sym file) (laws.goes_from_itself history old.file);
     start = ap (λ (k : Known). k.start) told;
     does = λ k. does_planned r runs;
+    left = unchanged r runs;
     refused = either r;
   }
     where
+      unchanged : (x : Result Pairs Refusal) → Runs (world old) planned (world new) x → OnErr x (world new ≡ world old)
+      unchanged (Ok reply) ran = tt
+      unchanged (Err e) ran = ran.0
+
       either : (x : Result Pairs Refusal) → OnErr x (has_changes new ≡ has_changes old)
       either (Ok reply) = tt
       either (Err e) = changes

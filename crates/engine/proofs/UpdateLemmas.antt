@@ -213,6 +213,7 @@ module _ {D : Type 0} (history : D → History) (name : List ℕ) (ss : List Upd
         let x = replied k in
         let said = x.replied ∙ ap (λ (r : Result Updated Refusal). ok_reply (reply_in r)) (sym x.is) in
         (performs_done history (reply_in (run_all name ss now)) (plan name ss now) (run (world old)) old new runs d said makes).does k;
+    left = tt;
     refused = tt;
   }
 
@@ -248,6 +249,7 @@ module _ {D : Type 0} (history : D → History) (name : List ℕ) (ss : List Upd
             let r = replied_done now name ss x.writes.items x.end d u.end replies in
             nothing_done name ss now x u none r.after r.is
             ∙ ap (λ (cs : List Collection). let q : Result (List Collection) Refusal = Ok cs in q) (sym (now_same history old mid tries.reads));
+        left = tt;
         refused = tt;
       })
 

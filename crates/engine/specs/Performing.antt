@@ -34,11 +34,13 @@ DoesPlanned history planned (Err e) old new = (world new ≡ world old)
     × ((planned ≡ Err e)
     ⊎ FileCause history (file_of old) (file_of new) (answered (world old) planned).0 e)
 
--- A command was run. While the disk keeps its word, it did what was planned, or was refused.
+-- A command was run. While the disk keeps its word, it did what was planned, or was refused. On any
+-- disk one that is refused leaves the world as it was.
 pub record Performs {D : Type 0} (history : D → History) (planned : Result (World × Pairs) Refusal)
     (result : Result Pairs Refusal) (old new : Engine D) : Type 0 where
   pub sound : IsSound history new
   pub goes : GoesFrom history (file_of old) (file_of new)
   pub start : turn_start new ≡ turn_start old
   pub does : KeepsWord (disk_history history new) → DoesPlanned history planned result old new
+  pub left : OnErr result (world new ≡ world old)
   pub refused : OnErr result (has_changes new ≡ has_changes old)

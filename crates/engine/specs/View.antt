@@ -14,6 +14,11 @@ abbrev pub reply_of : Reply → Pairs
 reply_of (replies.Done a) = answer_of a
 reply_of (replies.Refused r) = refusal_reply r
 
+-- the command was refused
+abbrev pub IsRefusal : Reply → Type 0
+IsRefusal (replies.Done a) = ⊥
+IsRefusal (replies.Refused r) = Unit {0}
+
 abbrev pub world_of : Known → CursorTable → World
 world_of known cursors =
     record { collections = known.now; cursors = cursors.list; next = cursors.next }

@@ -50,7 +50,7 @@ Becomes history planned (Err e) old new = ((world new).collections ≡ (world ol
     (file_of new) e)
 
 -- The collections were changed. While the disk keeps its word, they became those that were planned,
--- or the change was refused.
+-- or the change was refused. On any disk a change that is refused leaves them as they were.
 pub record Makes {D : Type 0} (history : D → History) (planned : Result (List Collection) Refusal)
     (result : Result (Unit {0}) Refusal) (old new : Engine D) : Type 0 where
   pub sound : IsSound history new
@@ -58,4 +58,5 @@ pub record Makes {D : Type 0} (history : D → History) (planned : Result (List 
   pub start : turn_start new ≡ turn_start old
   pub cursors : new.cursors ≡ old.cursors
   pub does : KeepsWord (durable.disk_history history new) → Becomes history planned result old new
+  pub left : OnErr result ((world new).collections ≡ (world old).collections)
   pub refused : OnErr result (has_changes new ≡ has_changes old)

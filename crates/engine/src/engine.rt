@@ -10,7 +10,7 @@ ghost use Rattle.opening.specs.Refusing.{IsRefused};
 ghost use Rattle.engine.specs.Performing.{IsAdministrative, Performs};
 ghost use Rattle.database_model.specs.World.{are_untouched, after_commit, after_undo, forget};
 ghost use Rattle.replies.specs.View.{answer_of, outcome_of, IsSendable};
-ghost use Rattle.engine.specs.View.{world, turn_start, reply_of};
+ghost use Rattle.engine.specs.View.{world, turn_start, reply_of, IsRefusal};
 ghost use Rattle.commands.specs.Command.{IsBounded};
 ghost use Rattle.commands.specs.View.{command_read};
 ghost use Rattle.database_model.specs.Step.{Answers, ChangesNone, WroteNothing, read_and_run, run};
@@ -177,6 +177,8 @@ impl<D: Disk> Engine<D> {
         ensures answers { KeepsWord (disk_history D.history self.new)
             → Answers (FileCause D.history (file_of self.old) (file_of self.new))
             (world self.old) connection (Ok body.now) (world self.new) (reply_of result) }
+        ensures refused { IsRefusal result → (world self.new ≡ world self.old)
+            × (has_changes self.new ≡ has_changes self.old) }
         ensures turn_start { turn_start self.new ≡ turn_start self.old }
         ensures has_changes { KeepsWord (disk_history D.history self.new)
             → WroteNothing (world self.old) (Ok body.now) (world self.new)

@@ -15,10 +15,12 @@ use Rattle.server.specs.Turn.{Out, Turns, TurnFails}
 use Rattle.server.specs.Moment.{Moment, TurnEnd, Instant, end_at, last_collections, last_moment, FollowsInTurn, FollowInOrder, HoldsEither, LeavesInOrder}
 use Rattle.server.specs.Causes.{IsCaused}
 use Rattle.server.specs.History.{Happens, RoomRanOut, turns_in}
+use Rattle.server.specs.Addressed.{Addresses, Addressed, steps_done}
 use Rattle.server.specs.View.{state, frames_in}
 use Rattle.server.specs.Durable.{disk_history, is_stopped, IsRunning, IsSound, collections_of, clock_of, moment_of, instant_of, GoesSafely}
 use Rattle.server.specs.OneStep.{Adds, Goes, Does, ends_of}
 use Rattle.server.specs.Headline.{Drives, Ends, IsStopped, turns_done}
+use Rattle.server.specs.declared.connection.Connection.{Connection}
 use Rattle.server.specs.declared.turn.Core.{Core}
 use Rattle.server.specs.declared.turn.TurnFault.{TurnFault}
 use Rattle.server.specs.declared.turn.TurnFault.TheVariants as turns
@@ -28,6 +30,7 @@ use Rattle.server.specs.declared.connection.FeedFault.TheVariants as feeds
 use Rattle.server.specs.declared.drive.DriveFault.{DriveFault}
 use Rattle.server.specs.declared.drive.DriveFault.TheVariants as stops
 use Rattle.server.specs.declared.drive.DriveOut.{DriveOut}
+use Rattle.server.proofs.Addressing.{addresses_on}
 use Rattle.server.proofs.CauseLemmas.{in_turn_itself, follow_end, follow_on}
 use Rattle.server.proofs.Images.{holds_now}
 use Rattle.server.proofs.Order.{in_order_on, in_order_turned, moved_between}
@@ -87,6 +90,9 @@ pub frames_append : {Z : Type 0} (xs ys : List (ℕ × Vec ℕ Z)) → frames_in
 frames_append [] ys = refl
 frames_append (x ∷ xs) ys = ap (λ (fs : Frames). (x.0, x.1.items) ∷ fs) (frames_append xs ys)
 
+connections_in : ServerState → List Connection
+connections_in x = x.connections
+
 -- a step that hands out nothing
 adds_nothing : (out : DriveOut) → Adds [] 0 out out
 adds_nothing out = record { replies = sym (append-nil (frames_in out.replies.items)); counted = omega arith; stopped = refl }
@@ -94,12 +100,24 @@ adds_nothing out = record { replies = sym (append-nil (frames_in out.replies.ite
 pub bytes_on : (step : Step) (id : ℕ) (chunk : Vec ℕ Global) (out : DriveOut) (a b : Instant) → step ≡ steps.Bytes id chunk
     → b.state ≡ fed a.state id chunk.items → b.moment ≡ a.moment → Goes a step out out b
 bytes_on step id chunk out a b is new same =
-    subst (λ (s : Step). Goes a s out out b) (sym is) (record { frames = []; happens = λ k. (refl, refl, new); moment = same; adds = adds_nothing out })
+    subst (λ (s : Step). Goes a s out out b) (sym is) (record {
+      frames = [];
+      happens = λ k. (refl, refl, new);
+      addresses = (refl, ap connections_in new);
+      moment = same;
+      adds = adds_nothing out;
+    })
 
 pub gone_on : (step : Step) (id : ℕ) (out : DriveOut) (a b : Instant) → step ≡ steps.Gone id
     → b.state ≡ ended a.state id → b.moment ≡ a.moment → Goes a step out out b
 gone_on step id out a b is new same =
-    subst (λ (s : Step). Goes a s out out b) (sym is) (record { frames = []; happens = λ k. (refl, refl, new); moment = same; adds = adds_nothing out })
+    subst (λ (s : Step). Goes a s out out b) (sym is) (record {
+      frames = [];
+      happens = λ k. (refl, refl, new);
+      addresses = (refl, ap connections_in new);
+      moment = same;
+      adds = adds_nothing out;
+    })
 
 last_moment-append : (first : Moment) (ends more : List TurnEnd) → last_moment first (ends ++ more) ≡ last_moment (last_moment first ends) more
 last_moment-append first [] more = refl
@@ -115,6 +133,7 @@ pub record SoFar {D : Type 0} (history : D → History) (first : Core D) (all : 
   pub ends : List TurnEnd
   pub happens : KeepsWord (disk_history history now)
       → Happens (moment_of history first) (state first) (take i all) (frames_in out.replies.items) ends (state now)
+  pub addresses : Addresses (state first).connections (take i all) (frames_in out.replies.items) (state now).connections
   pub moment : moment_of history now ≡ last_moment (moment_of history first) ends
   pub counted : out.turns ≡ turns_in (take i all)
   pub bound : out.turns ≤ i
@@ -132,6 +151,7 @@ pub starts : {D : Type 0} (history : D → History) (first : Core D) (all : List
 starts history first all out nothing none goes sound = record {
   ends = [];
   happens = λ k. (ap frames_in nothing, refl, refl);
+  addresses = (ap frames_in nothing, refl);
   moment = refl;
   counted = none;
   bound = omega (arith, none);
@@ -165,6 +185,12 @@ ends history first all i out now whole s =
           (s.happens k));
       frames = refl;
       bytes = λ _. refl;
+      addressed = record {
+        left = (state now).connections;
+        addresses = subst (λ (xs : List Step). Addresses (state first).connections xs (frames_in out.replies.items) (state now).connections)
+            (sym every ∙ sym (ap (λ (stop : Option (ℕ × DriveFault)). steps_done stop all) s.runs)) s.addresses;
+        whole = λ _. refl;
+      };
       turns = s.counted ∙ ap turns_in every ∙ sym (ap (λ (stop : Option (ℕ × DriveFault)). turns_done stop all) s.runs);
       on = s.on;
       moments = s.moments;
@@ -255,6 +281,10 @@ module _ {D : Type 0} (history : D → History) (first : Core D) (all : List Ste
         ends = s.ends ++ more;
         happens = λ k. subst (λ (fs : Frames). Happens (moment_of history first) (state first) (take (i + 1) all) fs (s.ends ++ more) (state last))
             (sym goes.adds.replies) (happens k);
+        addresses = subst (λ (xs : List Step). Addresses (state first).connections xs (frames_in new.replies.items) (state last).connections) (sym taken)
+            (subst (λ (fs : Frames). Addresses (state first).connections (take i all ++ step ∷ []) fs (state last).connections) (sym goes.adds.replies)
+            (addresses_on (take i all) (step ∷ []) (state first).connections (state now).connections (state last).connections
+            (frames_in old.replies.items) goes.frames s.addresses goes.addresses));
         moment = goes.moment ∙ ap (λ (at : Moment). last_moment at more) s.moment ∙ sym (last_moment-append (moment_of history first) s.ends more);
         counted = omega (arith, s.counted, goes.adds.counted, ap turns_in taken, turns_in-append (take i all) (step ∷ []));
         bound = omega (arith, s.bound, goes.adds.counted, one_at_most step);
@@ -281,6 +311,15 @@ module _ {D : Type 0} (history : D → History) (first : Core D) (all : List Ste
     before : KeepsWord (disk_history history now)
         → Happens (moment_of history first) (state first) (take i all) (frames_in new.replies.items) s.ends (state now)
     before k = subst (λ (fs : Frames). Happens (moment_of history first) (state first) (take i all) fs s.ends (state now)) (sym kept) (s.happens k)
+
+    -- a run that stops here, by its fault and what it leaves
+    addressed : (fault : DriveFault) (last : List Connection)
+        → Addressed (state first).connections all (Some (i, fault)) (frames_in new.replies.items) last
+    addressed fault last = record {
+      left = (state now).connections;
+      addresses = subst (λ (fs : Frames). Addresses (state first).connections (take i all) fs (state now).connections) (sym kept) s.addresses;
+      whole = λ none. absurd cc;
+    }
 
     at : (x : Step) → step ≡ x → slice_get all i ≡ Some x
     at x e = slice_get_read all (length all) i step refl within is ∙ ap (λ (y : Step). some y) e
@@ -333,6 +372,7 @@ module _ {D : Type 0} (history : D → History) (first : Core D) (all : List Ste
     );
     frames = refl;
     bytes = λ _. refl;
+    addressed = addressed new 0 does.1 (stops.Feed feeds.Memory) (state last).connections;
     turns = omega (arith, does.1.counted, s.counted);
     on = goes_further (disk_history history first) (disk_history history now) (disk_history history last) s.on safe.on;
     moments = follow_still last turn;
@@ -353,6 +393,7 @@ module _ {D : Type 0} (history : D → History) (first : Core D) (all : List Ste
     );
     frames = refl;
     bytes = λ _. refl;
+    addressed = addressed new 0 does.1 (stops.Turn turns.Memory) (state last).connections;
     turns = omega (arith, does.1.counted, s.counted);
     on = goes_further (disk_history history first) (disk_history history now) (disk_history history last) s.on safe.on;
     moments = follow_still last turn;
@@ -374,6 +415,7 @@ module _ {D : Type 0} (history : D → History) (first : Core D) (all : List Ste
     );
     frames = refl;
     bytes = λ _. refl;
+    addressed = addressed new 0 does.1 (stops.Turn turns.Stopped) (state last).connections;
     turns = omega (arith, does.1.counted, s.counted);
     on = goes_further (disk_history history first) (disk_history history now) (disk_history history last) s.on safe.on;
     moments = follow_still last turn;
@@ -411,6 +453,7 @@ module _ {D : Type 0} (history : D → History) (first : Core D) (all : List Ste
         );
         frames = refl;
         bytes = λ _. refl;
+        addressed = addressed new 1 does.adds stops.Gather (state last).connections;
         turns = omega (arith, does.adds.counted, s.counted);
         on = goes_further (disk_history history first) (disk_history history now) (disk_history history last) s.on safe.on;
         moments = follow_turned last turn;

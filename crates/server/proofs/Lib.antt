@@ -4,6 +4,7 @@ pub mod BodyAnswers
 pub mod TurnParts
 pub mod Images
 pub mod Order
+pub mod Addressing
 pub mod Histories
 pub mod Prefixes
 pub mod Places

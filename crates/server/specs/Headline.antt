@@ -21,7 +21,8 @@ use Rattle.server.specs.Moment.{TurnEnd, Instant, HasKeptWord, end_at, last_coll
 use Rattle.server.specs.Moment.{last_moment, HoldsEither, FollowInOrder, LeavesInOrder}
 use Rattle.server.specs.Causes.{IsCaused}
 use Rattle.server.specs.History.{Happens, RoomRanOut, bytes_to, turns_in}
-use Rattle.server.specs.View.{frames_in}
+use Rattle.server.specs.View.{state, frames_in}
+use Rattle.server.specs.Addressed.{Addressed}
 use Rattle.server.specs.Durable.{disk_history, is_stopped, IsRunning, collections_of, clock_of}
 use Rattle.server.specs.Durable.{moment_of, instant_of}
 use Rattle.server.specs.declared.turn.Core.{Core}
@@ -105,6 +106,9 @@ pub record Drives {D : Type 0} (history : D → History) (first : Core D) (all :
       (instant_of history last)
   pub frames : frames_in out.replies.items ≡ given
   pub bytes : (id : ℕ) → bytes_for id out ≡ bytes_to id given
+  -- on any disk: to whom its frames go
+  pub addressed :
+      Addressed (state first).connections all out.stopped given (state last).connections
   pub turns : out.turns ≡ turns_done out.stopped all
   pub on : GoesOn (disk_history history first) (disk_history history last)
   -- the moments of its turns' ends lie between the first one and now, in order, and what is counted

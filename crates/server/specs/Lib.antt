@@ -7,6 +7,7 @@ pub mod View
 pub mod Durable
 pub mod Opening
 pub mod Turning
+pub mod Addressed
 pub mod OneStep
 pub mod Headline
 pub mod Prefix

@@ -5,6 +5,7 @@ use Rattle.server.specs.Turn.{Out, Turns, TurnFails}
 use Rattle.server.specs.Moment.{TurnEnd, Instant, HasKeptWord, end_at, last_moment}
 use Rattle.server.specs.Causes.{IsCaused}
 use Rattle.server.specs.History.{Happens, RoomRanOut, turns_in}
+use Rattle.server.specs.Addressed.{Addresses}
 use Rattle.server.specs.View.{frames_in}
 use Rattle.server.specs.declared.step.Step.{Step}
 use Rattle.server.specs.declared.step.Step.TheVariants as steps
@@ -29,6 +30,7 @@ pub record Goes (first : Instant) (step : Step) (old new : DriveOut) (last : Ins
   pub frames : List (ℕ × List ℕ)
   pub happens : HasKeptWord last
       → Happens first.moment first.state (step ∷ []) frames (ends_of step last) last.state
+  pub addresses : Addresses first.state.connections (step ∷ []) frames last.state.connections
   pub moment : last.moment ≡ last_moment first.moment (ends_of step last)
   pub adds : Adds frames (turns_in (step ∷ [])) old new
 

@@ -1,7 +1,7 @@
 -- A server as the loops over sockets see it.
 use Rattle.std.specs.Prelude.{◌≡◌, ◌⊎◌, ℕ, List, [], map}
 use Rattle.page.specs.History.{History, KeepsWord}
-use Rattle.server.specs.Turn.{Out, Turns, TurnFails}
+use Rattle.server.specs.Turn.{Out, Turns, TurnFails, HandsOut}
 use Rattle.server.specs.Causes.{IsCaused}
 use Rattle.server.specs.History.{RoomRanOut}
 use Rattle.server.specs.View.{state}
@@ -16,6 +16,8 @@ pub record TurnGives {D : Type 0} (history : D → History) (old : Core D)
   pub turns : KeepsWord (disk_history history new)
       → Turns (IsCaused (moment_of history old) (moment_of history new))
       (RoomRanOut (moment_of history old) (state old)) (state old) out (state new)
+  -- on any disk: to whom its frames go
+  pub hands_out : HandsOut (state old) out
   pub replies_are : replies ≡ out.replies
   pub closed_are : closed ≡ map (λ c. c.0) out.closed
 

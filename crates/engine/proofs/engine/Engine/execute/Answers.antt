@@ -21,3 +21,9 @@ returns-in-Err-clause-answers g c = λ k.
 
 pub returns-in-Err-clause-sendable : goal.returns-in-Err-clause-sendable
 returns-in-Err-clause-sendable g c = refusal-sendable c.in-Err.refusal
+
+pub returns-in-Ok-clause-refused : goal.returns-in-Ok-clause-refused
+returns-in-Ok-clause-refused g c refusal = absurd refusal
+
+pub returns-in-Err-clause-refused : goal.returns-in-Err-clause-refused
+returns-in-Err-clause-refused g c refusal = (c.in-Err.ensures.performs.left, c.in-Err.ensures.performs.refused)

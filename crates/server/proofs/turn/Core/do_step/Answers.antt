@@ -13,6 +13,7 @@ use Rattle.server.specs.View.{state, frames_in, out_of}
 use Rattle.server.specs.Durable.{instant_of, moment_of}
 use Rattle.server.specs.declared.step.Step.{Step}
 use Rattle.server.proofs.Histories.{one_turn, bytes_on, gone_on, frames_append}
+use Rattle.server.proofs.Addressing.{one_addressed}
 use Rattle.server.proofs.CauseLemmas.{in_turn_itself}
 use Rattle.server.proofs.Images.{unmoved, same_moment}
 use Rattle.server.proofs.turn.Core.do_step.Goals as goal
@@ -30,6 +31,8 @@ returns-else-is_err-clause-does g c =
     (record {
       frames = frames;
       happens = λ k. one_turn first last (out_of turn) (c.in-Ok-turn.ensures.turns k);
+      addresses = one_addressed (state c.args.self.now) (out_of turn) (state c.turn.new.self).connections c.in-Ok-turn.ensures.hands_out
+          c.in-Ok-turn.ensures.leaves;
       moment = refl;
       adds = record { replies = ap frames_in kept ∙ frames_append c.args.out.now.replies.items turn.replies.items; counted = refl; stopped = refl };
     })
