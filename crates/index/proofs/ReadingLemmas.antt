@@ -11,11 +11,9 @@ use Rattle.bson.specs.declared.fault.BsonFault.{BsonFault}
 use Rattle.value_order.specs.KeyText.{escaped_text, tree_text}
 use Rattle.index.specs.Definition.{Definition}
 use Rattle.index.specs.Escaping.{unescaped}
-use Rattle.index.specs.LawfulState.{IsKept, IsStorable}
-use Rattle.index.specs.State.{Collection, words}
-use Rattle.index.specs.StateEntries.{key_under, catalogue_value}
-use Rattle.index.specs.StateReads.{catalogue_bytes}
-use Rattle.index.proofs.CatalogueEntries.{value_spells}
+use Rattle.index.specs.LawfulState.{IsStorable}
+use Rattle.index.specs.State.{words}
+use Rattle.index.specs.StateEntries.{key_under}
 
 -- ---- names
 
@@ -36,13 +34,6 @@ pub storable_spells : (d : Pairs) (bytes : List ℕ) → IsStorable d → bytes 
 storable_spells d bytes h e =
     let long : length bytes ≡ length (frame_of (pairs_bytes d)) = ap length e in
     record { lawful = h.lawful; spelled = e; size = omega (arith, h.size, long) }
-
-pub catalogue_spells : (c : Collection) (bytes : List ℕ) → IsKept c → c.indexes ≡ [] → bytes ≡ catalogue_bytes c
-    → SpellsDocument bytes (catalogue_value c.number [])
-catalogue_spells c bytes h none e =
-    subst (λ (bs : List ℕ). SpellsDocument bs (catalogue_value c.number []))
-    (sym (e ∙ ap (λ (is : List Definition). frame_of (pairs_bytes (catalogue_value c.number is))) none))
-    (value_spells c.number [] h.most (omega arith) tt)
 
 pub same_document : {ps qs : Pairs} {m n : ℕ} → (let r : Result (Pairs × ℕ) BsonFault = Ok (ps, m) in r) ≡ Ok (qs, n) → qs ≡ ps
 same_document {ps} {qs} {m} {n} e = sym (ap first e)

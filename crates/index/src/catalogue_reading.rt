@@ -1,6 +1,6 @@
 //! What the catalogue says of a collection with indexes, read.
 
-ghost use Rattle.std.specs.Prelude.{◌≡◌, ◌≤◌, ℕ, List, Some, IfOk, IfSome, length, option_map};
+ghost use Rattle.std.specs.Prelude.{◌≡◌, ◌≤◌, ℕ, List, [], Some, IfOk, IfSome, length, option_map};
 ghost use Rattle.std.specs.List.{AllByRecursion};
 ghost use Rattle.bson.specs.Spelling.{Spells, frame_of, pairs_bytes};
 ghost use Rattle.bson.specs.View.{items_of, tree};
@@ -13,6 +13,7 @@ ghost use Rattle.index.specs.StateReads.{catalogue_bytes};
 
 use crate::definition::IndexSpec;
 use crate::entry_reading::spelled_document;
+use crate::entry_values::plain_bytes;
 use crate::indexed_entries::indexed_bytes;
 use bson::{Document, NoMemory, Value};
 use std::alloc::Global;
@@ -104,6 +105,24 @@ fn parts_told(alloc: Global, document: &Document) -> Result<Option<Catalogued>, 
     Ok(Some(Catalogued { number, indexes }))
 }
 
+/// The number that the catalogue tells of a collection without indexes, by its bytes alone; nothing where they are others.
+fn plain_number(value: &[u8]) -> Option<u32>
+    ensures { IfSome result (λ number. (1 ≤ number) × (number ≤ 1000)
+        × (value.now ≡ frame_of (pairs_bytes (catalogue_value number [])))) }
+{
+    if value.len() != 20 {
+        return None;
+    }
+    let number = u32::from_le_bytes([value[7], value[8], value[9], value[10]]);
+    if number < 1 || (LAST_NUMBER as u32) < number {
+        return None;
+    }
+    if value != plain_bytes(number).as_slice() {
+        return None;
+    }
+    Some(number)
+}
+
 /// The number and the indexes of the collection of which the catalogue says this.
 pub fn catalogue_told(alloc: Global, value: &[u8]) -> Result<Option<Catalogued>, NoMemory>
     ensures reads { IfOk result (λ found. (c : Collection) → IsKept c → value.now ≡ catalogue_bytes c
@@ -113,6 +132,12 @@ pub fn catalogue_told(alloc: Global, value: &[u8]) -> Result<Option<Catalogued>,
         × (length e.indexes.items ≤ 16)
         × (value.now ≡ frame_of (pairs_bytes (catalogue_value e.number e.indexes.items))))) }
 {
+    if let Some(number) = plain_number(value) {
+        return Ok(Some(Catalogued {
+            number,
+            indexes: Vec::new(alloc),
+        }));
+    }
     let Some(document) = spelled_document(alloc, value)? else {
         return Ok(None);
     };

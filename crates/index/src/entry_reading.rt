@@ -5,14 +5,12 @@ ghost use Rattle.bson.specs.Spelling.{Spells, frame_of, pairs_bytes};
 ghost use Rattle.bson.specs.Tree.{Pairs};
 ghost use Rattle.value_order.specs.KeyText.{tree_text};
 ghost use Rattle.index.specs.Escaping.{unescaped};
-ghost use Rattle.index.specs.LawfulState.{IsKept, IsStorable};
-ghost use Rattle.index.specs.State.{Collection, words};
-ghost use Rattle.index.specs.StateEntries.{catalogue_value, key_under};
-ghost use Rattle.index.specs.StateReads.{catalogue_bytes};
+ghost use Rattle.index.specs.LawfulState.{IsStorable};
+ghost use Rattle.index.specs.State.{words};
+ghost use Rattle.index.specs.StateEntries.{key_under};
 
 use crate::entry_keys::catalogue_key;
-use crate::entry_values::catalogue_bytes;
-use bson::{BsonFault, Document, NoMemory, Value, decode};
+use bson::{BsonFault, Document, NoMemory, decode};
 use std::alloc::{AllocError, Global};
 
 /// The document that bytes spell, all of them.
@@ -41,46 +39,6 @@ pub fn document_in(alloc: Global, value: &[u8]) -> Result<Option<Document>, NoMe
     ensures only { IfOk result (λ found. IfSome found (λ d. Spells value.now d)) }
 {
     spelled_document(alloc, value)
-}
-
-/// The last number that a collection may have.
-const LAST_NUMBER: i32 = 1000;
-
-/// The number that a document of the catalogue tells.
-fn number_told(document: &Document) -> Option<u32>
-    ensures some { IfSome result (λ number. (1 ≤ number) × (number ≤ 1000)) }
-    ensures number { (number : ℕ) → 1 ≤ number → number ≤ 1000
-        → document.now ≡ catalogue_value number [] → result ≡ Some number }
-{
-    match document.get("n") {
-        Some(Value::Int32(number)) => {
-            if *number < 1 || LAST_NUMBER < *number {
-                return None;
-            }
-            Some(*number as u32)
-        }
-        _ => None,
-    }
-}
-
-/// The number of the collection of which the catalogue says this, where it has no index.
-pub fn catalogue_number(alloc: Global, value: &[u8]) -> Result<Option<u32>, NoMemory>
-    ensures reads { IfOk result (λ found. (c : Collection) → IsKept c → c.indexes ≡ []
-        → value.now ≡ catalogue_bytes c → found ≡ Some c.number) }
-    ensures only { IfOk result (λ found. IfSome found (λ number. (1 ≤ number) × (number ≤ 1000)
-        × (value.now ≡ frame_of (pairs_bytes (catalogue_value number []))))) }
-{
-    let Some(document) = spelled_document(alloc, value)? else {
-        return Ok(None);
-    };
-    let Some(number) = number_told(&document) else {
-        return Ok(None);
-    };
-    let bytes = catalogue_bytes(alloc, number)?;
-    if bytes.as_slice() != value {
-        return Ok(None);
-    }
-    Ok(Some(number))
 }
 
 /// The string that was escaped so.

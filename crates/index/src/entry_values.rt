@@ -4,8 +4,7 @@ ghost use Rattle.std.specs.Prelude.{◌≡◌, ◌≤◌, [], IfOk, length};
 ghost use Rattle.bson.specs.Spelling.{Spells, frame_of, pairs_bytes};
 ghost use Rattle.index.specs.StateEntries.{catalogue_value};
 
-use crate::catalogue::put;
-use bson::{Array, Document, EncodeFault, NoMemory, Value, encode};
+use bson::{Document, EncodeFault, NoMemory, encode};
 use std::alloc::{AllocError, Global};
 
 /// The bytes of a document that is no larger than a stored one.
@@ -20,23 +19,13 @@ pub(crate) fn document_bytes(alloc: Global, document: &Document) -> Result<Vec<u
     }
 }
 
-/// What the catalogue says of a collection without indexes.
-fn catalogue_document(alloc: Global, number: u32) -> Result<Document, NoMemory>
+/// What the catalogue says of a collection without indexes, `{n: NUMBER, x: []}`: 20 bytes, of which the number's alone differ.
+pub(crate) fn plain_bytes(number: u32) -> [u8; 20]
     requires { number ≤ 1000 }
-    ensures { IfOk result (λ document. document ≡ catalogue_value number []) }
+    ensures { result ≡ frame_of (pairs_bytes (catalogue_value number [])) }
 {
-    let mut document = Document::new(alloc);
-    put(&mut document, "n", Value::Int32(number as i32))?;
-    put(&mut document, "x", Value::Array(Array::new(alloc)))?;
-    Ok(document)
-}
-
-/// The bytes of that.
-pub(crate) fn catalogue_bytes(alloc: Global, number: u32) -> Result<Vec<u8>, NoMemory>
-    requires { number ≤ 1000 }
-    ensures { IfOk result (λ bytes. bytes.items
-        ≡ frame_of (pairs_bytes (catalogue_value number []))) }
-{
-    let document = catalogue_document(alloc, number)?;
-    document_bytes(alloc, &document)
+    let n = number.to_le_bytes();
+    [
+        20, 0, 0, 0, 0x10, b'n', 0, n[0], n[1], n[2], n[3], 0x04, b'x', 0, 5, 0, 0, 0, 0, 0,
+    ]
 }

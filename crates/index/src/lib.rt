@@ -35,7 +35,7 @@ pub use definition::{IndexField, IndexSpec, copy_fields};
 pub use edits::Edits;
 pub use entering::{Keyed, stay_indexed};
 pub use entry_keys::{catalogue_key, document_key, first_key, index_key};
-pub use entry_reading::{catalogue_number, document_in, namespace_in};
+pub use entry_reading::{document_in, namespace_in};
 pub use keys::keys_in_all;
 pub use making::NewEntries;
 pub use other_keys::{end_of, is_another};

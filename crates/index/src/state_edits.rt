@@ -14,7 +14,7 @@ ghost use Rattle.index.specs.StateEntries.{catalogue_entry, document_entry, key_
 
 use crate::edits::Edits;
 use crate::entry_keys::{catalogue_key, document_key};
-use crate::entry_values::{catalogue_bytes, document_bytes};
+use crate::entry_values::{document_bytes, plain_bytes};
 use bson::{Document, NoMemory};
 
 impl Edits {
@@ -64,7 +64,7 @@ impl Edits {
     {
         let alloc = self.allocator();
         let key = catalogue_key(alloc, namespace)?;
-        let bytes = catalogue_bytes(alloc, number)?;
+        let bytes = Vec::from_slice(alloc, &plain_bytes(number))?;
         self.note(key, Some(bytes))
     }
 

@@ -1,6 +1,8 @@
 //! A server that answers in its own process.
 
-ghost use Rattle.std.specs.Prelude.{◌≡◌};
+ghost use Rattle.std.specs.Prelude.{◌≡◌, IfOk, IfErr};
+ghost use Rattle.program.specs.InProcess.{Says};
+ghost use Rattle.server.specs.View.{frames_in};
 
 use bson::{Document, decode};
 use engine::ConnId;
@@ -21,8 +23,12 @@ pub(crate) struct Server<D: Disk> {
 
 impl<D: Disk> Database for Server<D> {
     ghost use Rattle.server.specs.Durable.{IsSound};
+    ghost use Rattle.program.specs.InProcess.{AnswersCommand};
 
     ghost is_sound = { λ server. IsSound D.history server.core };
+
+    ghost answers = { λ old command result new.
+        AnswersCommand D.history old.core command result new.core };
 
     fn reply(&mut self, command: &Document) -> Result<Document, DatabaseFault> {
         if command.encoded_len() > MOST_BYTES {
@@ -59,7 +65,10 @@ pub(crate) fn only_connection() -> ConnId
 }
 
 /// The document of the first reply of a turn.
-fn document_of(alloc: Global, turn: &TurnOut) -> Result<Document, DatabaseFault> {
+fn document_of(alloc: Global, turn: &TurnOut) -> Result<Document, DatabaseFault>
+    ensures says { IfOk result (λ reply. Says (frames_in turn.now.replies.items) reply) }
+    ensures memory { IfErr result (λ fault. fault ≡ DatabaseFault.Memory) }
+{
     let Some((_, frame)) = turn.replies.first() else {
         return Err(DatabaseFault::Memory);
     };
