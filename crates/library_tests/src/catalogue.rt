@@ -2,7 +2,7 @@
 
 use bson::encode;
 use ext_json::read;
-use index::{IndexSpec, catalogue_number, namespace_in};
+use index::{IndexSpec, catalogue_told, namespace_in};
 use std::alloc::Global;
 use std::test::Fail;
 
@@ -87,7 +87,8 @@ const NAMESPACES: [(&[u8], Option<&str>); 9] = [
 #[test]
 fn collections(rt: HostRuntime) -> Result<(), Fail> {
     for (value, number) in NUMBERS {
-        assert_eq!(rt; catalogue_number(rt.alloc(), value)?, number, "{value:?}");
+        let told = catalogue_told(rt.alloc(), value)?;
+        assert_eq!(rt; told.map(|told| told.number), number, "{value:?}");
     }
     for (key, namespace) in NAMESPACES {
         let found = namespace_in(rt.alloc(), key)?;
