@@ -7,4 +7,5 @@ pub mod Rewinding
 mod Searching
 pub mod SoundBooks
 pub mod Undoing
+pub mod UnusedPages
 pub mod WrittenLists
