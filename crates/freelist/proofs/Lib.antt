@@ -6,6 +6,7 @@ pub mod ReadingLists
 pub mod Rewinding
 mod Searching
 pub mod SoundBooks
+pub mod TakenPages
 pub mod Undoing
 pub mod UnusedPages
 pub mod WrittenLists

@@ -46,6 +46,18 @@ at_most (suc k) pages = elim (cases_Bool (is_unused pages k)) [
 used_is_none : (p : ℕ) (s : PageState) → s ≡ states.InUse → (nat_lt 0 p && not (is_used_state s)) ≡ false
 used_is_none p s is = elim (cases_Bool (nat_lt 0 p)) [ inl some ↦ rw (some, is) refl | inr none ↦ rw none refl ]
 
+pub grows_with : (k n : ℕ) (pages : List PageState) → k ≤ n → length (unused_below k pages) ≤ length (unused_below n pages)
+grows_with k zero pages less = omega (arith, at_most k pages, less)
+grows_with k (suc n) pages less = elim (cases_eq k (suc n)) [
+  | inl same ↦ omega (arith, ap (λ (m : ℕ). length (unused_below m pages)) same)
+  | inr other ↦
+      let before : length (unused_below k pages) ≤ length (unused_below n pages) = grows_with k n pages (omega (arith, less, other)) in
+      let step : length (unused_below (suc n) pages)
+          ≡ length (unused_below n pages) + length (if is_unused pages n then n ∷ [] else []) =
+      length-append (unused_below n pages) (if is_unused pages n then n ∷ [] else []) in
+      omega (arith, before, step)
+]
+
 -- a page that isn't in use is below the limit
 pub unused_within : (pages : List PageState) (p : ℕ) → is_unused pages p ≡ true → p < length pages
 unused_within pages p so = elim (cases_lt p (length pages)) [
