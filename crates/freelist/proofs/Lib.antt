@@ -1,7 +1,9 @@
 pub mod LeastLaws
 pub mod ListRowsLemmas
 pub mod ListedBooks
+pub mod MadeLists
 pub mod Marking
+pub mod PartsOfLists
 pub mod ReadingLists
 pub mod Rewinding
 mod Searching

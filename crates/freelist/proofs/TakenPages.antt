@@ -1,12 +1,12 @@
 -- Pages taken one after the other, each the least free one.
-use Rattle.std.proofs.Common.{◌≡◌, ◌<◌, ◌≤◌, ◌+◌, ◌*◌, ◌/◌, ℕ, zero, suc, true, false, List, [], ◌∷◌, ◌++◌, length, length-append, sym, ap, ◌∙◌, arith, refl, inl, inr, set, Some, None, subst}
-use Rattle.std.specs.Prelude.{◌≢◌, ◌==◌, get_or, if◌then◌else◌, max, nat_lt, Option, Result, Ok, Err, OnErr}
+use Rattle.std.proofs.Common.{◌≡◌, ◌<◌, ◌≤◌, ◌+◌, ◌*◌, ℕ, zero, suc, true, false, List, [], ◌∷◌, ◌++◌, length, length-append, sym, ap, ◌∙◌, arith, refl, inl, inr, set, Some, None, subst}
+use Rattle.std.specs.Prelude.{get_or, if◌then◌else◌, max, Option, Result, Ok, Err, OnErr}
 use Rattle.std.proofs.lemmas.Bool.Decides.{nat_tests}
 use Rattle.std.proofs.lemmas.Bool.{cases_lt}
 use Rattle.std.proofs.lemmas.List.{get_or-set_same}
 use Rattle.freelist.specs.Book.{Book, Takes, is_free, is_free_state, is_in_use, is_used_state, least_free, refused, taken, undone}
 use Rattle.freelist.specs.FreeList.{list_pages}
-use Rattle.freelist.specs.ListWriting.{Counts, FindsNone, GoesBack, HasNoRoom, IsDraft, IsMade, TakesAll, count_with, needs_more, unused_below}
+use Rattle.freelist.specs.ListWriting.{Counts, FindsNone, GoesBack, IsDraft, IsMade, TakesAll, count_with, needs_more, unused_below}
 use Rattle.freelist.specs.Undone.{Call, after, given, take as asks}
 use Rattle.freelist.specs.declared.draft.Draft.{Draft}
 use Rattle.freelist.specs.declared.states.PageState.{PageState}
@@ -91,7 +91,7 @@ module _ (mid new : Book) (page : ℕ) (takes : Takes (Some page) mid new) where
         absurd (let never : false ≡ true = free in cc)
   ]
 
-  within : page < length mid.states
+  pub within : page < length mid.states
   within = below mid.states page states.Free (least_state mid.states page takes.0) (λ e. cc)
 
   states_are : new.states ≡ set mid.states page states.InUse
@@ -118,17 +118,17 @@ module _ (mid new : Book) (page : ℕ) (takes : Takes (Some page) mid new) where
   one_fewer_at_most : (k n : ℕ) → k ≤ n → length (unused_below k mid.states) ≤ length (unused_below n new.states) + 1
   one_fewer_at_most k n less = elim (cases_lt page k) [
     | inl inside ↦ omega (
-        arith,
-        grows_with k n new.states less,
-        one_fewer_unused k page new.states some_page (is_used new.states refl) inside,
-        ap (λ (ps : List PageState). length (unused_below k ps)) (put_free new.states refl),
-      )
+      arith,
+      grows_with k n new.states less,
+      one_fewer_unused k page new.states some_page (is_used new.states refl) inside,
+      ap (λ (ps : List PageState). length (unused_below k ps)) (put_free new.states refl),
+    )
     | inr past ↦ omega (
-        arith,
-        grows_with k n new.states less,
-        ap length (unused_past k page new.states states.Free past),
-        ap (λ (ps : List PageState). length (unused_below k ps)) (put_free new.states refl),
-      )
+      arith,
+      grows_with k n new.states less,
+      ap length (unused_past k page new.states states.Free past),
+      ap (λ (ps : List PageState). length (unused_below k ps)) (put_free new.states refl),
+    )
   ]
 
   pub takes_it : (pages : List ℕ) (old : Book) → TakesAll pages old mid → TakesAll (pages ++ page ∷ []) old new

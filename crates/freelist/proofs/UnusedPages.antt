@@ -1,5 +1,5 @@
 -- The pages that aren't in use, and what becomes of them when one is taken.
-use Rattle.std.proofs.Common.{◌≡◌, ◌<◌, ◌≤◌, ◌+◌, ℕ, zero, suc, true, false, List, [], ◌∷◌, ◌++◌, length, length-append, sym, ap, ◌∙◌, arith, refl, inl, inr, set}
+use Rattle.std.proofs.Common.{◌≡◌, ◌<◌, ◌≤◌, ◌+◌, ℕ, zero, suc, Bool, true, false, List, [], ◌∷◌, ◌++◌, length, length-append, sym, ap, ◌∙◌, arith, refl, inl, inr, set}
 use Rattle.std.specs.Prelude.{◌≢◌, ◌==◌, ◌&&◌, get_or, if◌then◌else◌, nat_lt, not}
 use Rattle.std.proofs.lemmas.Bool.Decides.{nat_tests}
 use Rattle.std.proofs.lemmas.Bool.{cases_eq, cases_Bool, cases_lt}
@@ -53,7 +53,7 @@ grows_with k (suc n) pages less = elim (cases_eq k (suc n)) [
   | inr other ↦
       let before : length (unused_below k pages) ≤ length (unused_below n pages) = grows_with k n pages (omega (arith, less, other)) in
       let step : length (unused_below (suc n) pages)
-          ≡ length (unused_below n pages) + length (if is_unused pages n then n ∷ [] else []) =
+      ≡ length (unused_below n pages) + length (if is_unused pages n then n ∷ [] else []) =
       length-append (unused_below n pages) (if is_unused pages n then n ∷ [] else []) in
       omega (arith, before, step)
 ]
@@ -128,67 +128,70 @@ one_fewer_unused (suc k) p pages some used h = elim (cases_eq p k) [
         later (omega (arith, h, other)) in
         elim (cases_Bool (is_unused pages k)) [
           | inl so ↦ omega (
-              arith,
-              ap (λ (n : ℕ). length (unused_below n (set pages p states.Free))) next,
-              ap (λ (n : ℕ). length (unused_below n pages)) next,
-              unused_grows k (set pages p states.Free) (still ∙ so),
-              unused_grows k pages so,
-              before,
-            )
+            arith,
+            ap (λ (n : ℕ). length (unused_below n (set pages p states.Free))) next,
+            ap (λ (n : ℕ). length (unused_below n pages)) next,
+            unused_grows k (set pages p states.Free) (still ∙ so),
+            unused_grows k pages so,
+            before,
+          )
           | inr not_so ↦ omega (
-              arith,
-              ap (λ (n : ℕ). length (unused_below n (set pages p states.Free))) next,
-              ap (λ (n : ℕ). length (unused_below n pages)) next,
-              unused_stays k (set pages p states.Free) (still ∙ not_so),
-              unused_stays k pages not_so,
-              before,
-            )
+            arith,
+            ap (λ (n : ℕ). length (unused_below n (set pages p states.Free))) next,
+            ap (λ (n : ℕ). length (unused_below n pages)) next,
+            unused_stays k (set pages p states.Free) (still ∙ not_so),
+            unused_stays k pages not_so,
+            before,
+          )
         ]
 
 -- ---- how often a page stands there
 
-pub times_unused : (n k : ℕ) (pages : List PageState)
-    → times_in n (unused_below k pages) ≡ (if nat_lt n k && is_unused pages n then 1 else 0)
-times_unused n zero pages = let none : nat_lt n 0 ≡ false = grind (arith, nat_tests) in rw none refl
-times_unused n (suc k) pages = elim (cases_eq n k) [
-  | inl same ↦ at_page same (times_unused n k pages)
-  | inr other ↦ past other (times_unused n k pages)
+-- a list of the numbers below a number that pass a test
+pub times_filtered : (test : ℕ → Bool) (list : ℕ → List ℕ) → list 0 ≡ []
+    → ((k : ℕ) → list (suc k) ≡ list k ++ (if test k then k ∷ [] else [])) → (n k : ℕ)
+    → times_in n (list k) ≡ (if nat_lt n k && test n then 1 else 0)
+times_filtered test list none step n zero = ap (times_in n) none ∙ (let no : nat_lt n 0 ≡ false = grind (arith, nat_tests) in rw no refl)
+times_filtered test list none step n (suc k) = elim (cases_eq n k) [
+  | inl same ↦ at_page same (times_filtered test list none step n k)
+  | inr other ↦ past other (times_filtered test list none step n k)
 ]
   where
-    at_page : n ≡ k → times_in n (unused_below k pages) ≡ (if nat_lt n k && is_unused pages n then 1 else 0)
-        → times_in n (unused_below (suc k) pages) ≡ (if nat_lt n (suc k) && is_unused pages n then 1 else 0)
+    all : times_in n (list (suc k)) ≡ times_in n (list k) + times_in n (if test k then k ∷ [] else [])
+    all = ap (times_in n) (step k) ∙ times_in-append n (list k) (if test k then k ∷ [] else [])
+
+    at_page : n ≡ k → times_in n (list k) ≡ (if nat_lt n k && test n then 1 else 0)
+        → times_in n (list (suc k)) ≡ (if nat_lt n (suc k) && test n then 1 else 0)
     at_page same before =
         let there : nat_lt n (suc k) ≡ true = grind (arith, nat_tests) in
         let not_yet : nat_lt n k ≡ false = grind (arith, nat_tests) in
-        let none : times_in n (unused_below k pages) ≡ 0 = before ∙ rw not_yet refl in
+        let none_before : times_in n (list k) ≡ 0 = before ∙ rw not_yet refl in
         let eq : (n == k) ≡ true = grind (arith, nat_tests) in
-        elim (cases_Bool (is_unused pages k)) [
+        elim (cases_Bool (test k)) [
           | inl so ↦
-              let now : is_unused pages n ≡ true = ap (is_unused pages) same ∙ so in
-              let one : times_in n (k ∷ []) ≡ 1 = rw eq (omega arith) in
-              let all : times_in n (unused_below (suc k) pages) ≡ times_in n (unused_below k pages) + times_in n (k ∷ []) =
-              rw so (times_in-append n (unused_below k pages) (k ∷ [])) in
-              rw (there, now) (omega (arith, all, none, one))
+              let now : test n ≡ true = ap test same ∙ so in
+              let one : times_in n (if test k then k ∷ [] else []) ≡ 1 = rw (so, eq) (omega arith) in
+              rw (there, now) (omega (arith, all, none_before, one))
           | inr not_so ↦
-              let now : is_unused pages n ≡ false = ap (is_unused pages) same ∙ not_so in
-              let all : times_in n (unused_below (suc k) pages) ≡ times_in n (unused_below k pages) =
-              rw not_so (ap (times_in n) (append-nil (unused_below k pages))) in
-              rw (there, now) (omega (arith, all, none))
+              let now : test n ≡ false = ap test same ∙ not_so in
+              let zero_more : times_in n (if test k then k ∷ [] else []) ≡ 0 = rw not_so refl in
+              rw (there, now) (omega (arith, all, none_before, zero_more))
         ]
 
-    past : n ≢ k → times_in n (unused_below k pages) ≡ (if nat_lt n k && is_unused pages n then 1 else 0)
-        → times_in n (unused_below (suc k) pages) ≡ (if nat_lt n (suc k) && is_unused pages n then 1 else 0)
+    past : n ≢ k → times_in n (list k) ≡ (if nat_lt n k && test n then 1 else 0)
+        → times_in n (list (suc k)) ≡ (if nat_lt n (suc k) && test n then 1 else 0)
     past other before =
         let eq : (n == k) ≡ false = grind (arith, nat_tests) in
         let same_test : nat_lt n (suc k) ≡ nat_lt n k = grind (arith, nat_tests) in
-        let none : times_in n (k ∷ []) ≡ 0 = rw eq (omega arith) in
-        elim (cases_Bool (is_unused pages k)) [
+        elim (cases_Bool (test k)) [
           | inl so ↦
-              let all : times_in n (unused_below (suc k) pages) ≡ times_in n (unused_below k pages) + times_in n (k ∷ []) =
-              rw so (times_in-append n (unused_below k pages) (k ∷ [])) in
-              rw same_test (omega (arith, all, none, before))
+              let none_more : times_in n (if test k then k ∷ [] else []) ≡ 0 = rw (so, eq) (omega arith) in
+              rw same_test (omega (arith, all, none_more, before))
           | inr not_so ↦
-              let all : times_in n (unused_below (suc k) pages) ≡ times_in n (unused_below k pages) =
-              rw not_so (ap (times_in n) (append-nil (unused_below k pages))) in
-              rw same_test (all ∙ before)
+              let none_more : times_in n (if test k then k ∷ [] else []) ≡ 0 = rw not_so refl in
+              rw same_test (omega (arith, all, none_more, before))
         ]
+
+pub times_unused : (n k : ℕ) (pages : List PageState)
+    → times_in n (unused_below k pages) ≡ (if nat_lt n k && is_unused pages n then 1 else 0)
+times_unused n k pages = times_filtered (is_unused pages) (λ (m : ℕ). unused_below m pages) refl (λ m. refl) n k

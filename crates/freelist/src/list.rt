@@ -1,5 +1,5 @@
 //! The written list of a file's free pages, and how it is read.
-ghost use Rattle.std.specs.Prelude.{◌≡◌, ◌<◌, ◌≤◌, ◌∷◌, [], ℕ, Option, Some, Err, IfOk, OnOk, OnErr, IsTrue, length};
+ghost use Rattle.std.specs.Prelude.{◌≡◌, ◌<◌, ◌≤◌, ◌∷◌, [], ℕ, Option, Some, Err, IfOk, OnOk, OnErr, IsTrue, length, take, drop, ◌*◌};
 ghost use Rattle.freelist.specs.FreeList.{ListContent, list_pages, written};
 ghost use Rattle.freelist.specs.ListReading.{Begins, Marks, Notes, ReadsList, ReadsPart, StepsOn, content_of, unmarked};
 ghost use Rattle.freelist.specs.ListWriting.{content_at};
@@ -33,16 +33,22 @@ impl FreeList {
         ensures { let parts = written self.now.pages.items self.now.named.items in
             IfOk result (λ part. content_at parts at ≡ Some (content_of part)) }
     {
-        let next = match self.pages.get(at + 1) {
-            Some(page) => *page,
-            None => 0,
-        };
-        let from = at.saturating_mul(NAMED).min(self.named.len());
-        let to = (from + NAMED).min(self.named.len());
         let mut named = Vec::new(alloc);
-        named.extend_from_slice(&self.named[from..to])?;
-        Ok(ListPage { next, named })
+        named.extend_from_slice(named_at(&self.named, at))?;
+        Ok(ListPage {
+            next: self.pages.get(at + 1).copied().unwrap_or(0),
+            named,
+        })
     }
+}
+
+/// Of the pages that a list names those that its own page at this place does.
+fn named_at(named: &[u32], at: usize) -> &[u32]
+    ensures { result.now ≡ take 1019 (drop (1019 * at) named.now) }
+{
+    let from = at.saturating_mul(NAMED).min(named.len());
+    let to = (from + NAMED).min(named.len());
+    &named[from..to]
 }
 
 /// How many pages of its own a list has that names so many.

@@ -1,4 +1,3 @@
-use Rattle.std.proofs.Common.{◌≡◌}
 use Rattle.freelist.specs.ListWriting.{IsDraft}
 use Rattle.freelist.proofs.TakenPages.{free_count}
 use Rattle.freelist.proofs.book.FreePages.take_pages.Given as goal
