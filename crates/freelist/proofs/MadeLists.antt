@@ -1,11 +1,13 @@
 -- A list that was made names each other page that isn't in use, and is read again.
-use Rattle.std.proofs.Common.{◌≡◌, ◌<◌, ◌≤◌, ◌+◌, ℕ, zero, suc, Bool, true, false, List, [], ◌∷◌, ◌++◌, length, sym, ap, ◌∙◌, arith, refl, inl, inr, Some, subst}
+use Rattle.std.proofs.Common.{◌≡◌, ◌<◌, ◌≤◌, ◌+◌, ℕ, zero, suc, Bool, true, false, List, [], ◌∷◌, ◌++◌, length, sym, ap, ◌∙◌, arith, refl, inl, inr, Some}
+use Rattle.std.proofs.Common.{subst}
 use Rattle.std.specs.Prelude.{◌≢◌, ◌==◌, ◌&&◌, get_or, if◌then◌else◌, max, nat_lt, not, Option, Result, Ok, Err}
 use Rattle.std.proofs.lemmas.Bool.Decides.{nat_tests}
 use Rattle.std.proofs.lemmas.Bool.{cases_eq, cases_lt}
 use Rattle.std.proofs.lemmas.List.{get_or-set_other, get_or_default, length-map}
 use Rattle.freelist.specs.Book.{Book, is_in_use, is_used_state, least_free, taken}
-use Rattle.freelist.specs.FreeList.{AreOnceBelow, Holds, IsFreeList, IsPartition, ListContent, Part, first_page, named_by, pages_of, room_for, times_in, written}
+use Rattle.freelist.specs.FreeList.{AreOnceBelow, Holds, IsFreeList, IsPartition, ListContent, Part, first_page, named_by, pages_of, room_for, times_in}
+use Rattle.freelist.specs.FreeList.{written}
 use Rattle.freelist.specs.ListLaws.{GivesBack, MadeRows, used_below}
 use Rattle.freelist.specs.ListReading.{ReadsList}
 use Rattle.freelist.specs.ListWriting.{IsMade, TakesAll, content_at, count_with, is_unused}
@@ -109,7 +111,13 @@ module _ (page_count : ℕ) (pages named : List ℕ) (old new : Book) (made : Is
       below : (k : ℕ) → k < count → times_in k (pages ++ named) ≤ room_for count k
       below zero inside = omega (arith, times_in-append 0 pages named, sum_below 0 inside)
       below (suc k) inside =
-          omega (arith, times_in-append (suc k) pages named, sum_below (suc k) inside, most (is_unused old.states (suc k)), room_is count (suc k) (omega arith) inside)
+          omega (
+            arith,
+            times_in-append (suc k) pages named,
+            sum_below (suc k) inside,
+            most (is_unused old.states (suc k)),
+            room_is count (suc k) (omega arith) inside,
+          )
 
   -- ---- what is in use, the list's, and what it names
 

@@ -62,7 +62,7 @@ used_below zero pages = []
 used_below (suc page) pages =
     used_below page pages ++ (if nat_lt 0 page && is_in_use pages page then page ∷ [] else [])
 
--- Each page of the file, with those of the list, was in use before, is the list's or is named by it.
+-- Each page of the file, with those of the list, was in use before, is the list's or named by it.
 abbrev pub MadeIsPartition : Type 0
 MadeIsPartition = (page_count : ℕ) (pages named : List ℕ) (old new : Book)
     → IsMade page_count pages named old new → let count = count_with page_count pages in
