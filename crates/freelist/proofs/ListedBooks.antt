@@ -65,13 +65,13 @@ becomes s (x ∷ xs) pages p d within some = elim (cases_Bool (nat_lt 0 (times_i
       ]
 ]
 
-room_is : (page_count page : ℕ) → 0 < page → page < page_count → room_for page_count page ≡ 1
+pub room_is : (page_count page : ℕ) → 0 < page → page < page_count → room_for page_count page ≡ 1
 room_is page_count page some within =
     let first : nat_lt 0 page ≡ true = grind (arith, nat_tests) in
     let last : nat_lt page page_count ≡ true = grind (arith, nat_tests) in
     rw (first, last) refl
 
-room_past : (page_count page : ℕ) → page_count ≤ page → room_for page_count page ≡ 0
+pub room_past : (page_count page : ℕ) → page_count ≤ page → room_for page_count page ≡ 0
 room_past page_count page past =
     let last : nat_lt page page_count ≡ false = grind (arith, nat_tests) in
     elim (cases_Bool (nat_lt 0 page)) [ inl some ↦ rw (some, last) refl | inr none ↦ rw none refl ]

@@ -8,7 +8,7 @@ use Rattle.freelist.specs.FreeList.{AreOnceBelow, Holds, IsFreeList, ListContent
 use Rattle.freelist.specs.ListLaws.{IsRead}
 use Rattle.freelist.proofs.Marking.{times_in-append}
 
-written_pages : (pages named : List ℕ) → pages_of (written pages named) ≡ pages
+pub written_pages : (pages named : List ℕ) → pages_of (written pages named) ≡ pages
 written_pages [] named = refl
 written_pages (page ∷ pages) named = ap (λ (ps : List ℕ). page ∷ ps) (written_pages pages (drop 1019 named))
 
@@ -16,7 +16,7 @@ none_left : (named : List ℕ) → length named ≤ 0 → [] ≡ named
 none_left [] h = refl
 none_left (n ∷ named) h = absurd (omega (arith, h))
 
-written_named : (pages named : List ℕ) → length named ≤ 1019 * length pages → named_by (written pages named) ≡ named
+pub written_named : (pages named : List ℕ) → length named ≤ 1019 * length pages → named_by (written pages named) ≡ named
 written_named [] named h = none_left named (omega (arith, h))
 written_named (page ∷ pages) named h =
     ap (λ (ns : List ℕ). take 1019 named ++ ns) (written_named pages (drop 1019 named) (omega (arith, h, length-drop 1019 named)))

@@ -3,6 +3,7 @@ pub mod Coding
 pub mod FreeList
 pub mod ListLaws
 pub mod ListReading
+pub mod ListWriting
 pub mod Search
 pub mod Sound
 pub mod Undone

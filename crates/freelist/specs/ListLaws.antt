@@ -1,10 +1,19 @@
 -- Laws of the written list of free pages.
 use Rattle.std.specs.Prelude.{◌≡◌, ℕ, ◌*◌, ◌<◌, ◌≤◌, nat_lt, List, [], ◌∷◌, ◌++◌, length, map}
-use Rattle.std.specs.Prelude.{replicate, drop, ◌==◌, if◌then◌else◌, Option, Some, None}
-use Rattle.freelist.specs.Book.{first_free, is_free, least_free, opened}
+use Rattle.std.specs.Prelude.{replicate, drop, ◌==◌, if◌then◌else◌, Option, Some, None, ◌≢◌, zero}
+use Rattle.std.specs.Prelude.{suc, ◌&&◌, get_or, Result, MatchResult}
+use Rattle.freelist.specs.Book.{Book, first_free, is_free, is_in_use, least_free, opened, taken}
 use Rattle.freelist.specs.FreeList.{AreOnceBelow, Holds, IsFreeList, IsPartition, ListContent, Part}
 use Rattle.freelist.specs.FreeList.{first_page, list_pages, named_by, opened_by, pages_of}
 use Rattle.freelist.specs.FreeList.{times_in, written}
+use Rattle.freelist.specs.ListReading.{ReadsList}
+use Rattle.freelist.specs.ListWriting.{IsMade, content_at, count_with}
+use Rattle.freelist.specs.Sound.{IsSound}
+use Rattle.freelist.specs.declared.list.FreeList.{FreeList}
+use Rattle.freelist.specs.declared.list_fault.ListFault.{ListFault}
+use Rattle.freelist.specs.declared.list_fault.ListFault.TheVariants as faults
+use Rattle.freelist.specs.declared.states.PageState.{PageState}
+use Rattle.freelist.specs.declared.states.PageState.TheVariants as states
 
 -- Where pages hold a list that was written, this list is there, on these pages, and names these.
 pub record IsRead (contents : ℕ → Option ListContent) (page_count : ℕ)
@@ -45,6 +54,41 @@ BookOfPartition = (page_count limit version : ℕ) (in_use : List ℕ) (parts : 
     → opened (in_use ++ pages_of parts) limit version
     ≡ opened_by (named_by parts) page_count limit version
 
+-- ---- a list that was made
+
+-- the pages in use below a page count, in ascending order
+abbrev pub used_below : ℕ → List PageState → List ℕ
+used_below zero pages = []
+used_below (suc page) pages =
+    used_below page pages ++ (if nat_lt 0 page && is_in_use pages page then page ∷ [] else [])
+
+-- Each page of the file, with those of the list, was in use before, is the list's or named by it.
+abbrev pub MadeIsPartition : Type 0
+MadeIsPartition = (page_count : ℕ) (pages named : List ℕ) (old new : Book)
+    → IsMade page_count pages named old new → let count = count_with page_count pages in
+    count ≤ length old.states
+    → IsPartition count (used_below count old.states) (written pages named)
+
+-- The list was read, or the device failed, or there was no memory.
+abbrev pub GivesBack : List ℕ → List ℕ → Result FreeList ListFault → Type 0
+GivesBack pages named result =
+    MatchResult result (λ list. (list.pages.items ≡ pages) × (list.named.items ≡ named))
+    (λ fault. fault ≢ faults.Damaged)
+
+-- Where each of its pages holds what it is to hold, whoever reads the list gets it back.
+abbrev pub MadeIsRead : Type 0
+MadeIsRead = (contents : ℕ → Option ListContent) (page_count : ℕ) (pages named : List ℕ)
+    (old new : Book) → IsMade page_count pages named old new → let parts = written pages named in
+    ((at : ℕ) → at < length pages → contents (get_or pages at 0) ≡ content_at parts at)
+    → (result : Result FreeList ListFault)
+    → ReadsList contents (count_with page_count pages) (first_page parts) (length named) result
+    → GivesBack pages named result
+
+-- making a list keeps a book sound
+abbrev pub MadeStaysSound : Type 0
+MadeStaysSound = (page_count : ℕ) (pages named : List ℕ) (old new : Book)
+    → IsMade page_count pages named old new → IsSound old → IsSound new
+
 -- ---- worked rows
 
 -- each page of a list with how many it names
@@ -75,3 +119,30 @@ pub record ListRows : Type 0 where
   pub partition : IsPartition 9 (1 ∷ 4 ∷ 6 ∷ 8 ∷ []) row_parts
   pub first_taken : least_free (opened_by (named_by row_parts) 9 16 1).states ≡ Some 2
   pub grows : first_free 8 (drop 8 (opened_by (named_by row_parts) 9 16 1).states) ≡ Some 9
+
+-- the book of these pages, of which none waits
+abbrev pub book_with : List PageState → Book
+book_with pages = record {
+  states = pages;
+  waiting = [];
+  turn = [];
+  pins = [];
+  version = 1;
+  full_takes = 0;
+}
+
+-- Page 2 is free, and page 3 is retired.
+abbrev pub mixed_row : Book
+mixed_row = book_with (states.Free ∷ states.InUse ∷ states.Free ∷ states.Retired ∷ states.Free ∷ [])
+
+-- No page below page 3 is free, and page 2 is retired.
+abbrev pub grown_row : Book
+grown_row = book_with (states.Free ∷ states.InUse ∷ states.Retired ∷ states.Free ∷ [])
+
+pub record MadeRows : Type 0 where
+  pub nothing : IsMade 2 [] [] grown_row grown_row
+  pub below : IsMade 4 (2 ∷ []) (3 ∷ []) mixed_row (taken 2 mixed_row)
+  pub behind : IsMade 3 (3 ∷ []) (2 ∷ []) grown_row (taken 3 grown_row)
+  pub grows : count_with 3 (3 ∷ []) ≡ 4
+  -- the only page that isn't in use is the list's, which names none then
+  pub alone : IsMade 3 (2 ∷ []) [] mixed_row (taken 2 mixed_row)

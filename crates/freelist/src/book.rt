@@ -1,7 +1,10 @@
 //! The book of a file's pages.
 ghost use Rattle.std.specs.Prelude.{◌≡◌, ◌-◌, IfOk, OnOk, OnErr, max, length};
 ghost use Rattle.freelist.specs.Book.{Takes, is_in_use, retired, committed, pinned, unpinned, undone, opened};
+ghost use Rattle.freelist.specs.ListWriting.{DraftsList, FindsRoom, GoesBack, WritesList};
 
+use crate::draft::Draft;
+use crate::list::FreeList;
 use crate::states::{PageState, PageStates};
 use crate::turns::{Change, Retirement, note, release, remove_pin, settle};
 use std::alloc::{AllocError, Global};
@@ -105,6 +108,61 @@ impl FreePages {
         )?;
         self.pages.set(page, PageState::Retired);
         Ok(())
+    }
+
+    /// Makes the list of a file of so many pages: it names all that aren't in use, also those that wait, and takes the least free
+    /// pages for itself, which may lie behind the others. `None` where too few pages are free for that; then, and at an `Err`, all
+    /// is as it was, but that a page was asked for and none was free is counted.
+    pub fn write_list(
+        &mut self,
+        alloc: Global,
+        page_count: u32,
+    ) -> Result<Option<FreeList>, NoMemory>
+        ensures list { IfOk result (λ found. WritesList page_count found self.old self.new) }
+        ensures err { OnErr result (self.new ≡ self.old) }
+    {
+        let mark = self.mark();
+        match self.draft_list(alloc, page_count) {
+            Ok(Some(list)) => Ok(Some(list)),
+            Ok(None) => {
+                self.undo_to(mark);
+                Ok(None)
+            }
+            Err(fault) => {
+                self.undo_to(mark);
+                Err(fault)
+            }
+        }
+    }
+
+    /// Makes the list. But for a list that was made, what it took is to be taken back.
+    fn draft_list(&mut self, alloc: Global, page_count: u32) -> Result<Option<FreeList>, NoMemory>
+        ensures list { IfOk result (λ found. DraftsList page_count found self.old self.new) }
+        ensures err { OnErr result (GoesBack self.old self.old self.new) }
+    {
+        let Some(draft) = self.take_pages(alloc, page_count)? else {
+            return Ok(None);
+        };
+        let named = self.pages.unused_below(alloc, draft.page_count)?;
+        Ok(Some(FreeList {
+            pages: draft.pages,
+            named,
+        }))
+    }
+
+    /// Takes pages for the list until it has room.
+    fn take_pages(&mut self, alloc: Global, page_count: u32) -> Result<Option<Draft>, NoMemory>
+        ensures pages { IfOk result (λ found. FindsRoom page_count found self.old self.new) }
+        ensures err { OnErr result (GoesBack self.old self.old self.new) }
+    {
+        let mut draft = Draft::begin(alloc, page_count, &self.pages);
+        while draft.needs_more() {
+            let Some(page) = self.take()? else {
+                return Ok(None);
+            };
+            draft.note(page, &self.pages)?;
+        }
+        Ok(Some(draft))
     }
 
     /// Whether the page was taken, or was in use at the opening, and wasn't retired since then.

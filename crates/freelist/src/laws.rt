@@ -1,6 +1,7 @@
 //! Laws of the definitions, each the contract of a function that does nothing.
 
 ghost use Rattle.freelist.specs.ListLaws.{WrittenIsRead, PagesSuffice, ReadingIsExact, FreeIsComplement, BookOfPartition, ListRows};
+ghost use Rattle.freelist.specs.ListLaws.{MadeIsPartition, MadeIsRead, MadeStaysSound, MadeRows};
 ghost use Rattle.freelist.specs.Sound.{TakesLeast, NoneIsFree, IsFreeByDefinition, OpensSound, CallsStaySound};
 ghost use Rattle.freelist.specs.Undone.{UndoingLeadsBack};
 
@@ -64,4 +65,24 @@ pub fn book_of_partition()
 /// Lists worked by hand.
 pub fn list_rows()
     ensures { ListRows }
+{}
+
+/// A list that was made names all pages of the file that are neither in use nor its own, each once.
+pub fn made_is_partition()
+    ensures { MadeIsPartition }
+{}
+
+/// A list that was made is read again, once its pages hold what they are to hold.
+pub fn made_is_read()
+    ensures { MadeIsRead }
+{}
+
+/// Making a list keeps a book sound.
+pub fn made_stays_sound()
+    ensures { MadeStaysSound }
+{}
+
+/// Lists made by hand: with nothing to name, of pages below the page count, and with a page behind it.
+pub fn made_rows()
+    ensures { MadeRows }
 {}

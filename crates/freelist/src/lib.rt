@@ -2,6 +2,7 @@
 #![tactic(auto)]
 
 mod book;
+mod draft;
 pub mod laws;
 mod list;
 mod list_fault;

@@ -1,11 +1,16 @@
 //! The written list of a file's free pages, and how it is read.
-ghost use Rattle.std.specs.Prelude.{◌≡◌, ◌<◌, ◌≤◌, ◌∷◌, [], ℕ, Option, Err, IfOk, OnOk, OnErr, IsTrue};
-ghost use Rattle.freelist.specs.FreeList.{ListContent};
-ghost use Rattle.freelist.specs.ListReading.{Begins, Marks, Notes, ReadsList, ReadsPart, StepsOn, unmarked};
+ghost use Rattle.std.specs.Prelude.{◌≡◌, ◌<◌, ◌≤◌, ◌∷◌, [], ℕ, Option, Some, Err, IfOk, OnOk, OnErr, IsTrue, length, take, drop, ◌*◌};
+ghost use Rattle.freelist.specs.FreeList.{ListContent, list_pages, written};
+ghost use Rattle.freelist.specs.ListReading.{Begins, Marks, Notes, ReadsList, ReadsPart, StepsOn, content_of, unmarked};
+ghost use Rattle.freelist.specs.ListWriting.{content_at};
 ghost use Rattle.freelist.specs.declared.list_fault.ListFault.TheVariants as faults;
 
+use crate::book::NoMemory;
 use crate::list_fault::ListFault;
 use std::alloc::Global;
+
+/// The most pages that a page of the list names.
+const NAMED: usize = 1019;
 
 /// What a page of the list holds: the page that goes on, or 0 at the end, and the pages that it names.
 #[derive(Debug, Drop)]
@@ -14,11 +19,43 @@ pub struct ListPage {
     pub named: Vec<u32>,
 }
 
-/// A list that was read: its own pages, and the pages that it names, each in its order.
+/// A list that was read, or is to be written: its own pages, and the pages that it names, each in its order.
 #[derive(Debug, Drop)]
 pub struct FreeList {
     pub pages: Vec<u32>,
     pub named: Vec<u32>,
+}
+
+impl FreeList {
+    /// What the list's own page at this place, from 0 on, is to hold. Each page but the last names 1,019.
+    pub fn part(&self, alloc: Global, at: usize) -> Result<ListPage, NoMemory>
+        requires { at < length self.now.pages.items }
+        ensures { let parts = written self.now.pages.items self.now.named.items in
+            IfOk result (λ part. content_at parts at ≡ Some (content_of part)) }
+    {
+        let mut named = Vec::new(alloc);
+        named.extend_from_slice(named_at(&self.named, at))?;
+        Ok(ListPage {
+            next: self.pages.get(at + 1).copied().unwrap_or(0),
+            named,
+        })
+    }
+}
+
+/// Of the pages that a list names those that its own page at this place does.
+fn named_at(named: &[u32], at: usize) -> &[u32]
+    ensures { result.now ≡ take 1019 (drop (1019 * at) named.now) }
+{
+    let from = at.saturating_mul(NAMED).min(named.len());
+    let to = (from + NAMED).min(named.len());
+    &named[from..to]
+}
+
+/// How many pages of its own a list has that names so many.
+pub(crate) fn list_pages(count: usize) -> usize
+    ensures { result ≡ list_pages count }
+{
+    count.div_ceil(NAMED)
 }
 
 /// The pages of a file, for the reader of its list. What is said of a call holds while the device that keeps them keeps

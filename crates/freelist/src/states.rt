@@ -1,6 +1,7 @@
 //! What each page of a file is.
-ghost use Rattle.std.specs.Prelude.{◌≡◌, ◌<◌, ◌≤◌, ◌+◌, ◌-◌, ◌*◌, true, false, IfOk, replicate, slice_set, get_or, List, length, max};
+ghost use Rattle.std.specs.Prelude.{◌≡◌, ◌<◌, ◌≤◌, ◌+◌, ◌-◌, ◌*◌, ◌^◌, true, false, IfOk, replicate, slice_set, get_or, List, length, max};
 ghost use Rattle.freelist.specs.Book.{is_in_use, is_free_state, least_free};
+ghost use Rattle.freelist.specs.ListWriting.{is_unused, unused_below};
 ghost use Rattle.freelist.specs.Search.{NoneFree, AreFull, IsSearch};
 ghost use Rattle.freelist.specs.declared.states.PageState.TheVariants as states;
 
@@ -112,6 +113,44 @@ impl PageStates {
         ensures { result ≡ is_in_use self.now page }
     {
         matches!(self.list.get(page as usize), Some(PageState::InUse))
+    }
+
+    /// Whether a page from 1 to below the limit isn't in use.
+    fn is_unused(&self, page: usize) -> bool
+        ensures unused { result ≡ is_unused self.now page }
+        ensures within { result ≡ true → page < 2 ^ 32 }
+    {
+        match self.list.get(page) {
+            Some(PageState::Free) | Some(PageState::Retired) => 0 < page,
+            _ => false,
+        }
+    }
+
+    /// How many of the pages from this one to below that one aren't in use.
+    pub(crate) fn count_unused(&self, from: usize, to: usize) -> usize
+        ensures { from ≤ to → length (unused_below from self.now) + result
+            ≡ length (unused_below to self.now) }
+    {
+        let mut count = 0;
+        for page in from..to {
+            if self.is_unused(page) {
+                count += 1;
+            }
+        }
+        count
+    }
+
+    /// The pages below this one that aren't in use, in ascending order.
+    pub(crate) fn unused_below(&self, alloc: Global, end: usize) -> Result<Vec<u32>, NoMemory>
+        ensures { IfOk result (λ v. v.items ≡ unused_below end self.now) }
+    {
+        let mut unused = Vec::new(alloc);
+        for page in 0..end {
+            if self.is_unused(page) {
+                unused.push(page as u32)?;
+            }
+        }
+        Ok(unused)
     }
 
     /// The least free page from page 1 on.

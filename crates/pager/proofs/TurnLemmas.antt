@@ -70,10 +70,12 @@ same_root p start same =
     let one : (durable_root p.store).generation ≡ (durable_root start.store).generation = ap (λ (numbers : List ℕ). get_or numbers 1 0) same in
     let two : (durable_root p.store).tree ≡ (durable_root start.store).tree = ap (λ (numbers : List ℕ). get_or numbers 2 0) same in
     let three : (durable_root p.store).pages ≡ (durable_root start.store).pages = ap (λ (numbers : List ℕ). get_or numbers 3 0) same in
-    (λ i. record { generation = one i; tree = two i; pages = three i })
+    let four : (durable_root p.store).free_list ≡ (durable_root start.store).free_list = ap (λ (numbers : List ℕ). get_or numbers 4 0) same in
+    let five : (durable_root p.store).free_count ≡ (durable_root start.store).free_count = ap (λ (numbers : List ℕ). get_or numbers 5 0) same in
+    (λ i. record { generation = one i; tree = two i; pages = three i; free_list = four i; free_count = five i })
 
 pub same_beginning : {D : Type 0} (p start : State D) → base_of p ≡ base_of start → rewind p.book.turn p.book.states ≡ rewind start.book.turn start.book.states
-same_beginning p start same = same_states (rewind p.book.turn p.book.states) (rewind start.book.turn start.book.states) (ap (drop 4) same)
+same_beginning p start same = same_states (rewind p.book.turn p.book.states) (rewind start.book.turn start.book.states) (ap (drop 6) same)
 
 module _ {D : Type 0} (history : D → History) (p start : State D) (stays : Stays (store_of history start) (store_of history p))
     (word : KeepsWord (pager_history history p)) (live : List ℕ) (before : List Entry) (begun : IsBegun history start live before) where

@@ -23,7 +23,8 @@ sheets_of history p n =
     made_or p.made n (sheet_at (reads (now (pager_history history p))) (durable_root p.store) n)
 
 abbrev pub root_numbers : Root → List ℕ
-root_numbers root = root.generation ∷ root.tree ∷ root.pages ∷ []
+root_numbers root =
+    root.generation ∷ root.tree ∷ root.pages ∷ root.free_list ∷ root.free_count ∷ []
 
 -- What no call but a commit changes: whether the store has stopped, the root that is committed, and
 -- what each page was when the turn began.

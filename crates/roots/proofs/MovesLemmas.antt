@@ -99,7 +99,7 @@ done history old disk root next pages before after live committed is moves = rec
 
 -- the root that is written is the next one
 pub root_is : (old : Root) (made : List Sheet) (tree pages end : ℕ) → pages ≡ max old.pages end → end ≡ end_behind 1 made
-    → record { generation = old.generation + 1; tree = tree; pages = pages } ≡ next_root old made tree
+    → record { generation = old.generation + 1; tree = tree; pages = pages; free_list = 0; free_count = 0 } ≡ next_root old made tree
 root_is old made tree pages end most is =
     let same : pages ≡ max old.pages (end_behind 1 made) = most ∙ ap (max old.pages) is in
-    (λ i. record { generation = old.generation + 1; tree = tree; pages = same i })
+    (λ i. record { generation = old.generation + 1; tree = tree; pages = same i; free_list = 0; free_count = 0 })

@@ -76,14 +76,18 @@ sound_by false second possible rest is = absurd (grind (arith, is))
 sound_possible : (bytes : List ℕ) → is_sound bytes ≡ true → is_possible (fields_in bytes) ≡ true
 unfolding is_sound
 sound_possible bytes is =
-    sound_by (little_number 4 (drop 8 bytes) == 1) (little_number 4 (drop 12 bytes) == 4096) (is_possible (fields_in bytes)) (are_zeros (drop 32 bytes)) is
+    sound_by (little_number 4 (drop 8 bytes) == 1) (little_number 4 (drop 12 bytes) == 4096) (is_possible (fields_in bytes)) (are_zeros (drop 40 bytes)) is
 
 possible_known : (root : Root) → is_possible root ≡ true → IsKnown root
-possible_known root is = record { tree = grind (arith, nat_tests, is); pages = grind (arith, nat_tests, is) }
+possible_known root is = record {
+  tree = grind (arith, nat_tests, is);
+  pages = grind (arith, nat_tests, is);
+  unlisted = (grind (arith, nat_tests, is), grind (arith, nat_tests, is));
+}
 
 read_known : (bytes : List ℕ) (root : Root) → root_in bytes ≡ Ok root → IsKnown root
 read_known bytes root is = elim (known_by (are_zeros bytes) (begins_right bytes) (nat_lt 1 (little_number 4 (drop 8 bytes))) (is_sound bytes) bytes root is) [
-  | inl none ↦ subst IsKnown (sym none) (record { tree = omega arith; pages = omega arith })
+  | inl none ↦ subst IsKnown (sym none) (record { tree = omega arith; pages = omega arith; unlisted = (refl, refl) })
   | inr (sound, at) ↦ subst IsKnown (sym at) (possible_known (fields_in bytes) (sound_possible bytes sound))
 ]
 
@@ -99,7 +103,11 @@ fields_back root possible =
     let g : little_number 8 (drop 16 bs) ≡ root.generation = little_number-reads_back 8 root.generation (drop 24 bs) (omega (arith, possible.generation)) in
     let t : little_number 4 (drop 24 bs) ≡ root.tree = little_number-reads_back 4 root.tree (drop 28 bs) (omega (arith, possible.tree, possible.pages)) in
     let p : little_number 4 (drop 28 bs) ≡ root.pages = little_number-reads_back 4 root.pages (drop 32 bs) (omega (arith, possible.pages)) in
-    (λ i. record { generation = g i; tree = t i; pages = p i })
+    let list : little_number 4 (drop 32 bs) ≡ root.free_list =
+    little_number-reads_back 4 root.free_list (drop 36 bs) (omega (arith, possible.unlisted.0)) in
+    let count : little_number 4 (drop 36 bs) ≡ root.free_count =
+    little_number-reads_back 4 root.free_count (drop 40 bs) (omega (arith, possible.unlisted.1)) in
+    (λ i. record { generation = g i; tree = t i; pages = p i; free_list = list i; free_count = count i })
 
 right_back : (root : Root) → begins_right (root_bytes root) ≡ true
 unfolding begins_right
@@ -110,13 +118,15 @@ possible_back root possible =
     let some : nat_lt 0 root.generation ≡ true = grind (arith, nat_tests, possible.committed) in
     let inside : nat_lt root.tree root.pages ≡ true = grind (arith, nat_tests, possible.tree) in
     let few : nat_lt 1048576 root.pages ≡ false = grind (arith, nat_tests, possible.pages) in
-    rw (some, inside, few) refl
+    let no_list : (root.free_list == 0) ≡ true = grind (arith, nat_tests, possible.unlisted.0) in
+    let no_count : (root.free_count == 0) ≡ true = grind (arith, nat_tests, possible.unlisted.1) in
+    rw (some, inside, few, no_list, no_count) refl
 
 sound_back : (root : Root) → IsPossible root → is_sound (root_bytes root) ≡ true
 unfolding is_sound
 sound_back root possible =
     let fields : is_possible (fields_in (root_bytes root)) ≡ true = ap is_possible (fields_back root possible) ∙ possible_back root possible in
-    ap (λ (b : Bool). if not b then false else are_zeros (drop 32 (root_bytes root))) fields
+    ap (λ (b : Bool). if not b then false else are_zeros (drop 40 (root_bytes root))) fields
 
 -- What a commit writes is read as its root.
 pub read_back : (root : Root) → IsPossible root → root_in (root_bytes root) ≡ Ok root
@@ -137,16 +147,17 @@ known_newer even odd first second found one two is = known_both even odd found (
 -- ---- what the code reads
 
 pub fields_is : (bytes : List ℕ) (root : Root) → root.generation ≡ little_number 8 (drop 16 bytes) → root.tree ≡ little_number 4 (drop 24 bytes)
-    → root.pages ≡ little_number 4 (drop 28 bytes) → root ≡ fields_in bytes
+    → root.pages ≡ little_number 4 (drop 28 bytes) → root.free_list ≡ little_number 4 (drop 32 bytes)
+    → root.free_count ≡ little_number 4 (drop 36 bytes) → root ≡ fields_in bytes
 unfolding fields_in
-fields_is bytes root g t p = (λ i. record { generation = g i; tree = t i; pages = p i })
+fields_is bytes root g t p list count = (λ i. record { generation = g i; tree = t i; pages = p i; free_list = list i; free_count = count i })
 
 pub sound_is : (bytes : List ℕ) (rest : Bool) → little_number 4 (drop 8 bytes) ≡ 1 → little_number 4 (drop 12 bytes) ≡ 4096
-    → is_possible (fields_in bytes) ≡ true → rest ≡ are_zeros (drop 32 bytes) → rest ≡ is_sound bytes
+    → is_possible (fields_in bytes) ≡ true → rest ≡ are_zeros (drop 40 bytes) → rest ≡ is_sound bytes
 unfolding is_sound
 sound_is bytes rest format size possible is =
     let pass : (first second third : Bool) → first ≡ true → second ≡ true → third ≡ true
-    → (if not first then false else if not second then false else if not third then false else are_zeros (drop 32 bytes)) ≡ are_zeros (drop 32 bytes) =
+    → (if not first then false else if not second then false else if not third then false else are_zeros (drop 40 bytes)) ≡ are_zeros (drop 40 bytes) =
     λ first second third a b c. rw (a, b, c) refl in
     is ∙ sym (pass (little_number 4 (drop 8 bytes) == 1) (little_number 4 (drop 12 bytes) == 4096) (is_possible (fields_in bytes))
     (grind (arith, nat_tests, format)) (grind (arith, nat_tests, size)) possible)

@@ -88,6 +88,7 @@ module _ (h0 h1 : History) (old : Root) (live pages : List ℕ) (made : List She
           generation = omega (arith, few);
           tree = tree_below (reads (now h1)) next pages after (omega (arith, some)) (has k1);
           pages = omega (arith, old_known.pages, most);
+          unlisted = (refl, refl);
         }
 
     module _ (h2 : History) (sector : List ℕ) (sector_is : sector ≡ root_bytes next) (on : GoesOn h1 h2)

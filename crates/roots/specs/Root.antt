@@ -1,9 +1,11 @@
 -- The 512 bytes of a root sector, and the root that two of them give. A root sector has the mark
 -- DOCPAGE1, the format 1, the page size 4096, the generation in eight bytes, the first page of the
--- tree and the number of pages, then zeros (no list of free pages). Numbers have their lowest byte
--- first. Zeros alone are the root of a file that was never committed.
-use Rattle.std.specs.Prelude.{ℕ, ◌+◌, ◌-◌, ◌%◌, ◌^◌, ◌<◌, ◌≤◌, Bool, false, not, ◌&&◌, ◌==◌, nat_lt}
-use Rattle.std.specs.Prelude.{if◌then◌else◌, List, ◌++◌, drop, replicate, codes, Result, Ok, Err}
+-- tree and the number of pages, the first page of the list of free pages and how many that names,
+-- then zeros. Numbers have their lowest byte first. Zeros alone are the root of a file that was
+-- never committed.
+use Rattle.std.specs.Prelude.{◌≡◌, ℕ, ◌+◌, ◌-◌, ◌%◌, ◌^◌, ◌<◌, ◌≤◌, Bool, false, not, ◌&&◌, ◌==◌}
+use Rattle.std.specs.Prelude.{nat_lt, if◌then◌else◌, List, ◌++◌, drop, replicate, codes, Result, Ok}
+use Rattle.std.specs.Prelude.{Err}
 use Rattle.byteorder.specs.Endian.{little_bytes, little_number}
 use Rattle.page.specs.Format.{are_zeros}
 use Rattle.roots.specs.declared.root.Root.{Root}
@@ -17,13 +19,14 @@ abbrev pub root_head : Root → List ℕ
 root_head root =
     magic ++ little_bytes 4 1 ++ little_bytes 4 4096 ++ little_bytes 8 root.generation
     ++ little_bytes 4 root.tree ++ little_bytes 4 root.pages
+    ++ little_bytes 4 root.free_list ++ little_bytes 4 root.free_count
 
 abbrev pub root_bytes : Root → List ℕ
-root_bytes root = root_head root ++ replicate 480 0
+root_bytes root = root_head root ++ replicate 472 0
 
 -- the root of a file that was never committed
 abbrev pub no_root : Root
-no_root = record { generation = 0; tree = 0; pages = 1 }
+no_root = record { generation = 0; tree = 0; pages = 1; free_list = 0; free_count = 0 }
 
 -- ---- reading a sector
 
@@ -32,13 +35,20 @@ fields_in bytes = record {
   generation = little_number 8 (drop 16 bytes);
   tree = little_number 4 (drop 24 bytes);
   pages = little_number 4 (drop 28 bytes);
+  free_list = little_number 4 (drop 32 bytes);
+  free_count = little_number 4 (drop 36 bytes);
 }
+
+-- no file has a list of free pages yet
+abbrev pub is_unlisted : Root → Bool
+is_unlisted root = (root.free_list == 0) && (root.free_count == 0)
 
 -- A commit has a number, a file has at most 1,048,576 pages, and the tree begins below their
 -- number.
 abbrev pub is_possible : Root → Bool
 is_possible root =
-    nat_lt 0 root.generation && (nat_lt root.tree root.pages && not (nat_lt 1048576 root.pages))
+    nat_lt 0 root.generation && (nat_lt root.tree root.pages
+    && (not (nat_lt 1048576 root.pages) && is_unlisted root))
 
 unfoldable pub begins_right : List ℕ → Bool
 begins_right bytes = little_number 8 bytes == little_number 8 magic
@@ -48,7 +58,7 @@ unfoldable pub is_sound : List ℕ → Bool
 is_sound bytes =
     if not (little_number 4 (drop 8 bytes) == 1) then false else
     if not (little_number 4 (drop 12 bytes) == 4096) then false else
-    if not (is_possible (fields_in bytes)) then false else are_zeros (drop 32 bytes)
+    if not (is_possible (fields_in bytes)) then false else are_zeros (drop 40 bytes)
 
 -- the root in a sector, or the first fault of it
 abbrev pub root_in : List ℕ → Result Root OpenFault
@@ -89,10 +99,14 @@ both (Err even) (Err odd) = Err (worse_fault even odd)
 abbrev pub root_of : List ℕ → List ℕ → Result Root OpenFault
 root_of even odd = both (root_in even) (root_in odd)
 
+abbrev pub IsUnlisted : Root → Type 0
+IsUnlisted root = (root.free_list ≡ 0) × (root.free_count ≡ 0)
+
 -- a root that opening gives: that of no commit, or a possible one
 pub record IsKnown (root : Root) : Type 0 where
   pub tree : root.tree < root.pages
   pub pages : root.pages ≤ 1048576
+  pub unlisted : IsUnlisted root
 
 -- a root that a commit may write
 pub record IsPossible (root : Root) : Type 0 where
@@ -100,3 +114,4 @@ pub record IsPossible (root : Root) : Type 0 where
   pub generation : root.generation < 2 ^ 64
   pub tree : root.tree < root.pages
   pub pages : root.pages ≤ 1048576
+  pub unlisted : IsUnlisted root

@@ -35,12 +35,14 @@ abbrev pub end_behind : ℕ → List Sheet → ℕ
 end_behind end [] = end
 end_behind end (sheet ∷ sheets) = end_behind (sheet.page + 1) sheets
 
--- The root of the next commit. The number of pages never falls.
+-- The root of the next commit. The number of pages never falls. It has no list of free pages yet.
 abbrev pub next_root : Root → List Sheet → ℕ → Root
 next_root root made tree = record {
   generation = root.generation + 1;
   tree = tree;
   pages = max root.pages (end_behind 1 made);
+  free_list = 0;
+  free_count = 0;
 }
 
 -- The turn's pages ascend and lie in a file of at most 1,048,576 pages, and none of them is live.

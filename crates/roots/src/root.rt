@@ -15,13 +15,15 @@ const PAGE_SIZE: u32 = 4096;
 /// The most pages that a file has.
 pub const MAX_PAGES: u32 = 1_048_576;
 
-/// What a commit makes durable: its number, the root page of its tree (0 where there are no entries), and how many pages the file
-/// has, with page 0.
+/// What a commit makes durable: its number, the root page of its tree (0 where there are no entries), how many pages the file has,
+/// with page 0, and the first page of the list of free pages and how many that names. No file has a list yet: these two are 0.
 #[derive(Clone, Copy, Debug, PartialEq, Eq)]
 pub struct Root {
     pub generation: u64,
     pub tree: u32,
     pub pages: u32,
+    pub free_list: u32,
+    pub free_count: u32,
 }
 
 /// The root of a file that was never committed.
@@ -29,6 +31,8 @@ const NO_ROOT: Root = Root {
     generation: 0,
     tree: 0,
     pages: 1,
+    free_list: 0,
+    free_count: 0,
 };
 
 fn begins_right(sector: &[u8]) -> bool
@@ -40,16 +44,18 @@ fn begins_right(sector: &[u8]) -> bool
 
 impl Root {
     /// The bytes of the root's sector up to the zeros.
-    fn head(&self) -> [u8; 32]
+    fn head(&self) -> [u8; 40]
         ensures { result ≡ root_head self.now }
     {
-        let mut head = [0; 32];
+        let mut head = [0; 40];
         head[..8].copy_from_slice(&MAGIC);
         LittleEndian::write_u32(&mut head[8..12], FORMAT);
         LittleEndian::write_u32(&mut head[12..16], PAGE_SIZE);
         LittleEndian::write_u64(&mut head[16..24], self.generation);
         LittleEndian::write_u32(&mut head[24..28], self.tree);
         LittleEndian::write_u32(&mut head[28..32], self.pages);
+        LittleEndian::write_u32(&mut head[32..36], self.free_list);
+        LittleEndian::write_u32(&mut head[36..40], self.free_count);
         head
     }
 
@@ -58,7 +64,7 @@ impl Root {
         ensures { result ≡ root_bytes self.now }
     {
         let mut sector = [0; 512];
-        sector[..32].copy_from_slice(&self.head());
+        sector[..40].copy_from_slice(&self.head());
         sector
     }
 
@@ -71,13 +77,19 @@ impl Root {
             generation: LittleEndian::read_u64(&sector[16..]),
             tree: LittleEndian::read_u32(&sector[24..]),
             pages: LittleEndian::read_u32(&sector[28..]),
+            free_list: LittleEndian::read_u32(&sector[32..]),
+            free_count: LittleEndian::read_u32(&sector[36..]),
         }
     }
 
     fn is_possible(&self) -> bool
         ensures { result ≡ is_possible self.now }
     {
-        0 < self.generation && self.tree < self.pages && self.pages <= MAX_PAGES
+        0 < self.generation
+            && self.tree < self.pages
+            && self.pages <= MAX_PAGES
+            && self.free_list == 0
+            && self.free_count == 0
     }
 
     #[tactic(auto, unfolding(crate::specs::Root::is_sound))]
@@ -95,7 +107,7 @@ impl Root {
         if !Root::fields(sector).is_possible() {
             return false;
         }
-        is_all_zero(&sector[32..])
+        is_all_zero(&sector[40..])
     }
 
     /// The root in a sector. Zeros are the root of a file that was never committed.

@@ -249,6 +249,8 @@ impl<D: Disk> Store<D> {
             generation: self.root.generation + 1,
             tree,
             pages: greater(self.root.pages, end_of(made)),
+            free_list: 0,
+            free_count: 0,
         };
         match write_commit(&mut self.disk, made, root) {
             Ok(()) => {

@@ -190,3 +190,44 @@ fn pinned_pages_are_not_taken(rt: HostRuntime) -> Result<(), Fail> {
     assert_eq!(rt; (book.version(), book.full_takes()), (6, 3));
     Ok(())
 }
+
+/// How many pages each page of the list names, in a file of so many pages of which none but page 0 is in use.
+fn listed(alloc: Global, pages: u32) -> Result<Vec<usize>, NoMemory> {
+    let mut sizes = Vec::new(alloc);
+    let mut book = FreePages::open(alloc, &[], pages, 1)?;
+    if let Some(list) = book.write_list(alloc, pages)? {
+        for at in 0..list.pages.len() {
+            let part = list.part(alloc, at)?;
+            sizes.push(part.named.len())?;
+        }
+    }
+    Ok(sizes)
+}
+
+/// How many pages a file has, and how many each page of its list names: 1,019, and the last one what is left. The list's own pages
+/// aren't among them.
+const LISTS: [(u32, &[usize]); 5] = [
+    (1, &[]),
+    (2, &[0]),
+    (1_021, &[1_019]),
+    (1_022, &[1_019, 0]),
+    (1_023, &[1_019, 1]),
+];
+
+#[test]
+fn lists_have_the_pages_that_they_need(rt: HostRuntime) -> Result<(), Fail> {
+    for (pages, sizes) in LISTS {
+        assert_eq!(rt; listed(rt.alloc(), pages)?.as_slice(), sizes);
+    }
+    Ok(())
+}
+
+/// The one page that isn't in use was retired in this turn, so none is free for the list.
+#[test]
+fn a_list_without_room_is_refused(rt: HostRuntime) -> Result<(), Fail> {
+    let mut book = FreePages::open(rt.alloc(), &[1], 2, 5)?;
+    book.retire(1, 5)?;
+    assert!(rt; book.write_list(rt.alloc(), 2)?.is_none());
+    assert_eq!(rt; book.full_takes(), 1);
+    Ok(())
+}

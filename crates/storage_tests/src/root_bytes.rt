@@ -17,7 +17,7 @@ enum Sector {
 use Sector::{Changed, Letters, Root, Zeros};
 
 /// Both sectors, and the generation that is opened.
-const ROWS: [(Sector, Sector, Result<u64, OpenFault>); 18] = [
+const ROWS: [(Sector, Sector, Result<u64, OpenFault>); 20] = [
     (Zeros, Zeros, Ok(0)),
     (Zeros, Root(1), Ok(1)),
     (Root(2), Root(1), Ok(2)),
@@ -28,9 +28,11 @@ const ROWS: [(Sector, Sector, Result<u64, OpenFault>); 18] = [
     (Root(2), Letters, Err(OpenFault::NotADatabase)),
     (Changed(2, 8, 2), Letters, Err(OpenFault::NotADatabase)),
     (Changed(2, 8, 2), Root(1), Err(OpenFault::NewerFormat)),
-    // a format 0, another page size, a tail, a tree past the end, no page
+    // a format 0, another page size, a list of free pages, how many it names, a tail, a tree past the end, no page
     (Zeros, Changed(1, 8, 0), Err(OpenFault::Damaged)),
     (Zeros, Changed(1, 13, 0), Err(OpenFault::Damaged)),
+    (Zeros, Changed(1, 32, 1), Err(OpenFault::Damaged)),
+    (Zeros, Changed(1, 36, 1), Err(OpenFault::Damaged)),
     (Zeros, Changed(1, 511, 1), Err(OpenFault::Damaged)),
     (Zeros, Changed(1, 24, 1), Err(OpenFault::Damaged)),
     (Zeros, Changed(1, 28, 0), Err(OpenFault::Damaged)),

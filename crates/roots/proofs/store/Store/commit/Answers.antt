@@ -11,7 +11,7 @@ returns-then-self-2-clause-moves g c before live committed after pages turn =
 pub returns-in-Ok-clause-moves : goal.returns-in-Ok-clause-moves
 returns-in-Ok-clause-moves g c before live committed after pages turn =
     let s = c.args.self.now in
-    let root : Root = record { generation = s.root.generation + 1; tree = c.args.tree; pages = c.greater.result } in
+    let root : Root = record { generation = s.root.generation + 1; tree = c.args.tree; pages = c.greater.result; free_list = 0; free_count = 0 } in
     let is : root ≡ next_root s.root c.args.made.now c.args.tree =
     root_is s.root c.args.made.now c.args.tree c.greater.result c.end_of.result c.greater.ensures (c.end_of.ensures turn.inside) in
     done g.D.Disk.history s c.write_commit.new.disk root (next_root s.root c.args.made.now c.args.tree) pages before after live committed is
@@ -20,7 +20,7 @@ returns-in-Ok-clause-moves g c before live committed after pages turn =
 pub returns-in-Err-clause-moves : goal.returns-in-Err-clause-moves
 returns-in-Err-clause-moves g c before live committed after pages turn =
     let s = c.args.self.now in
-    let root : Root = record { generation = s.root.generation + 1; tree = c.args.tree; pages = c.greater.result } in
+    let root : Root = record { generation = s.root.generation + 1; tree = c.args.tree; pages = c.greater.result; free_list = 0; free_count = 0 } in
     let next = next_root s.root c.args.made.now c.args.tree in
     let is : root ≡ next = root_is s.root c.args.made.now c.args.tree c.greater.result c.end_of.result c.greater.ensures (c.end_of.ensures turn.inside) in
     failed g.D.Disk.history s (record s { disk = c.write_commit.new.disk; stopped = true }) root next pages before after c.in-Err.field-0

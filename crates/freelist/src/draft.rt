@@ -1,0 +1,61 @@
+//! A list of free pages in the making.
+ghost use Rattle.std.specs.Prelude.{◌≡◌, ◌+◌, ◌<◌, ◌++◌, ◌∷◌, [], true, max, slice_set, OnOk};
+ghost use Rattle.freelist.specs.Book.{is_in_use};
+ghost use Rattle.freelist.specs.ListWriting.{Counts, needs_more};
+ghost use Rattle.freelist.specs.declared.states.PageState.TheVariants as states;
+
+use crate::book::NoMemory;
+use crate::list::list_pages;
+use crate::states::PageStates;
+use std::alloc::Global;
+
+/// A list in the making: its own pages so far, the page count of the file with them, and how many pages below that aren't in use.
+#[derive(Drop)]
+pub(crate) struct Draft {
+    pub(crate) pages: Vec<u32>,
+    pub(crate) page_count: usize,
+    unused: usize,
+}
+
+impl Draft {
+    /// A list without pages of its own, in a file of so many pages.
+    pub(crate) fn begin(alloc: Global, page_count: u32, pages: &PageStates) -> Draft
+        ensures pages { result.pages.items ≡ [] }
+        ensures count { result.page_count ≡ page_count }
+        ensures counts { Counts result pages.now }
+    {
+        let page_count = page_count as usize;
+        Draft {
+            pages: Vec::new(alloc),
+            page_count,
+            unused: pages.count_unused(0, page_count),
+        }
+    }
+
+    /// Whether the list has fewer pages of its own than it needs.
+    pub(crate) fn needs_more(&self) -> bool
+        ensures { result ≡ needs_more self.now }
+    {
+        self.pages.len() < list_pages(self.unused)
+    }
+
+    /// Notes a page that was taken for the list.
+    pub(crate) fn note(&mut self, page: u32, pages: &PageStates) -> Result<(), NoMemory>
+        requires some { 0 < page }
+        requires taken { is_in_use pages.now page ≡ true }
+        requires counts { Counts self.old (slice_set pages.now page states.Free) }
+        ensures pages { OnOk result (self.new.pages.items ≡ self.old.pages.items ++ page ∷ []) }
+        ensures count { OnOk result (self.new.page_count ≡ max self.old.page_count (page + 1)) }
+        ensures counts { OnOk result (Counts self.new pages.now) }
+    {
+        self.pages.push(page)?;
+        let page = page as usize;
+        if page < self.page_count {
+            self.unused -= 1;
+        } else {
+            self.unused += pages.count_unused(self.page_count, page);
+            self.page_count = page + 1;
+        }
+        Ok(())
+    }
+}
