@@ -10,3 +10,4 @@ pub mod Listing
 pub mod Dropping
 pub mod LevelLaws
 pub mod Modifying
+pub mod Distinct

@@ -2,6 +2,7 @@
 #![tactic(auto)]
 
 mod batch;
+mod distinct;
 mod dropping;
 mod fields;
 mod fresh_ids;
@@ -18,6 +19,7 @@ mod write_errors;
 mod writes;
 
 pub use batch::{Batch, drop_first, is_alone, is_ordered_in};
+pub use distinct::{Distinct, documents_in, find_values, get_more, key_of};
 pub use dropping::{drop_command, dropped_reply, first_batch, is_gone, list_command};
 pub use fields::{Fact, add, document_of, put, set, text_value};
 pub use fresh_ids::FreshIds;

@@ -14,6 +14,7 @@ ghost use Rattle.drivers.specs.Answering.{is_single, kill_wait, collections_wait
 use crate::answering::{cursor_left, end, kill_command, reword, widen};
 use crate::cleaning::kept;
 use crate::command::Asked;
+use crate::distinct::distinct_wait;
 use crate::explaining::explained;
 use crate::message::Message;
 use crate::server_info::ServerInfo;
@@ -21,7 +22,7 @@ use crate::starting::{name_of, start, unheard};
 use crate::step::Step;
 use bson::{Array, Document, NoMemory, Text};
 use driver_replies::{
-    Batch, FreshIds, Kills, Modification, Part, Tally, Write, collection_of, drop_command,
+    Batch, Distinct, FreshIds, Kills, Modification, Part, Tally, Write, collection_of, drop_command,
     drop_first, dropped_reply, first_batch, first_id, ids_of, is_alone, is_gone, is_ordered_in,
     is_true, name_in, refused_statement, retold, text_or_none, write_of,
 };
@@ -59,6 +60,8 @@ pub enum Wait {
     Changed(Modification, Option<Part>),
     /// It tells the document again that this finds, which may be a new one.
     Again(Modification, bool, Part),
+    /// It has the next documents, or the first, whose values are told.
+    Distinct(Distinct),
 }
 
 /// What is kept of a message until the database has answered: whether the driver wants no reply, the database and the collection
@@ -160,6 +163,9 @@ fn wait_of(alloc: Global, ids: FreshIds, body: &Document) -> Result<Wait, NoMemo
     }
     if is_modification(name_of(body)) {
         return Ok(Wait::Found(Modification::new(alloc, ids, body)?));
+    }
+    if name_of(body) == "distinct" {
+        return distinct_wait(alloc, body);
     }
     if is_single(body) {
         return Ok(Wait::Single);
@@ -408,6 +414,7 @@ impl Plan {
             Wait::Again(modification, is_new, subject) => {
                 self.found_again(alloc, modification, is_new, subject, reply)
             }
+            Wait::Distinct(distinct) => self.distinct_on(alloc, distinct, reply),
         }
     }
 }
