@@ -84,7 +84,7 @@ impl PartialEq for Ordered {
     ghost laws = { partial_equiv_from_equiv (eq_by_cmp_equiv compare_total) };
 
     fn eq(&self, other: &Self) -> bool {
-        value_order::compare(&self.value, &other.value) == Ordering::Equal
+        self.cmp(other) == Ordering::Equal
     }
 }
 

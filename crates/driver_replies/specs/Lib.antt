@@ -11,3 +11,4 @@ pub mod Dropping
 pub mod LevelLaws
 pub mod Modifying
 pub mod Distinct
+pub mod Indexes

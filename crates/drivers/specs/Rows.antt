@@ -85,8 +85,8 @@ explains name t =
     (pair (codes "$db") (words (codes "t")) no_pairs))
 
 -- {distinct: "c", key, $db: "t"}
-abbrev pub distinct : List ℕ → Pairs
-distinct key =
+abbrev pub asks_distinct : List ℕ → Pairs
+asks_distinct key =
     pair (codes "distinct") (words (codes "c"))
     (pair (codes "key") (words key) (pair (codes "$db") (words (codes "t")) no_pairs))
 
@@ -146,14 +146,14 @@ pub record StepRows : Type 0 where
       refusal_document (pos 72) (codes "InvalidOptions")
       (codes "field 'hint': not supported by docpage")
       )
-  pub distinct : (info : ServerInfo) → done info (distinct (codes "a.b"))
+  pub distinct : (info : ServerInfo) → done info (asks_distinct (codes "a.b"))
       ≡ steps.Ask (
       pair (codes "find") (words (codes "c"))
       (pair (codes "filter") (document no_pairs)
       (pair (codes "projection") (document a_alone)
       (pair (codes "$db") (words (codes "t")) no_pairs)))
       )
-  pub no_path : (info : ServerInfo) → done info (distinct (codes "a..b"))
+  pub no_path : (info : ServerInfo) → done info (asks_distinct (codes "a..b"))
       ≡ steps.Reply
       (refusal_document (pos 2) (codes "BadValue") (codes "field 'key': no path"))
   pub get_more : (info : ServerInfo) → done info (without (codes "getMore"))
