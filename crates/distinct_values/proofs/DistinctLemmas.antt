@@ -31,7 +31,6 @@ each_with_all P values (t ∷ ts) h k = each_with_all P (with_value values t) ts
 
 -- ---- that they rise
 
-
 less_still : (t u : Tree) (us : List Tree) → compare t u ≡ Less → AllByRecursion (λ v. compare u v ≡ Less) us → AllByRecursion (λ v. compare t v ≡ Less) us
 less_still t u [] e h = tt
 less_still t u (v ∷ vs) e h = (compare_total.trans t u v e h.0, less_still t u vs e h.1)

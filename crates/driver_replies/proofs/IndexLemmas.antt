@@ -1,5 +1,5 @@
 -- What is told of indexes, one after the other, and how deep it nests.
-use Rattle.std.proofs.Common.{◌≡◌, ℕ, ◌+◌, ◌<◌, ◌≤◌, Bool, true, false, List, length, drop, slice_index_or, Some, refl, ap, sym, ◌∙◌, codes, arith}
+use Rattle.std.proofs.Common.{◌≡◌, ℕ, ◌+◌, ◌<◌, ◌≤◌, Bool, true, false, List, length, drop, slice_index_or, Some, ap, sym, ◌∙◌, codes, arith}
 use Rattle.std.specs.Prelude.{pos, if◌then◌else◌}
 use Rattle.std.proofs.lemmas.List.{drop_all}
 use Rattle.bson.specs.EditPlaces.{append_items-one, append_items-none}

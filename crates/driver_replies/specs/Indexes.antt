@@ -1,6 +1,6 @@
 -- What drivers are told of a collection's indexes (MongoDB manual, listIndexes): of each what the
 -- database says and the version of its form, and not that the one on `_id` is unique.
-use Rattle.std.specs.Prelude.{ℕ, pos, Bool, if◌then◌else◌, List, codes, Option, Some}
+use Rattle.std.specs.Prelude.{pos, Bool, if◌then◌else◌, codes, Option, Some}
 use Rattle.std.specs.Str.{bytes_eq}
 use Rattle.bson.specs.Edits.{put, cut}
 use Rattle.bson.specs.Lookup.{lookup}

@@ -199,7 +199,7 @@ wait-alike ids command t ps qs h =
 
     choose : Wait → Wait → Modification → Wait → Bool → Wait → Wait
     choose kill listed m distinct single rest = if bytes_eq command (codes "killCursors") then kill else if bytes_eq command (codes "listCollections") then listed
-        else if bytes_eq command (codes "dropDatabase") then waits.Listed else if bytes_eq command (codes "explain") then waits.Explained
+        else if bytes_eq command (codes "listIndexes") then waits.Indexes else if bytes_eq command (codes "dropDatabase") then waits.Listed else if bytes_eq command (codes "explain") then waits.Explained
         else if is_modification command then waits.Found m else if bytes_eq command (codes "distinct") then distinct else if single
         then waits.Single else rest
 

@@ -31,6 +31,7 @@ use Rattle.driver_replies.specs.Distinct.{distinct_of, documents_in, with_docume
 use Rattle.driver_replies.specs.Distinct.{distinct_reply}
 use Rattle.driver_replies.specs.declared.distinct.Distinct.{Distinct}
 use Rattle.driver_replies.specs.Dropping.{drop_command, is_gone, dropped_reply}
+use Rattle.driver_replies.specs.Indexes.{indexes_told}
 use Rattle.driver_replies.specs.Listing.{name_in, batch_in, retold}
 use Rattle.drivers.specs.Explaining.{explained}
 use Rattle.drivers.specs.Starting.{name_of, unheard}
@@ -92,6 +93,7 @@ abbrev pub wait_of : FreshIds → Pairs → Wait
 wait_of ids body =
     if bytes_eq (name_of body) (codes "killCursors") then kill_wait body (ids_of body) else
     if bytes_eq (name_of body) (codes "listCollections") then collections_wait body else
+    if bytes_eq (name_of body) (codes "listIndexes") then waits.Indexes else
     if bytes_eq (name_of body) (codes "dropDatabase") then waits.Listed else
     if bytes_eq (name_of body) (codes "explain") then waits.Explained else
     if is_modification (name_of body) then waits.Found (modification_of ids body) else
@@ -371,6 +373,8 @@ answered_by (waits.Collections wanted) plan reply = (
   record plan { wait = waits.Plain },
   final plan (retold wanted plan.database (batch_in (lookup reply (codes "cursor"))) reply),
 )
+answered_by waits.Indexes plan reply =
+    (record plan { wait = waits.Plain }, final plan (indexes_told reply))
 answered_by waits.Explained plan reply = (
   record plan { wait = waits.Plain },
   final plan (explained (lookup reply (codes "plan")) reply),

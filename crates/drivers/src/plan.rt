@@ -22,9 +22,9 @@ use crate::starting::{name_of, start, unheard};
 use crate::step::Step;
 use bson::{Array, Document, NoMemory, Text};
 use driver_replies::{
-    Batch, Distinct, FreshIds, Kills, Modification, Part, Tally, Write, collection_of, drop_command,
-    drop_first, dropped_reply, first_batch, first_id, ids_of, is_alone, is_gone, is_ordered_in,
-    is_true, name_in, refused_statement, retold, text_or_none, write_of,
+    Batch, Distinct, FreshIds, Kills, Modification, Part, Tally, Write, collection_of,
+    drop_command, drop_first, dropped_reply, first_batch, first_id, ids_of, indexes_told, is_alone,
+    is_gone, is_ordered_in, is_true, name_in, refused_statement, retold, text_or_none, write_of,
 };
 use std::alloc::Global;
 use std::mem;
@@ -52,6 +52,8 @@ pub enum Wait {
     Drops(Array),
     /// It makes the answer, with the collection of this name alone, if there is one.
     Collections(Option<Text>),
+    /// It lists indexes, and makes the answer.
+    Indexes,
     /// It says a plan, and makes the answer.
     Explained,
     /// It tells the first document, if there is one, which is changed.
@@ -154,6 +156,9 @@ fn wait_of(alloc: Global, ids: FreshIds, body: &Document) -> Result<Wait, NoMemo
     }
     if name_of(body) == "listCollections" {
         return collections_wait(alloc, body);
+    }
+    if name_of(body) == "listIndexes" {
+        return Ok(Wait::Indexes);
     }
     if name_of(body) == "dropDatabase" {
         return Ok(Wait::Listed);
@@ -408,6 +413,7 @@ impl Plan {
             Wait::Drops(collections) => self.drop_on(alloc, collections, reply),
             Wait::Kill(kills) => self.killed(alloc, kills, reply),
             Wait::Collections(wanted) => self.retell(alloc, &wanted, reply),
+            Wait::Indexes => self.final_step(alloc, indexes_told(alloc, reply)?),
             Wait::Explained => self.final_step(alloc, explained(alloc, reply)?),
             Wait::Found(modification) => self.found(alloc, modification, reply),
             Wait::Changed(modification, was) => self.changed(alloc, modification, was, reply),

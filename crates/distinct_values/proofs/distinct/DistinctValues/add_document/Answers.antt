@@ -11,7 +11,7 @@ use Rattle.distinct_values.proofs.distinct.DistinctValues.add_document.Goals as 
 pub found-init : goal.found-init
 found-init c =
     let is : map reached c.deref-one-items.result.now ≡ reach c.args.path.now (document c.args.document.now) =
-        ap (map reached) c.deref-one-items.ensures.value ∙ c.in_ok-found.ensures in
+    ap (map reached) c.deref-one-items.ensures.value ∙ c.in_ok-found.ensures in
     record {
       left = refl;
       flat = subst (AreFlat 98) (sym is) (reach_flat 98 c.args.path.now (document c.args.document.now) (omega (arith, c.requires)));
