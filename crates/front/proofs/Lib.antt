@@ -2,4 +2,3 @@ mod EachLemmas
 mod LoanLemmas
 mod HandingLemmas
 mod TyingLemmas
-mod AloneLemmas

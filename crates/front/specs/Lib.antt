@@ -1,5 +1,4 @@
 pub mod Lending
 pub mod Serving
 pub mod Tying
-pub mod Alone
 pub mod Fronting

@@ -1,12 +1,9 @@
 //! A socket of a driver.
 
-ghost use Rattle.std.specs.Prelude.{◌≡◌, true, false, None, is_some, IfSome, OnOk, OnErr};
+ghost use Rattle.std.specs.Prelude.{◌≡◌, true, false, is_some, IfSome, OnOk, OnErr};
 ghost use Rattle.drivers.specs.Framing.{IsShort};
 ghost use Rattle.front.specs.Serving.{fresh, fed, waits};
 ghost use Rattle.front.specs.Tying.{is_asked};
-ghost use Rattle.front.specs.Alone.{has_begun, is_alone};
-ghost use Rattle.drivers.specs.Answering.{asks_alone};
-ghost use Rattle.drivers.specs.AloneLaws.{is_later};
 
 use crate::job::{Job, Question, Stage};
 use bson::{Document, MESSAGE_LIMIT, NoMemory};
@@ -62,8 +59,7 @@ impl Socket {
     /// Takes the message at the front, if none is worked on, and does what is done first with it. A socket with a fault at its
     /// front, or for whose message memory ran out, is closed.
     pub fn begin(&mut self, alloc: Global, info: &ServerInfo)
-        ensures asked { is_asked self.old.job ≡ true → is_asked self.new.job ≡ true }
-        ensures begun { has_begun self.new ≡ true → has_begun self.old ≡ true }
+        ensures { is_asked self.old.job ≡ true → is_asked self.new.job ≡ true }
     {
         if self.is_over || self.job.is_some() {
             return;
@@ -78,10 +74,7 @@ impl Socket {
     }
 
     /// Does what is done first with a message.
-    fn start(&mut self, alloc: Global, info: &ServerInfo, message: Message)
-        requires { self.old.job ≡ None }
-        ensures { has_begun self.new ≡ false }
-    {
+    fn start(&mut self, alloc: Global, info: &ServerInfo, message: Message) {
         let form = message.form;
         let number = message.number;
         match Plan::start(alloc, info, message) {
@@ -91,11 +84,7 @@ impl Socket {
     }
 
     /// Does what comes next with a message: the database is asked, or an answer is ready, or there is none.
-    fn follow(&mut self, alloc: Global, form: Form, number: u32, plan: Plan, step: Step)
-        requires { self.old.job ≡ None }
-        ensures { has_begun self.new ≡ true
-            → (asks_alone plan.wait ≡ true) × (is_later plan.wait ≡ true) }
-    {
+    fn follow(&mut self, alloc: Global, form: Form, number: u32, plan: Plan, step: Step) {
         let question = match step {
             Step::Ask(command) => Question {
                 cursor: None,
@@ -116,9 +105,7 @@ impl Socket {
     }
 
     /// Whether nobody else may ask the database before the message that is worked on is answered.
-    pub fn asks_alone(&self) -> bool
-        ensures { result ≡ is_alone self.now }
-    {
+    pub fn asks_alone(&self) -> bool {
         match &self.job {
             Some(job) => job.plan.asks_alone(),
             None => false,
@@ -139,8 +126,7 @@ impl Socket {
 
     /// The database was asked.
     pub fn wait(&mut self)
-        ensures asked { is_some self.old.job ≡ true → is_asked self.new.job ≡ true }
-        ensures alone { is_alone self.new ≡ is_alone self.old }
+        ensures { is_some self.old.job ≡ true → is_asked self.new.job ≡ true }
     {
         if let Some(job) = &mut self.job {
             job.stage = Stage::Waits;
@@ -148,9 +134,7 @@ impl Socket {
     }
 
     /// The database has answered the message that is worked on.
-    pub fn take_reply(&mut self, alloc: Global, reply: Document)
-        ensures { has_begun self.new ≡ true → is_alone self.old ≡ true }
-    {
+    pub fn take_reply(&mut self, alloc: Global, reply: Document) {
         let Some(job) = self.job.take() else {
             return;
         };
@@ -167,9 +151,7 @@ impl Socket {
     }
 
     /// The database can't be asked, since the command is too long for a message.
-    pub fn refuse_long(&mut self, alloc: Global)
-        ensures { has_begun self.new ≡ true → is_alone self.old ≡ true }
-    {
+    pub fn refuse_long(&mut self, alloc: Global) {
         match refusal_document(alloc, Refusal::BSONObjectTooLarge) {
             Ok(reply) => self.take_reply(alloc, reply),
             Err(_) => self.is_over = true,
@@ -177,9 +159,7 @@ impl Socket {
     }
 
     /// Makes the frame of an answer.
-    fn finish(&mut self, alloc: Global, form: Form, number: u32, step: Step)
-        ensures { self.new.job ≡ self.old.job }
-    {
+    fn finish(&mut self, alloc: Global, form: Form, number: u32, step: Step) {
         let reply_no = next_number(self.last_reply);
         match frame(alloc, form, reply_no, number, step) {
             Ok(Some(frame)) => {
