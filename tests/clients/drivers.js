@@ -23,9 +23,10 @@ async function main() {
   assert.deepStrictEqual([told.value.born, told.lastErrorObject.updatedExisting], [1816, true]);
   assert.strictEqual((await people.findOneAndDelete({ _id: 302 })).value._id, 302);
   await people.createIndex({ half: 1 });
-  assert.deepStrictEqual((await people.indexes()).map((index) => index.name), ["_id_", "half_1"]);
+  assert.deepStrictEqual((await people.indexes()).map((index) => [index.name, index.v]), [["_id_", 2], ["half_1", 2]]);
   const groups = await people.aggregate([{ $group: { _id: null, most: { $max: "$half" } } }]).toArray();
   assert.deepStrictEqual(groups, [{ _id: null, most: 150 }]);
+  assert.deepStrictEqual(await people.distinct("half", { _id: { $gte: 297 } }), [148, 149, 150]);
   assert.strictEqual((await people.deleteMany({ half: { $lt: 100 } })).deletedCount, 198);
   assert.deepStrictEqual((await client.db("node").listCollections().toArray()).map((c) => c.name), ["people"]);
   await client.close();

@@ -27,5 +27,6 @@ expect($people->find_one_and_delete({ _id => 302 })->{_id}, 302);
 $people->indexes->create_one([half => 1]);
 expect(join(" ", map { $_->{name} } $people->indexes->list->all), "_id_ half_1");
 expect($people->aggregate([{ '$group' => { _id => undef, most => { '$max' => '$half' } } }])->next->{most}, 150);
+expect(join(" ", $people->distinct("half", { _id => { '$gte' => 297 } })->all), "148 149 150");
 expect($people->delete_many({ half => { '$lt' => 100 } })->deleted_count, 198);
 expect(join(" ", $client->db("perl")->collection_names), "people");

@@ -277,6 +277,38 @@ def counts(server):
                           {"_id": "c", "sum": 153, "n": 9}])
 
 
+def distincts(server):
+    """The distinct values of a path, over several batches of documents."""
+    client = server.client()
+    books = client.test.distinct
+    books.insert_many([{"_id": n, "shelf": n % 3, "tags": [f"t{n % 4}", "all"], "by": [{"name": f"n{n % 5}"}, {"name": "we"}, {"other": 1}]}
+                       for n in range(500)])
+    expect(books.distinct("shelf"), [0, 1, 2])
+    expect(books.distinct("shelf", {"_id": {"$lt": 2}}), [0, 1])
+    expect(books.distinct("tags"), ["all", "t0", "t1", "t2", "t3"])
+    expect(books.distinct("by.name", {"_id": {"$in": [1, 7]}}), ["n1", "n2", "we"])
+    expect(books.distinct("by.1.name"), ["we"])
+    expect(books.distinct("_id", {"shelf": 0, "_id": {"$gte": 490}}), [492, 495, 498])
+    expect(len(books.distinct("_id")), 500)
+    expect(books.distinct("missing"), [])
+    expect(client.test.nowhere.distinct("a"), [])
+    # equal numbers are one value, as it was found first; null is a value, what is missing none; arrays in arrays stay whole
+    mixed = client.test.mixed
+    mixed.insert_many([{"_id": 0, "a": bson.Int64(1)}, {"_id": 1, "a": 1}, {"_id": 2, "a": None}, {"_id": 3}, {"_id": 4, "a": []},
+                       {"_id": 5, "a": [[2, 1], {"b": 1}, "x"]}, {"_id": 6, "a": {"b": 1}}])
+    expect(mixed.distinct("a"), [None, 1, "x", {"b": 1}, [2, 1]])
+    expect(type(mixed.distinct("a")[1]), bson.Int64)
+    expect(mixed.distinct("a.b"), [1])
+    for code, fields in ((14, {"key": 1}), (14, {}), (2, {"key": ""}), (2, {"key": "$a"}), (2, {"key": "a..b"}), (14, {"key": "a", "query": 1}),
+                         (72, {"key": "a", "hint": "a_1"}), (72, {"key": "a", "fields": 1}), (72, {"key": "a", "collation": {"locale": "de"}}),
+                         (52, {"key": "a", "query": {"$frob": 1}})):
+        refused(OperationFailure, lambda: client.test.command("distinct", "mixed", **fields), code)
+    # more values than a message holds
+    client.test.wide.insert_many([{"_id": n, "text": f"{n:04}" * 10_000} for n in range(30)])
+    refused(OperationFailure, lambda: client.test.wide.distinct("text"), 10334)
+    expect(client.test.command("distinct", "mixed", key="a", comment="why", readConcern={"level": "majority"})["ok"], 1)
+
+
 def indexes(server):
     database = server.client().indexed
     users = database.users
@@ -288,6 +320,7 @@ def indexes(server):
     expect(sorted(told), ["_id_", "both", "city_1", "name_1"])
     expect((told["name_1"]["unique"], told["city_1"].get("unique"), told["both"]["key"]),
            (True, None, [("city", 1), ("name", -1)]))
+    expect(([told[name]["v"] for name in sorted(told)], told["_id_"]), ([2, 2, 2, 2], {"key": [("_id", 1)], "v": 2}))
     expect([d["_id"] for d in users.find({"city": 2, "name": "n5"})], [5])
     refused(DuplicateKeyError, lambda: users.insert_one({"_id": 99, "name": "n5"}))
     plan = lambda found: found.explain()["queryPlanner"]["winningPlan"]["stage"]
@@ -441,7 +474,7 @@ OTHERS = [other_driver("ruby", ["ruby", "-rmongo", "-e", "1"], ["ruby", f"{HERE}
           other_driver("node", NODE + ["-e", "require('mongodb')"], NODE + [f"{HERE}/drivers.js"]),
           other_driver("c", ["sh", "-c", COMPILE], [f"{FOLDER}/session"])]
 
-CASES = [handshake, inserts, finds, cursors, abandoned_cursors, updates, batches, upserts, modifications, deletes, counts, indexes, collections, refusals,
+CASES = [handshake, inserts, finds, cursors, abandoned_cursors, updates, batches, upserts, modifications, deletes, counts, distincts, indexes, collections, refusals,
          unacknowledged, pool, clients, idle_sockets, killed]
 
 

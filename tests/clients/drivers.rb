@@ -28,7 +28,16 @@ expect(people.find(name: "Grace").first["_id"], made)
 expect(people.find_one_and_update({ name: "Ada" }, { "$inc" => { born: 1 } }, return_document: :after)["born"], 1816)
 expect(people.find_one_and_delete(_id: 302)["_id"], 302)
 people.indexes.create_one({ half: 1 })
-expect(people.indexes.map { |index| index["name"] }, %w[_id_ half_1])
+expect(people.indexes.map { |index| [index["name"], index["v"], index["unique"]] }, [["_id_", 2, nil], ["half_1", 2, nil]])
+listed = client.database.command(listCollections: 1).documents.first["cursor"]["firstBatch"]
+expect(listed.map { |collection| collection["name"] }, ["people"])
+begin
+  client.database.collection_names
+  raise "a regular expression was taken"
+rescue Mongo::Error::OperationFailure => fault
+  expect(fault.message.include?("docpage has no BSON type regex (at 'filter.name.$not')"), true)
+end
 expect(people.aggregate([{ "$group" => { _id: nil, most: { "$max" => "$half" } } }]).first["most"], 150)
+expect(people.distinct(:half, _id: { "$gte" => 297 }), [148, 149, 150])
 expect(people.delete_many(half: { "$lt" => 100 }).deleted_count, 198)
 client.close

@@ -22,7 +22,7 @@ with_one made rest wanted (Some name) = at (is_wanted wanted name)
     at true = append_items-one made (document (told_of name)) rest
     at false = ap (λ (ts : Items). append_items ts rest) (append_items-none made)
 
-next : (vs : List Value) (i : ℕ) (v : Value) → i < length vs → items_of (drop i vs) ≡ item (tree (slice_index_or vs i v)) (items_of (drop (i + 1) vs))
+pub next : (vs : List Value) (i : ℕ) (v : Value) → i < length vs → items_of (drop i vs) ≡ item (tree (slice_index_or vs i v)) (items_of (drop (i + 1) vs))
 next vs i v h =
     let parts : drop i vs ≡ slice_index_or vs i v ∷ drop (i + 1) vs = rw (add-one, drop-cons vs i v) refl in
     ap items_of parts

@@ -1,7 +1,7 @@
 -- How deep the statements of a findAndModify nest.
-use Rattle.std.proofs.Common.{◌≡◌, ◌≤◌, ℕ, Bool, true, false, Option, Some, None, ap, codes, arith, refl}
-use Rattle.std.specs.Prelude.{if◌then◌else◌, max}
-use Rattle.bson.specs.Tree.{Tree, Pairs, no_pairs, pair, append}
+use Rattle.std.proofs.Common.{◌≡◌, ◌≤◌, Bool, true, false, Option, Some, None, ap, codes, arith, refl}
+use Rattle.std.specs.Prelude.{if◌then◌else◌}
+use Rattle.bson.specs.Tree.{Tree, Pairs, no_pairs, pair}
 use Rattle.bson.specs.EditPlaces.{pairs_levels-append}
 use Rattle.bson.specs.Lawful.{levels, pairs_levels}
 use Rattle.bson.specs.Lookup.{lookup}

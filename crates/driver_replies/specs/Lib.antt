@@ -10,3 +10,5 @@ pub mod Listing
 pub mod Dropping
 pub mod LevelLaws
 pub mod Modifying
+pub mod Distinct
+pub mod Indexes

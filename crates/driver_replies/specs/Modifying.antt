@@ -3,7 +3,6 @@
 -- database between them.
 use Rattle.std.specs.Prelude.{ℕ, pos, Bool, true, false, ◌&&◌, not, nat_lt, if◌then◌else◌, List}
 use Rattle.std.specs.Prelude.{codes, Option, Some, None}
-use Rattle.std.specs.Option.{option_and_then}
 use Rattle.bson.specs.Tree.{Tree, scalar, null, document, array, Pairs, no_pairs, pair, append}
 use Rattle.bson.specs.Tree.{no_items, item}
 use Rattle.bson.specs.Lawful.{pairs_levels}

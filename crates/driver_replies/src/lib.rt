@@ -2,9 +2,11 @@
 #![tactic(auto)]
 
 mod batch;
+mod distinct;
 mod dropping;
 mod fields;
 mod fresh_ids;
+mod indexes;
 mod kills;
 pub mod laws;
 mod listing;
@@ -18,9 +20,11 @@ mod write_errors;
 mod writes;
 
 pub use batch::{Batch, drop_first, is_alone, is_ordered_in};
+pub use distinct::{Distinct, documents_in, find_values, get_more, key_of};
 pub use dropping::{drop_command, dropped_reply, first_batch, is_gone, list_command};
 pub use fields::{Fact, add, document_of, put, set, text_value};
 pub use fresh_ids::FreshIds;
+pub use indexes::indexes_told;
 pub use kills::{Kills, cursor_of, first_id, ids_of, kill_one};
 pub use listing::{name_in, retold};
 pub use modifying::{Modification, find_first, find_one, made_by, subject_of};

@@ -5,11 +5,11 @@ ghost use Rattle.bson.specs.Lookup.{lookup};
 ghost use Rattle.bson.specs.Lawful.{levels, pairs_levels};
 ghost use Rattle.bson.specs.Tree.{document};
 ghost use Rattle.bson.specs.View.{tree};
-ghost use Rattle.driver_replies.specs.Modifying.{part_in, or_empty, modification_of, find_one, find_first, part_of, by_id, subject_of, made_by, with_upserted, write_name, write_one, removal, replacement, change_one, upsert_of, asked_upsert, insert_one, inserts, nothing_done, done_with, value_of, modified_reply};
+ghost use Rattle.driver_replies.specs.Modifying.{part_in, modification_of, find_one, find_first, part_of, by_id, subject_of, made_by, with_upserted, write_name, write_one, removal, replacement, change_one, upsert_of, asked_upsert, insert_one, inserts, nothing_done, done_with, value_of, modified_reply};
 
 use crate::fields::{Fact, add, document_of, put, text_value};
 use crate::fresh_ids::FreshIds;
-use crate::parts::{Part, part_in};
+use crate::parts::{Part, part_in, part_or_empty};
 use crate::tally::upserted_id;
 use crate::upserts::{add_id, is_true, is_upsert};
 use crate::writes::Write;
@@ -26,17 +26,6 @@ pub struct Modification {
     pub wants_new: bool,
     pub may_insert: bool,
     pub ids: FreshIds,
-}
-
-/// A copy of the document that a value is, as a part of a command; an empty one where it is none.
-fn part_or_empty(alloc: Global, value: Option<&Value>) -> Result<Part, NoMemory>
-    ensures { IfOk result
-        (λ part. part ≡ or_empty (part_in (option_map (λ v. tree v.now) value.entry))) }
-{
-    match part_in(value)? {
-        Some(part) => Ok(part),
-        None => Ok(Part::empty(alloc)),
-    }
 }
 
 /// A find of one document.

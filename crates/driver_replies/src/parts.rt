@@ -4,7 +4,7 @@ ghost use Rattle.std.specs.Prelude.{◌≡◌, ◌≤◌, Some, IfOk, is_some, o
 ghost use Rattle.bson.specs.Lawful.{pairs_levels};
 ghost use Rattle.bson.specs.Tree.{document, no_pairs};
 ghost use Rattle.bson.specs.View.{tree};
-ghost use Rattle.driver_replies.specs.Modifying.{part_of, part_in};
+ghost use Rattle.driver_replies.specs.Modifying.{part_of, part_in, or_empty};
 
 use bson::{Document, NoMemory, Value};
 use std::alloc::Global;
@@ -88,5 +88,16 @@ pub fn is_part(value: &Value) -> bool
     match value {
         Value::Document(document) => document.levels() <= MOST_LEVELS,
         _ => false,
+    }
+}
+
+/// A copy of the document that a value is, as a part of a command; an empty one where it is none.
+pub(crate) fn part_or_empty(alloc: Global, value: Option<&Value>) -> Result<Part, NoMemory>
+    ensures { IfOk result
+        (λ part. part ≡ or_empty (part_in (option_map (λ v. tree v.now) value.entry))) }
+{
+    match part_in(value)? {
+        Some(part) => Ok(part),
+        None => Ok(Part::empty(alloc)),
     }
 }

@@ -1,15 +1,17 @@
 -- What makes no difference to what is kept for the database's reply.
 use Rattle.std.proofs.Common.{◌≡◌, ℕ, Bool, true, false, List, codes, Option, Some, None, refl, ap, subst, ◌∙◌}
 use Rattle.std.specs.Prelude.{if◌then◌else◌, is_none}
-use Rattle.std.specs.Option.{option_or}
+use Rattle.std.specs.Option.{option_or, option_map}
 use Rattle.std.specs.Str.{bytes_eq}
 use Rattle.std.proofs.lemmas.Slice.Eq.{bytes_eq-Decides}
 use Rattle.bson.specs.Tree.{Tree, Pairs, no_pairs, pair, Items, append}
 use Rattle.bson.specs.Lookup.{lookup}
-use Rattle.drivers.specs.Answering.{wait_of, kill_wait, collections_wait, batch_wait, write_wait, other_wait, is_modification, is_single}
+use Rattle.path.specs.Parts.{path_of}
+use Rattle.drivers.specs.Answering.{wait_of, kill_wait, distinct_kept, distinct_wait, collections_wait, batch_wait, write_wait, other_wait, is_modification, is_single}
 use Rattle.drivers.specs.Cleaning.{own_rule, is_kept, kept}
 use Rattle.driver_replies.specs.Cursors.{ids_of, ids_in, no_kills}
 use Rattle.drivers.specs.Laws.{IgnoredLeavesThePlan}
+use Rattle.driver_replies.specs.Distinct.{path_or_none, no_values}
 use Rattle.driver_replies.specs.Listing.{name_in}
 use Rattle.driver_replies.specs.Modifying.{part_in, or_empty, modification_of}
 use Rattle.driver_replies.specs.declared.modifying.Modification.{Modification}
@@ -98,6 +100,10 @@ no_rule_new : is_none (rule_of (codes "new")) ≡ true
 unfolding rule_of
 no_rule_new = refl
 
+no_rule_key : is_none (rule_of (codes "key")) ≡ true
+unfolding rule_of
+no_rule_key = refl
+
 no_rule_upsert : is_none (rule_of (codes "upsert")) ≡ true
 unfolding rule_of
 no_rule_upsert = refl
@@ -161,6 +167,9 @@ modification-alike ids ps qs h =
       ids = ids;
     }
 
+distinct-alike : (ps qs : Pairs) → AreAlike ps qs → distinct_wait ps ≡ distinct_wait qs
+distinct-alike ps qs h = ap (λ (x : Option Tree). distinct_kept (option_map no_values (path_or_none (path_of (text_or_none x))))) (h.found (codes "key") no_rule_key)
+
 single-alike : (command : List ℕ) (t : Tree) (ps qs : Pairs) → AreAlike (pair command t ps) (pair command t qs)
     → is_single (pair command t ps) ≡ is_single (pair command t qs)
 single-alike command t ps qs h =
@@ -169,15 +178,17 @@ single-alike command t ps qs h =
 wait-alike : (ids : FreshIds) (command : List ℕ) (t : Tree) (ps qs : Pairs) → AreAlike (pair command t ps) (pair command t qs)
     → wait_of ids (pair command t ps) ≡ wait_of ids (pair command t qs)
 wait-alike ids command t ps qs h =
-    ap (λ (w : Wait). choose w (collections_wait whole) (modification_of ids whole) (is_single whole) (other_wait ids whole (write_of command)))
-    (kill-alike whole other h)
-    ∙ ap (λ (x : Option Tree). choose (kill_wait other (ids_of other)) (waits.Collections (name_in x)) (modification_of ids whole) (is_single whole)
-    (other_wait ids whole (write_of command))) (h.found (codes "filter") no_rule_filter)
-    ∙ ap (λ (m : Modification). choose (kill_wait other (ids_of other)) (collections_wait other) m (is_single whole)
+    ap (λ (w : Wait). choose w (collections_wait whole) (modification_of ids whole) (distinct_wait whole) (is_single whole)
+    (other_wait ids whole (write_of command))) (kill-alike whole other h)
+    ∙ ap (λ (x : Option Tree). choose (kill_wait other (ids_of other)) (waits.Collections (name_in x)) (modification_of ids whole) (distinct_wait whole)
+    (is_single whole) (other_wait ids whole (write_of command))) (h.found (codes "filter") no_rule_filter)
+    ∙ ap (λ (m : Modification). choose (kill_wait other (ids_of other)) (collections_wait other) m (distinct_wait whole) (is_single whole)
     (other_wait ids whole (write_of command))) (modification-alike ids whole other h)
-    ∙ ap (λ (b : Bool). choose (kill_wait other (ids_of other)) (collections_wait other) (modification_of ids other) b
+    ∙ ap (λ (w : Wait). choose (kill_wait other (ids_of other)) (collections_wait other) (modification_of ids other) w (is_single whole)
+    (other_wait ids whole (write_of command))) (distinct-alike whole other h)
+    ∙ ap (λ (b : Bool). choose (kill_wait other (ids_of other)) (collections_wait other) (modification_of ids other) (distinct_wait other) b
     (other_wait ids whole (write_of command))) (single-alike command t ps qs h)
-    ∙ ap (choose (kill_wait other (ids_of other)) (collections_wait other) (modification_of ids other) (is_single other))
+    ∙ ap (choose (kill_wait other (ids_of other)) (collections_wait other) (modification_of ids other) (distinct_wait other) (is_single other))
     (other-alike ids whole other (write_of command) h)
   where
     whole : Pairs
@@ -186,10 +197,10 @@ wait-alike ids command t ps qs h =
     other : Pairs
     other = pair command t qs
 
-    choose : Wait → Wait → Modification → Bool → Wait → Wait
-    choose kill listed m single rest = if bytes_eq command (codes "killCursors") then kill else if bytes_eq command (codes "listCollections") then listed
-        else if bytes_eq command (codes "dropDatabase") then waits.Listed else if bytes_eq command (codes "explain") then waits.Explained
-        else if is_modification command then waits.Found m else if single
+    choose : Wait → Wait → Modification → Wait → Bool → Wait → Wait
+    choose kill listed m distinct single rest = if bytes_eq command (codes "killCursors") then kill else if bytes_eq command (codes "listCollections") then listed
+        else if bytes_eq command (codes "listIndexes") then waits.Indexes else if bytes_eq command (codes "dropDatabase") then waits.Listed else if bytes_eq command (codes "explain") then waits.Explained
+        else if is_modification command then waits.Found m else if bytes_eq command (codes "distinct") then distinct else if single
         then waits.Single else rest
 
 pub ignored_leaves_the_plan : IgnoredLeavesThePlan

@@ -27,7 +27,11 @@ use Rattle.driver_replies.specs.declared.kills.Kills.{Kills}
 use Rattle.driver_replies.specs.declared.batch.Batch.{Batch}
 use Rattle.driver_replies.specs.declared.fresh_ids.FreshIds.{FreshIds}
 use Rattle.driver_replies.specs.declared.writes.Write.{Write}
+use Rattle.driver_replies.specs.Distinct.{distinct_of, documents_in, with_documents, get_more}
+use Rattle.driver_replies.specs.Distinct.{distinct_reply}
+use Rattle.driver_replies.specs.declared.distinct.Distinct.{Distinct}
 use Rattle.driver_replies.specs.Dropping.{drop_command, is_gone, dropped_reply}
+use Rattle.driver_replies.specs.Indexes.{indexes_told}
 use Rattle.driver_replies.specs.Listing.{name_in, batch_in, retold}
 use Rattle.drivers.specs.Explaining.{explained}
 use Rattle.drivers.specs.Starting.{name_of, unheard}
@@ -49,6 +53,14 @@ kill_wait body (Some ids) = waits.Kill (no_kills (kept askeds.KillCursors body) 
 -- what is kept of the collections that a listCollections asks for
 abbrev pub collections_wait : Pairs → Wait
 collections_wait body = waits.Collections (name_in (lookup body (codes "filter")))
+
+-- what is kept of a distinct: nothing where its key is no path, which is refused
+abbrev pub distinct_kept : Option Distinct → Wait
+distinct_kept None = waits.Plain
+distinct_kept (Some d) = waits.Distinct d
+
+abbrev pub distinct_wait : Pairs → Wait
+distinct_wait body = distinct_kept (distinct_of body)
 
 -- A find may say that its first batch is its last (mongodb/specifications, find, getMore and
 -- killCursors).
@@ -81,9 +93,11 @@ abbrev pub wait_of : FreshIds → Pairs → Wait
 wait_of ids body =
     if bytes_eq (name_of body) (codes "killCursors") then kill_wait body (ids_of body) else
     if bytes_eq (name_of body) (codes "listCollections") then collections_wait body else
+    if bytes_eq (name_of body) (codes "listIndexes") then waits.Indexes else
     if bytes_eq (name_of body) (codes "dropDatabase") then waits.Listed else
     if bytes_eq (name_of body) (codes "explain") then waits.Explained else
     if is_modification (name_of body) then waits.Found (modification_of ids body) else
+    if bytes_eq (name_of body) (codes "distinct") then distinct_wait body else
     if is_single body then waits.Single else
     other_wait ids body (write_of (name_of body))
 
@@ -247,6 +261,25 @@ drop_on plan ts reply =
     if is_gone reply then drop_step plan (without_item ts 0) else
     (record plan { wait = waits.Plain }, final plan reply)
 
+-- ---- a distinct
+
+-- the next batch of the documents' cursor is asked for, or their values are told
+abbrev pub distinct_next : Option ℤ → Plan → Distinct → Plan × Step
+distinct_next None plan d = (
+  record plan { wait = waits.Plain },
+  unheard plan.more_to_come (steps.Reply (distinct_reply d)),
+)
+distinct_next (Some id) plan d = (
+  record plan { wait = waits.Distinct d },
+  steps.AskOwner id (get_more plan.database plan.collection id),
+)
+
+-- The values of a batch of documents are taken. A refusal ends it.
+abbrev pub distinct_on : Option Items → Plan → Distinct → Pairs → Plan × Step
+distinct_on None plan d reply = (record plan { wait = waits.Plain }, final plan reply)
+distinct_on (Some ts) plan d reply =
+    distinct_next (cursor_left reply) plan (with_documents d ts)
+
 -- ---- a findAndModify
 
 abbrev pub told_step : Plan → Pairs → Plan × Step
@@ -340,6 +373,8 @@ answered_by (waits.Collections wanted) plan reply = (
   record plan { wait = waits.Plain },
   final plan (retold wanted plan.database (batch_in (lookup reply (codes "cursor"))) reply),
 )
+answered_by waits.Indexes plan reply =
+    (record plan { wait = waits.Plain }, final plan (indexes_told reply))
 answered_by waits.Explained plan reply = (
   record plan { wait = waits.Plain },
   final plan (explained (lookup reply (codes "plan")) reply),
@@ -349,6 +384,8 @@ answered_by (waits.Found m) plan reply =
 answered_by (waits.Changed m was) plan reply = changed (refused reply) plan m was reply
 answered_by (waits.Again m is_new subject) plan reply =
     found_again (batch_in (lookup reply (codes "cursor"))) plan m is_new subject reply
+answered_by (waits.Distinct d) plan reply =
+    distinct_on (documents_in (lookup reply (codes "cursor"))) plan d reply
 
 abbrev pub answered : Plan → Pairs → Plan × Step
 answered plan reply = answered_by plan.wait plan reply

@@ -26,15 +26,20 @@ listing_rule name =
     if bytes_eq name (codes "filter") then Some rules.NameFilter else
     read_over (codes "cursor" ∷ codes "nameOnly" ∷ []) name
 
--- A findAndModify is asked as other commands, so a field of it that has no rule and isn't one of
--- these would be lost.
-abbrev pub modify_rule : List ℕ → Option Rule
-modify_rule name =
-    if is_one_of (
+-- A command that is asked as other commands: a field of it that has no rule and isn't one of these
+-- would be lost.
+abbrev pub lost_unless : List (List ℕ) → List ℕ → Option Rule
+lost_unless words name =
+    if is_one_of words name then None else
+    if is_none (rule_of name) then Some rules.Unsupported else None
+
+abbrev pub modify_fields : List (List ℕ)
+modify_fields =
     codes "findAndModify" ∷ codes "findandmodify" ∷ codes "query" ∷ codes "sort" ∷ codes "update"
     ∷ codes "remove" ∷ codes "new" ∷ codes "upsert" ∷ codes "$db" ∷ []
-    ) name then None else
-    if is_none (rule_of name) then Some rules.Unsupported else None
+
+abbrev pub distinct_fields : List (List ℕ)
+distinct_fields = codes "distinct" ∷ codes "key" ∷ codes "query" ∷ codes "$db" ∷ []
 
 -- The rule of a field that this command alone has. A write is done as a whole or refused as a
 -- whole, so the order of its statements makes no difference. How many batches a find gives, its
@@ -49,7 +54,8 @@ own_rule askeds.ListCollections name = listing_rule name
 own_rule askeds.ListIndexes name = read_over (codes "cursor" ∷ []) name
 own_rule askeds.DropDatabase name = None
 own_rule askeds.Explain name = read_over (codes "verbosity" ∷ []) name
-own_rule askeds.Modify name = modify_rule name
+own_rule askeds.Modify name = lost_unless modify_fields name
+own_rule askeds.Distinct name = lost_unless distinct_fields name
 
 abbrev pub rule_in : Asked → List ℕ → Option Rule
 rule_in asked name = option_or (own_rule asked name) (rule_of name)

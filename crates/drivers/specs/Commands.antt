@@ -28,6 +28,7 @@ commands_by_name =
     ++ each (commands.Forwarded askeds.DropDatabase) (codes "dropDatabase" ∷ [])
     ++ each (commands.Forwarded askeds.Explain) (codes "explain" ∷ [])
     ++ each (commands.Forwarded askeds.Modify) (codes "findAndModify" ∷ codes "findandmodify" ∷ [])
+    ++ each (commands.Forwarded askeds.Distinct) (codes "distinct" ∷ [])
 
 -- what is done with a command of this name; nothing where it is unknown
 unfoldable pub command_of : List ℕ → Option Command

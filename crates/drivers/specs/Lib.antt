@@ -14,3 +14,4 @@ pub mod Incoming
 pub mod WireView
 pub mod Framing
 pub mod Rows
+pub mod AloneLaws

@@ -32,6 +32,7 @@ text_before kind = codes "docpage has no BSON type " ++ type_name kind ++ codes 
 abbrev pub row_of : Reason → Row
 row_of reasons.TooManyServers =
     says 2 (codes "BadValue") (codes "docpage is one server: w is 0 or 1")
+row_of reasons.NoPath = names 2 (codes "BadValue") (codes "field '") (codes "': no path")
 row_of reasons.FieldType = names 14 (codes "TypeMismatch") (codes "field '") (codes "': wrong type")
 row_of reasons.NoChoice =
     says 9 (codes "FailedToParse") (codes "a 'findAndModify' has 'update', or 'remove' without 'new'")

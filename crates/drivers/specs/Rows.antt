@@ -84,6 +84,16 @@ explains name t =
     (pair (codes "verbosity") (words (codes "queryPlanner"))
     (pair (codes "$db") (words (codes "t")) no_pairs))
 
+-- {distinct: "c", key, $db: "t"}
+abbrev pub asks_distinct : List ℕ → Pairs
+asks_distinct key =
+    pair (codes "distinct") (words (codes "c"))
+    (pair (codes "key") (words key) (pair (codes "$db") (words (codes "t")) no_pairs))
+
+-- {a: 1, _id: 0}
+abbrev pub a_alone : Pairs
+a_alone = pair (codes "a") (int (pos 1)) (pair (codes "_id") (int (pos 0)) no_pairs)
+
 pub record StepRows : Type 0 where
   pub hello : (info : ServerInfo) → done info (without (codes "hello"))
       ≡ steps.Reply (handshake_reply true info)
@@ -119,10 +129,10 @@ pub record StepRows : Type 0 where
       refusal_document (pos 72) (codes "InvalidOptions")
       (codes "field 'hint': not supported by docpage")
       )
-  pub unknown : (info : ServerInfo) → done info (without (codes "distinct"))
+  pub unknown : (info : ServerInfo) → done info (without (codes "listDatabases"))
       ≡ steps.Reply (
       refusal_document (pos 59) (codes "CommandNotFound")
-      (codes "docpage has no command 'distinct'")
+      (codes "docpage has no command 'listDatabases'")
       )
   pub explain : (info : ServerInfo)
       → done info (explains (codes "singleBatch") (scalar (boolean true)))
@@ -136,6 +146,16 @@ pub record StepRows : Type 0 where
       refusal_document (pos 72) (codes "InvalidOptions")
       (codes "field 'hint': not supported by docpage")
       )
+  pub distinct : (info : ServerInfo) → done info (asks_distinct (codes "a.b"))
+      ≡ steps.Ask (
+      pair (codes "find") (words (codes "c"))
+      (pair (codes "filter") (document no_pairs)
+      (pair (codes "projection") (document a_alone)
+      (pair (codes "$db") (words (codes "t")) no_pairs)))
+      )
+  pub no_path : (info : ServerInfo) → done info (asks_distinct (codes "a..b"))
+      ≡ steps.Reply
+      (refusal_document (pos 2) (codes "BadValue") (codes "field 'key': no path"))
   pub get_more : (info : ServerInfo) → done info (without (codes "getMore"))
       ≡ steps.AskOwner (pos 1) (pair (codes "getMore") (scalar (int64 (pos 1)))
       (pair (codes "$db") (words (codes "t")) no_pairs))

@@ -5,9 +5,10 @@ use Rattle.std.specs.Prelude.{ℕ, ℤ, pos, Bool, true, false, List, [], codes,
 use Rattle.std.specs.Prelude.{Result, Ok, Err}
 use Rattle.std.specs.Prelude.{◌||◌, is_some, if◌then◌else◌}
 use Rattle.std.specs.Option.{option_and_then, option_or}
-use Rattle.bson.specs.Tree.{Tree, scalar, document, boolean, int64, Pairs, no_pairs, pair}
+use Rattle.bson.specs.Tree.{Tree, scalar, document, text, boolean, int64, Pairs, no_pairs, pair}
 use Rattle.bson.specs.Lookup.{lookup}
 use Rattle.bson.specs.Edits.{put}
+use Rattle.driver_replies.specs.Distinct.{key_of, find_values}
 use Rattle.driver_replies.specs.Dropping.{list_command}
 use Rattle.driver_replies.specs.Modifying.{part_in, find_first}
 use Rattle.driver_replies.specs.Texts.{text_or_none, collection_of}
@@ -107,6 +108,26 @@ modify_unless None body =
     steps.Ask (find_first (text_or_none (lookup body (codes "$db"))) (collection_of body) body)
 modify_unless (Some x) body = steps.Reply (refusal_reply x.1 x.0)
 
+-- ---- a distinct
+
+abbrev pub text_fault_of : List ℕ → Option Tree → Option (List ℕ × Reason)
+text_fault_of name (Some (scalar (text s))) = None
+text_fault_of name other = Some (name, reasons.FieldType)
+
+abbrev pub text_fault : List ℕ → Pairs → Option (List ℕ × Reason)
+text_fault name body = text_fault_of name (lookup body name)
+
+abbrev pub distinct_fault : Pairs → Option (List ℕ × Reason)
+distinct_fault body = option_or (text_fault (codes "key") body) (part_fault (codes "query") body)
+
+-- The documents that match are found first, if the key is a path.
+abbrev pub distinct_unless : Option (List ℕ × Reason) → Option (List (List ℕ)) → Pairs → Step
+distinct_unless (Some x) path body = steps.Reply (refusal_reply x.1 x.0)
+distinct_unless None None body = steps.Reply (refusal_reply reasons.NoPath (codes "key"))
+distinct_unless None (Some path) body = steps.Ask (
+    find_values (text_or_none (lookup body (codes "$db"))) (collection_of body) path body
+    )
+
 -- ---- commands
 
 abbrev pub ask : Asked → Pairs → Step
@@ -115,6 +136,7 @@ ask askeds.KillCursors body = kill_first (option_and_then first_id (ids_of body)
 ask askeds.DropDatabase body = list_first body
 ask askeds.Explain body = ask_explain (lookup body (codes "explain")) body
 ask askeds.Modify body = modify_unless (modify_fault body) body
+ask askeds.Distinct body = distinct_unless (distinct_fault body) (key_of body) body
 ask other body = steps.Ask body
 
 -- A command for the database: without the fields that it doesn't have, unless one of them is

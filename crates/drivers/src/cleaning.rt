@@ -2,7 +2,7 @@
 
 ghost use Rattle.std.specs.Prelude.{◌≡◌, map, option_map};
 ghost use Rattle.bson.specs.View.{tree, pairs_of};
-ghost use Rattle.drivers.specs.Cleaning.{truth, read_over, listing_rule, modify_rule, own_rule, rule_in, is_kept, field_fault, first_refused, kept};
+ghost use Rattle.drivers.specs.Cleaning.{truth, read_over, listing_rule, lost_unless, own_rule, rule_in, is_kept, field_fault, first_refused, kept};
 
 use crate::command::Asked;
 use crate::options::{fault_of, is_one_of};
@@ -53,11 +53,11 @@ fn listing_rule(name: &str) -> Option<Rule>
     read_over(&["cursor", "nameOnly"], name)
 }
 
-/// The rule of a field of `findAndModify`: one that would be lost is refused.
-fn modify_rule(name: &str) -> Option<Rule>
-    ensures { result ≡ modify_rule name.now }
+/// The rule of a field of a command that is asked as others, and has these fields: another one would be lost, and is refused.
+fn lost_unless(words: &[&str], name: &str) -> Option<Rule>
+    ensures { result ≡ lost_unless (map (λ s. s.now) words.now) name.now }
 {
-    if is_one_of(&MODIFY_FIELDS, name) || rule_of(name).is_some() {
+    if is_one_of(words, name) || rule_of(name).is_some() {
         return None;
     }
     Some(Rule::Unsupported)
@@ -77,7 +77,8 @@ fn own_rule(asked: Asked, name: &str) -> Option<Rule>
         Asked::ListIndexes => read_over(&["cursor"], name),
         Asked::DropDatabase => None,
         Asked::Explain => read_over(&["verbosity"], name),
-        Asked::Modify => modify_rule(name),
+        Asked::Modify => lost_unless(&MODIFY_FIELDS, name),
+        Asked::Distinct => lost_unless(&["distinct", "key", "query", "$db"], name),
     }
 }
 

@@ -43,6 +43,8 @@ pub(crate) enum Asked {
     Explain,
     /// A `findAndModify`, which finds a document and changes it.
     Modify,
+    /// A `distinct`, which finds documents and tells the values of a path.
+    Distinct,
 }
 
 /// What is done with a command.
@@ -55,7 +57,7 @@ pub(crate) enum Command {
 }
 
 /// The commands by their names.
-const COMMANDS: [(&str, Command); 30] = [
+const COMMANDS: [(&str, Command); 31] = [
     ("hello", Command::Own(Own::Hello)),
     ("isMaster", Command::Own(Own::IsMaster)),
     ("ismaster", Command::Own(Own::IsMaster)),
@@ -89,6 +91,7 @@ const COMMANDS: [(&str, Command); 30] = [
     ("explain", Command::Forwarded(Asked::Explain)),
     ("findAndModify", Command::Forwarded(Asked::Modify)),
     ("findandmodify", Command::Forwarded(Asked::Modify)),
+    ("distinct", Command::Forwarded(Asked::Distinct)),
 ];
 
 /// What is done with a command of this name; nothing where it is unknown.

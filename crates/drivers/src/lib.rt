@@ -4,6 +4,7 @@
 mod answering;
 mod cleaning;
 mod command;
+mod distinct;
 mod explaining;
 mod foreign;
 mod framing;

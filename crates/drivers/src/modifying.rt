@@ -21,8 +21,8 @@ use driver_replies::{
 };
 use std::alloc::Global;
 
-/// Why a part of a `findAndModify` is refused, if it is: it is no document, or nested deeper than those that are stored.
-fn part_fault(name: &'static str, body: &Document) -> Option<(&'static str, Reason)>
+/// Why a part of a command is refused, if it is: it is no document, or nested deeper than those that are stored.
+pub(crate) fn part_fault(name: &'static str, body: &Document) -> Option<(&'static str, Reason)>
     ensures { option_map (λ x. (x.0.now, x.1)) result ≡ part_fault name.now body.now }
 {
     match body.get(name) {

@@ -14,6 +14,7 @@ ghost use Rattle.drivers.specs.Answering.{is_single, kill_wait, collections_wait
 use crate::answering::{cursor_left, end, kill_command, reword, widen};
 use crate::cleaning::kept;
 use crate::command::Asked;
+use crate::distinct::distinct_wait;
 use crate::explaining::explained;
 use crate::message::Message;
 use crate::server_info::ServerInfo;
@@ -21,9 +22,9 @@ use crate::starting::{name_of, start, unheard};
 use crate::step::Step;
 use bson::{Array, Document, NoMemory, Text};
 use driver_replies::{
-    Batch, FreshIds, Kills, Modification, Part, Tally, Write, collection_of, drop_command,
-    drop_first, dropped_reply, first_batch, first_id, ids_of, is_alone, is_gone, is_ordered_in,
-    is_true, name_in, refused_statement, retold, text_or_none, write_of,
+    Batch, Distinct, FreshIds, Kills, Modification, Part, Tally, Write, collection_of,
+    drop_command, drop_first, dropped_reply, first_batch, first_id, ids_of, indexes_told, is_alone,
+    is_gone, is_ordered_in, is_true, name_in, refused_statement, retold, text_or_none, write_of,
 };
 use std::alloc::Global;
 use std::mem;
@@ -51,6 +52,8 @@ pub enum Wait {
     Drops(Array),
     /// It makes the answer, with the collection of this name alone, if there is one.
     Collections(Option<Text>),
+    /// It lists indexes, and makes the answer.
+    Indexes,
     /// It says a plan, and makes the answer.
     Explained,
     /// It tells the first document, if there is one, which is changed.
@@ -59,6 +62,8 @@ pub enum Wait {
     Changed(Modification, Option<Part>),
     /// It tells the document again that this finds, which may be a new one.
     Again(Modification, bool, Part),
+    /// It has the next documents, or the first, whose values are told.
+    Distinct(Distinct),
 }
 
 /// What is kept of a message until the database has answered: whether the driver wants no reply, the database and the collection
@@ -152,6 +157,9 @@ fn wait_of(alloc: Global, ids: FreshIds, body: &Document) -> Result<Wait, NoMemo
     if name_of(body) == "listCollections" {
         return collections_wait(alloc, body);
     }
+    if name_of(body) == "listIndexes" {
+        return Ok(Wait::Indexes);
+    }
     if name_of(body) == "dropDatabase" {
         return Ok(Wait::Listed);
     }
@@ -160,6 +168,9 @@ fn wait_of(alloc: Global, ids: FreshIds, body: &Document) -> Result<Wait, NoMemo
     }
     if is_modification(name_of(body)) {
         return Ok(Wait::Found(Modification::new(alloc, ids, body)?));
+    }
+    if name_of(body) == "distinct" {
+        return distinct_wait(alloc, body);
     }
     if is_single(body) {
         return Ok(Wait::Single);
@@ -402,12 +413,14 @@ impl Plan {
             Wait::Drops(collections) => self.drop_on(alloc, collections, reply),
             Wait::Kill(kills) => self.killed(alloc, kills, reply),
             Wait::Collections(wanted) => self.retell(alloc, &wanted, reply),
+            Wait::Indexes => self.final_step(alloc, indexes_told(alloc, reply)?),
             Wait::Explained => self.final_step(alloc, explained(alloc, reply)?),
             Wait::Found(modification) => self.found(alloc, modification, reply),
             Wait::Changed(modification, was) => self.changed(alloc, modification, was, reply),
             Wait::Again(modification, is_new, subject) => {
                 self.found_again(alloc, modification, is_new, subject, reply)
             }
+            Wait::Distinct(distinct) => self.distinct_on(alloc, distinct, reply),
         }
     }
 }

@@ -17,6 +17,8 @@ pub(crate) enum Reason {
     FieldType,
     /// Neither one thing nor the other is asked for, or both.
     NoChoice,
+    /// A text that is no path.
+    NoPath,
     /// A client wants to say who it is.
     NoAuthentication,
     /// A command of a transaction, or one that could be sent again.
@@ -54,6 +56,7 @@ impl Reason {
     {
         let (code, name, before, behind) = match self {
             Reason::TooManyServers => (2, "BadValue", "docpage is one server: w is 0 or 1", None),
+            Reason::NoPath => (2, "BadValue", "field '", Some("': no path")),
             Reason::FieldType => (14, "TypeMismatch", "field '", Some("': wrong type")),
             Reason::NoChoice => (
                 9,

@@ -11,6 +11,7 @@ ghost use Rattle.drivers.specs.Cleaning.{first_refused};
 
 use crate::cleaning::{first_refused, kept};
 use crate::command::{Asked, Command, Own, command_of};
+use crate::distinct::distinct_first;
 use crate::handshake::{build_reply, handshake_reply, ok_reply};
 use crate::message::{BodyFault, Form, Message};
 use crate::modifying::modify_first;
@@ -110,6 +111,7 @@ fn ask(alloc: Global, asked: Asked, body: Document) -> Result<Step, NoMemory>
         Asked::DropDatabase => list_first(alloc, &body),
         Asked::Explain => ask_explain(alloc, body),
         Asked::Modify => modify_first(alloc, &body),
+        Asked::Distinct => distinct_first(alloc, &body),
         _ => Ok(Step::Ask(body)),
     }
 }

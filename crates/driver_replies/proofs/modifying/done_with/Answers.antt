@@ -1,4 +1,4 @@
-use Rattle.std.proofs.Common.{rules, ◌≡◌, ◌≤◌, ◌∙◌, ap, sym, arith}
+use Rattle.std.proofs.Common.{rules, ◌≡◌, ap, arith}
 use Rattle.bson.specs.Lawful.{pairs_levels}
 use Rattle.driver_replies.specs.Modifying.{done_with}
 use Rattle.driver_replies.proofs.ModifyingLemmas.{done_is_flat}

@@ -44,5 +44,7 @@ returns-clause-steps c = record {
   unknown = λ info. refl;
   explain = λ info. refl;
   explain_hint = λ info. refl;
+  distinct = λ info. refl;
+  no_path = λ info. refl;
   get_more = λ info. refl;
 }

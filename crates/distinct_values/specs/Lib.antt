@@ -1,0 +1,2 @@
+pub mod DistinctValues
+pub mod Laws

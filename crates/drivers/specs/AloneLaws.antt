@@ -1,0 +1,188 @@
+-- A message during which nobody else may ask: none begins with a later question, and what is one
+-- behind a reply was one before it.
+use Rattle.std.specs.Prelude.{◌≡◌, ℕ, ℤ, Bool, true, false, ◌==◌, refl, if◌then◌else◌, List}
+use Rattle.std.specs.Prelude.{codes, Option, Some, None, Result, Ok, Err}
+use Rattle.std.specs.Str.{bytes_eq}
+use Rattle.bson.specs.Edits.{items_len, without_item}
+use Rattle.bson.specs.Lookup.{lookup}
+use Rattle.bson.specs.Tree.{Tree, Pairs, no_pairs, Items}
+use Rattle.driver_replies.specs.Cursors.{ids_of, first_id, after}
+use Rattle.driver_replies.specs.Distinct.{distinct_of, documents_in, with_documents}
+use Rattle.driver_replies.specs.Dropping.{drop_command, is_gone}
+use Rattle.driver_replies.specs.Listing.{batch_in}
+use Rattle.driver_replies.specs.WriteErrors.{refused_statement}
+use Rattle.driver_replies.specs.Writes.{write_of, field_of, is_alone, is_ordered_in, batch_of}
+use Rattle.driver_replies.specs.Writes.{next_command, after_reply}
+use Rattle.driver_replies.specs.declared.batch.Batch.{Batch}
+use Rattle.driver_replies.specs.declared.distinct.Distinct.{Distinct}
+use Rattle.driver_replies.specs.declared.fresh_ids.FreshIds.{FreshIds}
+use Rattle.driver_replies.specs.declared.kills.Kills.{Kills}
+use Rattle.driver_replies.specs.declared.writes.Write.{Write}
+use Rattle.drivers.specs.Answering.{kill_wait, batch_wait, other_wait, distinct_kept}
+use Rattle.drivers.specs.Answering.{is_modification}
+use Rattle.drivers.specs.Answering.{is_single, wait_of, plan_in, plan_of, reworded, final}
+use Rattle.drivers.specs.Answering.{cursor_left, end_cursor, kill_next, killed, next_statement}
+use Rattle.drivers.specs.Answering.{whole_step, drop_next, drop_step, drop_listed, distinct_next}
+use Rattle.drivers.specs.Answering.{distinct_on, asks_alone, answered_by, answered}
+use Rattle.drivers.specs.Cleaning.{kept}
+use Rattle.drivers.specs.Starting.{name_of}
+use Rattle.drivers.specs.declared.command.Asked.TheVariants as askeds
+use Rattle.drivers.specs.declared.message.BodyFault.{BodyFault}
+use Rattle.drivers.specs.declared.message.Message.{Message}
+use Rattle.drivers.specs.declared.plan.Plan.{Plan}
+use Rattle.drivers.specs.declared.plan.Wait.{Wait}
+use Rattle.drivers.specs.declared.plan.Wait.TheVariants as waits
+use Rattle.drivers.specs.declared.step.Step.{Step}
+
+-- what is waited for is behind the first question
+abbrev pub is_later : Wait → Bool
+is_later (waits.Changed m was) = true
+is_later (waits.Again m is_new subject) = true
+is_later other = false
+
+-- ---- no message begins with a later question
+
+if_first : (b : Bool) (x y : Wait) → is_later x ≡ false → is_later y ≡ false
+    → is_later (if b then x else y) ≡ false
+if_first true x y h k = h
+if_first false x y h k = k
+
+kill_first : (body : Pairs) (ids : Option Items) → is_later (kill_wait body ids) ≡ false
+kill_first body None = refl
+kill_first body (Some ids) = refl
+
+distinct_first : (d : Option Distinct) → is_later (distinct_kept d) ≡ false
+distinct_first None = refl
+distinct_first (Some d) = refl
+
+batch_first : (batch : Batch) → is_later (batch_wait batch) ≡ false
+batch_first batch = if_first (items_len batch.left == 0) waits.Plain (waits.Batch batch) refl refl
+
+other_first : (ids : FreshIds) (body : Pairs) (write : Option Write)
+    → is_later (other_wait ids body write) ≡ false
+other_first ids body None = refl
+other_first ids body (Some write) =
+    let is_ordered = is_ordered_in (lookup body (codes "ordered")) in
+    let batch = batch_of write is_ordered ids (kept askeds.Write body) in
+    if_first (is_alone write (lookup body (field_of write))) waits.Write (batch_wait batch) refl
+    (batch_first batch)
+
+wait_first : (ids : FreshIds) (body : Pairs) → is_later (wait_of ids body) ≡ false
+wait_first ids body =
+    if_first (bytes_eq name (codes "killCursors")) _ _ (kill_first body (ids_of body))
+    (if_first (bytes_eq name (codes "listCollections")) _ _ refl
+    (if_first (bytes_eq name (codes "listIndexes")) _ _ refl
+    (if_first (bytes_eq name (codes "dropDatabase")) _ _ refl
+    (if_first (bytes_eq name (codes "explain")) _ _ refl
+    (if_first (is_modification name) _ _ refl
+    (if_first (bytes_eq name (codes "distinct")) _ _ (distinct_first (distinct_of body))
+    (if_first (is_single body) _ _ refl (other_first ids body (write_of name)))))))))
+  where
+    name : List ℕ
+    name = name_of body
+
+in_first : (ids : FreshIds) (more : Bool) (body : Result Pairs BodyFault)
+    → is_later (plan_in ids more body).wait ≡ false
+in_first ids more (Ok body) = wait_first ids body
+in_first ids more (Err fault) = wait_first ids no_pairs
+
+pub starts_first : (ids : FreshIds) (message : Message)
+    → is_later (plan_of ids message).wait ≡ false
+starts_first ids message = in_first ids message.more_to_come message.body
+
+-- ---- what is one behind a reply was one before it
+
+-- it isn't one
+abbrev Rests : Plan × Step → Type 0
+Rests x = asks_alone x.0.wait ≡ false
+
+kill_rests : (id : Option ℤ) (plan : Plan) (kills : Kills) → Rests (kill_next id plan kills)
+kill_rests None plan kills = refl
+kill_rests (Some z) plan kills = refl
+
+killed_rests : (t : Option Tree) (plan : Plan) (kills : Kills) (reply : Pairs)
+    → Rests (killed t plan kills reply)
+killed_rests None plan kills reply = refl
+killed_rests (Some t) plan kills reply =
+    kill_rests (first_id (after kills reply).left) plan (after kills reply)
+
+single_rests : (id : Option ℤ) (plan : Plan) (reply : Pairs) → Rests (end_cursor id plan reply)
+single_rests None plan reply = refl
+single_rests (Some z) plan reply = refl
+
+statement_rests : (command : Option Pairs) (plan : Plan) (batch : Batch)
+    → Rests (next_statement command plan batch)
+statement_rests None plan batch = refl
+statement_rests (Some command) plan batch = refl
+
+whole_rests : (code : Option ℤ) (plan : Plan) (batch : Batch) (reply : Pairs)
+    → Rests (whole_step code plan batch reply)
+whole_rests None plan batch reply = refl
+whole_rests (Some z) plan batch reply = statement_rests (next_command batch.left batch) plan batch
+
+drop_rests : (command : Option Pairs) (plan : Plan) (ts : Items) → Rests (drop_next command plan ts)
+drop_rests None plan ts = refl
+drop_rests (Some command) plan ts = refl
+
+listed_rests : (ts : Option Items) (plan : Plan) (reply : Pairs) → Rests (drop_listed ts plan reply)
+listed_rests None plan reply = refl
+listed_rests (Some ts) plan reply = drop_rests (drop_command plan.database ts) plan ts
+
+dropped_rests : (gone : Bool) (plan : Plan) (ts : Items) (reply : Pairs)
+    → Rests (if gone then drop_step plan (without_item ts 0) else
+    (record plan { wait = waits.Plain }, final plan reply))
+dropped_rests true plan ts reply =
+    let left = without_item ts 0 in
+    drop_rests (drop_command plan.database left) plan left
+dropped_rests false plan ts reply = refl
+
+values_rest : (id : Option ℤ) (plan : Plan) (d : Distinct) → Rests (distinct_next id plan d)
+values_rest None plan d = refl
+values_rest (Some z) plan d = refl
+
+distinct_rests : (ts : Option Items) (plan : Plan) (d : Distinct) (reply : Pairs)
+    → Rests (distinct_on ts plan d reply)
+distinct_rests None plan d reply = refl
+distinct_rests (Some ts) plan d reply = values_rest (cursor_left reply) plan (with_documents d ts)
+
+never : (w : Wait) (plan : Plan) (reply : Pairs) → Rests (answered_by w plan reply)
+    → asks_alone (answered_by w plan reply).0.wait ≡ true → asks_alone w ≡ true
+never w plan reply h e = absurd cc
+
+by_wait : (w : Wait) (plan : Plan) (reply : Pairs)
+    → asks_alone (answered_by w plan reply).0.wait ≡ true → asks_alone w ≡ true
+by_wait waits.Plain plan reply e = absurd cc
+by_wait waits.Single plan reply e =
+    never waits.Single plan reply
+    (single_rests (cursor_left reply) plan reply) e
+by_wait (waits.Ended answer) plan reply e = absurd cc
+by_wait waits.Write plan reply e = absurd cc
+by_wait (waits.Batch batch) plan reply e =
+    never (waits.Batch batch) plan reply
+    (whole_rests (refused_statement (lookup reply (codes "code"))) plan batch reply) e
+by_wait (waits.Statement batch) plan reply e =
+    let after = after_reply batch (reworded plan.database plan.collection reply) in
+    never (waits.Statement batch) plan reply
+    (statement_rests (next_command after.left after) plan after) e
+by_wait waits.Listed plan reply e =
+    never waits.Listed plan reply
+    (listed_rests (batch_in (lookup reply (codes "cursor"))) plan reply) e
+by_wait (waits.Drops ts) plan reply e =
+    never (waits.Drops ts) plan reply
+    (dropped_rests (is_gone reply) plan ts reply) e
+by_wait (waits.Kill kills) plan reply e =
+    never (waits.Kill kills) plan reply
+    (killed_rests (lookup reply (codes "cursorsKilled")) plan kills reply) e
+by_wait (waits.Collections wanted) plan reply e = absurd cc
+by_wait waits.Indexes plan reply e = absurd cc
+by_wait waits.Explained plan reply e = absurd cc
+by_wait (waits.Found m) plan reply e = refl
+by_wait (waits.Changed m was) plan reply e = refl
+by_wait (waits.Again m is_new subject) plan reply e = refl
+by_wait (waits.Distinct d) plan reply e =
+    never (waits.Distinct d) plan reply
+    (distinct_rests (documents_in (lookup reply (codes "cursor"))) plan d reply) e
+
+pub stays_alone : (plan : Plan) (reply : Pairs)
+    → asks_alone (answered plan reply).0.wait ≡ true → asks_alone plan.wait ≡ true
+stays_alone plan reply e = by_wait plan.wait plan reply e
