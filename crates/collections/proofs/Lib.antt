@@ -2,6 +2,7 @@ pub mod ApplyLemmas
 pub mod CommitLemmas
 pub mod CountLemmas
 pub mod EntryLemmas
+pub mod FoldingLemmas
 pub mod FoundLemmas
 pub mod IndexTextLemmas
 pub mod LawLemmas

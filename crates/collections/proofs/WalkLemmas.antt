@@ -11,7 +11,7 @@ use Rattle.std.proofs.lemmas.List.{length-drop, length-map, length-take, take-ap
 use Rattle.std.proofs.lemmas.List.Elements.{All-drop, All-take}
 use Rattle.std.proofs.Math.Seq.{drop-append_seam, take-length}
 use Rattle.bson.specs.Tree.{Pairs}
-use Rattle.page.specs.History.{History}
+use Rattle.page.specs.History.{History, KeepsWord}
 use Rattle.btree.specs.Calls.{IsBatch}
 use Rattle.btree.specs.Keys.{Each, Entry, IsNotUnder, IsUnder, is_within, keep_if, key_cmp, window}
 use Rattle.btree.specs.Scan.{entry_in, within}
@@ -28,9 +28,10 @@ use Rattle.index.proofs.FoundLawLemmas.{found_collection}
 use Rattle.pager.specs.Capacity.{TreesFit}
 use Rattle.path.specs.declared.refusal.Refusal.{Refusal}
 use Rattle.collections.specs.Calls.{Reads}
-use Rattle.collections.specs.Reading.{AreEach, IsBatchOf, IsInTree, IsOfDocument, OrMemory, ReadsOf}
-use Rattle.collections.specs.Standing.{IsTurnOf}
+use Rattle.collections.specs.Reading.{AreEach, IsBatchOf, IsInTree, IsNumbered, IsOfDocument, OrMemory, ReadsOf}
+use Rattle.collections.specs.Standing.{HasState, IsTurnOf}
 use Rattle.collections.specs.State.{State}
+use Rattle.collections.specs.View.{disk_history, is_stopped}
 use Rattle.collections.specs.Walk.{AreAhead, AreBehind, AreNext, BeginsWalk, GoesOnWalking, HasNext, IsWalk, StepsOn, next_key}
 use Rattle.collections.specs.declared.walk.Walk.{Walk}
 use Rattle.collections.proofs.FoundLemmas.{each_document}
@@ -131,26 +132,32 @@ shorter_window from to (x ∷ xs) = by_test (not (is_lt (key_cmp x.key from)) &&
     by_test true less = omega (arith, less)
     by_test false less = omega (arith, less)
 
-pub begins_walk : {D : Type 0} (history : D → History) (c : State D) (number : ℕ) (walk : Walk) (first : Vec ℕ) → TreesFit history c.pager
-    → walk.number ≡ number → walk.next ≡ Some first → first.items ≡ key_under number 0 []
-    → walk.left ≡ 4294967295 → BeginsWalk history c number walk
-begins_walk history c number walk first fit same_number same_next same_key left running k start now of has numbered =
+-- The documents of a collection are few, since its tree finds room in a file.
+pub few_documents : {D : Type 0} (history : D → History) (c : State D) (number : ℕ) → TreesFit history c.pager → is_stopped c ≡ false
+    → KeepsWord (disk_history history c) → (start now : List Collection) (of : Collection) → HasState history c start now → IsNumbered now of number
+    → length of.documents ≤ 680 * 1048576
+few_documents history c number fit running k start now of has numbered =
     let t : IsTurnOf history c start now = has running k in
     let key : List ℕ = key_under of.number 0 [] in
-    let numbers : of.number ≡ walk.number = numbered.same ∙ sym same_number in
-    let next : next_key walk ≡ Some (key_under walk.number 0 []) =
-    ap (option_map (λ v. v.items)) same_next ∙ ap Some same_key ∙ ap (λ (n : ℕ). Some (key_under n 0 [])) (sym same_number) in
     let listed : window key (Some (key_under of.number 1 [])) t.after ≡ map (document_entry of.number) of.documents =
     lists_documents_from t.after now of key (record { lawful = t.now_state; spells = t.spells_now }) numbered.found (not_under_itself key)
     ∙ ap (map (document_entry of.number)) (all_documents of.number of.documents) in
-    let few : length of.documents ≤ 680 * 1048576 =
     omega (
       arith,
       ap length listed,
       length-map of.documents (document_entry of.number),
       shorter_window key (Some (key_under of.number 1 [])) t.after,
       (fit t.began t.live t.before t.begun c.root t.pages t.after t.turn k).few,
-    ) in
+    )
+
+pub begins_walk : {D : Type 0} (history : D → History) (c : State D) (number : ℕ) (walk : Walk) (first : Vec ℕ) → TreesFit history c.pager
+    → walk.number ≡ number → walk.next ≡ Some first → first.items ≡ key_under number 0 []
+    → walk.left ≡ 4294967295 → BeginsWalk history c number walk
+begins_walk history c number walk first fit same_number same_next same_key left running k start now of has numbered =
+    let numbers : of.number ≡ walk.number = numbered.same ∙ sym same_number in
+    let next : next_key walk ≡ Some (key_under walk.number 0 []) =
+    ap (option_map (λ v. v.items)) same_next ∙ ap Some same_key ∙ ap (λ (n : ℕ). Some (key_under n 0 [])) (sym same_number) in
+    let few : length of.documents ≤ 680 * 1048576 = few_documents history c number fit running k start now of has numbered in
     record {
       collection = of;
       numbered = record { found = numbered.found; same = numbers };

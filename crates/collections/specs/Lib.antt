@@ -3,6 +3,7 @@ pub mod Calls
 pub mod Committing
 pub mod Counting
 pub mod Entries
+pub mod Folding
 pub mod Holding
 pub mod IndexChecks
 pub mod IndexTexts

@@ -4,6 +4,7 @@
 
 mod applying;
 mod collections;
+mod folding;
 mod index_checks;
 mod index_texts;
 pub mod laws;
@@ -13,6 +14,7 @@ mod reading;
 mod walk;
 
 pub use collections::Collections;
+pub use folding::DocumentFold;
 pub use index_texts::FirstTexts;
 pub use mark::Mark;
 pub use reading::Name;

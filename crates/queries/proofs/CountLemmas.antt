@@ -1,7 +1,6 @@
 -- Documents that are counted as they come.
-use Rattle.std.proofs.Common.{◌≡◌, ℕ, min, ◌+◌, ◌-◌, ◌^◌, ◌≤◌, ◌<◌, Bool, true, false, List, [], ◌∷◌, ◌++◌, length, Option, drop, get_or, refl, sym, ap, ◌∙◌}
-use Rattle.std.proofs.Common.{add-one, drop-cons, arith, length-append}
-use Rattle.std.proofs.lemmas.List.{drop_all}
+use Rattle.std.proofs.Common.{◌≡◌, ℕ, min, ◌+◌, ◌-◌, ◌^◌, ◌≤◌, Bool, true, false, List, [], ◌∷◌, ◌++◌, length, Option, refl, sym, ap, ◌∙◌}
+use Rattle.std.proofs.Common.{append-nil, arith, length-append}
 use Rattle.std.specs.List.{filter}
 use Rattle.std.proofs.lemmas.List.Elements.{filter-append}
 use Rattle.bson.specs.Tree.{Pairs}
@@ -9,13 +8,9 @@ use Rattle.filter.specs.Condition.{Conditions}
 use Rattle.filter.specs.Matches.{matches}
 use Rattle.database_model.specs.Find.{matching}
 use Rattle.planner.specs.IdLaws.{with_found}
+use Rattle.queries.specs.Folding.{Counts}
+use Rattle.queries.specs.declared.counting.Counting.{Counting}
 use Rattle.queries.proofs.LookingUpLemmas.{found_first}
-
--- So many were counted, as far as a number goes, of documents that are fewer than numbers go.
-pub record AreCounted (rules : Conditions) (count : ℕ) (all left : List Pairs) : Type 0 where
-  pub few : length all < 2 ^ 64
-  pub small : count < 2 ^ 64
-  pub sum : min (count + length (matching rules left)) (2 ^ 64 - 1) ≡ min (length (matching rules all)) (2 ^ 64 - 1)
 
 pub filter_fewer : {X : Type 0} (p : X → Bool) (xs : List X) → length (filter p xs) ≤ length xs
 filter_fewer p [] = omega arith
@@ -25,57 +20,33 @@ filter_fewer p (x ∷ xs) = at (p x) refl (filter_fewer p xs)
     at true e later = rw e (omega (arith, later))
     at false e later = rw e (omega (arith, later))
 
--- one document
-pub one_counted : (rules : Conditions) (d : Pairs) → matches rules d ≡ true → 1 ≡ length (matching rules (d ∷ []))
-one_counted rules d is = let passes : matching rules (d ∷ []) ≡ d ∷ [] = rw is refl in ap length (sym passes)
+-- ---- documents that are lent
 
-pub none_of_one : (rules : Conditions) (d : Pairs) → matches rules d ≡ false → 0 ≡ length (matching rules (d ∷ []))
-none_of_one rules d is = let over : matching rules (d ∷ []) ≡ [] = rw is refl in ap length (sym over)
+module _ (start now : Counting) (all : List Pairs) (d : Pairs) where
+  pub one_counted : (next : Counting) → next.filter.now ≡ now.filter.now → next.count ≡ min (now.count + 1) (2 ^ 64 - 1)
+      → matches now.filter.now d ≡ true → Counts start all now → Counts start (all ++ d ∷ []) next
+  one_counted next same more is h =
+      let rules = start.filter.now in
+      let passes : matches rules d ≡ true = ap (λ rs. matches rs d) (sym h.filter) ∙ is in
+      let one : matching rules (d ∷ []) ≡ d ∷ [] = rw passes refl in
+      let parts : length (matching rules (all ++ d ∷ [])) ≡ length (matching rules all) + 1 =
+      ap length (filter-append (matches rules) all (d ∷ [])) ∙ length-append (matching rules all) (matching rules (d ∷ []))
+      ∙ ap (λ (ds : List Pairs). length (matching rules all) + length ds) one in
+      record { filter = same ∙ h.filter; count = omega (arith, more, h.count, parts) }
 
--- So many were counted of those before a place, and the others are still to come.
-pub record IsCountedTo (rules : Conditions) (documents : List Pairs) (count index : ℕ) : Type 0 where
-  pub few : count ≤ index
-  pub sum : count + length (matching rules (drop index documents)) ≡ length (matching rules documents)
+  pub none_counted : matches now.filter.now d ≡ false → Counts start all now → Counts start (all ++ d ∷ []) now
+  none_counted is h =
+      let rules = start.filter.now in
+      let over : matches rules d ≡ false = ap (λ rs. matches rs d) (sym h.filter) ∙ is in
+      let none : matching rules (d ∷ []) ≡ [] = rw over refl in
+      let same : matching rules (all ++ d ∷ []) ≡ matching rules all =
+      filter-append (matches rules) all (d ∷ []) ∙ ap (λ (ds : List Pairs). matching rules all ++ ds) none ∙ append-nil (matching rules all) in
+      record { filter = h.filter; count = h.count ∙ ap (λ (ds : List Pairs). min (start.count + length ds) (2 ^ 64 - 1)) (sym same) }
 
-module _ (rules : Conditions) (documents : List Pairs) where
-  pub counted_on : (count more next index : ℕ) (d : Pairs) → index < length documents → d ≡ get_or documents index d → more ≡ length (matching rules (d ∷ []))
-      → next ≡ count + more → IsCountedTo rules documents count index → IsCountedTo rules documents next (index + 1)
-  counted_on count more next index d lt is one sum h =
-      let step : drop index documents ≡ d ∷ drop (index + 1) documents = drop_step documents index d lt is in
-      let parts : length (matching rules (drop index documents)) ≡ more + length (matching rules (drop (index + 1) documents)) =
-      ap (λ (ds : List Pairs). length (matching rules ds)) step ∙ ap length (filter-append (matches rules) (d ∷ []) (drop (index + 1) documents))
-      ∙ length-append (matching rules (d ∷ [])) (matching rules (drop (index + 1) documents))
-      ∙ ap (λ (n : ℕ). n + length (matching rules (drop (index + 1) documents))) (sym one) in
-      record {
-        few = omega (arith, h.few, one, sum, filter_fewer (matches rules) (d ∷ []));
-        sum = omega (arith, h.sum, parts, sum);
-      }
-    where
-      drop_step : (ds : List Pairs) (i : ℕ) (d : Pairs) → i < length ds → d ≡ get_or ds i d → drop i ds ≡ d ∷ drop (i + 1) ds
-      drop_step ds i d lt is = drop-cons ds i d lt ∙ (λ j. sym is j ∷ drop (sym (add-one i) j) ds)
-
-  pub counted_all : (count index : ℕ) → length documents ≤ index → IsCountedTo rules documents count index → count ≡ length (matching rules documents)
-  counted_all count index le h =
-      let none : drop index documents ≡ [] = drop_all index documents le in
-      omega (arith, h.sum, ap (λ (ds : List Pairs). length (matching rules ds)) none)
-
-module _ (rules : Conditions) where
-  pub none_counted : (all : List Pairs) → length all < 2 ^ 64 → AreCounted rules 0 all all
-  none_counted all few = record { few = few; small = omega arith; sum = omega arith }
-
-  pub batch_counted : (count more next : ℕ) (batch all left : List Pairs) → more ≡ length (matching rules batch) → next ≡ min (count + more) (2 ^ 64 - 1)
-      → AreCounted rules count all (batch ++ left) → AreCounted rules next all left
-  batch_counted count more next batch all left counted made h = record {
-    few = h.few;
-    small = omega (arith, made);
-    sum =
-        let parts : length (matching rules (batch ++ left)) ≡ length (matching rules batch) + length (matching rules left) =
-        ap length (filter-append (matches rules) batch left) ∙ length-append (matching rules batch) (matching rules left) in
-        omega (arith, parts, counted, made, h.sum);
-  }
-
-  pub all_counted : (count : ℕ) (all : List Pairs) → AreCounted rules count all [] → count ≡ length (matching rules all)
-  all_counted count all h = omega (arith, h.small, h.few, h.sum, filter_fewer (matches rules) all)
+-- all of them were counted
+pub all_counted : (start now : Counting) (all : List Pairs) → start.count ≡ 0 → length all ≤ 4294967295 → Counts start all now
+    → now.count ≡ length (matching start.filter.now all)
+all_counted start now all none few h = omega (arith, none, few, h.count, filter_fewer (matches start.filter.now) all)
 
 -- ---- documents that are looked up
 

@@ -15,7 +15,10 @@ use Rattle.aggregate.specs.EnoughLaws.{none_is_enough, passed-filter, within-fau
 use Rattle.aggregate.specs.TakingLaws.{only_taken}
 use Rattle.database_model.specs.Aggregate.{AreEnough}
 use Rattle.database_model.specs.Lawful.{IsWithin}
+use Rattle.aggregate.specs.View.{pipeline_of}
 use Rattle.planner.specs.IdLaws.{with_found}
+use Rattle.queries.specs.Folding.{Needs}
+use Rattle.queries.specs.declared.needed.Needing.{Needing}
 use Rattle.queries.proofs.LookingUpLemmas.{found_first}
 use Rattle.queries.proofs.WithinLemmas.{faultless_within, none_at_fault}
 
@@ -41,39 +44,6 @@ module _ (stages : List Stage) where
       sym (h limit ys (within-fault limit ys within))
       ∙ ap (λ (xs : List Pairs). run stages limit (take most xs)) (passed-filter (takes stages) ys taken) ∙ ap (run stages limit) (take_less most count fs le)
       ∙ h limit ds fault
-
--- ---- documents as they come
-
--- of those that came so far these few are enough
-pub record AreTaken (stages : List Stage) (few all left : List Pairs) : Type 0 where
-  pub front : List Pairs
-  pub split : all ≡ front ++ left
-  pub enough : IsEnough stages few (filter (takes stages) front)
-
-module _ (stages : List Stage) where
-  pub none_taken : (all : List Pairs) → AreTaken stages [] all all
-  none_taken all = record { front = []; split = refl; enough = none_is_enough stages }
-
-  pub batch_taken : (few next batch all left : List Pairs)
-      → ((seen : List Pairs) → IsEnough stages few seen → IsEnough stages next (seen ++ filter (takes stages) batch)) → AreTaken stages few all (batch ++ left)
-      → AreTaken stages next all left
-  batch_taken few next batch all left on h = record {
-    front = h.front ++ batch;
-    split = h.split ∙ sym (append_assoc h.front batch left);
-    enough = subst (IsEnough stages next) (sym (filter-append (takes stages) h.front batch)) (on (filter (takes stages) h.front) h.enough);
-  }
-
-  pub all_taken : (few last all : List Pairs) → ((seen : List Pairs) → IsEnough stages few seen → IsEnough stages last seen) → AreTaken stages few all []
-      → AreEnough stages last all
-  all_taken few last all on h = λ fault.
-      let whole : h.front ≡ all = sym (append-nil h.front) ∙ sym h.split in
-      enough_of_all stages 65535 last all
-      (subst (λ (xs : List Pairs). IsEnough stages last (filter (takes stages) xs)) whole (on (filter (takes stages) h.front) h.enough)) fault
-
-  pub enough_taken : (few all left : List Pairs) → SufficesTaken stages (length few) → AreTaken stages few all left → AreEnough stages few all
-  enough_taken few all left most h = λ fault.
-      enough_by_then stages 65535 few h.front left h.enough most (subst (λ (xs : List Pairs). first_fault 65535 xs ≡ None) h.split fault)
-      ∙ ap (run stages 65535) (sym h.split)
 
 -- These few are enough of documents within the limits, whichever these are.
 pub record AreOfWithin (stages : List Stage) (few : List Pairs) : Type 0 where
@@ -108,39 +78,6 @@ module _ (stages : List Stage) where
 pub none_enough : (stages : List Stage) (ds : List Pairs) → ds ≡ [] → AreEnough stages [] ds
 none_enough stages ds none fault = ap (run stages 65535) (sym none)
 
--- ---- more documents, one by one
-
--- What was enough before is now enough of that and of those that a pipeline takes of all but the ones that are left.
-pub record IsTaking (stages : List Stage) (before all now left : List Pairs) : Type 0 where
-  pub front : List Pairs
-  pub split : all ≡ front ++ left
-  pub enough : (seen : List Pairs) → IsEnough stages before seen → IsEnough stages now (seen ++ filter (takes stages) front)
-
-module _ (stages : List Stage) (before all : List Pairs) where
-  abbrev p : Pairs → Bool
-  p = takes stages
-
-  pub takes_none : IsTaking stages before all before all
-  takes_none = record { front = []; split = refl; enough = λ seen h. subst (IsEnough stages before) (sym (append-nil seen)) h }
-
-  pub takes_next : (x : Pairs) (now left next : List Pairs)
-      → ((seen : List Pairs) → IsEnough stages now seen → IsEnough stages next (seen ++ filter (takes stages) (x ∷ [])))
-      → IsTaking stages before all now (x ∷ left) → IsTaking stages before all next left
-  takes_next x now left next on h = record {
-    front = h.front ++ x ∷ [];
-    split = h.split ∙ sym (append_assoc h.front (x ∷ []) left);
-    enough = λ seen e. subst (IsEnough stages next) (behind seen) (on (seen ++ filter p h.front) (h.enough seen e));
-  }
-    where
-      behind : (seen : List Pairs) → (seen ++ filter p h.front) ++ filter p (x ∷ []) ≡ seen ++ filter p (h.front ++ x ∷ [])
-      behind seen = append_assoc seen (filter p h.front) (filter p (x ∷ [])) ∙ ap (λ (ys : List Pairs). seen ++ ys) (sym (filter-append p h.front (x ∷ [])))
-
-  pub takes_all : (now left : List Pairs) → left ≡ [] → IsTaking stages before all now left → (seen : List Pairs) → IsEnough stages before seen
-      → IsEnough stages now (seen ++ filter (takes stages) all)
-  takes_all now left none h seen e =
-      let whole : h.front ≡ all = sym (append-nil h.front) ∙ ap (λ (ys : List Pairs). h.front ++ ys) (sym none) ∙ sym h.split in
-      subst (λ (ys : List Pairs). IsEnough stages now (seen ++ filter (takes stages) ys)) whole (h.enough seen e)
-
 -- ---- one document
 
 module _ (stages : List Stage) (x : Pairs) where
@@ -167,19 +104,98 @@ module _ (stages : List Stage) (x : Pairs) where
   pub taken_within : takes stages x ≡ true → IsWithin x → All IsWithin (filter (takes stages) (x ∷ []))
   taken_within is within = subst (All IsWithin) (sym (taken_alone is)) (All-cons IsWithin x [] within (All-nil IsWithin))
 
--- ---- documents within the limits, one by one
-
-pub within_next : (p : Pairs → Bool) (x : Pairs) (left : List Pairs) → All IsWithin (filter p (x ∷ [])) → All IsWithin (filter p left)
-    → All IsWithin (filter p (x ∷ left))
-within_next p x left one later = subst (All IsWithin) (sym (filter-append p (x ∷ []) left)) (append_all IsWithin (filter p (x ∷ [])) (filter p left) one later)
-
-pub within_none : (p : Pairs → Bool) (left : List Pairs) → left ≡ [] → All IsWithin (filter p left)
-within_none p left none = subst (λ (ds : List Pairs). All IsWithin (filter p ds)) (sym none) (All-nil IsWithin)
-
 -- what holds of an answer holds less of it
 pub if_ok : {X E : Type 0} {P Q : X → Type 0} (r : Result X E) → ((x : X) → P x → Q x) → IfOk r P → IfOk r Q
 if_ok (Ok x) f h = f x h
 if_ok (Err e) f h = tt
+
+-- ---- documents that are lent
+
+-- What one document makes of what is needed.
+pub record Goes (stages : List Stage) (d : Pairs) (now next : Needing) : Type 0 where
+  pub enough : (seen : List Pairs) → IsEnough stages now.needed.items seen → IsEnough stages next.needed.items (seen ++ filter (takes stages) (d ∷ []))
+  pub within : All IsWithin (filter (takes stages) (d ∷ []))
+  pub most : next.is_enough ≡ true → SufficesTaken stages (length next.needed.items)
+
+pub none_needed : (start : Needing) → start.needed.items ≡ [] → (start.is_enough ≡ true → SufficesTaken (pipeline_of start.pipeline.now) 0)
+    → Needs start [] start
+none_needed start none most = record {
+  pipeline = refl;
+  front = [];
+  left = [];
+  split = refl;
+  enough = λ seen e. subst (IsEnough (pipeline_of start.pipeline.now) start.needed.items) (sym (append-nil seen)) e;
+  within = All-nil IsWithin;
+  all = λ not. refl;
+  most = λ is. subst (SufficesTaken (pipeline_of start.pipeline.now)) (sym (ap length none)) (most is);
+}
+
+module _ (start now : Needing) (all : List Pairs) (h : Needs start all now) where
+  abbrev stages : List Stage
+  stages = pipeline_of start.pipeline.now
+
+  -- no other is needed
+  pub done_needed : now.is_enough ≡ true → (more : List Pairs) → Needs start (all ++ more) now
+  done_needed is more = record {
+    pipeline = h.pipeline;
+    front = h.front;
+    left = h.left ++ more;
+    split = ap (λ (ys : List Pairs). ys ++ more) h.split ∙ append_assoc h.front h.left more;
+    enough = h.enough;
+    within = h.within;
+    all = λ not. let both : true ≡ false = sym is ∙ not in absurd cc;
+    most = h.most;
+  }
+
+  -- one more was asked
+  pub one_needed : now.is_enough ≡ false → (d : Pairs) (next : Needing) → next.pipeline.now ≡ now.pipeline.now
+      → Goes (pipeline_of now.pipeline.now) d now next → Needs start (all ++ d ∷ []) next
+  one_needed none d next same goes = record {
+    pipeline = same ∙ h.pipeline;
+    front = all ++ d ∷ [];
+    left = [];
+    split = sym (append-nil (all ++ d ∷ []));
+    enough = λ seen e.
+        subst (IsEnough stages next.needed.items)
+        (append_assoc seen (filter (takes stages) h.front) (filter (takes stages) (d ∷ []))
+        ∙ ap (λ (ys : List Pairs). seen ++ ys) (wanted (d ∷ []))) (here.enough (seen ++ filter (takes stages) h.front) (h.enough seen e));
+    within = subst (All IsWithin) (wanted (d ∷ [])) (append_all IsWithin (filter (takes stages) h.front) (filter (takes stages) (d ∷ [])) h.within here.within);
+    all = λ not. refl;
+    most = here.most;
+  }
+    where
+      here : Goes stages d now next
+      here = subst (λ st. Goes st d now next) (ap pipeline_of h.pipeline) goes
+
+      whole : h.front ≡ all
+      whole = sym (append-nil h.front) ∙ ap (λ (ys : List Pairs). h.front ++ ys) (sym (h.all none)) ∙ sym h.split
+
+      wanted : (more : List Pairs) → filter (takes stages) h.front ++ filter (takes stages) more ≡ filter (takes stages) (all ++ more)
+      wanted more = sym (filter-append (takes stages) h.front more) ∙ ap (λ (ys : List Pairs). filter (takes stages) (ys ++ more)) whole
+
+  module _ (none : start.needed.items ≡ []) where
+    enough_of_front : IsEnough stages now.needed.items (filter (takes stages) h.front)
+    enough_of_front = h.enough [] (subst (λ (ds : List Pairs). IsEnough stages ds []) (sym none) (none_is_enough stages))
+
+    pub needed_of_within : AreOfWithin stages now.needed.items
+    needed_of_within = record {
+      seen = filter (takes stages) h.front;
+      enough = enough_of_front;
+      within = none_at_fault (filter (takes stages) h.front) h.within;
+    }
+
+    pub all_needed : (last : List Pairs) → now.is_enough ≡ false → ((seen : List Pairs) → IsEnough stages now.needed.items seen → IsEnough stages last seen)
+        → AreEnough stages last all
+    all_needed last not on = λ fault.
+        let whole : h.front ≡ all = sym (append-nil h.front) ∙ ap (λ (ys : List Pairs). h.front ++ ys) (sym (h.all not)) ∙ sym h.split in
+        enough_of_all stages 65535 last all
+        (subst (λ (xs : List Pairs). IsEnough stages last (filter (takes stages) xs)) whole (on (filter (takes stages) h.front) enough_of_front)) fault
+
+    pub enough_needed : now.is_enough ≡ true → AreEnough stages now.needed.items all
+    enough_needed is = λ fault.
+        enough_by_then stages 65535 now.needed.items h.front h.left enough_of_front (h.most is)
+        (subst (λ (xs : List Pairs). first_fault 65535 xs ≡ None) h.split fault)
+        ∙ ap (run stages 65535) (sym h.split)
 
 -- ---- documents that are looked up
 

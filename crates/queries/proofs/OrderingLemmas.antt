@@ -1,13 +1,21 @@
 -- The first documents in an order, of those that have come so far.
-use Rattle.std.proofs.Common.{◌≡◌, ℕ, zero, suc, ◌+◌, ◌≤◌, ◌<◌, List, [], ◌∷◌, ◌++◌, length, min, take, refl, sym, ap, ◌∙◌, arith, append_assoc}
-use Rattle.std.specs.Prelude.{◌==◌, Bool, true, All}
+use Rattle.std.proofs.Common.{◌≡◌, ℕ, zero, suc, ◌<◌, List, [], ◌∷◌, ◌++◌, length, min, take, refl, sym, ap, subst, ◌∙◌, arith, append_assoc}
+use Rattle.std.specs.Prelude.{◌==◌, true, All, IfSome, Option}
 use Rattle.std.specs.List.{filter}
 use Rattle.std.specs.declared.cmp.Ordering.{Ordering}
 use Rattle.std.specs.declared.cmp.Ordering.TheVariants.{Less, Equal, Greater}
 use Rattle.std.proofs.lemmas.List.{append-nil, length-take, take_all}
-use Rattle.std.proofs.lemmas.List.Elements.{All-cons, All-take, filter-append}
+use Rattle.std.proofs.lemmas.List.Elements.{All-append, All-cons, All-take, filter-append}
 use Rattle.std.proofs.lemmas.Bool.{eqb-true}
 use Rattle.bson.specs.Tree.{Pairs}
+use Rattle.database_model.specs.Find.{matching}
+use Rattle.database_model.specs.Lawful.{IsWithin}
+use Rattle.filter.specs.Condition.{Conditions}
+use Rattle.filter.specs.Matches.{matches}
+use Rattle.planner.specs.IdLaws.{with_found}
+use Rattle.queries.specs.Folding.{Sorts, TellFirst}
+use Rattle.queries.specs.declared.ordering.Sorting.{Sorting}
+use Rattle.queries.proofs.SelectLemmas.{found_are_within}
 use Rattle.filter.specs.Sort.{SortField, compare_by, insert_in_order, order, put_before, sorted}
 
 -- ---- what holds of each holds of each in order
@@ -61,40 +69,57 @@ take_short {X} (suc n) (x ∷ xs) =
 pub take_whole : {X : Type 0} (most : ℕ) (xs : List X) → length (take most xs) < most → take most xs ≡ xs
 take_whole most xs few = take_all most xs (omega (arith, length-take most xs, few))
 
--- ---- documents as they come
+-- ---- documents that are lent
 
-module _ (fields : List SortField) (most : ℕ) where
-  -- these few tell the first ones in the order as all of these do, whatever comes behind
-  abbrev pub TellFirst : List Pairs → List Pairs → Type 0
-  TellFirst few all = (others : List Pairs) → take most (order fields (few ++ others)) ≡ take most (order fields (all ++ others))
+pub none_sorted : (start : Sorting) → Sorts start [] start
+none_sorted start = record {
+  filter = refl;
+  sort = refl;
+  most = refl;
+  first = λ others. ap (λ (ys : List Pairs). take start.most (order start.sort.now (ys ++ others))) (sym (append-nil start.found.items));
+  within = λ h. h;
+}
 
-  module _ (p : Pairs → Bool) where
-    -- of those that came so far, all but the ones that are left
-    pub record AreFirst (few all left : List Pairs) : Type 0 where
-      pub front : List Pairs
-      pub split : all ≡ front ++ left
-      pub first : TellFirst few (filter p front)
+module _ (start now : Sorting) (all : List Pairs) where
+  abbrev rules : Conditions
+  rules = start.filter.now
 
-    pub none_first : (all : List Pairs) → AreFirst [] all all
-    none_first all = record { front = []; split = refl; first = λ others. refl }
+  abbrev before : List Pairs
+  before = start.found.items ++ matching rules all
 
-    pub batch_first : (greatest : ℕ) (few found next batch all left : List Pairs) → found ≡ take greatest (few ++ filter p batch) → length found < greatest
-        → TellFirst next found → AreFirst few all (batch ++ left) → AreFirst next all left
-    batch_first greatest few found next batch all left puts small kept h =
-        let whole : found ≡ few ++ filter p batch = puts ∙ take_whole greatest (few ++ filter p batch) (omega (arith, small, ap length puts)) in
-        record {
-          front = h.front ++ batch;
-          split = h.split ∙ sym (append_assoc h.front batch left);
-          first = λ others.
-              kept others ∙ ap (λ (ys : List Pairs). take most (order fields (ys ++ others))) whole
-              ∙ ap (λ (ys : List Pairs). take most (order fields ys)) (append_assoc few (filter p batch) others)
-              ∙ h.first (filter p batch ++ others)
-              ∙ ap (λ (ys : List Pairs). take most (order fields ys))
-              (sym (append_assoc (filter p h.front) (filter p batch) others) ∙ ap (λ (ys : List Pairs). ys ++ others) (sym (filter-append p h.front batch)));
-        }
+  -- one more was asked, and put behind those that are kept, if the filter matches it
+  pub one_sorted : (d : Pairs) (o : Option Pairs) (kept : List Pairs) (next : Sorting) → with_found o [] ≡ filter (matches now.filter.now) (d ∷ [])
+      → IfSome o (λ d. IsWithin d) → TellFirst now.sort.now now.most kept now.found.items → (All IsWithin now.found.items → All IsWithin kept)
+      → next.filter.now ≡ now.filter.now → next.sort.now ≡ now.sort.now → next.most ≡ now.most → next.found.items ≡ kept ++ with_found o []
+      → Sorts start all now → Sorts start (all ++ d ∷ []) next
+  one_sorted d o kept next is within tell kept_within same_filter same_sort same_most put h = record {
+    filter = same_filter ∙ h.filter;
+    sort = same_sort ∙ h.sort;
+    most = same_most ∙ h.most;
+    first = λ others.
+        ap (λ (ys : List Pairs). take start.most (order start.sort.now (ys ++ others))) put
+        ∙ ap (λ (ys : List Pairs). take start.most (order start.sort.now ys)) (append_assoc kept one others)
+        ∙ subst (λ m. take m (order start.sort.now (kept ++ (one ++ others))) ≡ take m (order start.sort.now (now.found.items ++ (one ++ others)))) h.most
+        (subst (λ fs. take now.most (order fs (kept ++ (one ++ others))) ≡ take now.most (order fs (now.found.items ++ (one ++ others)))) h.sort
+        (tell (one ++ others)))
+        ∙ h.first (one ++ others)
+        ∙ ap (λ (ys : List Pairs). take start.most (order start.sort.now ys)) (sym (append_assoc before one others))
+        ∙ ap (λ (ys : List Pairs). take start.most (order start.sort.now (ys ++ others))) wanted;
+    within = λ all_within. subst (All IsWithin) (sym put) (All-append IsWithin kept one (kept_within (h.within all_within)) (found_are_within o within));
+  }
+    where
+      one : List Pairs
+      one = with_found o []
 
-    pub all_first : (few all found : List Pairs) → found ≡ take most (order fields few) → AreFirst few all [] → found ≡ take most (order fields (filter p all))
-    all_first few all found is h =
-        let whole : h.front ≡ all = sym (append-nil h.front) ∙ sym h.split in
-        is ∙ ap (λ (ys : List Pairs). take most (order fields ys)) (sym (append-nil few)) ∙ h.first []
-        ∙ ap (λ (ys : List Pairs). take most (order fields ys)) (append-nil (filter p h.front) ∙ ap (filter p) whole)
+      wanted : before ++ one ≡ start.found.items ++ matching rules (all ++ d ∷ [])
+      wanted =
+          ap (λ (ys : List Pairs). before ++ ys) (is ∙ ap (λ rs. filter (matches rs) (d ∷ [])) h.filter)
+          ∙ append_assoc start.found.items (matching rules all) (matching rules (d ∷ []))
+          ∙ ap (λ (ys : List Pairs). start.found.items ++ ys) (sym (filter-append (matches rules) all (d ∷ [])))
+
+  pub all_sorted : (found : List Pairs) → start.found.items ≡ [] → found ≡ take start.most (order start.sort.now now.found.items) → Sorts start all now
+      → found ≡ take start.most (order start.sort.now (matching rules all))
+  all_sorted found none is h =
+      is ∙ ap (λ (ys : List Pairs). take start.most (order start.sort.now ys)) (sym (append-nil now.found.items)) ∙ h.first []
+      ∙ ap (λ (ys : List Pairs). take start.most (order start.sort.now ys))
+      (append-nil before ∙ ap (λ (ys : List Pairs). ys ++ matching rules all) none)

@@ -42,11 +42,8 @@ pub within_all : (ds : List Pairs) → All IsWithin ds → list_all is_within ds
 within_all [] h = refl
 within_all (d ∷ ds) h = rw (by_within d (All-head IsWithin d ds h)) (within_all ds (All-tail IsWithin d ds h))
 
-pub storable_within : (ds : List Pairs) → All IsStorable ds → All IsWithin ds
-storable_within [] h = λ k d below. absurd (omega (arith, below))
-storable_within (d ∷ ds) h =
-    let one = All-head IsStorable d ds h in
-    All-cons IsWithin d ds (record { size = one.size; depth = one.depth }) (storable_within ds (All-tail IsStorable d ds h))
+pub storable_within : (d : Pairs) → IsStorable d → is_within d ≡ true
+storable_within d h = by_within d (record { size = h.size; depth = h.depth })
 
 -- ---- as a pipeline judges them
 

@@ -8,11 +8,11 @@ ghost use Rattle.index.specs.View.{texts_of};
 ghost use Rattle.planner.specs.IdLaws.{with_found};
 ghost use Rattle.queries.specs.Asking.{IsAsked};
 ghost use Rattle.queries.specs.ById.{AreIdsOf};
+ghost use Rattle.queries.specs.Folding.{Counts};
 
 use crate::looking_up::asked_ids;
-use crate::scanning::BATCH;
-use bson::{Document, NoMemory, SpelledDocument};
-use collections::Collections;
+use bson::{Document, RawDoc};
+use collections::{Collections, DocumentFold};
 use filter::Filter;
 use index::Catalogued;
 use page::Disk;
@@ -20,31 +20,28 @@ use path::Refusal;
 use statements::matches;
 use std::alloc::Global;
 
-/// One where a document matches a filter, and none where it doesn't. No more of it is read than the filter asks for.
-fn count_one(alloc: Global, document: &SpelledDocument, filter: &Filter) -> Result<usize, NoMemory>
-    ensures { IfOk result (λ count. count
-        ≡ length (matching filter.now (document.now ∷ []))) }
-{
-    if filter.matches_raw(alloc, &document.raw())? {
-        Ok(1)
-    } else {
-        Ok(0)
-    }
+/// How many documents match a filter, of those that are lent. No more of them is read than the filter asks for.
+#[derive(Drop)]
+struct Counting<'a> {
+    alloc: Global,
+    filter: &'a Filter,
+    count: usize,
 }
 
-/// How many documents match a filter.
-fn count_matching(
-    alloc: Global,
-    documents: &[SpelledDocument],
-    filter: &Filter,
-) -> Result<usize, NoMemory>
-    ensures { IfOk result (λ count. count ≡ length (matching filter.now documents.now)) }
-{
-    let mut count = 0usize;
-    'documents: for document in documents {
-        count += count_one(alloc, document, filter)?;
+impl DocumentFold for Counting<'_> {
+    ghost makes = { Counts };
+
+    fn is_done(&self) -> bool {
+        false
     }
-    Ok(count)
+
+    fn take(&mut self, document: &RawDoc<'_>) -> Result<(), Refusal> {
+        if !self.filter.matches_raw(self.alloc, document)? {
+            return Ok(());
+        }
+        self.count = self.count.saturating_add(1);
+        Ok(())
+    }
 }
 
 /// How many documents of the collection of a number in a file match a filter, by a walk through all of it.
@@ -58,18 +55,12 @@ fn count_scanned<D: Disk>(
         (λ now c count. count ≡ length (matching filter.now c.documents))
         result file.old file.new }
 {
-    if file.is_stopped() {
-        return Err(Refusal::StorageFailed);
-    }
-    let mut walk = file.walk(number)?;
-    let mut count = 0usize;
-    'walk: loop {
-        let documents = file.next_spelled(&mut walk, BATCH)?;
-        if documents.is_empty() {
-            return Ok(count);
-        }
-        count = count.saturating_add(count_matching(alloc, &documents, filter)?);
-    }
+    let counting = Counting {
+        alloc,
+        filter,
+        count: 0,
+    };
+    Ok(file.fold_documents(number, counting)?.count)
 }
 
 /// One where a document was found and matches a filter, and none where it wasn't or doesn't.

@@ -1,6 +1,6 @@
 //! The documents of a collection that a pipeline needs.
 
-ghost use Rattle.std.specs.Prelude.{◌≡◌, true, All, IfErr, IfOk, List, [], ◌∷◌, ◌++◌};
+ghost use Rattle.std.specs.Prelude.{◌≡◌, true, All, IfOk, List, [], ◌∷◌, ◌++◌};
 ghost use Rattle.std.specs.List.{filter};
 ghost use Rattle.bson.specs.Tree.{Pairs};
 ghost use Rattle.aggregate.specs.Taking.{takes, IsEnough, SufficesTaken};
@@ -13,18 +13,18 @@ ghost use Rattle.index.specs.View.{texts_of};
 ghost use Rattle.planner.specs.IdLaws.{with_found};
 ghost use Rattle.queries.specs.Asking.{IsAsked};
 ghost use Rattle.queries.specs.ById.{AreIdsOf};
-ghost use Rattle.queries.specs.Within.{HasReadCause};
+ghost use Rattle.queries.specs.Folding.{Needs};
 
 use crate::looking_up::{asked_ids, document_within};
-use crate::scanning::BATCH;
 use crate::within::built_within;
 use aggregate::Pipeline;
-use bson::{Document, NoMemory, SpelledDocument};
-use collections::Collections;
+use bson::{Document, NoMemory, RawDoc};
+use collections::{Collections, DocumentFold};
 use index::Catalogued;
 use page::Disk;
 use path::Refusal;
 use std::alloc::Global;
+use std::mem;
 
 /// So many documents are kept before those that aren't needed any more are let go.
 const ROOM: usize = 1024;
@@ -79,49 +79,6 @@ fn with_one_more(
     Ok(these)
 }
 
-/// These documents and one more, if a pipeline takes it; `StorageFailed` where it is over the limits of those that are stored.
-fn with_taken(
-    alloc: Global,
-    pipeline: &Pipeline,
-    these: Vec<Document>,
-    room: &mut usize,
-    document: &SpelledDocument,
-) -> Result<Vec<Document>, Refusal>
-    ensures enough { (seen : List Pairs) → IsEnough (pipeline_of pipeline.now) these.items seen
-        → IfOk result (λ v. IsEnough (pipeline_of pipeline.now) v.items
-        (seen ++ filter (takes (pipeline_of pipeline.now)) (document.now ∷ []))) }
-    ensures within { IfOk result
-        (λ _. All IsWithin (filter (takes (pipeline_of pipeline.now)) (document.now ∷ []))) }
-    ensures refuses { IfErr result (HasReadCause (document.now ∷ [])) }
-{
-    if !pipeline.takes_raw(alloc, &document.raw())? {
-        return Ok(these);
-    }
-    let built = built_within(alloc, document)?;
-    Ok(with_one_more(alloc, pipeline, these, room, built)?)
-}
-
-/// These documents and those of more that a pipeline takes.
-fn with_more(
-    alloc: Global,
-    pipeline: &Pipeline,
-    mut these: Vec<Document>,
-    room: &mut usize,
-    documents: Vec<SpelledDocument>,
-) -> Result<Vec<Document>, Refusal>
-    ensures enough { (seen : List Pairs) → IsEnough (pipeline_of pipeline.now) these.items seen
-        → IfOk result (λ v. IsEnough (pipeline_of pipeline.now) v.items
-        (seen ++ filter (takes (pipeline_of pipeline.now)) documents.items)) }
-    ensures within { IfOk result
-        (λ _. All IsWithin (filter (takes (pipeline_of pipeline.now)) documents.items)) }
-    ensures refuses { IfErr result (HasReadCause documents.items) }
-{
-    'documents: for document in documents {
-        these = with_taken(alloc, pipeline, these, room, &document)?;
-    }
-    Ok(these)
-}
-
 /// Whether so many of those that a pipeline takes are enough.
 fn are_enough(pipeline: &Pipeline, count: usize) -> bool
     ensures { result ≡ true → SufficesTaken (pipeline_of pipeline.now) count }
@@ -129,6 +86,39 @@ fn are_enough(pipeline: &Pipeline, count: usize) -> bool
     match pipeline.most() {
         Some(most) => most <= count,
         None => false,
+    }
+}
+
+/// Documents that a pipeline needs, of those that are lent: of those that it takes never many more than it keeps.
+#[derive(Drop)]
+struct Needing<'a> {
+    alloc: Global,
+    pipeline: &'a Pipeline,
+    needed: Vec<Document>,
+    room: usize,
+    /// Whether no other is needed, whatever comes.
+    is_enough: bool,
+}
+
+impl DocumentFold for Needing<'_> {
+    ghost makes = { Needs };
+
+    fn is_done(&self) -> bool {
+        self.is_enough
+    }
+
+    fn take(&mut self, document: &RawDoc<'_>) -> Result<(), Refusal> {
+        if self.is_enough {
+            return Ok(());
+        }
+        if !self.pipeline.takes_raw(self.alloc, document)? {
+            return Ok(());
+        }
+        let built = built_within(self.alloc, document)?;
+        let needed = mem::replace(&mut self.needed, Vec::new(self.alloc));
+        self.needed = with_one_more(self.alloc, self.pipeline, needed, &mut self.room, built)?;
+        self.is_enough = are_enough(self.pipeline, self.needed.len());
+        Ok(())
     }
 }
 
@@ -145,20 +135,18 @@ fn needed_scanned<D: Disk>(
         result file.old file.new }
     ensures within { IfOk result (λ few. All IsWithin few.items) }
 {
-    if file.is_stopped() {
-        return Err(Refusal::StorageFailed);
+    let needing = Needing {
+        alloc,
+        pipeline,
+        needed: Vec::new(alloc),
+        room: ROOM,
+        is_enough: are_enough(pipeline, 0),
+    };
+    let walked = file.fold_documents(number, needing)?;
+    if walked.is_enough {
+        return Ok(walked.needed);
     }
-    let mut walk = file.walk(number)?;
-    let mut needed = Vec::new(alloc);
-    let mut room = ROOM;
-    'walk: while !are_enough(pipeline, needed.len()) {
-        let documents = file.next_spelled(&mut walk, BATCH)?;
-        if documents.is_empty() {
-            return Ok(only_needed(alloc, pipeline, needed)?);
-        }
-        needed = with_more(alloc, pipeline, needed, &mut room, documents)?;
-    }
-    Ok(needed)
+    Ok(only_needed(alloc, pipeline, walked.needed)?)
 }
 
 /// These documents and one that was looked up, if it was found and a pipeline takes it.

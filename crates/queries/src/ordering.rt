@@ -1,7 +1,6 @@
 //! The first documents in an order. No more of them are kept than are asked for, and some that come too late.
 
-ghost use Rattle.std.specs.Prelude.{◌≡◌, ◌++◌, All, IfOk, List, take};
-ghost use Rattle.bson.specs.Tree.{Pairs};
+ghost use Rattle.std.specs.Prelude.{◌≡◌, All, IfOk, OnOk, take};
 ghost use Rattle.collections.specs.Reading.{IsNumbered, ReadsOf};
 ghost use Rattle.commands.specs.View.{documents_at};
 ghost use Rattle.database_model.specs.Find.{matching};
@@ -11,12 +10,13 @@ ghost use Rattle.filter.specs.Sort.{order};
 ghost use Rattle.index.specs.View.{texts_of};
 ghost use Rattle.queries.specs.Asking.{IsAsked};
 ghost use Rattle.queries.specs.ById.{AreIdsOf};
+ghost use Rattle.queries.specs.Folding.{Sorts, TellFirst};
 
 use crate::by_order::first_by_index;
 use crate::looking_up::{asked_ids, selected_by_ids, selected_in};
-use crate::scanning::{BATCH, select};
-use bson::NoMemory;
-use collections::Collections;
+use crate::scanning::selected;
+use bson::{NoMemory, RawDoc};
+use collections::{Collections, DocumentFold};
 use filter::{Filter, Sort};
 use index::Catalogued;
 use page::Disk;
@@ -61,22 +61,49 @@ fn room_for(most: usize) -> usize {
     most.saturating_add(ROOM.max(most))
 }
 
-/// Documents without those that come too late, where they are too many.
-fn without_late(
+/// Lets those go that come too late, where there are too many.
+fn let_late_go(
     alloc: Global,
     sort: &Sort,
-    documents: Vec<SharedDocument>,
+    documents: &mut Vec<SharedDocument>,
     most: usize,
-) -> Result<Vec<SharedDocument>, NoMemory>
-    ensures first { (others : List Pairs) → IfOk result
-        (λ v. take most (order sort.now (v.items ++ others))
-        ≡ take most (order sort.now (documents.items ++ others))) }
-    ensures within { All IsWithin documents.items → IfOk result (λ v. All IsWithin v.items) }
+) -> Result<(), NoMemory>
+    ensures first { OnOk result (TellFirst sort.now most documents.new.items documents.old.items) }
+    ensures within { OnOk result
+        (All IsWithin documents.old.items → All IsWithin documents.new.items) }
 {
     if documents.len() < room_for(most) {
-        return Ok(documents);
+        return Ok(());
     }
-    first_ones(alloc, sort, &documents, most)
+    *documents = first_ones(alloc, sort, documents, most)?;
+    Ok(())
+}
+
+/// The first documents in the order of a sort, of those that are lent and match a filter, up to so many, and some that come too late.
+#[derive(Drop)]
+struct Sorting<'a> {
+    alloc: Global,
+    filter: &'a Filter,
+    sort: &'a Sort,
+    most: usize,
+    found: Vec<SharedDocument>,
+}
+
+impl DocumentFold for Sorting<'_> {
+    ghost makes = { Sorts };
+
+    fn is_done(&self) -> bool {
+        false
+    }
+
+    fn take(&mut self, document: &RawDoc<'_>) -> Result<(), Refusal> {
+        let Some(document) = selected(self.alloc, self.filter, document)? else {
+            return Ok(());
+        };
+        let_late_go(self.alloc, self.sort, &mut self.found, self.most)?;
+        self.found.push(document)?;
+        Ok(())
+    }
 }
 
 /// The first documents in the order of a sort that match a filter, up to so many, by a walk through the collection of a number.
@@ -93,19 +120,15 @@ fn scanned_in_order<D: Disk>(
         result file.old file.new }
     ensures within { IfOk result (λ found. All IsWithin found.items) }
 {
-    if file.is_stopped() {
-        return Err(Refusal::StorageFailed);
-    }
-    let mut walk = file.walk(number)?;
-    let mut found = Vec::new(alloc);
-    'walk: loop {
-        let documents = file.next_spelled(&mut walk, BATCH)?;
-        if documents.is_empty() {
-            return Ok(first_ones(alloc, sort, &found, most)?);
-        }
-        select(alloc, filter, usize::MAX, &mut found, documents)?;
-        found = without_late(alloc, sort, found, most)?;
-    }
+    let sorting = Sorting {
+        alloc,
+        filter,
+        sort,
+        most,
+        found: Vec::new(alloc),
+    };
+    let sorted = file.fold_documents(number, sorting)?;
+    Ok(first_ones(alloc, sort, &sorted.found, most)?)
 }
 
 /// The same, where the `_id`s of all that match are told by their ascending key texts.

@@ -1,66 +1,69 @@
 //! Walks through a collection that keep the documents that are looked for.
 
-ghost use Rattle.std.specs.Prelude.{◌≡◌, ◌≤◌, All, IfOk, IfErr, OnOk, [], ◌∷◌, ◌++◌, length, take};
+ghost use Rattle.std.specs.Prelude.{◌≡◌, All, IfOk, IfErr, IfSome, [], ◌∷◌, take};
 ghost use Rattle.std.specs.List.{filter};
 ghost use Rattle.collections.specs.Reading.{IsNumbered, ReadsOf};
 ghost use Rattle.database_model.specs.Lawful.{IsWithin};
-ghost use Rattle.queries.specs.Within.{HasReadCause};
+ghost use Rattle.index.specs.LawfulState.{IsStorable};
+ghost use Rattle.planner.specs.IdLaws.{with_found};
+ghost use Rattle.queries.specs.Folding.{Selected};
 
 use crate::selects::Selects;
 use crate::within::built_within;
-use bson::SpelledDocument;
-use collections::Collections;
+use bson::RawDoc;
+use collections::{Collections, DocumentFold};
 use page::Disk;
 use path::Refusal;
 use replies::SharedDocument;
 use std::alloc::Global;
 
-/// So many documents are read at a time.
+/// So many documents are read at a time by whoever walks through a collection batch by batch.
 pub const BATCH: usize = 64;
 
-/// Puts a document, if it is looked for, behind the ones that were found, up to so many.
-fn select_one<S: Selects>(
+/// The document, with values of its own, if it is looked for.
+pub(crate) fn selected<S: Selects>(
     alloc: Global,
     which: &S,
-    most: usize,
-    found: &mut Vec<SharedDocument>,
-    document: &SpelledDocument,
-) -> Result<(), Refusal>
-    requires { length found.old.items ≤ most }
-    ensures puts { OnOk result (found.new.items
-        ≡ take most (found.old.items ++ filter (S.selects which.now) (document.now ∷ []))) }
-    ensures within { OnOk result (All IsWithin found.old.items → All IsWithin found.new.items) }
-    ensures refuses { IfErr result (HasReadCause (document.now ∷ [])) }
+    document: &RawDoc<'_>,
+) -> Result<Option<SharedDocument>, Refusal>
+    ensures selects { IfOk result (λ found. with_found found []
+        ≡ filter (S.selects which.now) (document.now ∷ [])) }
+    ensures within { IfOk result (λ found. IfSome found (λ d. IsWithin d)) }
+    ensures refuses { IsStorable document.now → IfErr result (λ e. e ≡ Refusal.OutOfMemory) }
 {
-    if found.len() == most {
-        return Ok(());
-    }
-    if !which.selects_raw(alloc, &document.raw())? {
-        return Ok(());
+    if !which.selects_raw(alloc, document)? {
+        return Ok(None);
     }
     let built = built_within(alloc, document)?;
-    found.push(SharedDocument::new(alloc, built)?)?;
-    Ok(())
+    Ok(Some(SharedDocument::new(alloc, built)?))
 }
 
-/// Puts those that are looked for behind the ones that were found, up to so many.
-pub(crate) fn select<S: Selects>(
+/// Documents that are looked for, of those that are lent: the first ones, up to so many.
+#[derive(Drop)]
+struct Selecting<'a, S> {
     alloc: Global,
-    which: &S,
+    which: &'a S,
     most: usize,
-    found: &mut Vec<SharedDocument>,
-    documents: Vec<SpelledDocument>,
-) -> Result<(), Refusal>
-    requires { length found.old.items ≤ most }
-    ensures puts { OnOk result (found.new.items
-        ≡ take most (found.old.items ++ filter (S.selects which.now) documents.items)) }
-    ensures within { OnOk result (All IsWithin found.old.items → All IsWithin found.new.items) }
-    ensures refuses { IfErr result (HasReadCause documents.items) }
-{
-    'documents: for document in documents {
-        select_one(alloc, which, most, found, &document)?;
+    found: Vec<SharedDocument>,
+}
+
+impl<S: Selects> DocumentFold for Selecting<'_, S> {
+    ghost makes = { Selected S.selects };
+
+    fn is_done(&self) -> bool {
+        self.most <= self.found.len()
     }
-    Ok(())
+
+    fn take(&mut self, document: &RawDoc<'_>) -> Result<(), Refusal> {
+        if self.most <= self.found.len() {
+            return Ok(());
+        }
+        let Some(document) = selected(self.alloc, self.which, document)? else {
+            return Ok(());
+        };
+        self.found.push(document)?;
+        Ok(())
+    }
 }
 
 /// The documents of the collection of a number in a file that are looked for, by a walk through all of it: the first ones, up to so
@@ -77,17 +80,11 @@ pub(crate) fn scanned<D: Disk, S: Selects>(
         result file.old file.new }
     ensures within { IfOk result (λ found. All IsWithin found.items) }
 {
-    if file.is_stopped() {
-        return Err(Refusal::StorageFailed);
-    }
-    let mut walk = file.walk(number)?;
-    let mut found = Vec::new(alloc);
-    'walk: while found.len() < most {
-        let documents = file.next_spelled(&mut walk, BATCH)?;
-        if documents.is_empty() {
-            return Ok(found);
-        }
-        select(alloc, which, most, &mut found, documents)?;
-    }
-    Ok(found)
+    let selecting = Selecting {
+        alloc,
+        which,
+        most,
+        found: Vec::new(alloc),
+    };
+    Ok(file.fold_documents(number, selecting)?.found)
 }

@@ -1,11 +1,10 @@
-use Rattle.std.proofs.Common.{◌≡◌, ℕ, List, Option, None, Some, Vec, Global, take, sym, ap, subst}
+use Rattle.std.proofs.Common.{◌≡◌, List, Option, None, Vec, Global, take, sym, ap}
 use Rattle.std.specs.Prelude.{IfSome}
 use Rattle.std.proofs.lemmas.Result.{err_from_is_err_and}
 use Rattle.bson.specs.Tree.{Pairs}
 use Rattle.collections.specs.IndexTexts.{IsNumberedIndex}
-use Rattle.collections.specs.Reading.{ReadsOf}
 use Rattle.database_model.specs.Find.{matching}
-use Rattle.filter.specs.Sort.{SortField, order}
+use Rattle.filter.specs.Sort.{order}
 use Rattle.index.specs.Definition.{Definition}
 use Rattle.index.specs.State.{Collection}
 use Rattle.index.specs.View.{texts_of}

@@ -1,4 +1,4 @@
-use Rattle.std.proofs.Common.{◌≡◌, ◌+◌, ◌++◌, [], ⊎_elim, ℕ, true, List, Option, Some, Ok, Vec, Global, length, drop, take, refl, sym, ap, subst, ◌∙◌, arith}
+use Rattle.std.proofs.Common.{◌≡◌, ◌+◌, ◌++◌, [], ⊎_elim, ℕ, List, Option, Some, Vec, Global, length, drop, take, sym, ap, subst, arith}
 use Rattle.std.specs.Prelude.{IfSome}
 use Rattle.std.specs.List.{filter}
 use Rattle.std.proofs.lemmas.List.{drop_all}
@@ -7,7 +7,7 @@ use Rattle.bson.specs.Tree.{Pairs}
 use Rattle.collections.specs.Reading.{stored_at}
 use Rattle.database_model.specs.Find.{matching}
 use Rattle.filter.specs.Matches.{matches}
-use Rattle.filter.specs.Sort.{SortField, order}
+use Rattle.filter.specs.Sort.{order}
 use Rattle.index.specs.View.{texts_of}
 use Rattle.planner.specs.IdLaws.{found_by, with_found}
 use Rattle.queries.specs.ByIndex.{LeadInOrder}

@@ -1,0 +1,174 @@
+-- What entries make of a fold to which they are lent as documents.
+use Rattle.std.proofs.Common.{◌≡◌, ℕ, suc, List, [], ◌∷◌, ◌++◌, length, map, refl, sym, ◌∙◌, ap, subst, arith, inl, inr}
+use Rattle.std.specs.Prelude.{true, false, Option, Some, None, is_some, All, Result, Ok, Err, IfErr, OnOk, MatchOption, MatchResult}
+use Rattle.std.specs.Option.{option_map}
+use Rattle.std.specs.Result.{result_err}
+use Rattle.std.proofs.lemmas.List.{map-append}
+use Rattle.std.proofs.lemmas.List.Elements.{All-cons, All-head, All-nil, All-tail}
+use Rattle.bson.specs.Spelling.{Spells, frame_of, pairs_bytes}
+use Rattle.bson.specs.Tree.{Pairs}
+use Rattle.bson.proofs.RawLaws.{document_spelled-is}
+use Rattle.page.specs.History.{History, KeepsWord}
+use Rattle.btree.specs.Calls.{IsAnswer, Yields}
+use Rattle.btree.specs.Fold.{between}
+use Rattle.btree.specs.Keys.{Entry, window}
+use Rattle.btree.specs.Reach.{HasMap}
+use Rattle.btree.specs.Store.{Grows, IsSame, KeepsWord as KeepsStore}
+use Rattle.btree.specs.Tree.{Body, IsTree, entries_of}
+use Rattle.btree.specs.declared.folding.Bounds.{Bounds}
+use Rattle.btree.specs.declared.pages.TreeFault.{TreeFault}
+use Rattle.btree.proofs.KeyLemmas.{not_under_itself}
+use Rattle.index.specs.LawfulState.{IsStorable}
+use Rattle.index.specs.State.{Collection}
+use Rattle.index.specs.StateEntries.{document_entry, key_under}
+use Rattle.index.proofs.BatchLaws.{all_documents, lists_documents_from}
+use Rattle.index.proofs.FoundLawLemmas.{found_collection}
+use Rattle.pager.specs.Capacity.{TreesFit}
+use Rattle.pager.specs.State.{State as PagerState}
+use Rattle.pager.specs.View.{store_of}
+use Rattle.path.specs.declared.refusal.Refusal.{Refusal}
+use Rattle.path.specs.declared.refusal.Refusal.TheVariants as refusals
+use Rattle.collections.specs.Calls.{HasCause, Reads}
+use Rattle.collections.specs.Folding.{IsFolded, IsOfStored, IsRefusedAmong, Lends, document_in}
+use Rattle.collections.specs.Reading.{IsInTree, IsNumbered, LooksUp, ReadsOf}
+use Rattle.collections.specs.Standing.{HasState}
+use Rattle.collections.specs.State.{State}
+use Rattle.collections.specs.View.{disk_history, is_stopped}
+use Rattle.collections.specs.declared.folding.Lending.{Lending}
+use Rattle.collections.proofs.CauseLemmas.{word_before}
+use Rattle.collections.proofs.WalkLemmas.{few_documents}
+
+-- ---- a document that may be stored
+
+pub spells_storable : (value : List ℕ) (d : Pairs) → IsStorable d → value ≡ frame_of (pairs_bytes d) → Spells value d
+spells_storable value d h e = record { lawful = h.lawful; spelled = e; size = omega (arith, h.size, ap length e) }
+
+pub ok_same : {X E : Type 0} (r : Result X E) (x y : X) → r ≡ Ok x → r ≡ Ok y → x ≡ y
+ok_same r x y e f = let both = sym e ∙ f in cc
+
+-- ---- one entry more
+
+All-front : {X : Type 0} (P : X → Type 0) (xs ys : List X) → All P (xs ++ ys) → All P xs
+All-front P [] ys h = All-nil P
+All-front P (x ∷ xs) ys h = All-cons P x xs (h 0 x (omega arith)) (All-front P xs ys (λ k d below. h (suc k) d (omega (arith, below))))
+
+All-last : {X : Type 0} (P : X → Type 0) (xs : List X) (x : X) → All P (xs ++ x ∷ []) → P x
+All-last P [] x h = h 0 x (omega arith)
+All-last P (y ∷ ys) x h = All-last P ys x (λ k d below. h (suc k) d (omega (arith, below)))
+
+pub refused_more : (all more : List Entry) (e : Refusal) → IsRefusedAmong all e → IsRefusedAmong (all ++ more) e
+refused_more all more e why h = why (All-front IsOfStored all more h)
+
+module _ {F : Type 0} (makes : F → List Pairs → F → Type 0) (start now : Lending F) (all : List Entry) (x : Entry) where
+  pub refused_on : is_some now.refused ≡ true → Lends makes start all now → Lends makes start (all ++ x ∷ []) now
+  refused_on is h = by_refused now.refused is h
+    where
+      by_refused : (o : Option Refusal) → is_some o ≡ true → MatchOption o (makes start.fold (map document_in all) now.fold) (IsRefusedAmong all)
+          → MatchOption o (makes start.fold (map document_in (all ++ x ∷ [])) now.fold) (IsRefusedAmong (all ++ x ∷ []))
+      by_refused None is made = absurd cc
+      by_refused (Some e) is why = refused_more all (x ∷ []) e why
+
+  pub lends_next : (next : F) (r : Result (Unit {0}) Refusal) (o : Option Refusal) → is_some now.refused ≡ false → o ≡ result_err r
+      → (makes start.fold (map document_in all) now.fold → OnOk r (makes start.fold (map document_in all ++ document_in x ∷ []) next))
+      → ((d : Pairs) → IsStorable d → x.value ≡ frame_of (pairs_bytes d) → IfErr r (λ e. e ≡ refusals.OutOfMemory))
+      → Lends makes start all now → Lends makes start (all ++ x ∷ []) (record { fold = next; refused = o })
+  lends_next next r o none is takes refuses h = rw is (by_answer r (takes (lent now.refused none h)) refuses)
+    where
+      lent : (o : Option Refusal) → is_some o ≡ false → MatchOption o (makes start.fold (map document_in all) now.fold) (IsRefusedAmong all)
+          → makes start.fold (map document_in all) now.fold
+      lent None none made = made
+      lent (Some e) none why = absurd cc
+
+      by_answer : (r : Result (Unit {0}) Refusal) → OnOk r (makes start.fold (map document_in all ++ document_in x ∷ []) next)
+          → ((d : Pairs) → IsStorable d → x.value ≡ frame_of (pairs_bytes d) → IfErr r (λ e. e ≡ refusals.OutOfMemory))
+          → MatchOption (result_err r) (makes start.fold (map document_in (all ++ x ∷ [])) next) (IsRefusedAmong (all ++ x ∷ []))
+      by_answer (Ok u) made refuses = subst (λ ds. makes start.fold ds next) (sym (map-append document_in all (x ∷ []))) made
+      by_answer (Err e) made refuses = λ h. let stored = All-last IsOfStored all x h in refuses stored.document stored.storable stored.spelled
+
+-- ---- the entries of a tree
+
+pub looks_lent : {D F : Type 0} (history : D → History) (makes : F → List Pairs → F → Type 0) (start now : Lending F) (bounds : Bounds) (root : ℕ)
+    (result : Result (Unit {0}) TreeFault) (old new : PagerState D) → Grows (store_of history old) (store_of history new)
+    → (KeepsStore (store_of history new) → IsSame (store_of history old) (store_of history new))
+    → (root ≡ 0 → (result ≡ Ok tt) × (now ≡ start))
+    → ((d : ℕ) (body : Body d) → IsTree (store_of history old) root d body
+    → Yields (store_of history old) (store_of history new) (λ done. Lends makes start (between bounds (entries_of d body)) now) result)
+    → Lends makes start [] start → LooksUp history root (λ entries (u : Unit {0}). Lends makes start (between bounds entries) now) result old new
+looks_lent {D} {F} history makes start now bounds root result old new grows same empty folds none =
+    record { grows = grows; same = same; yields = λ pages entries has k. by_map entries k pages has }
+  where
+    by_map : (entries : List Entry) → KeepsStore (store_of history new) → (pages : List ℕ) → HasMap (store_of history old) root pages entries
+        → IsAnswer (store_of history old) (store_of history new) (λ (u : Unit {0}). Lends makes start (between bounds entries) now) result
+    by_map entries k pages (inl (zero, none_there)) =
+        let e = empty zero in
+        rw e.0 (subst (λ es. Lends makes start (between bounds es) now) (sym none_there.1) (subst (Lends makes start []) (sym e.1) none))
+    by_map entries k pages (inr tree) =
+        subst (λ es. IsAnswer (store_of history old) (store_of history new) (λ (u : Unit {0}). Lends makes start (between bounds es) now) result)
+        (sym tree.entries_are) (folds tree.d tree.body tree.tree k)
+
+-- ---- the documents of a collection
+
+-- the documents that entries spell are theirs
+spelled_again : (number : ℕ) (ds : List Pairs) → All IsStorable ds → map document_in (map (document_entry number) ds) ≡ ds
+spelled_again number [] all = refl
+spelled_again number (d ∷ ds) all =
+    let h = All-head IsStorable d ds all in
+    let value = frame_of (pairs_bytes d) in
+    (λ i. document_spelled-is value d (spells_storable value d h refl) i ∷ spelled_again number ds (All-tail IsStorable d ds all) i)
+
+all_stored : (number : ℕ) (ds : List Pairs) → All IsStorable ds → All IsOfStored (map (document_entry number) ds)
+all_stored number [] all = All-nil IsOfStored
+all_stored number (d ∷ ds) all =
+    All-cons IsOfStored (document_entry number d) (map (document_entry number) ds)
+    (record { document = d; storable = All-head IsStorable d ds all; spelled = refl }) (all_stored number ds (All-tail IsStorable d ds all))
+
+-- what a fold answers with: itself, or why a document was refused
+abbrev pub AnswersWith : {F : Type 0} → Lending F → Result F Refusal → Type 0
+AnswersWith now (Ok done) = (now.refused ≡ None) × (done ≡ now.fold)
+AnswersWith now (Err e) = now.refused ≡ Some e
+
+module _ {D F : Type 0} (history : D → History) (makes : F → List Pairs → F → Type 0) (start now : Lending F) (bounds : Bounds) (number : ℕ)
+    (old new : State D) (from : bounds.from.now ≡ key_under number 0 []) (to : option_map (λ b. b.now) bounds.to ≡ Some (key_under number 1 []))
+    (fits : TreesFit history old.pager) (running : is_stopped old ≡ false)
+    (reads : Reads history (IsInTree (λ entries (u : Unit {0}). Lends makes start (between bounds entries) now)) (Ok tt) old new) where
+  module _ (cs : List Collection) (c : Collection) (numbered : IsNumbered cs c number)
+      (p : IsInTree (λ entries (u : Unit {0}). Lends makes start (between bounds entries) now) cs tt) where
+    listed : between bounds p.entries ≡ map (document_entry c.number) c.documents
+    listed =
+        (λ i. window (from i) (to i) p.entries)
+        ∙ (λ i. window (key_under (sym numbered.same i) 0 []) (Some (key_under (sym numbered.same i) 1 [])) p.entries)
+        ∙ lists_documents_from p.entries cs c (key_under c.number 0 []) (record { lawful = p.state; spells = p.spells }) numbered.found
+        (not_under_itself (key_under c.number 0 [])) ∙ ap (map (document_entry c.number)) (all_documents c.number c.documents)
+
+    storable : All IsStorable c.documents
+    storable = (found_collection cs c.name c p.state numbered.found).0.storable
+
+    lent : MatchOption now.refused (makes start.fold c.documents now.fold) (λ e. e ≡ refusals.OutOfMemory)
+    lent = by_refused now.refused (subst (λ es. Lends makes start es now) listed p.right)
+      where
+        by_refused : (o : Option Refusal)
+            → MatchOption o (makes start.fold (map document_in (map (document_entry c.number) c.documents)) now.fold)
+            (IsRefusedAmong (map (document_entry c.number) c.documents)) → MatchOption o (makes start.fold c.documents now.fold) (λ e. e ≡ refusals.OutOfMemory)
+        by_refused None made = subst (λ ds. makes start.fold ds now.fold) (spelled_again c.number c.documents storable) made
+        by_refused (Some e) why = why (all_stored c.number c.documents storable)
+
+  pub folded : (r : Result F Refusal) → AnswersWith now r
+      → ReadsOf history (λ cs c. IsNumbered cs c number) (λ cs c done. IsFolded makes start.fold c.documents done) r old new
+  folded r is = record {
+    on = reads.on;
+    unchanged = reads.unchanged;
+    same = reads.same;
+    answers = λ k first cs has c numbered.
+        by_answer first cs has c numbered k r is (lent cs c numbered (reads.answers k first cs has));
+  }
+    where
+      by_answer : (first cs : List Collection) → HasState history old first cs → (c : Collection) → IsNumbered cs c number → KeepsWord (disk_history history new)
+          → (r : Result F Refusal) → AnswersWith now r → MatchOption now.refused (makes start.fold c.documents now.fold) (λ e. e ≡ refusals.OutOfMemory)
+          → MatchResult r (λ done. IsFolded makes start.fold c.documents done) (HasCause history old new)
+      by_answer first cs has c numbered k (Ok done) is told = record {
+        made = subst (makes start.fold c.documents) (sym is.1)
+            (subst (λ o. MatchOption o (makes start.fold c.documents now.fold) (λ e. e ≡ refusals.OutOfMemory)) is.0 told);
+        few = omega (arith, few_documents history old number fits running (word_before history old new reads.on k) first cs c has numbered);
+      }
+      by_answer first cs has c numbered k (Err e) is told =
+          inl (subst (λ o. MatchOption o (makes start.fold c.documents now.fold) (λ e. e ≡ refusals.OutOfMemory)) is told)

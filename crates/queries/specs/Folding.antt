@@ -1,0 +1,61 @@
+-- What documents that are lent make of a query.
+use Rattle.std.specs.Prelude.{◌≡◌, ◌+◌, ◌-◌, ◌^◌, All, Bool, true, false, List, [], ◌++◌, length, min, take, ℕ}
+use Rattle.std.specs.List.{filter}
+use Rattle.aggregate.specs.Taking.{IsEnough, SufficesTaken, takes}
+use Rattle.aggregate.specs.View.{pipeline_of}
+use Rattle.bson.specs.Tree.{Pairs}
+use Rattle.database_model.specs.Find.{matching}
+use Rattle.database_model.specs.Lawful.{IsWithin}
+use Rattle.queries.specs.declared.counting.Counting.{Counting}
+use Rattle.filter.specs.Sort.{SortField, order}
+use Rattle.queries.specs.declared.needed.Needing.{Needing}
+use Rattle.queries.specs.declared.ordering.Sorting.{Sorting}
+use Rattle.queries.specs.declared.scanning.Selecting.{Selecting}
+
+-- So many of them that the filter matches were counted, as far as a number goes.
+pub record Counts (start : Counting) (documents : List Pairs) (now : Counting) : Type 0 where
+  pub filter : now.filter.now ≡ start.filter.now
+  pub count : let more = length (matching start.filter.now documents) in
+      now.count ≡ min (start.count + more) (2 ^ 64 - 1)
+
+-- Those that are looked for were found, up to so many, and all are within the limits.
+pub record Selected {S : Type 0} (selects : S → Pairs → Bool) (start : Selecting S)
+    (documents : List Pairs) (now : Selecting S) : Type 0 where
+  pub which : now.which.now ≡ start.which.now
+  pub most : now.most ≡ start.most
+  pub found : now.found.items
+      ≡ take start.most (start.found.items ++ filter (selects start.which.now) documents)
+  pub within : All IsWithin start.found.items → All IsWithin now.found.items
+
+-- ---- in the order of a sort
+
+-- These few tell the first ones in the order as all of these do, whatever comes behind.
+abbrev pub TellFirst : List SortField → ℕ → List Pairs → List Pairs → Type 0
+TellFirst sort most few all = (others : List Pairs)
+    → take most (order sort (few ++ others)) ≡ take most (order sort (all ++ others))
+
+-- Those that were kept tell the first ones of all that the filter matches.
+pub record Sorts (start : Sorting) (documents : List Pairs) (now : Sorting) : Type 0 where
+  pub filter : now.filter.now ≡ start.filter.now
+  pub sort : now.sort.now ≡ start.sort.now
+  pub most : now.most ≡ start.most
+  pub first : TellFirst start.sort.now start.most now.found.items
+      (start.found.items ++ matching start.filter.now documents)
+  pub within : All IsWithin start.found.items → All IsWithin now.found.items
+
+-- ---- for a pipeline
+
+-- Those that were kept are enough of those that the pipeline takes, of all documents, or of the
+-- first ones where no others are needed.
+pub record Needs (start : Needing) (documents : List Pairs) (now : Needing) : Type 0 where
+  pub pipeline : now.pipeline.now ≡ start.pipeline.now
+  pub front : List Pairs
+  pub left : List Pairs
+  pub split : documents ≡ front ++ left
+  pub enough : let stages = pipeline_of start.pipeline.now in
+      (seen : List Pairs) → IsEnough stages start.needed.items seen
+      → IsEnough stages now.needed.items (seen ++ filter (takes stages) front)
+  pub within : All IsWithin (filter (takes (pipeline_of start.pipeline.now)) front)
+  pub all : now.is_enough ≡ false → left ≡ []
+  pub most : now.is_enough ≡ true
+      → SufficesTaken (pipeline_of start.pipeline.now) (length now.needed.items)
