@@ -162,8 +162,9 @@ module _ {D F : Type 0} (history : D → History) (makes : F → List Pairs → 
         by_answer first cs has c numbered k r is (lent cs c numbered (reads.answers k first cs has));
   }
     where
-      by_answer : (first cs : List Collection) → HasState history old first cs → (c : Collection) → IsNumbered cs c number → KeepsWord (disk_history history new)
-          → (r : Result F Refusal) → AnswersWith now r → MatchOption now.refused (makes start.fold c.documents now.fold) (λ e. e ≡ refusals.OutOfMemory)
+      by_answer : (first cs : List Collection) → HasState history old first cs → (c : Collection) → IsNumbered cs c number
+          → KeepsWord (disk_history history new) → (r : Result F Refusal) → AnswersWith now r
+          → MatchOption now.refused (makes start.fold c.documents now.fold) (λ e. e ≡ refusals.OutOfMemory)
           → MatchResult r (λ done. IsFolded makes start.fold c.documents done) (HasCause history old new)
       by_answer first cs has c numbered k (Ok done) is told = record {
         made = subst (makes start.fold c.documents) (sym is.1)

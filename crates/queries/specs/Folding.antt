@@ -1,13 +1,14 @@
 -- What documents that are lent make of a query.
-use Rattle.std.specs.Prelude.{◌≡◌, ◌+◌, ◌-◌, ◌^◌, All, Bool, true, false, List, [], ◌++◌, length, min, take, ℕ}
+use Rattle.std.specs.Prelude.{◌≡◌, ℕ, ◌+◌, ◌-◌, ◌^◌, min, Bool, true, false, List, [], ◌++◌, All}
+use Rattle.std.specs.Prelude.{length, take}
 use Rattle.std.specs.List.{filter}
+use Rattle.bson.specs.Tree.{Pairs}
+use Rattle.filter.specs.Sort.{SortField, order}
 use Rattle.aggregate.specs.Taking.{IsEnough, SufficesTaken, takes}
 use Rattle.aggregate.specs.View.{pipeline_of}
-use Rattle.bson.specs.Tree.{Pairs}
 use Rattle.database_model.specs.Find.{matching}
 use Rattle.database_model.specs.Lawful.{IsWithin}
 use Rattle.queries.specs.declared.counting.Counting.{Counting}
-use Rattle.filter.specs.Sort.{SortField, order}
 use Rattle.queries.specs.declared.needed.Needing.{Needing}
 use Rattle.queries.specs.declared.ordering.Sorting.{Sorting}
 use Rattle.queries.specs.declared.scanning.Selecting.{Selecting}

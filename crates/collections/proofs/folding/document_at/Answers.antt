@@ -10,8 +10,10 @@ returns-then-bytes-value-clause-reads c = λ d h e.
 
 pub returns-else-bytes-value-clause-reads : goal.returns-else-bytes-value-clause-reads
 returns-else-bytes-value-clause-reads c = λ d h e.
-    let is : c.in-Ok.document ≡ d = ok_same (Ok c.in-Ok.document) c.in-Ok.document d refl (c.in-Ok.ensures.only c.args.value.now [] d (spells_storable c.args.value.now d h e) (sym (append-nil c.args.value.now))) in
-    let same : c.bytes.result.now ≡ c.args.value.now = c.bytes.ensures.spelled ∙ ap (λ (d : Pairs). frame_of (pairs_bytes d)) is ∙ sym e in
+    let value = c.args.value.now in
+    let is : c.in-Ok.document ≡ d =
+    ok_same (Ok c.in-Ok.document) c.in-Ok.document d refl (c.in-Ok.ensures.only value [] d (spells_storable value d h e) (sym (append-nil value))) in
+    let same : c.bytes.result.now ≡ value = c.bytes.ensures.spelled ∙ ap (λ (d : Pairs). frame_of (pairs_bytes d)) is ∙ sym e in
     absurd (c.if-bytes-value.false (ap length same))
 
 pub returns-in-Err-clause-reads : goal.returns-in-Err-clause-reads

@@ -15,7 +15,8 @@ use Rattle.queries.proofs.OrderingLemmas.{all_sorted, none_sorted}
 use Rattle.queries.proofs.ordering.scanned_in_order.Goals as goal
 
 pub fold_documents-requires : goal.fold_documents-requires
-fold_documents-requires g c = none_sorted (record { alloc = c.args.alloc; filter = c.args.filter; sort = c.args.sort; most = c.args.most; found = c.new.result })
+fold_documents-requires g c =
+    none_sorted (record { alloc = c.args.alloc; filter = c.args.filter; sort = c.args.sort; most = c.args.most; found = c.new.result })
 
 pub returns-in_err-sorted-clause-reads : goal.returns-in_err-sorted-clause-reads
 returns-in_err-sorted-clause-reads g c =
@@ -34,7 +35,8 @@ returns-in_err-first_ones-clause-reads g c =
     rw e.1
     (asked_on g.D.Disk.history (λ now of. IsNumbered now of c.args.number)
     (λ now of (found : Vec Pairs Global). found.items ≡ take c.args.most (order c.args.sort.now (matching c.args.filter.now of.documents))) c.args.file.now
-    c.fold_documents.new.self (λ now of done. IsFolded Sorts start of.documents done) done (Err e.0) c.in_ok-sorted.ensures.reads (λ now of numbered folded. e.2))
+    c.fold_documents.new.self (λ now of done. IsFolded Sorts start of.documents done) done (Err e.0) c.in_ok-sorted.ensures.reads
+    (λ now of numbered folded. e.2))
 
 pub returns-clause-reads : goal.returns-clause-reads
 returns-clause-reads g c =

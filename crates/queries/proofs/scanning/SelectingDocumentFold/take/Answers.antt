@@ -14,7 +14,8 @@ returns-in_default-clause-takes g c = λ start all h.
     let now = c.args.self.now in
     let found : Option Pairs = c.in_ok-document.field-0 in
     let room : length now.found.items < now.most = omega (arith, c.if-self-len.false, c.len.ensures, now.found.ok.0) in
-    one_selected g.S.Selects.selects start now all h c.args.document.now found now c.in_ok-document.ensures.selects c.in_ok-document.ensures.within room refl refl
+    one_selected g.S.Selects.selects start now all h c.args.document.now found now c.in_ok-document.ensures.selects c.in_ok-document.ensures.within
+    room refl refl
     (sym (ap (λ (o : Option Pairs). now.found.items ++ with_found o []) c.in_default.is ∙ append-nil now.found.items))
 
 pub returns-clause-takes : goal.returns-clause-takes
