@@ -2,3 +2,4 @@ mod EachLemmas
 mod LoanLemmas
 mod HandingLemmas
 mod TyingLemmas
+mod AloneLemmas

@@ -13,7 +13,7 @@ use Rattle.front.specs.Tying.{is_asked, AreTied, IsLent, Asks, LendsToNone}
 use Rattle.front.specs.declared.lending.Loan.{Loan}
 use Rattle.front.specs.declared.socket.Socket.{Socket}
 
-same_or_not : (m n : ℕ) → (m ≡ n) ⊎ (m ≢ n)
+pub same_or_not : (m n : ℕ) → (m ≡ n) ⊎ (m ≢ n)
 same_or_not zero zero = inl refl
 same_or_not zero (suc n) = inr (λ e. absurd cc)
 same_or_not (suc m) zero = inr (λ e. absurd cc)
@@ -220,7 +220,7 @@ asks_after n loans after s t u goes (inr h) = inr (h.0, at (is_asked s.job) refl
 
 -- ---- in a vector
 
-written : {X : Type 0} (len : ℕ) (old new : List X) → length new ≡ length old → length old ≡ len → take len (new ++ drop (length new) old) ≡ new
+pub written : {X : Type 0} (len : ℕ) (old new : List X) → length new ≡ length old → length old ≡ len → take len (new ++ drop (length new) old) ≡ new
 written len old new same is =
     ap (λ rest. take len (new ++ rest)) (drop_all (length new) old (omega (arith, same)))
     ∙ ap (take len) (append-nil new)

@@ -1,4 +1,5 @@
 pub mod Lending
 pub mod Serving
 pub mod Tying
+pub mod Alone
 pub mod Fronting

@@ -1,9 +1,10 @@
 //! Sockets of drivers before a server.
 
 ghost use Rattle.server.specs.Durable.{IsSound};
-ghost use Rattle.std.specs.Prelude.{◌≡◌, ◌<◌, IfOk, length, map};
+ghost use Rattle.std.specs.Prelude.{◌≡◌, ◌<◌, IfOk, true, false, None, Some, length, map};
 ghost use Rattle.sockets.specs.Handing.{Hands, Closes};
 ghost use Rattle.front.specs.Tying.{AreTied};
+ghost use Rattle.front.specs.Alone.{IsNobodyAlone, NobodyBetween, StandsAlone};
 ghost use Rattle.front.specs.Fronting.{frame_to, answers_from, closing, closed_from, answered};
 
 use crate::cursors::OpenCursors;
@@ -52,6 +53,7 @@ impl<C: Clock + Drop, D: Disk + Drop> Front<C, D> {
         requires sound { IsSound D.history core }
         ensures sound { IfOk result (λ front. IsSound D.history front.core) }
         ensures tied { IfOk result (λ front. AreTied front.lending.loans front.sockets.items) }
+        ensures stands { IfOk result (λ front. StandsAlone front.alone front.sockets.items) }
     {
         let alloc = core.allocator();
         let next_id = first_id(&clock);
@@ -75,14 +77,20 @@ impl<C: Clock + Drop, D: Disk + Drop> Front<C, D> {
         }
     }
 
-    /// Does what can be done of a socket. Whether others may still ask in this turn.
+    /// Does what can be done of a socket, where no other one's message is one during which nobody else may ask. Whether others may
+    /// still ask in this turn.
     fn ask_one(&mut self, number: usize, time: i64) -> bool
         requires sound { IsSound D.history self.old.core }
         requires tied { AreTied self.old.lending.loans self.old.sockets.items }
         requires inside { number < length self.old.sockets.items }
-        requires number { number < 1024 }
+        requires free { self.old.alone ≡ None }
+        requires stands { StandsAlone (Some number) self.old.sockets.items }
         ensures sound { IsSound D.history self.new.core }
         ensures tied { AreTied self.new.lending.loans self.new.sockets.items }
+        ensures stands { StandsAlone self.new.alone self.new.sockets.items }
+        ensures between { NobodyBetween self.old.lending.loans self.old.sockets.items
+            self.new.lending.loans self.new.sockets.items }
+        ensures free { result ≡ true → self.new.alone ≡ None }
     {
         let info = info(number, time, fresh_ids(&mut self.next_id, time));
         let socket = &mut self.sockets[number];
@@ -105,24 +113,38 @@ impl<C: Clock + Drop, D: Disk + Drop> Front<C, D> {
     fn ask_alone(&mut self, time: i64) -> bool
         requires sound { IsSound D.history self.old.core }
         requires tied { AreTied self.old.lending.loans self.old.sockets.items }
+        requires stands { StandsAlone self.old.alone self.old.sockets.items }
         ensures sound { IsSound D.history self.new.core }
         ensures tied { AreTied self.new.lending.loans self.new.sockets.items }
+        ensures stands { StandsAlone self.new.alone self.new.sockets.items }
+        ensures between { NobodyBetween self.old.lending.loans self.old.sockets.items
+            self.new.lending.loans self.new.sockets.items }
+        ensures none { result ≡ false → IsNobodyAlone self.old.sockets.items self.new.alone
+            self.new.sockets.items }
     {
         let Some(number) = self.alone.take() else {
             return false;
         };
-        if PLACES <= number || self.sockets.len() <= number {
+        if self.sockets.len() <= number {
             return false;
         }
-        self.sockets[number].asks_alone() && !self.ask_one(number, time)
+        if !self.sockets[number].asks_alone() {
+            return false;
+        }
+        let _others_may = self.ask_one(number, time);
+        true
     }
 
     /// Takes messages of sockets, each in its turn, and asks the server what they want to know, as far as connections are at rest.
     fn ask_all(&mut self)
         requires sound { IsSound D.history self.old.core }
         requires tied { AreTied self.old.lending.loans self.old.sockets.items }
+        requires stands { StandsAlone self.old.alone self.old.sockets.items }
         ensures sound { IsSound D.history self.new.core }
         ensures tied { AreTied self.new.lending.loans self.new.sockets.items }
+        ensures stands { StandsAlone self.new.alone self.new.sockets.items }
+        ensures between { NobodyBetween self.old.lending.loans self.old.sockets.items
+            self.new.lending.loans self.new.sockets.items }
     {
         let time = self.time();
         if self.ask_alone(time) {
@@ -149,8 +171,10 @@ impl<C: Clock + Drop, D: Disk + Drop> Front<C, D> {
     fn end_cursors(&mut self)
         requires sound { IsSound D.history self.old.core }
         requires tied { AreTied self.old.lending.loans self.old.sockets.items }
+        requires stands { StandsAlone self.old.alone self.old.sockets.items }
         ensures sound { IsSound D.history self.new.core }
         ensures tied { AreTied self.new.lending.loans self.new.sockets.items }
+        ensures stands { StandsAlone self.new.alone self.new.sockets.items }
     {
         'cursors: for _ in 0..MOST_ENDS {
             if !end_cursor(&mut self.core, &mut self.lending, &self.cursors) {
@@ -163,8 +187,10 @@ impl<C: Clock + Drop, D: Disk + Drop> Front<C, D> {
     fn make_turn(&mut self) -> Result<(), Stopped>
         requires sound { IsSound D.history self.old.core }
         requires tied { AreTied self.old.lending.loans self.old.sockets.items }
+        requires stands { StandsAlone self.old.alone self.old.sockets.items }
         ensures sound { IsSound D.history self.new.core }
         ensures tied { AreTied self.new.lending.loans self.new.sockets.items }
+        ensures stands { StandsAlone self.new.alone self.new.sockets.items }
     {
         match self.core.turn() {
             Ok(turn) => {
@@ -181,8 +207,10 @@ impl<C: Clock + Drop, D: Disk + Drop> Front<C, D> {
     fn take_turn(&mut self, turn: &TurnOut)
         requires sound { IsSound D.history self.old.core }
         requires tied { AreTied self.old.lending.loans self.old.sockets.items }
+        requires stands { StandsAlone self.old.alone self.old.sockets.items }
         ensures sound { IsSound D.history self.new.core }
         ensures tied { AreTied self.new.lending.loans self.new.sockets.items }
+        ensures stands { StandsAlone self.new.alone self.new.sockets.items }
     {
         'replies: for (id, frame) in turn.replies.iter() {
             take_reply(
@@ -201,8 +229,10 @@ impl<C: Clock + Drop, D: Disk + Drop> Front<C, D> {
     fn take_all_closed(&mut self, closed: &[(ConnId, FrameFault)])
         requires sound { IsSound D.history self.old.core }
         requires tied { AreTied self.old.lending.loans self.old.sockets.items }
+        requires stands { StandsAlone self.old.alone self.old.sockets.items }
         ensures sound { IsSound D.history self.new.core }
         ensures tied { AreTied self.new.lending.loans self.new.sockets.items }
+        ensures stands { StandsAlone self.new.alone self.new.sockets.items }
     {
         'closed: for (id, _) in closed {
             take_closed(
@@ -222,6 +252,7 @@ impl<C: Clock + Drop, D: Disk + Drop> Service for Front<C, D> {
     ghost use Rattle.front.specs.Lending.{after_end};
     ghost use Rattle.front.specs.Serving.{fresh};
     ghost use Rattle.front.specs.Tying.{AreTied};
+    ghost use Rattle.front.specs.Alone.{StandsAlone};
     ghost use Rattle.front.specs.Fronting.{IsFed, IsEnded, HandsOut};
 
     ghost PLACES = { 1024 };
@@ -229,7 +260,8 @@ impl<C: Clock + Drop, D: Disk + Drop> Service for Front<C, D> {
     const PLACES: usize = PLACES;
 
     ghost is_sound = { λ front. IsSound D.history front.core
-        × AreTied front.lending.loans front.sockets.items };
+        × AreTied front.lending.loans front.sockets.items
+        × StandsAlone front.alone front.sockets.items };
 
     ghost is_fed = { λ old i bytes new. IsFed old.sockets.items i bytes new.sockets.items };
 
@@ -276,9 +308,11 @@ impl<C: Clock + Drop, D: Disk + Drop> Service for Front<C, D> {
 }
 
 /// Sockets of which nothing has come.
-fn new_sockets(alloc: Global) -> Result<Vec<Socket>, NoMemory> {
+fn new_sockets(alloc: Global) -> Result<Vec<Socket>, NoMemory>
+    ensures { IfOk result (λ sockets. StandsAlone None sockets.items) }
+{
     let mut sockets = Vec::with_capacity(alloc, PLACES)?;
-    for _ in 0..PLACES {
+    'places: for _ in 0..PLACES {
         sockets.push(Socket::new(alloc))?;
     }
     Ok(sockets)
@@ -306,13 +340,11 @@ fn fresh_ids(next: &mut u64, time: i64) -> FreshIds {
 }
 
 /// What is to be known of the server for a message of a socket.
-fn info(number: usize, time: i64, ids: FreshIds) -> ServerInfo
-    requires { number < 1024 }
-{
+fn info(number: usize, time: i64, ids: FreshIds) -> ServerInfo {
     ServerInfo {
         most_document_bytes: MOST_DOCUMENT_BYTES,
         most_message_bytes: MESSAGE_LIMIT as i32,
-        connection: number as i32,
+        connection: i32::try_from(number).unwrap_or(0),
         time,
         ids,
     }

@@ -1,10 +1,12 @@
 //! What a turn does with the sockets.
 
-ghost use Rattle.std.specs.Prelude.{◌≡◌, true, None, Some, IfSome, slice_set};
+ghost use Rattle.std.specs.Prelude.{◌≡◌, ◌&&◌, true, false, None, Some, IfSome, is_some, slice_set};
+ghost use Rattle.std.specs.List.{list_any};
 ghost use Rattle.server.specs.Durable.{IsSound};
 ghost use Rattle.front.specs.Lending.{loan_at, is_at_rest, borrower, Lends};
 ghost use Rattle.front.specs.Serving.{OthersStay};
 ghost use Rattle.front.specs.Tying.{Asks, LendsToNone};
+ghost use Rattle.front.specs.Alone.{AreLentTo, GoesOnAlone, has_begun, is_alone};
 
 use crate::asking::{
     NotAsked, ask, cursor_left, document_of, end_command, has_ended, namespace_of,
@@ -61,6 +63,7 @@ fn ask_question<D: Disk>(
     ensures sound { IsSound D.history core.new }
     ensures lends { Lends (Some number) lending.old.loans lending.new.loans }
     ensures asks { Asks number lending.old.loans lending.new.loans socket.old socket.new }
+    ensures alone { has_begun socket.new ≡ true → is_alone socket.old ≡ true }
 {
     let Some(question) = socket.question() else {
         return;
@@ -85,6 +88,13 @@ fn ask_question<D: Disk>(
     }
 }
 
+/// Whether a socket's message waits until no connection is lent.
+fn is_held(lending: &Lending, socket: &Socket) -> bool
+    ensures { result ≡ (is_alone socket.now && list_any is_some lending.now.loans) }
+{
+    socket.asks_alone() && lending.has_loans()
+}
+
 /// Does what can be done of a socket: takes a message where it works on none, and asks the server, where a connection can be lent
 /// to it. A message during which nobody else may ask waits until no connection is lent.
 pub(crate) fn serve_socket<D: Disk>(
@@ -99,9 +109,11 @@ pub(crate) fn serve_socket<D: Disk>(
     ensures sound { IsSound D.history core.new }
     ensures lends { Lends (Some number) lending.old.loans lending.new.loans }
     ensures asks { Asks number lending.old.loans lending.new.loans socket.old socket.new }
+    ensures begins { has_begun socket.old ≡ false → has_begun socket.new ≡ true
+        → AreLentTo number lending.new.loans }
 {
     socket.begin(core.allocator(), info);
-    if socket.asks_alone() && lending.has_loans() {
+    if is_held(lending, socket) {
         return;
     }
     ask_question(core, lending, cursors, number, socket);
@@ -182,7 +194,8 @@ fn read_reply(
 
 /// The message that a connection was lent to goes on with the reply, if its socket is still there.
 fn go_on(alloc: Global, sockets: &mut [Socket], loan: Loan, reply: Document)
-    ensures { OthersStay sockets.old loan.socket sockets.new }
+    ensures others { OthersStay sockets.old loan.socket sockets.new }
+    ensures alone { GoesOnAlone sockets.old loan.socket sockets.new }
 {
     let Some(number) = loan.socket else {
         return;
@@ -194,7 +207,8 @@ fn go_on(alloc: Global, sockets: &mut [Socket], loan: Loan, reply: Document)
 
 /// The socket that a connection was lent to is closed, if it is still there.
 fn give_up(sockets: &mut [Socket], loan: Loan)
-    ensures { OthersStay sockets.old loan.socket sockets.new }
+    ensures others { OthersStay sockets.old loan.socket sockets.new }
+    ensures alone { GoesOnAlone sockets.old loan.socket sockets.new }
 {
     let Some(number) = loan.socket else {
         return;
@@ -218,6 +232,7 @@ pub(crate) fn take_reply<D: Disk>(
     ensures sound { IsSound D.history core.new }
     ensures rest { lending.new.loans ≡ slice_set lending.old.loans owner None }
     ensures others { OthersStay sockets.old (borrower (loan_at lending.old.loans owner)) sockets.new }
+    ensures alone { GoesOnAlone sockets.old (borrower (loan_at lending.old.loans owner)) sockets.new }
 {
     let alloc = core.allocator();
     let Some(loan) = lending.take_back(owner) else {
@@ -245,6 +260,7 @@ pub(crate) fn take_closed<D: Disk>(
     ensures sound { IsSound D.history core.new }
     ensures rest { lending.new.loans ≡ slice_set lending.old.loans owner None }
     ensures others { OthersStay sockets.old (borrower (loan_at lending.old.loans owner)) sockets.new }
+    ensures alone { GoesOnAlone sockets.old (borrower (loan_at lending.old.loans owner)) sockets.new }
 {
     core.gone(owner);
     cursors.end_all(owner);

@@ -1,9 +1,12 @@
 //! A socket of a driver.
 
-ghost use Rattle.std.specs.Prelude.{◌≡◌, true, false, is_some, IfSome, OnOk, OnErr};
+ghost use Rattle.std.specs.Prelude.{◌≡◌, true, false, None, is_some, IfSome, OnOk, OnErr};
 ghost use Rattle.drivers.specs.Framing.{IsShort};
 ghost use Rattle.front.specs.Serving.{fresh, fed, waits};
 ghost use Rattle.front.specs.Tying.{is_asked};
+ghost use Rattle.front.specs.Alone.{has_begun, is_alone};
+ghost use Rattle.drivers.specs.Answering.{asks_alone};
+ghost use Rattle.drivers.specs.AloneLaws.{is_later};
 
 use crate::job::{Job, Question, Stage};
 use bson::{Document, MESSAGE_LIMIT, NoMemory};
@@ -59,7 +62,8 @@ impl Socket {
     /// Takes the message at the front, if none is worked on, and does what is done first with it. A socket with a fault at its
     /// front, or for whose message memory ran out, is closed.
     pub fn begin(&mut self, alloc: Global, info: &ServerInfo)
-        ensures { is_asked self.old.job ≡ true → is_asked self.new.job ≡ true }
+        ensures asked { is_asked self.old.job ≡ true → is_asked self.new.job ≡ true }
+        ensures begun { has_begun self.new ≡ true → has_begun self.old ≡ true }
     {
         if self.is_over || self.job.is_some() {
             return;
@@ -74,7 +78,10 @@ impl Socket {
     }
 
     /// Does what is done first with a message.
-    fn start(&mut self, alloc: Global, info: &ServerInfo, message: Message) {
+    fn start(&mut self, alloc: Global, info: &ServerInfo, message: Message)
+        requires { self.old.job ≡ None }
+        ensures { has_begun self.new ≡ false }
+    {
         let form = message.form;
         let number = message.number;
         match Plan::start(alloc, info, message) {
@@ -84,7 +91,11 @@ impl Socket {
     }
 
     /// Does what comes next with a message: the database is asked, or an answer is ready, or there is none.
-    fn follow(&mut self, alloc: Global, form: Form, number: u32, plan: Plan, step: Step) {
+    fn follow(&mut self, alloc: Global, form: Form, number: u32, plan: Plan, step: Step)
+        requires { self.old.job ≡ None }
+        ensures { has_begun self.new ≡ true
+            → (asks_alone plan.wait ≡ true) × (is_later plan.wait ≡ true) }
+    {
         let question = match step {
             Step::Ask(command) => Question {
                 cursor: None,
@@ -105,7 +116,9 @@ impl Socket {
     }
 
     /// Whether nobody else may ask the database before the message that is worked on is answered.
-    pub fn asks_alone(&self) -> bool {
+    pub fn asks_alone(&self) -> bool
+        ensures { result ≡ is_alone self.now }
+    {
         match &self.job {
             Some(job) => job.plan.asks_alone(),
             None => false,
@@ -126,7 +139,8 @@ impl Socket {
 
     /// The database was asked.
     pub fn wait(&mut self)
-        ensures { is_some self.old.job ≡ true → is_asked self.new.job ≡ true }
+        ensures asked { is_some self.old.job ≡ true → is_asked self.new.job ≡ true }
+        ensures alone { is_alone self.new ≡ is_alone self.old }
     {
         if let Some(job) = &mut self.job {
             job.stage = Stage::Waits;
@@ -134,7 +148,9 @@ impl Socket {
     }
 
     /// The database has answered the message that is worked on.
-    pub fn take_reply(&mut self, alloc: Global, reply: Document) {
+    pub fn take_reply(&mut self, alloc: Global, reply: Document)
+        ensures { has_begun self.new ≡ true → is_alone self.old ≡ true }
+    {
         let Some(job) = self.job.take() else {
             return;
         };
@@ -151,7 +167,9 @@ impl Socket {
     }
 
     /// The database can't be asked, since the command is too long for a message.
-    pub fn refuse_long(&mut self, alloc: Global) {
+    pub fn refuse_long(&mut self, alloc: Global)
+        ensures { has_begun self.new ≡ true → is_alone self.old ≡ true }
+    {
         match refusal_document(alloc, Refusal::BSONObjectTooLarge) {
             Ok(reply) => self.take_reply(alloc, reply),
             Err(_) => self.is_over = true,
@@ -159,7 +177,9 @@ impl Socket {
     }
 
     /// Makes the frame of an answer.
-    fn finish(&mut self, alloc: Global, form: Form, number: u32, step: Step) {
+    fn finish(&mut self, alloc: Global, form: Form, number: u32, step: Step)
+        ensures { self.new.job ≡ self.old.job }
+    {
         let reply_no = next_number(self.last_reply);
         match frame(alloc, form, reply_no, number, step) {
             Ok(Some(frame)) => {

@@ -1,4 +1,5 @@
 use Rattle.std.proofs.Common.{rules, ◌<◌, length}
+use Rattle.front.proofs.AloneLemmas.{between_asked}
 use Rattle.front.proofs.TyingLemmas.{tied_step}
 use Rattle.front.proofs.front.Front.ask_one.Goals as goal
 
@@ -11,3 +12,8 @@ pub returns-clause-tied : goal.returns-clause-tied
 returns-clause-tied g c =
     tied_step c.args.self.now.lending.loans c.serve_socket.new.lending.loans c.args.self.now.sockets.items c.args.number _ c.index_mut-socket.result.now
     c.serve_socket.new.socket c.requires.tied c.requires.inside c.index_mut-socket.ensures.value c.serve_socket.ensures.asks
+
+pub returns-then-asks_alone-clause-between : goal.returns-then-asks_alone-clause-between
+returns-then-asks_alone-clause-between g c =
+    between_asked c.args.self.now.lending.loans c.serve_socket.new.lending.loans c.args.self.now.sockets.items c.args.number _ c.index_mut-socket.result.now
+    c.serve_socket.new.socket c.requires.inside c.index_mut-socket.ensures.value c.requires.stands c.serve_socket.ensures.lends c.serve_socket.ensures.begins

@@ -1,9 +1,11 @@
 use Rattle.server.specs.Durable.{IsSound}
 use Rattle.front.specs.Tying.{AreTied}
+use Rattle.front.specs.Alone.{StandsAlone}
 use Rattle.front.proofs.front.Front.take_turn.Given as goal
 
 abbrev pub invariant-replies : goal.invariant-replies
 invariant-replies g l = record {
   sound : IsSound g.D.Disk.history l.self.core;
   tied : AreTied l.self.lending.loans l.self.sockets.items;
+  stands : StandsAlone l.self.alone l.self.sockets.items;
 }
