@@ -90,7 +90,7 @@ pub frames_append : {Z : Type 0} (xs ys : List (ℕ × Vec ℕ Z)) → frames_in
 frames_append [] ys = refl
 frames_append (x ∷ xs) ys = ap (λ (fs : Frames). (x.0, x.1.items) ∷ fs) (frames_append xs ys)
 
-connections_in : ServerState → List Connection
+abbrev connections_in : ServerState → List Connection
 connections_in x = x.connections
 
 -- a step that hands out nothing
@@ -188,7 +188,7 @@ ends history first all i out now whole s =
       addressed = record {
         left = (state now).connections;
         addresses = subst (λ (xs : List Step). Addresses (state first).connections xs (frames_in out.replies.items) (state now).connections)
-            (sym every ∙ sym (ap (λ (stop : Option (ℕ × DriveFault)). steps_done stop all) s.runs)) s.addresses;
+            (every ∙ sym (ap (λ (stop : Option (ℕ × DriveFault)). steps_done stop all) s.runs)) s.addresses;
         whole = λ _. refl;
       };
       turns = s.counted ∙ ap turns_in every ∙ sym (ap (λ (stop : Option (ℕ × DriveFault)). turns_done stop all) s.runs);
