@@ -3,6 +3,7 @@
 
 mod counting;
 pub mod laws;
+mod listing;
 mod opening;
 mod replace;
 mod root;
