@@ -98,7 +98,7 @@ module _ (page_count : ℕ) (pages named : List ℕ) (old new : Book) (made : Is
       let there : times_in n named ≡ 0 = times_named n ∙ rw test refl in
       omega (arith, there, none_past page_count n pages past)
 
-  once : AreOnceBelow count (pages ++ named)
+  pub once : AreOnceBelow count (pages ++ named)
   once n = elim (cases_lt n count) [
     | inl inside ↦ below n inside
     | inr past ↦ omega (arith, times_in-append n pages named, sum_past n past)

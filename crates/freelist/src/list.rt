@@ -30,8 +30,9 @@ impl FreeList {
     /// What the list's own page at this place, from 0 on, is to hold. Each page but the last names 1,019.
     pub fn part(&self, alloc: Global, at: usize) -> Result<ListPage, NoMemory>
         requires { at < length self.now.pages.items }
-        ensures { let parts = written self.now.pages.items self.now.named.items in
+        ensures part { let parts = written self.now.pages.items self.now.named.items in
             IfOk result (λ part. content_at parts at ≡ Some (content_of part)) }
+        ensures few { IfOk result (λ part. length part.named.items ≤ 1019) }
     {
         let mut named = Vec::new(alloc);
         named.extend_from_slice(named_at(&self.named, at))?;

@@ -1,15 +1,16 @@
 //! The list of free pages of a file, read page by page.
-ghost use Rattle.std.specs.Prelude.{◌≡◌};
+ghost use Rattle.std.specs.Prelude.{◌≡◌, IfOk};
 ghost use Rattle.std.specs.Option.{option_map};
 ghost use Rattle.freelist.specs.ListReading.{content_of};
 ghost use Rattle.page.specs.View.{content_of as page_content};
-ghost use Rattle.roots.specs.Listed.{listed, listed_fault};
+ghost use Rattle.freelist.specs.FreeList.{written};
+ghost use Rattle.roots.specs.Listed.{list_sheets, listed, listed_fault};
 
 use crate::opening::OpenFault;
 use crate::store::Store;
-use freelist::{ListFault, ListPage, ListPages};
-use page::{Disk, PageContent};
-use std::alloc::Global;
+use freelist::{FreeList, ListFault, ListPage, ListPages};
+use page::{Disk, PageContent, PageImage, SharedPage};
+use std::alloc::{AllocError, Global};
 
 /// What a page is of a list, if it is one of a list.
 fn list_page(content: PageContent) -> Option<ListPage>
@@ -21,6 +22,31 @@ fn list_page(content: PageContent) -> Option<ListPage>
         PageContent::Branch(_) => None,
         PageContent::Chain { .. } => None,
     }
+}
+
+/// The pages of a list, in its order, as a commit of this generation writes them.
+pub fn list_sheets(
+    alloc: Global,
+    list: &FreeList,
+    generation: u64,
+) -> Result<Vec<SharedPage>, AllocError>
+    ensures { let parts = written list.now.pages.items list.now.named.items in
+        IfOk result (λ v. v.items ≡ list_sheets generation parts) }
+{
+    let mut sheets = Vec::new(alloc);
+    for at in 0..list.pages.len() {
+        let part = list.part(alloc, at)?;
+        let image = PageImage {
+            page: list.pages[at],
+            generation,
+            content: PageContent::FreeList {
+                next: part.next,
+                pages: part.named,
+            },
+        };
+        sheets.push(SharedPage::new(alloc, image)?)?;
+    }
+    Ok(sheets)
 }
 
 /// Why a page of a list wasn't read.
