@@ -1,15 +1,17 @@
 -- The pages of a list, written and read.
-use Rattle.std.proofs.Common.{◌≡◌, ◌<◌, ◌≤◌, ◌+◌, ◌*◌, ℕ, zero, suc, true, false, List, [], ◌∷◌, ◌++◌, length, length-take, take, drop, ap, sym, ◌∙◌, arith, refl, inl, inr}
+use Rattle.std.proofs.Common.{◌≡◌, ◌<◌, ◌≤◌, ◌+◌, ℕ, zero, suc, true, false, List, [], ◌∷◌, ◌++◌, length, length-take, take, drop, ap, sym, ◌∙◌, arith, refl}
+use Rattle.std.proofs.Common.{inl, inr}
 use Rattle.std.proofs.Common.{Some, subst}
-use Rattle.std.specs.Prelude.{◌^◌, ◌==◌, get_or, if◌then◌else◌, nat_lt, Option, Result, Ok, Err}
+use Rattle.std.specs.Prelude.{◌^◌, ◌==◌, get_or, nat_lt, Result, Ok, Err}
 use Rattle.std.specs.List.{AllByRecursion}
 use Rattle.std.proofs.lemmas.Bool.Decides.{nat_tests}
-use Rattle.std.proofs.lemmas.Bool.{cases_Bool, cases_lt}
-use Rattle.std.proofs.lemmas.List.{take-append-drop}
+use Rattle.std.proofs.lemmas.Bool.{cases_lt}
+use Rattle.std.proofs.lemmas.List.{take-append-drop, take_more}
+use Rattle.std.proofs.lemmas.Option.{same_Some}
 use Rattle.freelist.proofs.MadeLists.{once, reads_back}
 use Rattle.freelist.proofs.Marking.{times_in-append, times_in_front}
 use Rattle.freelist.specs.Book.{Book}
-use Rattle.freelist.specs.FreeList.{AreOnceBelow, Holds, ListContent, Part, first_page, room_for, times_in, written}
+use Rattle.freelist.specs.FreeList.{AreOnceBelow, Holds, ListContent, first_page, room_for, times_in, written}
 use Rattle.freelist.specs.ListLaws.{GivesBack}
 use Rattle.freelist.specs.ListReading.{ReadsList}
 use Rattle.freelist.specs.ListWriting.{IsMade, content_at, count_with}
@@ -20,7 +22,6 @@ use Rattle.page.proofs.PagesBack.{reads_back as page_back}
 use Rattle.page.specs.Content.{free_list}
 use Rattle.page.specs.Format.{Sheet, sheet_in}
 use Rattle.page.specs.History.{History}
-use Rattle.page.specs.Page.{page_at}
 use Rattle.page.specs.PageLaws.{IsSheet}
 use Rattle.page.specs.declared.page_fault.PageFault.{PageFault}
 use Rattle.roots.specs.Image.{sheet_at}
@@ -142,3 +143,34 @@ list_read image root page_count pages named old new made some small few pages_ar
     (subst (λ (n : ℕ). ReadsList (listed_in image root) (count_with page_count pages) (first_page (written pages named)) n result) count_is
     (subst (λ (n : ℕ). ReadsList (listed_in image root) (count_with page_count pages) n root.free_count result) first_is
     (subst (λ (n : ℕ). ReadsList (listed_in image root) n root.free_list root.free_count result) pages_are read)))
+
+-- ---- the pages of a list, one after the other
+
+pub sheets_long : (generation : ℕ) (pages named : List ℕ) → length (list_sheets generation (written pages named)) ≡ length pages
+sheets_long generation [] named = refl
+sheets_long generation (page ∷ pages) named = omega (arith, sheets_long generation pages (drop 1019 named))
+
+abbrev sheet_for : ℕ → ℕ → ListContent → Sheet
+sheet_for page generation content = record { page = page; generation = generation; content = free_list content.next content.named }
+
+sheet_written : (generation : ℕ) (pages named : List ℕ) (at : ℕ) (content : ListContent) (other : Sheet) → at < length pages
+    → content_at (written pages named) at ≡ Some content
+    → get_or (list_sheets generation (written pages named)) at other ≡ sheet_for (get_or pages at 0) generation content
+sheet_written generation [] named at content other within is = absurd (omega (arith, within))
+sheet_written generation (page ∷ pages) named zero content other within is =
+    ap (sheet_for page generation)
+    (same_Some (record { next = first_page (written pages (drop 1019 named)); named = take 1019 named }) content is)
+sheet_written generation (page ∷ pages) named (suc at) content other within is =
+    sheet_written generation pages (drop 1019 named) at content other (omega (arith, within)) is
+
+pub sheets_more : (generation : ℕ) (pages named : List ℕ) (at page : ℕ) (content : ListContent) (sheet : Sheet) (before after : List Sheet)
+    → at < length pages → content_at (written pages named) at ≡ Some content → page ≡ get_or pages at 0
+    → sheet ≡ sheet_for page generation content → before ≡ take at (list_sheets generation (written pages named)) → after ≡ before ++ sheet ∷ []
+    → after ≡ take (at + 1) (list_sheets generation (written pages named))
+sheets_more generation pages named at page content sheet before after within there page_is sheet_is before_is after_is =
+    let all : List Sheet = list_sheets generation (written pages named) in
+    let here : get_or all at sheet ≡ sheet =
+    sheet_written generation pages named at content sheet within there
+    ∙ ap (λ (n : ℕ). sheet_for n generation content) (sym page_is) ∙ sym sheet_is in
+    after_is ∙ ap (λ (xs : List Sheet). xs ++ sheet ∷ []) before_is ∙ ap (λ (x : Sheet). take at all ++ x ∷ []) (sym here)
+    ∙ sym (take_more all at sheet (omega (arith, within, sheets_long generation pages named)))

@@ -1,5 +1,6 @@
 -- The list of free pages that a file holds, page by page.
-use Rattle.std.specs.Prelude.{◌≡◌, ℕ, ◌<◌, ◌≤◌, ◌^◌, List, [], ◌∷◌, ◌++◌, length, Option, Some, None}
+use Rattle.std.specs.Prelude.{◌≡◌, ℕ, ◌<◌, ◌≤◌, ◌^◌, List, [], ◌∷◌, ◌++◌, length, Option, Some}
+use Rattle.std.specs.Prelude.{None}
 use Rattle.std.specs.Prelude.{Result, Ok, Err}
 use Rattle.freelist.specs.Book.{Book}
 use Rattle.freelist.specs.FreeList.{AreOnceBelow, Holds, ListContent, Part, first_page, written}
