@@ -204,15 +204,21 @@ fn listed(alloc: Global, pages: u32) -> Result<Vec<usize>, NoMemory> {
     Ok(sizes)
 }
 
-/// A page of the list names 1,019 pages, and the list's own pages aren't among them.
+/// How many pages a file has, and how many each page of its list names: 1,019, and the last one what is left. The list's own pages
+/// aren't among them.
+const LISTS: [(u32, &[usize]); 5] = [
+    (1, &[]),
+    (2, &[0]),
+    (1_021, &[1_019]),
+    (1_022, &[1_019, 0]),
+    (1_023, &[1_019, 1]),
+];
+
 #[test]
 fn lists_have_the_pages_that_they_need(rt: HostRuntime) -> Result<(), Fail> {
-    let none: [usize; 0] = [];
-    assert_eq!(rt; listed(rt.alloc(), 1)?, none);
-    assert_eq!(rt; listed(rt.alloc(), 2)?, [0]);
-    assert_eq!(rt; listed(rt.alloc(), 1_021)?, [1_019]);
-    assert_eq!(rt; listed(rt.alloc(), 1_022)?, [1_019, 0]);
-    assert_eq!(rt; listed(rt.alloc(), 1_023)?, [1_019, 1]);
+    for (pages, sizes) in LISTS {
+        assert_eq!(rt; listed(rt.alloc(), pages)?.as_slice(), sizes);
+    }
     Ok(())
 }
 
