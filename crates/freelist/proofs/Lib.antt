@@ -1,3 +1,4 @@
+pub mod CommittedLists
 pub mod LeastLaws
 pub mod ListRowsLemmas
 pub mod ListedBooks

@@ -19,23 +19,23 @@ none_there : (n : ℕ) → n ≡ 0 → nat_lt 0 n ≡ false
 none_there n h = grind (arith, nat_tests)
 
 -- what a page is after pages were set to a state one after the other
-abbrev with_state : PageState → List ℕ → List PageState → List PageState
+abbrev pub with_state : PageState → List ℕ → List PageState → List PageState
 with_state s [] pages = pages
 with_state s (page ∷ rest) pages = with_state s rest (set pages page s)
 
-used_is : (xs : List ℕ) (pages : List PageState) → with_used xs pages ≡ with_state states.InUse xs pages
+pub used_is : (xs : List ℕ) (pages : List PageState) → with_used xs pages ≡ with_state states.InUse xs pages
 used_is [] pages = refl
 used_is (x ∷ xs) pages = used_is xs (set pages x states.InUse)
 
-free_is : (xs : List ℕ) (pages : List PageState) → with_free xs pages ≡ with_state states.Free xs pages
+pub free_is : (xs : List ℕ) (pages : List PageState) → with_free xs pages ≡ with_state states.Free xs pages
 free_is [] pages = refl
 free_is (x ∷ xs) pages = free_is xs (set pages x states.Free)
 
-length_with : (s : PageState) (xs : List ℕ) (pages : List PageState) → length (with_state s xs pages) ≡ length pages
+pub length_with : (s : PageState) (xs : List ℕ) (pages : List PageState) → length (with_state s xs pages) ≡ length pages
 length_with s [] pages = refl
 length_with s (x ∷ xs) pages = length_with s xs (set pages x s) ∙ length-set pages x s
 
-stays : (s : PageState) (xs : List ℕ) (pages : List PageState) (p : ℕ) (d : PageState) → times_in p xs ≡ 0
+pub stays : (s : PageState) (xs : List ℕ) (pages : List PageState) (p : ℕ) (d : PageState) → times_in p xs ≡ 0
     → get_or (with_state s xs pages) p d ≡ get_or pages p d
 stays s [] pages p d none = refl
 stays s (x ∷ xs) pages p d none = elim (cases_eq p x) [
@@ -45,7 +45,7 @@ stays s (x ∷ xs) pages p d none = elim (cases_eq p x) [
   | inr other ↦ stays s xs (set pages x s) p d (omega (arith, none)) ∙ get_or-set_other pages x p s d other
 ]
 
-becomes : (s : PageState) (xs : List ℕ) (pages : List PageState) (p : ℕ) (d : PageState) → p < length pages → 0 < times_in p xs
+pub becomes : (s : PageState) (xs : List ℕ) (pages : List PageState) (p : ℕ) (d : PageState) → p < length pages → 0 < times_in p xs
     → get_or (with_state s xs pages) p d ≡ s
 becomes s [] pages p d within some = absurd (omega (arith, some))
 becomes s (x ∷ xs) pages p d within some = elim (cases_Bool (nat_lt 0 (times_in p xs))) [

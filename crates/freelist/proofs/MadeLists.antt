@@ -34,7 +34,7 @@ count_most page_count [] = omega arith
 count_most page_count (p ∷ pages) = omega (arith, count_most (max page_count (p + 1)) pages)
 
 -- they lie below the new page count
-none_past : (page_count n : ℕ) (pages : List ℕ) → count_with page_count pages ≤ n → times_in n pages ≡ 0
+pub none_past : (page_count n : ℕ) (pages : List ℕ) → count_with page_count pages ≤ n → times_in n pages ≡ 0
 none_past page_count n [] past = refl
 none_past page_count n (p ∷ pages) past =
     let other : n ≢ p = λ same. absurd (omega (arith, past, count_most (max page_count (p + 1)) pages, same)) in
@@ -76,7 +76,7 @@ split_unused (p ∷ pages) old new takes n = elim (cases_eq n p) [
 
 -- ---- each page once
 
-times_used : (n k : ℕ) (pages : List PageState) → times_in n (used_below k pages) ≡ one_if (nat_lt n k && (nat_lt 0 n && is_in_use pages n))
+pub times_used : (n k : ℕ) (pages : List PageState) → times_in n (used_below k pages) ≡ one_if (nat_lt n k && (nat_lt 0 n && is_in_use pages n))
 times_used n k pages = times_filtered (λ (m : ℕ). nat_lt 0 m && is_in_use pages m) (λ (m : ℕ). used_below m pages) refl (λ m. refl) n k
 
 module _ (page_count : ℕ) (pages named : List ℕ) (old new : Book) (made : IsMade page_count pages named old new) where
@@ -98,7 +98,7 @@ module _ (page_count : ℕ) (pages named : List ℕ) (old new : Book) (made : Is
       let there : times_in n named ≡ 0 = times_named n ∙ rw test refl in
       omega (arith, there, none_past page_count n pages past)
 
-  once : AreOnceBelow count (pages ++ named)
+  pub once : AreOnceBelow count (pages ++ named)
   once n = elim (cases_lt n count) [
     | inl inside ↦ below n inside
     | inr past ↦ omega (arith, times_in-append n pages named, sum_past n past)

@@ -1,8 +1,9 @@
 -- Laws of the written list of free pages.
 use Rattle.std.specs.Prelude.{◌≡◌, ℕ, ◌*◌, ◌<◌, ◌≤◌, nat_lt, List, [], ◌∷◌, ◌++◌, length, map}
 use Rattle.std.specs.Prelude.{replicate, drop, ◌==◌, if◌then◌else◌, Option, Some, None, ◌≢◌, zero}
-use Rattle.std.specs.Prelude.{suc, ◌&&◌, get_or, Result, MatchResult}
-use Rattle.freelist.specs.Book.{Book, first_free, is_free, is_in_use, least_free, opened, taken}
+use Rattle.std.specs.Prelude.{suc, true, ◌&&◌, get_or, Result, MatchResult}
+use Rattle.freelist.specs.Book.{Book, committed, first_free, is_free, is_in_use, least_free}
+use Rattle.freelist.specs.Book.{opened, taken}
 use Rattle.freelist.specs.FreeList.{AreOnceBelow, Holds, IsFreeList, IsPartition, ListContent, Part}
 use Rattle.freelist.specs.FreeList.{first_page, list_pages, named_by, opened_by, pages_of}
 use Rattle.freelist.specs.FreeList.{times_in, written}
@@ -88,6 +89,17 @@ MadeIsRead = (contents : ℕ → Option ListContent) (page_count : ℕ) (pages n
 abbrev pub MadeStaysSound : Type 0
 MadeStaysSound = (page_count : ℕ) (pages named : List ℕ) (old new : Book)
     → IsMade page_count pages named old new → IsSound old → IsSound new
+
+-- What a turn leaves once its list was made and it is committed is the book that the list tells
+-- whoever opens the file next, but for the count of takes that found no page: where nothing is
+-- pinned, and each page in use lies from 1 to below the page count.
+abbrev pub MadeTellsTheBook : Type 0
+MadeTellsTheBook = (page_count version : ℕ) (pages named : List ℕ) (old new : Book)
+    → IsMade page_count pages named old new → IsSound old → old.pins ≡ [] → old.waiting ≡ []
+    → let count = count_with page_count pages in count ≤ length old.states
+    → ((page : ℕ) → is_in_use old.states page ≡ true → (0 < page) × (page < count))
+    → committed version new
+    ≡ record (opened_by named count (length old.states) version) { full_takes = old.full_takes }
 
 -- ---- worked rows
 

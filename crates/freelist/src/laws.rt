@@ -1,7 +1,7 @@
 //! Laws of the definitions, each the contract of a function that does nothing.
 
 ghost use Rattle.freelist.specs.ListLaws.{WrittenIsRead, PagesSuffice, ReadingIsExact, FreeIsComplement, BookOfPartition, ListRows};
-ghost use Rattle.freelist.specs.ListLaws.{MadeIsPartition, MadeIsRead, MadeStaysSound, MadeRows};
+ghost use Rattle.freelist.specs.ListLaws.{MadeIsPartition, MadeIsRead, MadeStaysSound, MadeTellsTheBook, MadeRows};
 ghost use Rattle.freelist.specs.Sound.{TakesLeast, NoneIsFree, IsFreeByDefinition, OpensSound, CallsStaySound};
 ghost use Rattle.freelist.specs.Undone.{UndoingLeadsBack};
 
@@ -80,6 +80,11 @@ pub fn made_is_read()
 /// Making a list keeps a book sound.
 pub fn made_stays_sound()
     ensures { MadeStaysSound }
+{}
+
+/// The book that a turn leaves, with its list made, is what the list tells whoever opens the file next.
+pub fn made_tells_the_book()
+    ensures { MadeTellsTheBook }
 {}
 
 /// Lists made by hand: with nothing to name, of pages below the page count, and with a page behind it.

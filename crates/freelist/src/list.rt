@@ -30,8 +30,9 @@ impl FreeList {
     /// What the list's own page at this place, from 0 on, is to hold. Each page but the last names 1,019.
     pub fn part(&self, alloc: Global, at: usize) -> Result<ListPage, NoMemory>
         requires { at < length self.now.pages.items }
-        ensures { let parts = written self.now.pages.items self.now.named.items in
+        ensures part { let parts = written self.now.pages.items self.now.named.items in
             IfOk result (λ part. content_at parts at ≡ Some (content_of part)) }
+        ensures few { IfOk result (λ part. length part.named.items ≤ 1019) }
     {
         let mut named = Vec::new(alloc);
         named.extend_from_slice(named_at(&self.named, at))?;
@@ -74,7 +75,7 @@ pub trait ListPages {
     ghost has_failed: { Self → Self → Type 0 };
 
     /// The page of this number. Device where the device failed; Damaged where it is no page of a list.
-    fn read_part(&mut self, page: u32) -> Result<ListPage, ListFault>
+    fn read_part(&mut self, alloc: Global, page: u32) -> Result<ListPage, ListFault>
         ensures reads { reads self.old self.new }
         ensures same { keeps_word self.new
             → keeps_word self.old × (contents self.new ≡ contents self.old) }
@@ -170,7 +171,12 @@ impl Reading {
     }
 
     /// Reads one page more of the list; which page goes on.
-    fn read_next<P: ListPages>(&mut self, source: &mut P, page: u32) -> Result<u32, ListFault>
+    fn read_next<P: ListPages>(
+        &mut self,
+        alloc: Global,
+        source: &mut P,
+        page: u32,
+    ) -> Result<u32, ListFault>
         ensures reads { P.reads source.old source.new }
         ensures same { P.keeps_word source.new
             → P.keeps_word source.old × (P.contents source.new ≡ P.contents source.old) }
@@ -180,7 +186,7 @@ impl Reading {
         ensures fewer { OnOk result (unmarked self.new.seen.items < unmarked self.old.seen.items) }
     {
         self.note_page(page)?;
-        let part = source.read_part(page)?;
+        let part = source.read_part(alloc, page)?;
         self.note_named(&part.named)?;
         Ok(part.next)
     }
@@ -205,7 +211,7 @@ pub fn read_list<P: ListPages>(
     let mut reading = Reading::begin(alloc, page_count)?;
     let mut page = first;
     while page != 0 {
-        page = reading.read_next(source, page)?;
+        page = reading.read_next(alloc, source, page)?;
     }
     if reading.list.named.len() != count as usize {
         return Err(ListFault::Damaged);

@@ -3,6 +3,7 @@ pub mod FoundLemmas
 pub mod FreeLemmas
 pub mod ImageLemmas
 pub mod KeptPages
+pub mod ListingLemmas
 pub mod MadeLemmas
 pub mod MarkLemmas
 pub mod MovesLemmas

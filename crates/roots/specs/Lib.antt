@@ -3,6 +3,8 @@ pub mod Counting
 pub mod FaultNames
 pub mod Found
 pub mod Image
+pub mod Listed
+pub mod ListedLaws
 pub mod Numbers
 pub mod Opening
 pub mod Replace

@@ -2,6 +2,7 @@
 ghost use Rattle.std.specs.Prelude.{◌≡◌, ℕ, List};
 ghost use Rattle.btree.specs.Keys.{Entry};
 ghost use Rattle.roots.specs.Image.{StandsFor};
+ghost use Rattle.roots.specs.Listed.{WrittenListIsThere, WrittenListIsRead};
 ghost use Rattle.roots.specs.Numbers.{open_fault_number, commit_fault_number};
 
 use crate::{CommitFault, LEAST_LIMIT, MAX_PAGES, OpenFault};
@@ -10,6 +11,16 @@ use crate::{CommitFault, LEAST_LIMIT, MAX_PAGES, OpenFault};
 pub fn one_state()
     ensures { (image : ℕ → List ℕ) (a b : List Entry)
         → StandsFor image a → StandsFor image b → a ≡ b }
+{}
+
+/// Pages of a list that are written hold it.
+pub fn written_list_is_there()
+    ensures { WrittenListIsThere }
+{}
+
+/// A list that was made, and whose pages are written, is what whoever reads the file gets.
+pub fn written_list_is_read()
+    ensures { WrittenListIsRead }
 {}
 
 /// A file has at most 1,048,576 pages, and at least 16 may be asked for.

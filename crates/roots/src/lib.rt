@@ -3,6 +3,7 @@
 
 mod counting;
 pub mod laws;
+mod listing;
 mod opening;
 mod replace;
 mod root;
@@ -10,6 +11,7 @@ mod store;
 mod walk;
 
 pub use counting::PageCounts;
+pub use listing::list_sheets;
 pub use opening::OpenFault;
 pub use root::{MAX_PAGES, Root};
 pub use store::{CommitFault, Config, LEAST_LIMIT, Store};

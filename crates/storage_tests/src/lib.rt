@@ -1,5 +1,5 @@
 //! Tests of the storage, from `page` to `pager`: pages, roots and trees byte by byte, files that no commit left, how many pages a
-//! file has, and a disk in a file.
+//! file has, lists of free pages, and a disk in a file.
 #![tactic(auto)]
 
 #[cfg(test)]
@@ -8,6 +8,8 @@ mod cached_pages;
 mod damaged_files;
 #[cfg(test)]
 mod file_disk;
+#[cfg(test)]
+mod free_lists;
 #[cfg(test)]
 mod page_bytes;
 #[cfg(test)]

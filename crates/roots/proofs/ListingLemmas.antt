@@ -1,0 +1,176 @@
+-- The pages of a list, written and read.
+use Rattle.std.proofs.Common.{◌≡◌, ◌<◌, ◌≤◌, ◌+◌, ℕ, zero, suc, true, false, List, [], ◌∷◌, ◌++◌, length, length-take, take, drop, ap, sym, ◌∙◌, arith, refl}
+use Rattle.std.proofs.Common.{inl, inr}
+use Rattle.std.proofs.Common.{Some, subst}
+use Rattle.std.specs.Prelude.{◌^◌, ◌==◌, get_or, nat_lt, Result, Ok, Err}
+use Rattle.std.specs.List.{AllByRecursion}
+use Rattle.std.proofs.lemmas.Bool.Decides.{nat_tests}
+use Rattle.std.proofs.lemmas.Bool.{cases_lt}
+use Rattle.std.proofs.lemmas.List.{take-append-drop, take_more}
+use Rattle.std.proofs.lemmas.Option.{same_Some}
+use Rattle.freelist.proofs.MadeLists.{once, reads_back}
+use Rattle.freelist.proofs.Marking.{times_in-append, times_in_front}
+use Rattle.freelist.specs.Book.{Book}
+use Rattle.freelist.specs.FreeList.{AreOnceBelow, Holds, ListContent, first_page, room_for, times_in, written}
+use Rattle.freelist.specs.ListLaws.{GivesBack}
+use Rattle.freelist.specs.ListReading.{ReadsList}
+use Rattle.freelist.specs.ListWriting.{IsMade, content_at, count_with}
+use Rattle.freelist.specs.declared.list.FreeList.{FreeList}
+use Rattle.freelist.specs.declared.list_fault.ListFault.{ListFault}
+use Rattle.freelist.specs.declared.list_fault.ListFault.TheVariants as lists
+use Rattle.page.proofs.PagesBack.{reads_back as page_back}
+use Rattle.page.specs.Content.{free_list}
+use Rattle.page.specs.Format.{Sheet, sheet_in}
+use Rattle.page.specs.History.{History}
+use Rattle.page.specs.PageLaws.{IsSheet}
+use Rattle.page.specs.declared.page_fault.PageFault.{PageFault}
+use Rattle.roots.specs.Image.{sheet_at}
+use Rattle.roots.specs.Listed.{list_sheets, listed_fault, listed_in, listed_sheet}
+use Rattle.roots.specs.Turn.{AreWritten}
+use Rattle.roots.specs.Walk.{HasCause}
+use Rattle.roots.specs.declared.opening.OpenFault.{OpenFault}
+use Rattle.roots.specs.declared.opening.OpenFault.TheVariants as opens
+use Rattle.roots.specs.declared.root.Root.{Root}
+
+-- ---- a page that isn't read
+
+pub no_part : (sheet : Result Sheet PageFault) → ((found : Sheet) → sheet ≡ Ok found → ⊥) → (content : ListContent)
+    → listed_sheet sheet ≡ Some content → ⊥
+no_part (Ok sheet) none content is = none sheet refl
+no_part (Err fault) none content is = cc
+
+-- a page was damaged only where it wasn't one of the file
+pub damage_is : (old new : History) (fault : OpenFault) → HasCause old new fault → listed_fault fault ≡ lists.Damaged → fault ≡ opens.Damaged
+damage_is old new opens.Device cause is = absurd cc
+damage_is old new opens.Memory cause is = absurd cc
+damage_is old new opens.NotADatabase cause is = absurd cause
+damage_is old new opens.Damaged cause is = refl
+damage_is old new opens.NewerFormat cause is = absurd cause
+
+-- ---- numbers that stand once are those of pages
+
+has_room : (page_count n : ℕ) → 1 ≤ room_for page_count n → (0 < n) × (n < page_count)
+has_room page_count zero room = absurd (omega (arith, room))
+has_room page_count (suc n) room = elim (cases_lt (suc n) page_count) [
+  | inl inside ↦ (omega arith, inside)
+  | inr past ↦
+      let some : nat_lt 0 (suc n) ≡ true = grind (arith, nat_tests) in
+      let none : nat_lt (suc n) page_count ≡ false = grind (arith, nat_tests) in
+      let no_room : room_for page_count (suc n) ≡ 0 = rw (some, none) refl in
+      absurd (omega (arith, room, no_room))
+]
+
+times_first : (n : ℕ) (ns : List ℕ) → 1 ≤ times_in n (n ∷ ns)
+times_first n ns =
+    let same : (n == n) ≡ true = grind (arith, nat_tests) in
+    rw same (omega arith)
+
+pub all_pages : (page_count : ℕ) (ns : List ℕ) → AreOnceBelow page_count ns → AllByRecursion (λ (n : ℕ). (0 < n) × (n < page_count)) ns
+all_pages page_count [] once_each = tt
+all_pages page_count (n ∷ ns) once_each = (
+  has_room page_count n (omega (arith, once_each n, times_first n ns)),
+  all_pages page_count ns (λ k. omega (arith, once_each k)),
+)
+
+times_behind : (n i : ℕ) (ns : List ℕ) → times_in n (drop i ns) ≤ times_in n ns
+times_behind n i ns = omega (arith, times_in-append n (take i ns) (drop i ns), ap (times_in n) (take-append-drop i ns))
+
+small_numbers : (page_count : ℕ) (ns : List ℕ) → page_count ≤ 2 ^ 32 → AllByRecursion (λ (n : ℕ). (0 < n) × (n < page_count)) ns
+    → AllByRecursion (λ (n : ℕ). n < 2 ^ 32) ns
+small_numbers page_count [] few all = tt
+small_numbers page_count (n ∷ ns) few all = (omega (arith, all.0.1, few), small_numbers page_count ns few all.1)
+
+-- ---- each page of the list
+
+module _ (image : ℕ → List ℕ) (root : Root) (generation : ℕ) (some : 1 ≤ generation) (until : generation ≤ root.generation)
+    (small : root.generation < 2 ^ 64) (few : root.pages ≤ 1048576) where
+  next_small : (pages named : List ℕ) → AllByRecursion (λ (n : ℕ). (0 < n) × (n < root.pages)) pages → first_page (written pages named) < 2 ^ 32
+  next_small [] named all = omega arith
+  next_small (page ∷ pages) named all = omega (arith, all.0.1, few)
+
+  one_there : (sheet : Sheet) → 0 < sheet.page → sheet.page < root.pages → IsSheet root.generation sheet
+      → AreWritten image (sheet ∷ []) → sheet_at image root sheet.page ≡ Ok sheet
+  one_there sheet positive inside is there =
+      let first : nat_lt 0 sheet.page ≡ true = grind (arith, nat_tests) in
+      let last : nat_lt sheet.page root.pages ≡ true = grind (arith, nat_tests) in
+      rw (first, last) (ap (sheet_in sheet.page root.generation) there.0 ∙ page_back root.generation sheet is)
+
+  pub holds_written : (pages named : List ℕ) → AllByRecursion (λ (n : ℕ). (0 < n) × (n < root.pages)) pages
+      → ((n : ℕ) → times_in n named ≤ room_for root.pages n) → AreWritten image (list_sheets generation (written pages named))
+      → Holds (listed_in image root) (written pages named)
+  holds_written [] named all room there = tt
+  holds_written (page ∷ pages) named all room there =
+      let sheet : Sheet = record {
+        page = page;
+        generation = generation;
+        content = free_list (first_page (written pages (drop 1019 named))) (take 1019 named);
+      } in
+      let is : IsSheet root.generation sheet = record {
+        page = omega (arith, all.0.1, few);
+        some = some;
+        small = omega (arith, until, small);
+        until = until;
+        content = (
+          next_small pages (drop 1019 named) all.1,
+          omega (arith, length-take 1019 named),
+          small_numbers root.pages (take 1019 named) (omega (arith, few))
+              (all_pages root.pages (take 1019 named) (λ n. omega (arith, room n, times_in_front n 1019 named))),
+        );
+      } in (
+        ap listed_sheet (one_there sheet all.0.0 all.0.1 is (there.0, tt)),
+        holds_written pages (drop 1019 named) all.1 (λ n. omega (arith, room n, times_behind n 1019 named)) there.1,
+      )
+
+pub list_there : (image : ℕ → List ℕ) (root : Root) (generation : ℕ) (pages named : List ℕ) → 1 ≤ generation → generation ≤ root.generation
+    → root.generation < 2 ^ 64 → root.pages ≤ 1048576 → AreOnceBelow root.pages (pages ++ named)
+    → AreWritten image (list_sheets generation (written pages named)) → Holds (listed_in image root) (written pages named)
+list_there image root generation pages named some until small few once_each there =
+    holds_written image root generation some until small few pages named
+    (all_pages root.pages pages (λ n. omega (arith, once_each n, times_in-append n pages named)))
+    (λ n. omega (arith, once_each n, times_in-append n pages named)) there
+
+pub list_read : (image : ℕ → List ℕ) (root : Root) (page_count : ℕ) (pages named : List ℕ) (old new : Book) → IsMade page_count pages named old new
+    → 1 ≤ root.generation → root.generation < 2 ^ 64 → root.pages ≤ 1048576 → root.pages ≡ count_with page_count pages
+    → root.free_list ≡ first_page (written pages named) → root.free_count ≡ length named
+    → AreWritten image (list_sheets root.generation (written pages named)) → (result : Result FreeList ListFault)
+    → ReadsList (listed_in image root) root.pages root.free_list root.free_count result → GivesBack pages named result
+list_read image root page_count pages named old new made some small few pages_are first_is count_is there result read =
+    let once_each : AreOnceBelow root.pages (pages ++ named) =
+    subst (λ (n : ℕ). AreOnceBelow n (pages ++ named)) (sym pages_are) (once page_count pages named old new made) in
+    let holds : Holds (listed_in image root) (written pages named) =
+    list_there image root root.generation pages named some (omega arith) small few once_each there in
+    reads_back page_count pages named old new made (listed_in image root) holds result
+    (subst (λ (n : ℕ). ReadsList (listed_in image root) (count_with page_count pages) (first_page (written pages named)) n result) count_is
+    (subst (λ (n : ℕ). ReadsList (listed_in image root) (count_with page_count pages) n root.free_count result) first_is
+    (subst (λ (n : ℕ). ReadsList (listed_in image root) n root.free_list root.free_count result) pages_are read)))
+
+-- ---- the pages of a list, one after the other
+
+pub sheets_long : (generation : ℕ) (pages named : List ℕ) → length (list_sheets generation (written pages named)) ≡ length pages
+sheets_long generation [] named = refl
+sheets_long generation (page ∷ pages) named = omega (arith, sheets_long generation pages (drop 1019 named))
+
+abbrev sheet_for : ℕ → ℕ → ListContent → Sheet
+sheet_for page generation content = record { page = page; generation = generation; content = free_list content.next content.named }
+
+sheet_written : (generation : ℕ) (pages named : List ℕ) (at : ℕ) (content : ListContent) (other : Sheet) → at < length pages
+    → content_at (written pages named) at ≡ Some content
+    → get_or (list_sheets generation (written pages named)) at other ≡ sheet_for (get_or pages at 0) generation content
+sheet_written generation [] named at content other within is = absurd (omega (arith, within))
+sheet_written generation (page ∷ pages) named zero content other within is =
+    ap (sheet_for page generation)
+    (same_Some (record { next = first_page (written pages (drop 1019 named)); named = take 1019 named }) content is)
+sheet_written generation (page ∷ pages) named (suc at) content other within is =
+    sheet_written generation pages (drop 1019 named) at content other (omega (arith, within)) is
+
+pub sheets_more : (generation : ℕ) (pages named : List ℕ) (at page : ℕ) (content : ListContent) (sheet : Sheet) (before after : List Sheet)
+    → at < length pages → content_at (written pages named) at ≡ Some content → page ≡ get_or pages at 0
+    → sheet ≡ sheet_for page generation content → before ≡ take at (list_sheets generation (written pages named)) → after ≡ before ++ sheet ∷ []
+    → after ≡ take (at + 1) (list_sheets generation (written pages named))
+sheets_more generation pages named at page content sheet before after within there page_is sheet_is before_is after_is =
+    let all : List Sheet = list_sheets generation (written pages named) in
+    let here : get_or all at sheet ≡ sheet =
+    sheet_written generation pages named at content sheet within there
+    ∙ ap (λ (n : ℕ). sheet_for n generation content) (sym page_is) ∙ sym sheet_is in
+    after_is ∙ ap (λ (xs : List Sheet). xs ++ sheet ∷ []) before_is ∙ ap (λ (x : Sheet). take at all ++ x ∷ []) (sym here)
+    ∙ sym (take_more all at sheet (omega (arith, within, sheets_long generation pages named)))

@@ -1,0 +1,94 @@
+-- The list of free pages that a file holds, page by page.
+use Rattle.std.specs.Prelude.{◌≡◌, ℕ, ◌<◌, ◌≤◌, ◌^◌, List, [], ◌∷◌, ◌++◌, length, Option, Some}
+use Rattle.std.specs.Prelude.{None}
+use Rattle.std.specs.Prelude.{Result, Ok, Err}
+use Rattle.freelist.specs.Book.{Book}
+use Rattle.freelist.specs.FreeList.{AreOnceBelow, Holds, ListContent, Part, first_page, written}
+use Rattle.freelist.specs.ListLaws.{GivesBack}
+use Rattle.freelist.specs.ListReading.{ReadsList}
+use Rattle.freelist.specs.ListWriting.{IsMade, count_with}
+use Rattle.freelist.specs.declared.list.FreeList.{FreeList}
+use Rattle.freelist.specs.declared.list_fault.ListFault.{ListFault}
+use Rattle.freelist.specs.declared.list_fault.ListFault.TheVariants as lists
+use Rattle.page.specs.Content.{Content, leaf, branch, chain, free_list}
+use Rattle.page.specs.Crash.{ReadsOnly}
+use Rattle.page.specs.Format.{Sheet}
+use Rattle.page.specs.History.{History, KeepsWord, now, reads}
+use Rattle.page.specs.declared.page_fault.PageFault.{PageFault}
+use Rattle.roots.specs.Image.{sheet_at}
+use Rattle.roots.specs.Store.{disk_history, durable_root, is_stopped}
+use Rattle.roots.specs.Turn.{AreWritten}
+use Rattle.roots.specs.declared.opening.OpenFault.{OpenFault}
+use Rattle.roots.specs.declared.opening.OpenFault.TheVariants as opens
+use Rattle.roots.specs.declared.root.Root.{Root}
+use Rattle.roots.specs.declared.store.Store.{Store}
+
+-- What a page is of a list: the page that goes on, and the pages that it names. A page of another
+-- kind is none.
+abbrev pub listed : Content → Option ListContent
+listed (leaf items) = None
+listed (branch arms) = None
+listed (chain next bytes) = None
+listed (free_list next pages) = Some (record { next = next; named = pages })
+
+abbrev pub listed_sheet : Result Sheet PageFault → Option ListContent
+listed_sheet (Ok sheet) = listed sheet.content
+listed_sheet (Err fault) = None
+
+-- what each page of a file with this root is of a list
+abbrev pub listed_in : (ℕ → List ℕ) → Root → ℕ → Option ListContent
+listed_in image root page = listed_sheet (sheet_at image root page)
+
+abbrev pub listed_by : {D : Type 0} → (D → History) → Store D → ℕ → Option ListContent
+listed_by history store = listed_in (reads (now (disk_history history store))) (durable_root store)
+
+-- the pages of these parts, as a commit of this generation writes them
+abbrev pub list_sheets : ℕ → List Part → List Sheet
+list_sheets generation [] = []
+list_sheets generation (part ∷ rest) =
+    record {
+      page = part.page;
+      generation = generation;
+      content = free_list (first_page rest) part.named;
+    } ∷ list_sheets generation rest
+
+-- Where the pages of a list are written, below the page count of a root of their commit or a later
+-- one, they hold the list.
+abbrev pub WrittenListIsThere : Type 0
+WrittenListIsThere = (image : ℕ → List ℕ) (root : Root) (generation : ℕ) (pages named : List ℕ)
+    → 1 ≤ generation → generation ≤ root.generation → root.generation < 2 ^ 64
+    → root.pages ≤ 1048576 → AreOnceBelow root.pages (pages ++ named)
+    → AreWritten image (list_sheets generation (written pages named))
+    → Holds (listed_in image root) (written pages named)
+
+-- Where a root names a list that was made, and its pages are written, whoever reads it gets it
+-- back.
+abbrev pub WrittenListIsRead : Type 0
+WrittenListIsRead = (image : ℕ → List ℕ) (root : Root) (page_count : ℕ) (pages named : List ℕ)
+    (old new : Book) → IsMade page_count pages named old new → let parts = written pages named in
+    1 ≤ root.generation → root.generation < 2 ^ 64 → root.pages ≤ 1048576
+    → root.pages ≡ count_with page_count pages → root.free_list ≡ first_page parts
+    → root.free_count ≡ length named → AreWritten image (list_sheets root.generation parts)
+    → (result : Result FreeList ListFault)
+    → ReadsList (listed_in image root) root.pages root.free_list root.free_count result
+    → GivesBack pages named result
+
+-- The store's disk was read, and nothing else.
+pub record OnlyReads {D : Type 0} (history : D → History) (old new : Store D) : Type 0 where
+  pub disk : ReadsOnly (disk_history history old) (disk_history history new)
+  pub root : durable_root new ≡ durable_root old
+  pub stopped : is_stopped new ≡ is_stopped old
+
+-- a call of the disk failed
+abbrev pub HasFailed : {D : Type 0} → (D → History) → Store D → Store D → Type 0
+HasFailed history old new =
+    KeepsWord (disk_history history new) → KeepsWord (disk_history history old)
+    × ((disk_history history old).failures < (disk_history history new).failures)
+
+-- why a page of a list wasn't read
+abbrev pub listed_fault : OpenFault → ListFault
+listed_fault opens.Device = lists.Device
+listed_fault opens.Memory = lists.Memory
+listed_fault opens.NotADatabase = lists.Damaged
+listed_fault opens.Damaged = lists.Damaged
+listed_fault opens.NewerFormat = lists.Damaged

@@ -1,0 +1,93 @@
+//! The list of free pages of a file, read page by page.
+ghost use Rattle.std.specs.Prelude.{◌≡◌, IfOk};
+ghost use Rattle.std.specs.Option.{option_map};
+ghost use Rattle.freelist.specs.ListReading.{content_of};
+ghost use Rattle.page.specs.View.{content_of as page_content};
+ghost use Rattle.freelist.specs.FreeList.{written};
+ghost use Rattle.roots.specs.Listed.{list_sheets, listed, listed_fault};
+
+use crate::opening::OpenFault;
+use crate::store::Store;
+use freelist::{FreeList, ListFault, ListPage, ListPages};
+use page::{Disk, PageContent, PageImage, SharedPage};
+use std::alloc::{AllocError, Global};
+
+/// What a page is of a list, if it is one of a list.
+fn list_page(content: PageContent) -> Option<ListPage>
+    ensures { option_map content_of result ≡ listed (page_content content) }
+{
+    match content {
+        PageContent::FreeList { next, pages } => Some(ListPage { next, named: pages }),
+        PageContent::Leaf(_) => None,
+        PageContent::Branch(_) => None,
+        PageContent::Chain { .. } => None,
+    }
+}
+
+/// The pages of a list, in its order, as a commit of this generation writes them.
+pub fn list_sheets(
+    alloc: Global,
+    list: &FreeList,
+    generation: u64,
+) -> Result<Vec<SharedPage>, AllocError>
+    ensures { let parts = written list.now.pages.items list.now.named.items in
+        IfOk result (λ v. v.items ≡ list_sheets generation parts) }
+{
+    let mut sheets = Vec::new(alloc);
+    for at in 0..list.pages.len() {
+        let part = list.part(alloc, at)?;
+        let image = PageImage {
+            page: list.pages[at],
+            generation,
+            content: PageContent::FreeList {
+                next: part.next,
+                pages: part.named,
+            },
+        };
+        sheets.push(SharedPage::new(alloc, image)?)?;
+    }
+    Ok(sheets)
+}
+
+/// Why a page of a list wasn't read.
+fn list_fault(fault: OpenFault) -> ListFault
+    ensures { result ≡ listed_fault fault }
+{
+    match fault {
+        OpenFault::Device => ListFault::Device,
+        OpenFault::Memory => ListFault::Memory,
+        _ => ListFault::Damaged,
+    }
+}
+
+impl<D: Disk> ListPages for Store<D> {
+    ghost use Rattle.page.specs.History.{KeepsWord};
+    ghost use Rattle.roots.specs.Listed.{HasFailed, OnlyReads, listed_by};
+    ghost use Rattle.roots.specs.ListedLaws.{fails_later, reads_more, reads_none};
+    ghost use Rattle.roots.specs.Store.{disk_history};
+
+    ghost contents = { λ store. listed_by D.history store };
+
+    ghost keeps_word = { λ store. KeepsWord (disk_history D.history store) };
+
+    ghost reads = { λ old new. OnlyReads D.history old new };
+
+    ghost has_failed = { λ old new. HasFailed D.history old new };
+
+    ghost stays = { λ x. reads_none D.history x };
+
+    ghost goes_on = { λ x y z. reads_more D.history x y z };
+
+    ghost failed_later = { λ x y z. fails_later D.history x y z };
+
+    fn read_part(&mut self, alloc: Global, page: u32) -> Result<ListPage, ListFault> {
+        let image = match self.read(alloc, page) {
+            Ok(image) => image,
+            Err(fault) => return Err(list_fault(fault)),
+        };
+        match list_page(image.content) {
+            Some(part) => Ok(part),
+            None => Err(ListFault::Damaged),
+        }
+    }
+}
