@@ -7,6 +7,7 @@ use Rattle.std.specs.List.{filter, AllByRecursion}
 use Rattle.bson.specs.Tree.{Pairs}
 use Rattle.filter.specs.Condition.{Conditions}
 use Rattle.filter.specs.Matches.{matches}
+use Rattle.filter.specs.Sort.{SortField, order}
 use Rattle.outcome.specs.Outcome.{◌>>=◌}
 use Rattle.path.specs.declared.refusal.Refusal.{Refusal}
 use Rattle.aggregate.specs.Group.{Grouping, grouped}
@@ -76,6 +77,11 @@ pub record IsEnough (stages : List Stage) (few taken : List Pairs) : Type 0 wher
   pub same : (limit : ℕ) (rest : List Pairs) → first_fault limit (taken ++ rest) ≡ None
       → (first_fault limit (few ++ rest) ≡ None)
       × (run stages limit (few ++ rest) ≡ run stages limit (taken ++ rest))
+
+-- Of those that are enough, the first ones in this order, up to this number, are enough too.
+abbrev pub KeepsFirst : List Stage → List SortField → ℕ → Type 0
+KeepsFirst stages sort most = (few taken : List Pairs) → IsEnough stages few taken
+    → IsEnough stages (take most (order sort few)) taken
 
 -- what a pipeline makes of documents within the limits is within them
 abbrev pub StaysWithin : Type 0

@@ -28,3 +28,4 @@ mod windows;
 
 pub use limits::RESULT_LEVELS;
 pub use pipeline::{MOST_STAGES, Pipeline};
+pub use taking::FirstSorted;

@@ -7,7 +7,7 @@ ghost use Rattle.std.specs.List.{filter};
 ghost use Rattle.aggregate.specs.Limits.{first_fault};
 ghost use Rattle.aggregate.specs.Pipeline.{run};
 ghost use Rattle.aggregate.specs.GroupView.{grouping_of};
-ghost use Rattle.aggregate.specs.Taking.{takes, behind_match, groups_first, leading_match, run_behind_groups, Suffices, SufficesTaken, IsEnough};
+ghost use Rattle.aggregate.specs.Taking.{takes, behind_match, groups_first, leading_match, run_behind_groups, KeepsFirst, Suffices, SufficesTaken, IsEnough};
 ghost use Rattle.aggregate.specs.View.{stage_of, pipeline_of};
 
 use crate::grouping::Grouping;
@@ -17,9 +17,17 @@ use crate::matching::matches;
 use crate::pipeline::{Pipeline, run_stages};
 use crate::stage::Stage;
 use bson::{Document, NoMemory, RawDoc};
-use filter::{AsDocument, Filter, laws};
+use filter::{AsDocument, Filter, Sort, laws};
 use path::Refusal;
 use std::alloc::Global;
+
+/// A `$sort` in front, or behind a `$match` in front, of which a pipeline keeps the first documents alone.
+#[derive(Debug, Drop)]
+pub struct FirstSorted<'a> {
+    pub sort: &'a Sort,
+    /// How many of them are enough.
+    pub most: usize,
+}
 
 /// The stages behind a `$match` in front.
 fn behind_match(stages: &[Stage]) -> &[Stage]
@@ -139,6 +147,19 @@ impl Pipeline {
         enough(behind_match(&self.stages))
     }
 
+    /// The `$sort` of which it keeps the first documents alone, where there is one in front or behind a `$match` in front.
+    pub fn first_sorted(&self) -> Option<FirstSorted<'_>>
+        ensures { IfSome result
+            (λ first. KeepsFirst (pipeline_of self.now) first.sort.now first.most) }
+    {
+        let Some((Stage::Sort(sort), behind)) = behind_match(&self.stages).split_first() else {
+            return None;
+        };
+        let most = enough(behind)?;
+        laws::sorts_in_parts();
+        Some(FirstSorted { sort, most })
+    }
+
     /// Those of documents that are still needed, where these are enough of all that it has taken so far: where it
     /// sorts them and keeps the first ones, these alone.
     pub fn still_needed<'a, T: AsDocument>(&self, these: Vec<&'a T>) -> Result<Vec<&'a T>, NoMemory>
@@ -147,18 +168,14 @@ impl Pipeline {
             → IfOk result (λ v. IsEnough (pipeline_of self.now)
             (map (λ d. T.document d.now) v.items) seen) }
     {
-        let Some((Stage::Sort(sort), behind)) = behind_match(&self.stages).split_first() else {
+        let Some(first) = self.first_sorted() else {
             return Ok(these);
         };
-        let Some(most) = enough(behind) else {
-            return Ok(these);
-        };
-        if these.len() <= most {
+        if these.len() <= first.most {
             return Ok(these);
         }
-        let mut ordered = sort.order_shared(these)?;
-        ordered.truncate(most);
-        laws::sorts_in_parts();
+        let mut ordered = first.sort.order_shared(these)?;
+        ordered.truncate(first.most);
         Ok(ordered)
     }
 }
