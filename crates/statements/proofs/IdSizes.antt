@@ -36,13 +36,13 @@ use Rattle.update.specs.Reading.{read_update, read_operators as read_edits_of}
 use Rattle.update.specs.Replacements.{in_place_of}
 use Rattle.update.specs.Stored.{id_first, id_name, judged}
 use Rattle.update.specs.UpdateLaws.{gives_stored, keeps_id, operators_avoid}
-use Rattle.update.specs.Upserts.{base_of, is_below_id, with_condition, with_conditions, with_equal, with_equalities, with_equality}
+use Rattle.update.specs.Upserts.{base_of, with_condition, with_conditions, with_equalities, with_equality}
 use Rattle.commands.specs.Update.{IsRead}
 use Rattle.database_model.specs.Documents.{key_of}
 use Rattle.statements.proofs.Applied.{id_is_first}
 use Rattle.statements.proofs.Checked.{lookup-id_first}
 
-some : Tree → Option Tree
+abbrev some : Tree → Option Tree
 some t = Some t
 
 -- the bytes of an `_id` with its name and its type
@@ -141,8 +141,8 @@ conditions_give (condition c cs) ps qs e =
     let got = if_ok_value (with_condition c ps) (with_conditions cs) qs e in
     omega (arith, condition_gives c ps got.0 got.1, conditions_give cs got.0 qs got.2)
 
-base_size : (cs : Conditions) (base : Pairs) → base_of cs ≡ Ok base → id_size (lookup base id_name) ≤ filter_size cs
-base_size cs base e = conditions_give cs no_pairs base e
+pub base_size : (cs : Conditions) (base : Pairs) → base_of cs ≡ Ok base → id_size (lookup base id_name) ≤ filter_size cs
+base_size cs base e = omega (arith, conditions_give cs no_pairs base e)
 
 -- ---- the equalities stand in the filter as it is spelled
 
@@ -152,7 +152,7 @@ length-document ps = frame_of-length (pairs_bytes ps)
 
 -- a path that is `_id` is spelled so
 id_spelled : (name : List ℕ) (path : Path) → path_in name ≡ Ok path → is_id path ≡ true → length name ≡ 3
-id_spelled name path e p = by (path_fault name (parts_of name)) refl e
+id_spelled name path e p = by (path_fault name (parts_of name)) e
   where
     parted : (parts : Path) → join_with_byte 46 parts ≡ name → is_id parts ≡ true → length name ≡ 3
     parted [] joined q = absurd cc
@@ -276,8 +276,8 @@ named_size name t c e = by (bytes_eq name (codes "$and")) (bytes_eq name (codes 
 
     chosen : (path : Path) (cs : Conditions) (b : Bool) → is_id path ≡ b → path_in name ≡ Ok path → all_asked_size cs ≤ length (tree_bytes t) + 5
         → (if b then all_asked_size cs else 0) ≤ length name + length (tree_bytes t) + 2
-    chosen path cs true is f asked = omega (arith, id_spelled name path f is, asked)
-    chosen path cs false is f asked = omega arith
+    chosen path cs true same f asked = omega (arith, id_spelled name path f same, asked)
+    chosen path cs false same f asked = omega arith
 
     by : (a b d : Bool)
         → (if a then if_ok (read_members t) (λ rs. Ok (all rs)) else (if b then if_ok (read_members t) (λ rs. Ok (any rs))
@@ -322,8 +322,8 @@ lookup_spelled (pair name t ps) = by (bytes_eq id_name name) refl (lookup_spelle
   where
     by : (b : Bool) → bytes_eq id_name name ≡ b → id_size (lookup ps id_name) ≤ length (pairs_bytes ps)
         → id_size (if b then Some t else lookup ps id_name) ≤ length (pairs_bytes (pair name t ps))
-    by true is later = omega (arith, ap length ((bytes_eq-Decides id_name name).0 is), pairs_size-pair name t ps)
-    by false is later = omega (arith, later, pairs_size-pair name t ps)
+    by true same later = omega (arith, ap length ((bytes_eq-Decides id_name name).0 same), pairs_size-pair name t ps)
+    by false same later = omega (arith, later, pairs_size-pair name t ps)
 
 pub change_spelled : (ps : Pairs) (u : Change) → read_update ps ≡ Ok u → change_size u ≤ length (pairs_bytes ps)
 change_spelled ps u e = by (has_operators ps) e
@@ -364,7 +364,7 @@ module _ (u : Change) (base new : Pairs) (read : IsRead u) (e : apply u 65535 ba
 
   given : (o : Option Tree) → lookup base id_name ≡ o → id_size (lookup new id_name) ≤ max (id_size o) (change_size u)
   given None none = omega (arith, fresh (has_operators read.source) read.reads none)
-  given (Some t) is = omega (arith, ap id_size (keeps_id read.source u 65535 base new t read.reads e is))
+  given (Some t) same = omega (arith, ap id_size (keeps_id read.source u 65535 base new t read.reads e same))
 
   pub made_size : length (tree_bytes (key_of new)) + 5 ≤ max (id_size (lookup base id_name)) (change_size u)
   made_size =

@@ -1,5 +1,5 @@
 -- The reply of an update is no longer than the body that asks for it: what it says of a document that was made takes less than the statement that made it.
-use Rattle.std.proofs.Common.{◌≡◌, ℕ, suc, ◌+◌, ◌*◌, ◌<◌, ◌≤◌, Bool, true, false, List, [], ◌∷◌, length, Option, Some, None, Result, Ok, Err, refl, sym, ap, subst, ◌∙◌, arith}
+use Rattle.std.proofs.Common.{◌≡◌, ℕ, suc, ◌+◌, ◌*◌, ◌<◌, ◌≤◌, Bool, true, false, List, [], ◌∷◌, length, Result, Ok, Err, refl, sym, ap, subst, ◌∙◌, arith}
 use Rattle.std.specs.Prelude.{if◌then◌else◌, ◌&&◌, ◌==◌, not, is_some, nat_le, nat_lt, codes, All}
 use Rattle.std.specs.Fmt.{decimal}
 use Rattle.std.specs.Str.{bytes_eq}
@@ -11,7 +11,7 @@ use Rattle.std.proofs.lemmas.Slice.Eq.{bytes_eq-Decides}
 use Rattle.bson.specs.EditPlaces.{items_len-append}
 use Rattle.bson.specs.Edits.{items_len}
 use Rattle.bson.specs.SizingLaws.{element-length, frame_of-length, items_bytes-append, items_bytes-none, pairs_bytes-none, pairs_size-pair}
-use Rattle.bson.specs.Spelling.{element, frame_of, items_bytes, pairs_bytes, tree_bytes, type_byte}
+use Rattle.bson.specs.Spelling.{element, items_bytes, pairs_bytes, tree_bytes, type_byte}
 use Rattle.bson.specs.Tree.{Tree, document, array, append, append_items, Pairs, no_pairs, pair, Items, no_items, item}
 use Rattle.outcome.specs.Outcome.{◌>>=◌, unless, or_refused}
 use Rattle.path.specs.declared.refusal.Refusal.{Refusal}
@@ -39,14 +39,14 @@ use Rattle.commands.specs.ListIndexes.{read_list_indexes}
 use Rattle.commands.specs.OutcomeLaws.{step_of, passed}
 use Rattle.commands.specs.Ping.{read_ping}
 use Rattle.commands.specs.Update.{UpdateStatement, Update, IsRead, read_update_command}
-use Rattle.index.specs.State.{Collection, find_collection}
+use Rattle.index.specs.State.{find_collection}
 use Rattle.database_model.specs.Documents.{key_of, key_checked, place}
 use Rattle.database_model.specs.Refusals.{int, total, ok_reply}
-use Rattle.database_model.specs.Update.{Changed, judged, not_changed, not_updated, run_all, run_statement, run_statements, spelled, update_from, update_reply, updated_to}
-use Rattle.database_model.specs.Update.{Updated, upsert, upsert_document, upserted_entry, upserted_pairs, with_upserted}
+use Rattle.database_model.specs.Update.{Changed, judged, not_changed, not_updated, run_statement, run_statements, spelled, update_from, update_reply, updated_to}
+use Rattle.database_model.specs.Update.{Updated, upsert, upsert_document, upserted_entry, with_upserted}
 use Rattle.database_model.specs.World.{documents_of}
 use Rattle.statements.specs.Room.{field_size, fields_size, RepliesAreShort, RepliesHaveRoom}
-use Rattle.statements.proofs.IdSizes.{base_size, change_size, filter_size, id_size, made_size}
+use Rattle.statements.proofs.IdSizes.{base_size, change_size, filter_size, made_size}
 use Rattle.statements.proofs.StatementSizes.{command_spelled, flag_size, statement_size, statements_size}
 
 length-int : (n : ℕ) → length (tree_bytes (int n)) ≡ 4
@@ -87,7 +87,7 @@ one_more_told : (ts : Items) (index : ℕ) (id : Tree) → items_len ts < 1000
     → told_size (append_items ts (item (document (upserted_entry index id)) no_items)) ≤ told_size ts + length (tree_bytes id) + 35
 one_more_told ts index id few =
     let entry = document (upserted_entry index id) in
-    let digits : length (decimal (items_len ts)) ≤ 3 = length-decimal-le 3 (items_len ts) (omega arith) (omega (arith, few)) (omega (arith, few)) in
+    let digits : length (decimal (0 + items_len ts)) ≤ 3 = length-decimal-le 3 (0 + items_len ts) (omega arith) (omega (arith, few)) (omega (arith, few)) in
     omega (
       arith,
       digits,
@@ -219,11 +219,11 @@ module _ (name : List ℕ) (t : Tree) (ps : Pairs) (c : Update) where
 
   -- another command is none
   other : {X : Type 0} (make : X → Command) (read : Result X Refusal) → ((x : X) → make x ≡ update c → ⊥) → Leads (as_command make read)
-  other {X} make read no e =
+  other {X} make read differs e =
       let last : X → Result Command Refusal = λ x. Ok (make x) in
       let s = step_of read last (update c) e in
       let same : make s.0 ≡ update c = cc in
-      absurd (no s.0 same)
+      absurd (differs s.0 same)
 
   chosen : (b : Bool) (one later : Result Command Refusal) → (b ≡ true → Leads one) → Leads later → Leads (if b then one else later)
   chosen true one later first second e = first refl e
@@ -261,19 +261,19 @@ module _ (name : List ℕ) (t : Tree) (ps : Pairs) (c : Update) where
       (passed_by (bytes_eq name (codes "explain")) _ _ (other explain (read_explain t ps) (λ x e. absurd cc))
       (λ e. absurd cc)))))))))))))))))
 
+none_spelled : (c : Update) → command_of no_pairs ≡ Ok (update c) → ⊥
+unfolding command_of
+none_spelled c e = absurd cc
+
 is_update : (body : Pairs) (c : Update) → command_of body ≡ Ok (update c) → SpellsUpdate body c
-is_update no_pairs c e = absurd (none e)
-  where
-    none : command_of no_pairs ≡ Ok (update c) → ⊥
-    unfolding command_of
-    none e = absurd cc
+is_update no_pairs c e = absurd (none_spelled c e)
 is_update (pair name t ps) c e =
     let it = is_named name t ps c e in
     let kept = bounded (pair name t ps) (update c) e in
     let named : name ≡ codes "update" = (bytes_eq-Decides name (codes "update")).0 it.0 in
     record {
-      few = kept.1.0;
-      read = kept.1.1;
+      few = kept.1;
+      read = kept.2;
       size = subst (λ (n : List ℕ). statements_size c.statements + 36 ≤ field_size n t + fields_size ps) (sym named) (command_spelled t ps c it.1);
     }
 

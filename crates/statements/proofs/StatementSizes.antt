@@ -1,5 +1,5 @@
 -- How many bytes of a message spell the statements of an update.
-use Rattle.std.proofs.Common.{◌≡◌, ℕ, ◌+◌, ◌≤◌, Bool, true, false, List, [], ◌∷◌, length, Option, Some, None, Result, Ok, Err, refl, ap, arith}
+use Rattle.std.proofs.Common.{◌≡◌, ℕ, ◌+◌, ◌≤◌, Bool, true, false, List, [], ◌∷◌, length, Option, Some, None, Result, Ok, Err, refl, ap, ◌∙◌, arith}
 use Rattle.std.specs.Prelude.{if◌then◌else◌, ◌&&◌, ◌==◌, nat_lt, codes}
 use Rattle.std.specs.Str.{bytes_eq}
 use Rattle.std.proofs.lemmas.List.{length-append}
@@ -22,7 +22,7 @@ use Rattle.commands.specs.OutcomeLaws.{step_of, passed}
 use Rattle.commands.specs.Statements.{statements_in, each_of}
 use Rattle.commands.specs.Update.{UpdateStatement, Update, UpdateStatementFields, no_statement_fields, statement_field, read_statement, UpdateFields, no_update_fields}
 use Rattle.commands.specs.Update.{update_statements_in, update_field, read_update_command}
-use Rattle.commands.specs.Values.{bool_in, document_in, items_of, spelled_in, text_in}
+use Rattle.commands.specs.Values.{bool_in, document_in, spelled_in, text_in}
 use Rattle.statements.specs.Room.{values_size, field_size, fields_size}
 use Rattle.statements.proofs.IdSizes.{filter_size, filter_spelled, change_size, change_spelled}
 
@@ -66,7 +66,7 @@ all_add cost size total read sums one (pair name t ps) found last e =
 
 -- ---- a statement
 
-abbrev flag_size : Bool → ℕ
+abbrev pub flag_size : Bool → ℕ
 flag_size true = 9
 flag_size false = 0
 
