@@ -16,3 +16,4 @@ pub mod Ascending
 pub mod AnewLemmas
 pub mod Reading
 pub mod Dumping
+pub mod MessageSizes

@@ -21,3 +21,4 @@ pub mod Streams
 pub mod Batches
 pub mod Taking
 pub mod Serving
+pub mod Room

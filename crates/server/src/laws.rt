@@ -1,9 +1,10 @@
-//! Laws of runs: what a crash leaves of one, what the definitions say of chunks, and of the first frames.
+//! Laws of runs: what a crash leaves of one, what the definitions say of chunks, of the first frames, and of the replies of updates.
 
 ghost use Rattle.server.specs.Batches.{BatchesCutTheList};
 ghost use Rattle.server.specs.Chunks.{ChunksJoin};
 ghost use Rattle.server.specs.InOrder.{CallsAscend};
 ghost use Rattle.server.specs.Prefix.{FindsAPrefix};
+ghost use Rattle.server.specs.Room.{UpdatesHaveRoom};
 ghost use Rattle.server.specs.Rows.{FirstRows};
 ghost use Rattle.server.specs.Streams.{TakesTheStream};
 
@@ -40,4 +41,9 @@ pub fn calls_ascend()
 /// The bytes of the first replies, from the bytes of the first frames.
 pub fn first_rows()
     ensures { FirstRows }
+{}
+
+/// No update whose message is within its limit is refused because its reply is too long.
+pub fn updates_have_room()
+    ensures { UpdatesHaveRoom }
 {}

@@ -46,7 +46,7 @@ pub record Applied (ps : Pairs) : Type 0 where
   pub key : id_of ps ≡ Some (key_of ps)
   pub first : id_first ps ≡ ps
 
-id_is_first : (limit : ℕ) (x qs : Pairs) → judged limit x ≡ Ok qs → id_first x ≡ qs
+pub id_is_first : (limit : ℕ) (x qs : Pairs) → judged limit x ≡ Ok qs → id_first x ≡ qs
 id_is_first limit x qs e = at (stored_fault limit (id_first x)) e
   where
     at : (o : Option Refusal) → fault_or o (id_first x) ≡ Ok qs → id_first x ≡ qs

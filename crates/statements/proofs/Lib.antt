@@ -21,3 +21,6 @@ pub mod ListedUpdates
 pub mod PlacingLemmas
 pub mod UpsertLemmas
 pub mod ShortIndexes
+pub mod IdSizes
+pub mod StatementSizes
+pub mod ReplyRoom

@@ -2,3 +2,4 @@ pub mod Places
 pub mod Redoing
 pub mod WriteLaws
 pub mod Updating
+pub mod Room

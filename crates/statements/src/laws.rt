@@ -1,5 +1,6 @@
-//! Laws of what the statements of an update write, each the contract of a function that does nothing.
+//! Laws of what the statements of an update write and reply, each the contract of a function that does nothing.
 
+ghost use Rattle.statements.specs.Room.{RepliesAreShort, RepliesHaveRoom};
 ghost use Rattle.statements.specs.WriteLaws.{UnchangedWriteNothing, WritesJoin, WritesLead, WritesOfMeant, WritesReplace, WritesStored};
 
 /// What the statements of an update write, put among the documents, gives what they make of these, byte by byte.
@@ -30,4 +31,14 @@ pub fn writes_stored()
 /// An update writes over the documents that its statements may mean what it writes over all of them.
 pub fn writes_of_meant()
     ensures { WritesOfMeant }
+{}
+
+/// The reply of an update is no longer than the body that asks for it.
+pub fn replies_are_short()
+    ensures { RepliesAreShort }
+{}
+
+/// No update whose message is within its limit is refused because its reply is too long.
+pub fn replies_have_room()
+    ensures { RepliesHaveRoom }
 {}

@@ -123,7 +123,7 @@ edits_avoid operator (pair name t ps) earlier es h e =
     let got = if_ok_value (read_edit operator name t earlier) (read_edits operator ps) es e in
     edits_avoid operator ps got.0 es (read_avoids operator name t earlier got.0 h got.1) got.2
 
-operators_avoid : (ps : Pairs) (earlier es : List Edit) → AllAvoid earlier
+pub operators_avoid : (ps : Pairs) (earlier es : List Edit) → AllAvoid earlier
     → read_operators ps earlier ≡ Ok es → AllAvoid es
 operators_avoid no_pairs earlier es h e = subst AllAvoid (ok_same e) h
 operators_avoid (pair name t ps) earlier es h e =
