@@ -1,5 +1,6 @@
 -- What a file holds whose root may name a list of free pages beside its tree.
-use Rattle.std.specs.Prelude.{◌≡◌, ◌≢◌, ℕ, ◌+◌, ◌≤◌, max, List, [], ◌++◌, Option, Result, MatchResult}
+use Rattle.std.specs.Prelude.{◌≡◌, ◌≢◌, ℕ, ◌+◌, ◌≤◌, max, Bool, true, false, List, [], ◌++◌}
+use Rattle.std.specs.Prelude.{Option, Result, MatchResult}
 use Rattle.page.specs.Format.{Sheet}
 use Rattle.page.specs.History.{History, KeepsWord, now, reads}
 use Rattle.page.specs.declared.page_fault.PageFault.{PageFault}
@@ -7,6 +8,7 @@ use Rattle.btree.specs.Keys.{Entry, times}
 use Rattle.freelist.specs.Book.{Book, opened}
 use Rattle.freelist.specs.FreeList.{IsFreeList, IsPartition, ListContent, Part, named_by, opened_by}
 use Rattle.freelist.specs.FreeList.{pages_of, room_for, times_in}
+use Rattle.freelist.specs.ListReading.{AreAllBelow}
 use Rattle.freelist.specs.declared.list.FreeList.{FreeList}
 use Rattle.roots.specs.Image.{HoldsMap, IsOnPages, sheet_at}
 use Rattle.roots.specs.Listed.{listed_sheet}
@@ -87,6 +89,13 @@ pub record HasListOn (sheets : ℕ → Result Sheet PageFault) (root : Root) (tr
   pub has : HasList sheets root tree parts
   pub pages_are : pages ≡ pages_of parts
   pub named_are : named ≡ named_by parts
+
+-- whether the list that a root names, if it names one, fits the tree
+abbrev pub FitsTree : Root → List ℕ → List ℕ → List ℕ → Bool → Type 0
+FitsTree root tree pages named true =
+    root.free_list ≢ 0 → AreAllBelow root.pages (tree ++ (pages ++ named))
+FitsTree root tree pages named false =
+    (root.free_list ≢ 0) × (AreAllBelow root.pages (tree ++ (pages ++ named)) → ⊥)
 
 -- The root's list was read; it is damaged only where the root has none beside this tree.
 abbrev pub ChecksList : (ℕ → Result Sheet PageFault) → Root → List ℕ

@@ -1,5 +1,6 @@
 -- What a walk over a tree's pages gives: those that it reaches, each once, in the order of its
 -- keys.
+use Rattle.std.specs.Global.{Vec}
 use Rattle.std.specs.Prelude.{◌≡◌, ◌≢◌, ℕ, ◌+◌, ◌<◌, ◌≤◌, false, if◌then◌else◌, List, ◌++◌, length}
 use Rattle.std.specs.Prelude.{get_or, max, Result, Ok, Err, IfErr, IfOk, OnOk, MatchResult}
 use Rattle.page.specs.History.{History, KeepsWord, now, reads}
@@ -88,7 +89,7 @@ HasMapThere image root =
 
 -- The pages that the root reaches were found, its list's own too. Damaged comes only where it has no
 -- tree there, or names a list that is none or doesn't fit the tree.
-abbrev pub FindsFile : {D : Type 0} → (D → History) → Result (Vec ℕ Global) OpenFault
+abbrev pub FindsFile : {D : Type 0} → (D → History) → Result (Vec ℕ) OpenFault
     → Store D → Store D → Type 0
 FindsFile history result old new =
     KeepsWord (disk_history history new) → let root = durable_root old in

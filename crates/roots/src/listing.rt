@@ -7,12 +7,13 @@ ghost use Rattle.freelist.specs.FreeList.{written};
 ghost use Rattle.freelist.specs.ListReading.{ReadsList};
 ghost use Rattle.freelist.specs.declared.list_fault.ListFault.TheVariants as lists;
 ghost use Rattle.page.specs.History.{KeepsWord};
-ghost use Rattle.roots.specs.HeldFile.{ChecksStore};
+ghost use Rattle.roots.specs.HeldFile.{ChecksStore, FitsTree};
 ghost use Rattle.roots.specs.Listed.{HasFailed, OnlyReads, list_sheets, listed, listed_by, listed_fault, read_fault};
 ghost use Rattle.roots.specs.Store.{disk_history, durable_root};
 ghost use Rattle.roots.specs.Walk.{HasCause};
 
 use crate::opening::OpenFault;
+use crate::root::Root;
 use crate::store::Store;
 use freelist::{FreeList, ListFault, ListPage, ListPages, read_list};
 use page::{Disk, PageContent, PageImage, SharedPage};
@@ -126,6 +127,22 @@ fn read_named<D: Disk>(alloc: Global, store: &mut Store<D>) -> Result<FreeList, 
     read_list(alloc, store, root.pages, root.free_list, root.free_count)
 }
 
+/// Whether the list that a root names, if it names one, fits the tree that reaches these pages: each page of the file is one of the
+/// tree's, of the list's or named by it, and none two of these.
+fn fits_tree(
+    alloc: Global,
+    root: Root,
+    tree: &[u32],
+    list: &FreeList,
+) -> Result<bool, AllocError>
+    ensures { IfOk result (FitsTree root tree.now list.now.pages.items list.now.named.items) }
+{
+    if root.free_list == 0 {
+        return Ok(true);
+    }
+    list.fills(alloc, root.pages, tree)
+}
+
 /// The list that the committed root names, whose tree reaches these pages. Damaged where what it names is no list, or where a page
 /// of the file is neither the tree's nor the list's nor named by it.
 pub(crate) fn checked_list<D: Disk>(
@@ -142,8 +159,7 @@ pub(crate) fn checked_list<D: Disk>(
         Ok(list) => list,
         Err(fault) => return Err(read_fault(fault)),
     };
-    let root = store.root();
-    if root.free_list != 0 && !list.fills(alloc, root.pages, tree)? {
+    if !fits_tree(alloc, store.root(), tree, &list)? {
         return Err(OpenFault::Damaged);
     }
     Ok(list)
