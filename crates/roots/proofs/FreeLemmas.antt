@@ -140,12 +140,11 @@ finds history limit result old new only some file = record {
       book_by image old.root limit result live entries inside (committed.keeps.holds (only.disk.on.kept k)) (file k);
 }
 
-pub book_some : (book : Book) (limit found : ℕ) (root : Root) (given in_use : List ℕ) → book ≡ opened given (max found 1) root.generation
-    → found ≡ max limit root.pages → given ≡ in_use → IsBookOf limit root book
-book_some book limit found root given in_use is most same = record {
-  in_use = in_use;
-  is = is ∙ (λ i. opened (same i) (max (most i) 1) root.generation);
-}
+pub book_is : (book : Book) (limit found : ℕ) (root old : Root) (given in_use : List ℕ) → root ≡ old → book ≡ opened given (max found 1) root.generation
+    → found ≡ max limit root.pages → given ≡ in_use → book ≡ opened in_use (max (max limit old.pages) 1) old.generation
+book_is book limit found root old given in_use same is most named =
+    let count : found ≡ max limit old.pages = most ∙ ap (λ (r : Root). max limit r.pages) same in
+    is ∙ (λ i. opened (named i) (max (count i) 1) (same i).generation)
 
 pub none_so : {X E : Type 0} (result : Result X E) (P : X → Type 0) (e : E) → result ≡ Err e → IfOk result P
 none_so result P e is = subst (λ r. IfOk r P) (sym is) tt

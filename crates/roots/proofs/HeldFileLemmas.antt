@@ -1,14 +1,13 @@
 -- What a file holds whose root may name a list, and what is found there.
-use Rattle.std.proofs.Common.{◌≡◌, ◌≢◌, ℕ, ◌+◌, ◌≤◌, ◌<◌, max, Bool, true, false, List, [], ◌∷◌, ◌++◌, append-nil, refl, sym, ◌∙◌, ap, subst, arith, inl, inr}
-use Rattle.std.specs.Prelude.{◌==◌, if◌then◌else◌, Result, Ok, Err, IfOk, MatchResult}
+use Rattle.std.proofs.Common.{◌≡◌, ◌≢◌, ℕ, ◌+◌, ◌≤◌, Bool, true, false, List, [], ◌∷◌, ◌++◌, append-nil, refl, sym, ◌∙◌, ap, subst, arith, inl, inr}
+use Rattle.std.specs.Prelude.{◌==◌, if◌then◌else◌, Result, Ok, Err}
 use Rattle.std.proofs.lemmas.Bool.Decides.{nat_tests}
 use Rattle.page.specs.Format.{Sheet}
-use Rattle.page.specs.History.{History, Sector, KeepsWord, now, reads}
-use Rattle.page.specs.Page.{IsSectorOf}
+use Rattle.page.specs.History.{History}
 use Rattle.page.specs.declared.page_fault.PageFault.{PageFault}
 use Rattle.btree.specs.Keys.{Entry, times}
-use Rattle.freelist.specs.Book.{Book, opened}
-use Rattle.freelist.specs.FreeList.{Holds, Part, first_page, named_by, opened_by, pages_of, room_for, times_in}
+use Rattle.freelist.specs.Book.{opened}
+use Rattle.freelist.specs.FreeList.{Holds, Part, named_by, opened_by, pages_of, room_for, times_in}
 use Rattle.freelist.specs.ListReading.{AreAllBelow, IsListOn, ReadsList}
 use Rattle.freelist.specs.declared.list.FreeList.{FreeList}
 use Rattle.freelist.specs.declared.list_fault.ListFault.{ListFault}
@@ -16,7 +15,7 @@ use Rattle.freelist.specs.declared.list_fault.ListFault.TheVariants as lists
 use Rattle.freelist.proofs.ListedBooks.{book_of_partition}
 use Rattle.freelist.proofs.Marking.{times_in-append}
 use Rattle.freelist.proofs.WrittenLists.{reading_is_exact}
-use Rattle.roots.specs.HeldFile.{ChecksList, FitsTree, HasList, HasListOn, HoldsFile, HoldsNoFile, IsFileBook, Reaches, list_in, reached_by}
+use Rattle.roots.specs.HeldFile.{ChecksList, FitsTree, HasList, HoldsFile, HoldsNoFile, Reaches, list_in, reached_by}
 use Rattle.roots.specs.Image.{HoldsMap, IsOnPages, sheet_at, store_of}
 use Rattle.roots.specs.Listed.{HasFailed, listed_sheet, read_fault}
 use Rattle.roots.specs.Root.{IsUnlisted}

@@ -129,12 +129,7 @@ fn read_named<D: Disk>(alloc: Global, store: &mut Store<D>) -> Result<FreeList, 
 
 /// Whether the list that a root names, if it names one, fits the tree that reaches these pages: each page of the file is one of the
 /// tree's, of the list's or named by it, and none two of these.
-fn fits_tree(
-    alloc: Global,
-    root: Root,
-    tree: &[u32],
-    list: &FreeList,
-) -> Result<bool, AllocError>
+fn fits_tree(alloc: Global, root: Root, tree: &[u32], list: &FreeList) -> Result<bool, AllocError>
     ensures { IfOk result (FitsTree root tree.now list.now.pages.items list.now.named.items) }
 {
     if root.free_list == 0 {

@@ -1,8 +1,6 @@
-use Rattle.std.proofs.Common.{rules, subst}
-use Rattle.roots.specs.Walk.{IsBookOf}
+use Rattle.std.proofs.Common.{rules}
 use Rattle.roots.specs.declared.opening.OpenFault.TheVariants as faults
-use Rattle.roots.specs.declared.root.Root.{Root}
-use Rattle.roots.proofs.FreeLemmas.{book_some, file_failed, finds, none_so}
+use Rattle.roots.proofs.FreeLemmas.{book_is, file_failed, finds, none_so}
 use Rattle.roots.proofs.store.Store.free_pages.Goals as goal
 
 pub returns-in_err-in_use-clause-finds : goal.returns-in_err-in_use-clause-finds
@@ -19,10 +17,8 @@ returns-in_err-open-clause-finds g c =
 
 pub returns-clause-finds : goal.returns-clause-finds
 returns-clause-finds g c =
-    let book = c.in_ok-open.field-0 in
-    let some : IsBookOf c.args.limit c.args.self.now.root book =
-    subst (λ (r : Root). IsBookOf c.args.limit r book) c.live_pages.ensures.same.root
-    (book_some book c.args.limit c.greater-limit.result c.live_pages.new.self.root c.deref.result.now c.in_ok-in_use.in_use.items c.in_ok-open.ensures
-    c.greater-limit.ensures c.deref.ensures.value) in
-    finds g.D.Disk.history c.args.limit _ c.args.self.now c.live_pages.new.self c.live_pages.ensures.same some
-    (λ k. record { live = some.in_use; reaches = c.in_ok-in_use.ensures.finds k; is = some.is })
+    let in_use = c.in_ok-in_use.in_use.items in
+    let is = book_is _ c.args.limit c.greater-limit.result c.live_pages.new.self.root c.args.self.now.root c.deref.result.now in_use
+    c.live_pages.ensures.same.root c.in_ok-open.ensures c.greater-limit.ensures c.deref.ensures.value in
+    finds g.D.Disk.history c.args.limit _ c.args.self.now c.live_pages.new.self c.live_pages.ensures.same (record { in_use = in_use; is = is })
+    (λ k. record { live = in_use; reaches = c.in_ok-in_use.ensures.finds k; is = is })
