@@ -291,6 +291,17 @@ impl<D: Disk> Collections<D> {
         Ok(Some(document_of(self.alloc, &bytes)?))
     }
 
+    /// The same, kept as its bytes: nothing of it is copied or built.
+    pub fn spelled(&mut self, number: u32, id: &[u8]) -> Result<Option<SpelledDocument>, Refusal>
+        ensures { ReadsOf D.history (IsPlaceOf number id.now)
+            (λ now place found. found ≡ stored_at place) result self.old self.new }
+    {
+        let Some(bytes) = self.bytes_at(number, id)? else {
+            return Ok(None);
+        };
+        Ok(Some(spelled_in(bytes)?))
+    }
+
     /// Whether there is a document of that `_id`. It isn't decoded.
     pub fn has_document(&mut self, number: u32, id: &[u8]) -> Result<bool, Refusal>
         ensures { ReadsOf D.history (IsPlaceOf number id.now)
