@@ -24,7 +24,8 @@ pub fn are_within(documents: &[Document]) -> bool
         .all(|document| limits_fault(document, STORED_LIMIT).is_none())
 }
 
-/// Whether bytes that spell a document surely nest no deeper than a stored one may: too few of them can begin a document or an array.
+/// Whether bytes that spell a document surely nest no deeper than a stored one may: too few of them can begin a
+/// document or an array.
 fn is_shallow(bytes: &[u8]) -> bool
     ensures { result ≡ true → (d : Pairs) → Spells bytes.now d → pairs_levels d < 90 }
 {
@@ -37,7 +38,8 @@ fn is_shallow(bytes: &[u8]) -> bool
     count < (STORED_LEVELS as usize)
 }
 
-/// Whether a document is within the limits of those that are stored. It is built only where its bytes don't tell how deep it nests.
+/// Whether a document is within the limits of those that are stored. It is built only where its bytes don't tell how
+/// deep it nests.
 pub(crate) fn is_within(alloc: Global, document: &RawDoc<'_>) -> Result<bool, NoMemory>
     ensures { IfOk result (λ answer. answer ≡ is_within document.now) }
 {

@@ -1,6 +1,7 @@
 //! Open cursors.
 //!
-//! A cursor keeps the bytes of the documents that it is to give, so what later commands do to their collection isn't seen by it.
+//! A cursor keeps the bytes of the documents that it is to give, so what later commands do to their collection isn't seen
+//! by it.
 
 ghost use Rattle.std.specs.Prelude.{◌≡◌, ◌==◌, ◌<◌, ◌≤◌, ◌^◌, ◌+◌, ◌++◌, [], ◌∷◌, false, true, not, All, length, map, drop, OnOk, OnErr, IfOk, IfErr, IfSome, IfNone};
 ghost use Rattle.std.specs.List.{filter, position};

@@ -17,7 +17,8 @@ pub trait Gives {
     /// The document that is given.
     ghost document: { Self → Pairs };
 
-    /// Puts what a projection leaves of the document behind what stands in `out`. Where it leaves all, nothing is built.
+    /// Puts what a projection leaves of the document behind what stands in `out`. Where it leaves all, nothing is
+    /// built.
     fn put_onto(&self, out: &mut Vec<u8>, projection: &Projection) -> Result<(), NoMemory>
         requires { IsWithin (project projection.now (document self.now)) }
         ensures bytes { OnOk result (out.new.items ≡ out.old.items
