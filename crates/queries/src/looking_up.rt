@@ -33,7 +33,7 @@ pub(crate) fn spelled_within<D: Disk>(
         (λ now place found. found ≡ stored_at place) result file.old file.new }
     ensures within { IfOk result (λ found. IfSome found (λ d. IsWithin d)) }
 {
-    let Some(document) = file.spelled(number, id)? else {
+    let Some(document) = file.document(number, id)? else {
         return Ok(None);
     };
     if !is_within(alloc, &document.raw())? {

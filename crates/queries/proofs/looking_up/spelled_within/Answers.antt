@@ -11,12 +11,12 @@ pub returns-in_err-is_within-clause-reads : goal.returns-in_err-is_within-clause
 returns-in_err-is_within-clause-reads g c =
     let e = err_from_is_err_and c.from_residual-in_err-is_within.result c.from_residual-in_err-is_within.ensures.1 in
     rw e.1 (reads_memory g.D.Disk.history (IsPlaceOf c.args.number c.args.id.now) (λ now place (found : Option Pairs). found ≡ stored_at place)
-    (λ now place (found : Option Pairs). found ≡ stored_at place) _ c.args.file.now c.spelled.new.self e.0 e.2 c.in_ok-spelled.ensures)
+    (λ now place (found : Option Pairs). found ≡ stored_at place) _ c.args.file.now c.document.new.self e.0 e.2 c.in_ok-document.ensures)
 
 pub returns-then-not-branch-clause-reads : goal.returns-then-not-branch-clause-reads
 returns-then-not-branch-clause-reads g c =
     let there = subst
     (λ (o : Option Pairs). ReadsOf g.D.Disk.history (IsPlaceOf c.args.number c.args.id.now) (λ now place (found : Option Pairs). found ≡ stored_at place)
-    (Ok o) c.args.file.now c.spelled.new.self) c.in-Some.is c.in_ok-spelled.ensures in
-    over_refused g.D.Disk.history c.args.file.now c.spelled.new.self c.args.number c.args.id.now c.in-Some.document there
+    (Ok o) c.args.file.now c.document.new.self) c.in-Some.is c.in_ok-document.ensures in
+    over_refused g.D.Disk.history c.args.file.now c.document.new.self c.args.number c.args.id.now c.in-Some.document there
     (ap is_within (sym c.raw.ensures) ∙ sym c.in_ok-is_within.ensures ∙ c.if-not-branch.true) (λ now place (found : Option Pairs). found ≡ stored_at place)
