@@ -22,7 +22,7 @@ use Rattle.roots.specs.HeldFile.{HoldsNoFile, IsFileBook}
 use Rattle.roots.specs.Image.{HoldsMap, OpensAs, sheet_at}
 use Rattle.roots.specs.Listed.{OnlyReads}
 use Rattle.roots.specs.Root.{IsKnown}
-use Rattle.roots.specs.Store.{Keeps}
+use Rattle.roots.specs.Store.{IsCommitted, Keeps}
 use Rattle.roots.specs.Walk.{CanReach, FindsFree, IsBookOf, HasMapThere, IsMarked, Reaches, ReadsSheet, pages_in, pages_so_far}
 use Rattle.roots.proofs.HeldFileLemmas.{committed_live, no_list_is_tree}
 use Rattle.roots.proofs.OpeningRules.{known}
@@ -118,6 +118,15 @@ module _ (image : ℕ → List ℕ) (root : Root) (limit : ℕ) where
   book_by (Err fault) live entries inside holds file = λ is.
       file is live [] entries (no_list_is_tree (sheet_at image root) root inside.unlisted live entries holds).0
 
+-- what only read leaves what is committed
+pub committed_still : {D : Type 0} (history : D → History) (old new : Store D) → OnlyReads history old new → (live : List ℕ) (entries : List Entry)
+    → IsCommitted history old live entries → IsCommitted history new live entries
+committed_still history old new only live entries committed = record {
+  running = only.stopped ∙ committed.running;
+  keeps = subst (λ (r : Root). Keeps (history new.disk) r live entries) (sym only.root)
+      (still_kept (history old.disk) (history new.disk) old.root live entries only.disk committed.keeps);
+}
+
 pub finds : {D : Type 0} (history : D → History) (limit : ℕ) (result : Result Book OpenFault) (old new : Store D) → OnlyReads history old new
     → IfOk result (IsBookOf limit old.root)
     → (KeepsWord (history new.disk) → MatchResult result (IsFileBook (sheet_at (reads (now (history old.disk))) old.root) old.root limit)
@@ -126,11 +135,7 @@ pub finds : {D : Type 0} (history : D → History) (limit : ℕ) (result : Resul
 finds history limit result old new only some file = record {
   root = only.root;
   stopped = only.stopped;
-  committed = λ live entries committed. record {
-    running = only.stopped ∙ committed.running;
-    keeps = subst (λ (r : Root). Keeps (history new.disk) r live entries) (sym only.root)
-        (still_kept (history old.disk) (history new.disk) old.root live entries only.disk committed.keeps);
-  };
+  committed = committed_still history old new only;
   some = some;
   stands = λ k. there_by (reads (now (history old.disk))) old.root limit result (file k);
   file = file;

@@ -113,7 +113,8 @@ ChecksStore history tree result old new =
     ChecksList (sheet_at (reads (now (disk_history history old))) root) root tree result
 
 -- a file of which these are the pages that its root reaches
-pub record Reaches (sheets : ℕ → Result Sheet PageFault) (root : Root) (live : List ℕ) : Type 0 where
+pub record Reaches (sheets : ℕ → Result Sheet PageFault) (root : Root)
+    (live : List ℕ) : Type 0 where
   pub pages : List ℕ
   pub parts : List Part
   pub entries : List Entry

@@ -87,8 +87,8 @@ abbrev pub HasMapThere : (ℕ → List ℕ) → Root → Type 0
 HasMapThere image root =
     (pages : List ℕ) × ((entries : List Entry) × HoldsMap (sheet_at image root) root pages entries)
 
--- The pages that the root reaches were found, its list's own too. Damaged comes only where it has no
--- tree there, or names a list that is none or doesn't fit the tree.
+-- The pages that the root reaches were found, its list's own too. Damaged comes only where it has
+-- no tree there, or names a list that is none or doesn't fit the tree.
 abbrev pub FindsFile : {D : Type 0} → (D → History) → Result (Vec ℕ) OpenFault
     → Store D → Store D → Type 0
 FindsFile history result old new =

@@ -236,15 +236,15 @@ impl<D: Disk> Store<D> {
         Ok(FreePages::open(alloc, &in_use, limit, self.root.generation)?)
     }
 
-    /// How many pages the file has, and how many of them nothing reaches: neither page 0 nor one of the committed tree is free.
-    /// It reads each page of the tree once. Damaged where the pages are no tree.
+    /// How many pages the file has, and how many of them nothing reaches: neither page 0 nor one that the committed root reaches
+    /// is free. It reads each page of the tree and of the list once. Damaged where they are none.
     pub fn count_pages(&mut self, alloc: Global) -> Result<PageCounts, OpenFault>
         ensures looks { Looks result (disk_history D.history self.old)
             (disk_history D.history self.new) }
         ensures counts { CountsPages D.history result self.old self.new }
     {
-        let reached = reached_pages(alloc, &mut self.disk, self.root)?;
-        Ok(counts_of(self.root, reached.len()))
+        let live = self.live_pages(alloc)?;
+        Ok(counts_of(self.root, live.len()))
     }
 
     /// Makes the tree below this page the committed one. The pages that the turn made ascend; they are written, then the next
