@@ -19,7 +19,8 @@ use Rattle.path.specs.declared.refusal.Refusal.TheVariants as refusals
 use Rattle.update.specs.Applying.{apply}
 use Rattle.update.specs.Upserts.{base_of}
 use Rattle.commands.specs.Aggregate.{read_aggregate}
-use Rattle.commands.specs.Command.{aggregate, as_command, Command, command_of, count, create, create_indexes, delete, drop, drop_indexes, explain, find, get_more, hello}
+use Rattle.commands.specs.Command.{aggregate, as_command, Command, command_of, count, create, create_indexes, delete, drop, drop_indexes, explain}
+use Rattle.commands.specs.Command.{find, get_more, hello}
 use Rattle.commands.specs.Command.{insert, kill_cursors, list_collections, list_indexes, ping, update}
 use Rattle.commands.specs.CommandLaws.{bounded}
 use Rattle.commands.specs.Count.{read_count}
@@ -42,7 +43,8 @@ use Rattle.commands.specs.Update.{UpdateStatement, Update, IsRead, read_update_c
 use Rattle.index.specs.State.{find_collection}
 use Rattle.database_model.specs.Documents.{key_of, key_checked, place}
 use Rattle.database_model.specs.Refusals.{int, total, ok_reply}
-use Rattle.database_model.specs.Update.{Changed, judged, not_changed, not_updated, run_statement, run_statements, spelled, update_from, update_reply, updated_to}
+use Rattle.database_model.specs.Update.{Changed, judged, not_changed, not_updated, run_statement, run_statements, spelled, update_from, update_reply}
+use Rattle.database_model.specs.Update.{updated_to}
 use Rattle.database_model.specs.Update.{Updated, upsert, upsert_document, upserted_entry, with_upserted}
 use Rattle.database_model.specs.World.{documents_of}
 use Rattle.statements.specs.Room.{field_size, fields_size, RepliesAreShort, RepliesHaveRoom}
