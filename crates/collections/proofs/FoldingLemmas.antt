@@ -148,7 +148,8 @@ module _ {D F : Type 0} (history : D → History) (makes : F → List Pairs → 
     listed : between bounds p.entries ≡ map (document_entry c.number) asked
     listed =
         (λ i. window (from i) (to i) p.entries)
-        ∙ (λ i. window (key_under (sym numbered.same i) 0 texts.from.now) (Some (end_under (sym numbered.same i) (option_map (λ b. b.now) texts.to))) p.entries)
+        ∙ (λ i. window (key_under (sym numbered.same i) 0 texts.from.now)
+        (Some (end_under (sym numbered.same i) (option_map (λ b. b.now) texts.to))) p.entries)
         ∙ window_within c.number small texts c.documents p.entries
         (lists_documents_from p.entries cs c (key_under c.number 0 texts.from.now) (record { lawful = p.state; spells = p.spells }) numbered.found
         (not_before c.number small texts.from.now))
@@ -161,7 +162,8 @@ module _ {D F : Type 0} (history : D → History) (makes : F → List Pairs → 
       where
         by_refused : (o : Option Refusal)
             → MatchOption o (makes start.fold (map document_in (map (document_entry c.number) asked)) now.fold)
-            (IsRefusedAmong (map (document_entry c.number) asked)) → MatchOption o (makes start.fold (documents_within texts c.documents) now.fold) (λ e. e ≡ refusals.OutOfMemory)
+            (IsRefusedAmong (map (document_entry c.number) asked))
+            → MatchOption o (makes start.fold asked now.fold) (λ e. e ≡ refusals.OutOfMemory)
         by_refused None made = subst (λ ds. makes start.fold ds now.fold) (spelled_again c.number asked storable) made
         by_refused (Some e) why = why (all_stored c.number asked storable)
 
@@ -182,7 +184,11 @@ module _ {D F : Type 0} (history : D → History) (makes : F → List Pairs → 
       by_answer first cs has c numbered k (Ok done) is told = record {
         made = subst (makes start.fold (documents_within texts c.documents)) (sym is.1)
             (subst (λ o. MatchOption o (makes start.fold (documents_within texts c.documents) now.fold) (λ e. e ≡ refusals.OutOfMemory)) is.0 told);
-        few = omega (arith, within_shorter texts c.documents, few_documents history old number fits running (word_before history old new reads.on k) first cs c has numbered);
+        few = omega (
+          arith,
+          within_shorter texts c.documents,
+          few_documents history old number fits running (word_before history old new reads.on k) first cs c has numbered,
+        );
       }
       by_answer first cs has c numbered k (Err e) is told =
           inl (subst (λ o. MatchOption o (makes start.fold (documents_within texts c.documents) now.fold) (λ e. e ≡ refusals.OutOfMemory)) is told)
@@ -193,5 +199,6 @@ pub folded_all : {D F : Type 0} (history : D → History) (makes : F → List Pa
     → ReadsOf history (λ cs c. IsNumbered cs c number) (λ cs c done. IsFolded makes fold (documents_within texts c.documents) done) r old new
     → ReadsOf history (λ cs c. IsNumbered cs c number) (λ cs c done. IsFolded makes fold c.documents done) r old new
 folded_all history makes fold texts number r old new from to reads =
-    subst (λ (given : List Pairs → List Pairs). ReadsOf history (λ cs c. IsNumbered cs c number) (λ cs c done. IsFolded makes fold (given c.documents) done) r old new)
+    subst (λ (given : List Pairs → List Pairs). ReadsOf history (λ cs c. IsNumbered cs c number)
+    (λ cs c done. IsFolded makes fold (given c.documents) done) r old new)
     (λ i ds. all_within texts from to ds i) reads

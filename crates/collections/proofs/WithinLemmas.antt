@@ -1,5 +1,6 @@
 -- The entries of the documents that lie within bounds.
-use Rattle.std.proofs.Common.{◌≡◌, ℕ, suc, ◌<◌, ◌≤◌, ◌^◌, Bool, true, false, not, ◌&&◌, List, [], ◌∷◌, length, map, Option, Some, None, refl, sym, ap, ◌∙◌, arith}
+use Rattle.std.proofs.Common.{◌≡◌, ℕ, suc, ◌<◌, ◌≤◌, ◌^◌, Bool, true, false, not, ◌&&◌, List, [], ◌∷◌, length, map, Option, Some, None, refl, sym, ap}
+use Rattle.std.proofs.Common.{◌∙◌, arith}
 use Rattle.std.specs.Prelude.{cond}
 use Rattle.std.specs.List.{filter}
 use Rattle.std.specs.Option.{option_map}
@@ -98,7 +99,8 @@ module _ (number : ℕ) (small : number < 2 ^ 32) where
       ≡ entries (from_first texts ds)
       → window (key_under number 0 texts.from.now) (Some (end_under number (end_of texts))) xs ≡ entries (documents_within texts ds)
   window_within texts ds xs listed =
-      narrow_window (key_under number 0 texts.from.now) (Some (end_under number (end_of texts))) (Some (key_under number 1 [])) (ends_before (end_of texts)) xs
+      narrow_window (key_under number 0 texts.from.now) (Some (end_under number (end_of texts)))
+      (Some (key_under number 1 [])) (ends_before (end_of texts)) xs
       ∙ ap (kept texts) listed ∙ kept_documents texts ds
 
 -- ---- of all documents

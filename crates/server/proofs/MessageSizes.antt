@@ -342,8 +342,8 @@ frame_fields bytes frame ps h e =
     omega (arith, h.size, body_fields frame.body inner.0 h.body_fits inner.1, sequences_fields inner.0 ps frame.sequences h.sequences_fit inner.2)
 
 -- the document of a message at the front has the limit of a message, less what stands before it
-pub message_fields : (bytes : List ℕ) (frame : Frame) (rest : List ℕ) (ps : Pairs) → IsBytes bytes → front bytes ≡ Ok (Some (frame, rest)) → body_of frame ≡ Ok ps
-    → fields_size ps + 5 ≤ 1048555
+pub message_fields : (bytes : List ℕ) (frame : Frame) (rest : List ℕ) (ps : Pairs) → IsBytes bytes → front bytes ≡ Ok (Some (frame, rest))
+    → body_of frame ≡ Ok ps → fields_size ps + 5 ≤ 1048555
 unfolding front
 message_fields bytes frame rest ps fits e is = by (nat_lt (length bytes) 4) e
   where
@@ -361,14 +361,20 @@ message_fields bytes frame rest ps fits e is = by (nat_lt (length bytes) 4) e
         let same : (got.0, drop n bytes) ≡ (frame, rest) = some_is (ok_is _ _ got.2) in
         let read : frame_of (take n bytes) ≡ Ok frame = got.1 ∙ ap (λ (x : Frame × List ℕ). done {E = FrameFault} x.0) same in
         let h = frame_holds (take n bytes) frame (IsBytes-take n bytes fits) read in
-        omega (arith, frame_fields (take n bytes) frame ps h is, length-take n bytes, not_less message_limit n (later_false (nat_lt n 26) (nat_lt message_limit n) fine))
+        omega (
+          arith,
+          frame_fields (take n bytes) frame ps h is,
+          length-take n bytes,
+          not_less message_limit n (later_false (nat_lt n 26) (nat_lt message_limit n) fine),
+        )
 
     by : (b : Bool)
         → (if b then Ok None else unless (is_no_length n) faults.Length (if nat_lt (length bytes) n then Ok None else (frame_of (take n bytes) >>= made)))
         ≡ Ok (Some (frame, rest)) → fields_size ps + 5 ≤ 1048555
     by true f = absurd cc
     by false f =
-        let p = unless_ok (is_no_length n) faults.Length (if nat_lt (length bytes) n then Ok None else (frame_of (take n bytes) >>= made)) (Some (frame, rest)) f in
+        let p = unless_ok (is_no_length n) faults.Length (if nat_lt (length bytes) n then Ok None else (frame_of (take n bytes) >>= made))
+        (Some (frame, rest)) f in
         taken (nat_lt (length bytes) n) p.0 p.1
 
 pub updates_have_room : UpdatesHaveRoom

@@ -249,7 +249,8 @@ named_asks name t = by (bytes_eq name (codes "$elemMatch")) (bytes_eq name (code
 operators_size : (ps : Pairs) (cs : Conditions) → read_operators ps ≡ Ok cs → all_asked_size cs ≤ length (pairs_bytes ps) + 3
 operators_size no_pairs cs e = omega (arith, ap all_asked_size (ok_same e))
 operators_size (pair name t ps) cs e =
-    let first = if_ok_value (operation name (read_element t) (read_not t) t) (λ (c : Condition). if_ok (read_operators ps) (λ (ds : Conditions). Ok (condition c ds))) cs e in
+    let first = if_ok_value (operation name (read_element t) (read_not t) t)
+    (λ (c : Condition). if_ok (read_operators ps) (λ (ds : Conditions). Ok (condition c ds))) cs e in
     let later = if_ok_value (read_operators ps) (λ (ds : Conditions). Ok (condition first.0 ds)) cs first.2 in
     omega (
       arith,
@@ -287,7 +288,8 @@ named_size name t c e = by (bytes_eq name (codes "$and")) (bytes_eq name (codes 
 
     by : (a b d : Bool)
         → (if a then if_ok (read_members t) (λ rs. Ok (all rs)) else (if b then if_ok (read_members t) (λ rs. Ok (any rs))
-        else (if d then if_ok (read_members t) (λ rs. Ok (not_any rs)) else if_ok (path_in name) (λ path. if_ok (read_operand t) (λ rs. Ok (at path rs)))))) ≡ Ok c
+        else (if d then if_ok (read_members t) (λ rs. Ok (not_any rs))
+        else if_ok (path_in name) (λ path. if_ok (read_operand t) (λ rs. Ok (at path rs)))))) ≡ Ok c
         → condition_size c ≤ length name + length (tree_bytes t) + 2
     by true b d f = members all (λ cs. refl) f
     by false true d f = members any (λ cs. refl) f

@@ -296,5 +296,6 @@ replies_have_room body c cs is room = by (run_statements c.namespace 0 c.stateme
     by : (r : Result Updated Refusal) → run_statements c.namespace 0 c.statements (not_updated cs) ≡ r → (r >>= judged) ≡ r
     by (Err e) ran = refl
     by (Ok u) ran =
-        let short : nat_lt 1048555 (length (spelled (ok_reply (update_reply u)))) ≡ false = grind (arith, nat_tests, replies_are_short body c cs u is ran, room) in
+        let short : nat_lt 1048555 (length (spelled (ok_reply (update_reply u)))) ≡ false =
+        grind (arith, nat_tests, replies_are_short body c cs u is ran, room) in
         ap (λ (b : Bool). unless b refusals.BSONObjectTooLarge (let r : Result Updated Refusal = Ok u in r)) short
