@@ -1,26 +1,21 @@
 -- A document that the filter matches has its `_id` in the range of the index on `_id`.
-use Rattle.std.proofs.Common.{◌≡◌, ℕ, Bool, true, false, ◌||◌, List, [], ◌∷◌, ◌++◌, Option, Some, None, refl, sym, ap, subst, ◌∙◌, append-nil}
+use Rattle.std.proofs.Common.{◌≡◌, Bool, true, false, ◌||◌, List, [], ◌∷◌, ◌++◌, get_or, Some, None, refl, sym, ap, subst, ◌∙◌, append-nil}
 use Rattle.std.specs.Prelude.{All, cond}
 use Rattle.std.specs.List.{AllByRecursion, filter, list_any}
 use Rattle.std.proofs.lemmas.List.Elements.{All-head, All-tail}
-use Rattle.bson.specs.Lookup.{lookup}
 use Rattle.bson.specs.Tree.{Tree, scalar, document, array, Pairs}
 use Rattle.value_order.specs.KeyText.{tree_text}
 use Rattle.value_order.specs.Order.{Key, value}
-use Rattle.path.specs.Place.{some_passes}
-use Rattle.path.specs.Reach.{onwards, reach}
-use Rattle.filter.specs.Condition.{Conditions}
 use Rattle.filter.specs.Matches.{matches}
-use Rattle.filter.specs.Sort.{SortField}
 use Rattle.index.specs.IndexKeys.{index_keys, is_multikey, keys_of, meets_array}
 use Rattle.index.specs.KeyTexts.{key_bytes}
 use Rattle.index.specs.Laws.{IsIndexKey}
 use Rattle.index.specs.LawfulState.{IsStorable}
 use Rattle.index.specs.State.{key_of}
 use Rattle.index.proofs.SpellableLaws.{keys_spellable}
-use Rattle.planner.specs.IdRange.{HasIdBetween, HasIdInRange, HasPlainId, IdRangeSelects}
-use Rattle.planner.specs.KeyRange.{has_key, IsSpellable}
-use Rattle.planner.specs.Plan.{fields_of, is_multi, range_in}
+use Rattle.planner.specs.IdRange.{HasIdInRange, HasPlainId, IdRangeSelects}
+use Rattle.planner.specs.KeyRange.{has_key}
+use Rattle.planner.specs.Plan.{fields_of, range_in}
 use Rattle.planner.specs.RangeReading.{LiesBetween}
 use Rattle.planner.specs.KeySpan.{first_key, last_key}
 use Rattle.planner.specs.Usable.{no_array}
@@ -88,4 +83,4 @@ selected_there p q (d ∷ ds) among =
 pub id_range_selects : IdRangeSelects
 id_range_selects rs sort given ds spelled storable plain all =
     selected_there (matches rs) given ds (λ k d below e.
-    all d (has_id_in_range rs sort d spelled (storable k d below) (plain k d below) e))
+    all (get_or ds k d) (has_id_in_range rs sort (get_or ds k d) spelled (storable k d below) (plain k d below) e))
