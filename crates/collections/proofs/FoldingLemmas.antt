@@ -195,10 +195,10 @@ module _ {D F : Type 0} (history : D → History) (makes : F → List Pairs → 
 
 -- with no bounds it is lent all documents
 pub folded_all : {D F : Type 0} (history : D → History) (makes : F → List Pairs → F → Type 0) (fold : F) (texts : Bounds) (number : ℕ) (r : Result F Refusal)
-    (old new : State D) → texts.from.now ≡ [] → option_map (λ b. b.now) texts.to ≡ None
-    → ReadsOf history (λ cs c. IsNumbered cs c number) (λ cs c done. IsFolded makes fold (documents_within texts c.documents) done) r old new
+    (old new : State D) → ReadsOf history (λ cs c. IsNumbered cs c number) (λ cs c done. IsFolded makes fold (documents_within texts c.documents) done) r old new
+    → texts.from.now ≡ [] → option_map (λ b. b.now) texts.to ≡ None
     → ReadsOf history (λ cs c. IsNumbered cs c number) (λ cs c done. IsFolded makes fold c.documents done) r old new
-folded_all history makes fold texts number r old new from to reads =
+folded_all history makes fold texts number r old new reads from to =
     subst (λ (given : List Pairs → List Pairs). ReadsOf history (λ cs c. IsNumbered cs c number)
     (λ cs c done. IsFolded makes fold (given c.documents) done) r old new)
     (λ i ds. all_within texts from to ds i) reads
