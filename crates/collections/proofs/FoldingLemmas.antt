@@ -1,14 +1,15 @@
 -- What entries make of a fold to which they are lent as documents.
-use Rattle.std.proofs.Common.{◌≡◌, ℕ, suc, List, [], ◌∷◌, ◌++◌, length, map, refl, sym, ◌∙◌, ap, subst, arith, inl, inr}
+use Rattle.std.proofs.Common.{◌≡◌, ℕ, suc, ◌<◌, ◌^◌, List, [], ◌∷◌, ◌++◌, length, map, refl, sym, ◌∙◌, ap, subst, arith, inl, inr}
 use Rattle.std.specs.Prelude.{true, false, Option, Some, None, is_some, All, Result, Ok, Err, IfErr, OnOk, MatchOption, MatchResult}
 use Rattle.std.specs.Option.{option_map}
 use Rattle.std.specs.Result.{result_err}
 use Rattle.std.proofs.lemmas.List.{map-append}
-use Rattle.std.proofs.lemmas.List.Elements.{All-cons, All-head, All-nil, All-tail}
+use Rattle.std.proofs.lemmas.List.Elements.{All-cons, All-filter, All-head, All-nil, All-tail}
 use Rattle.bson.specs.Spelling.{Spells, frame_of, pairs_bytes}
 use Rattle.bson.specs.Tree.{Pairs}
 use Rattle.bson.proofs.RawLaws.{document_spelled-is}
 use Rattle.page.specs.History.{History, KeepsWord}
+use Rattle.value_order.specs.KeyText.{tree_text}
 use Rattle.btree.specs.Calls.{IsAnswer, Yields}
 use Rattle.btree.specs.Fold.{between}
 use Rattle.btree.specs.Keys.{Entry, window}
@@ -17,19 +18,19 @@ use Rattle.btree.specs.Store.{Grows, IsSame, KeepsWord as KeepsStore}
 use Rattle.btree.specs.Tree.{Body, IsTree, entries_of}
 use Rattle.btree.specs.declared.folding.Bounds.{Bounds}
 use Rattle.btree.specs.declared.pages.TreeFault.{TreeFault}
-use Rattle.btree.proofs.KeyLemmas.{not_under_itself}
-use Rattle.index.specs.LawfulState.{IsStorable}
-use Rattle.index.specs.State.{Collection}
+use Rattle.index.specs.LawfulState.{IsKept, IsStorable}
+use Rattle.index.specs.State.{Collection, key_of}
 use Rattle.index.specs.StateEntries.{document_entry, key_under}
-use Rattle.index.proofs.BatchLaws.{all_documents, lists_documents_from}
+use Rattle.index.proofs.BatchLaws.{lists_documents_from}
 use Rattle.index.proofs.FoundLawLemmas.{found_collection}
+use Rattle.index.proofs.HomeLemmas.{number_fits}
 use Rattle.pager.specs.Capacity.{TreesFit}
 use Rattle.pager.specs.State.{State as PagerState}
 use Rattle.pager.specs.View.{store_of}
 use Rattle.path.specs.declared.refusal.Refusal.{Refusal}
 use Rattle.path.specs.declared.refusal.Refusal.TheVariants as refusals
 use Rattle.collections.specs.Calls.{HasCause, Reads}
-use Rattle.collections.specs.Folding.{IsFolded, IsOfStored, IsRefusedAmong, Lends, document_in}
+use Rattle.collections.specs.Folding.{IsFolded, IsOfStored, IsRefusedAmong, Lends, document_in, documents_within, end_under, lies_within}
 use Rattle.collections.specs.Reading.{IsInTree, IsNumbered, LooksUp, ReadsOf}
 use Rattle.collections.specs.Standing.{HasState}
 use Rattle.collections.specs.State.{State}
@@ -37,6 +38,7 @@ use Rattle.collections.specs.View.{disk_history, is_stopped}
 use Rattle.collections.specs.declared.folding.Lending.{Lending}
 use Rattle.collections.proofs.CauseLemmas.{word_before}
 use Rattle.collections.proofs.WalkLemmas.{few_documents}
+use Rattle.collections.proofs.WithinLemmas.{all_within, not_before, window_within, within_shorter}
 
 -- ---- a document that may be stored
 
@@ -127,33 +129,46 @@ abbrev pub AnswersWith : {F : Type 0} → Lending F → Result F Refusal → Typ
 AnswersWith now (Ok done) = (now.refused ≡ None) × (done ≡ now.fold)
 AnswersWith now (Err e) = now.refused ≡ Some e
 
-module _ {D F : Type 0} (history : D → History) (makes : F → List Pairs → F → Type 0) (start now : Lending F) (bounds : Bounds) (number : ℕ)
-    (old new : State D) (from : bounds.from.now ≡ key_under number 0 []) (to : option_map (λ b. b.now) bounds.to ≡ Some (key_under number 1 []))
+module _ {D F : Type 0} (history : D → History) (makes : F → List Pairs → F → Type 0) (start now : Lending F) (bounds texts : Bounds) (number : ℕ)
+    (old new : State D) (from : bounds.from.now ≡ key_under number 0 texts.from.now)
+    (to : option_map (λ b. b.now) bounds.to ≡ Some (end_under number (option_map (λ b. b.now) texts.to)))
     (fits : TreesFit history old.pager) (running : is_stopped old ≡ false)
     (reads : Reads history (IsInTree (λ entries (u : Unit {0}). Lends makes start (between bounds entries) now)) (Ok tt) old new) where
   module _ (cs : List Collection) (c : Collection) (numbered : IsNumbered cs c number)
       (p : IsInTree (λ entries (u : Unit {0}). Lends makes start (between bounds entries) now) cs tt) where
-    listed : between bounds p.entries ≡ map (document_entry c.number) c.documents
+    kept : IsKept c
+    kept = (found_collection cs c.name c p.state numbered.found).0
+
+    small : c.number < 2 ^ 32
+    small = number_fits c kept
+
+    abbrev asked : List Pairs
+    asked = documents_within texts c.documents
+
+    listed : between bounds p.entries ≡ map (document_entry c.number) asked
     listed =
         (λ i. window (from i) (to i) p.entries)
-        ∙ (λ i. window (key_under (sym numbered.same i) 0 []) (Some (key_under (sym numbered.same i) 1 [])) p.entries)
-        ∙ lists_documents_from p.entries cs c (key_under c.number 0 []) (record { lawful = p.state; spells = p.spells }) numbered.found
-        (not_under_itself (key_under c.number 0 [])) ∙ ap (map (document_entry c.number)) (all_documents c.number c.documents)
+        ∙ (λ i. window (key_under (sym numbered.same i) 0 texts.from.now)
+        (Some (end_under (sym numbered.same i) (option_map (λ b. b.now) texts.to))) p.entries)
+        ∙ window_within c.number small texts c.documents p.entries
+        (lists_documents_from p.entries cs c (key_under c.number 0 texts.from.now) (record { lawful = p.state; spells = p.spells }) numbered.found
+        (not_before c.number small texts.from.now))
 
-    storable : All IsStorable c.documents
-    storable = (found_collection cs c.name c p.state numbered.found).0.storable
+    storable : All IsStorable asked
+    storable = All-filter (λ d. lies_within texts (tree_text (key_of d))) IsStorable c.documents kept.storable
 
-    lent : MatchOption now.refused (makes start.fold c.documents now.fold) (λ e. e ≡ refusals.OutOfMemory)
+    lent : MatchOption now.refused (makes start.fold (documents_within texts c.documents) now.fold) (λ e. e ≡ refusals.OutOfMemory)
     lent = by_refused now.refused (subst (λ es. Lends makes start es now) listed p.right)
       where
         by_refused : (o : Option Refusal)
-            → MatchOption o (makes start.fold (map document_in (map (document_entry c.number) c.documents)) now.fold)
-            (IsRefusedAmong (map (document_entry c.number) c.documents)) → MatchOption o (makes start.fold c.documents now.fold) (λ e. e ≡ refusals.OutOfMemory)
-        by_refused None made = subst (λ ds. makes start.fold ds now.fold) (spelled_again c.number c.documents storable) made
-        by_refused (Some e) why = why (all_stored c.number c.documents storable)
+            → MatchOption o (makes start.fold (map document_in (map (document_entry c.number) asked)) now.fold)
+            (IsRefusedAmong (map (document_entry c.number) asked))
+            → MatchOption o (makes start.fold asked now.fold) (λ e. e ≡ refusals.OutOfMemory)
+        by_refused None made = subst (λ ds. makes start.fold ds now.fold) (spelled_again c.number asked storable) made
+        by_refused (Some e) why = why (all_stored c.number asked storable)
 
   pub folded : (r : Result F Refusal) → AnswersWith now r
-      → ReadsOf history (λ cs c. IsNumbered cs c number) (λ cs c done. IsFolded makes start.fold c.documents done) r old new
+      → ReadsOf history (λ cs c. IsNumbered cs c number) (λ cs c done. IsFolded makes start.fold (documents_within texts c.documents) done) r old new
   folded r is = record {
     on = reads.on;
     unchanged = reads.unchanged;
@@ -164,12 +179,26 @@ module _ {D F : Type 0} (history : D → History) (makes : F → List Pairs → 
     where
       by_answer : (first cs : List Collection) → HasState history old first cs → (c : Collection) → IsNumbered cs c number
           → KeepsWord (disk_history history new) → (r : Result F Refusal) → AnswersWith now r
-          → MatchOption now.refused (makes start.fold c.documents now.fold) (λ e. e ≡ refusals.OutOfMemory)
-          → MatchResult r (λ done. IsFolded makes start.fold c.documents done) (HasCause history old new)
+          → MatchOption now.refused (makes start.fold (documents_within texts c.documents) now.fold) (λ e. e ≡ refusals.OutOfMemory)
+          → MatchResult r (λ done. IsFolded makes start.fold (documents_within texts c.documents) done) (HasCause history old new)
       by_answer first cs has c numbered k (Ok done) is told = record {
-        made = subst (makes start.fold c.documents) (sym is.1)
-            (subst (λ o. MatchOption o (makes start.fold c.documents now.fold) (λ e. e ≡ refusals.OutOfMemory)) is.0 told);
-        few = omega (arith, few_documents history old number fits running (word_before history old new reads.on k) first cs c has numbered);
+        made = subst (makes start.fold (documents_within texts c.documents)) (sym is.1)
+            (subst (λ o. MatchOption o (makes start.fold (documents_within texts c.documents) now.fold) (λ e. e ≡ refusals.OutOfMemory)) is.0 told);
+        few = omega (
+          arith,
+          within_shorter texts c.documents,
+          few_documents history old number fits running (word_before history old new reads.on k) first cs c has numbered,
+        );
       }
       by_answer first cs has c numbered k (Err e) is told =
-          inl (subst (λ o. MatchOption o (makes start.fold c.documents now.fold) (λ e. e ≡ refusals.OutOfMemory)) is told)
+          inl (subst (λ o. MatchOption o (makes start.fold (documents_within texts c.documents) now.fold) (λ e. e ≡ refusals.OutOfMemory)) is told)
+
+-- with no bounds it is lent all documents
+pub folded_all : {D F : Type 0} (history : D → History) (makes : F → List Pairs → F → Type 0) (fold : F) (texts : Bounds) (number : ℕ) (r : Result F Refusal)
+    (old new : State D) → ReadsOf history (λ cs c. IsNumbered cs c number) (λ cs c done. IsFolded makes fold (documents_within texts c.documents) done) r old new
+    → texts.from.now ≡ [] → option_map (λ b. b.now) texts.to ≡ None
+    → ReadsOf history (λ cs c. IsNumbered cs c number) (λ cs c done. IsFolded makes fold c.documents done) r old new
+folded_all history makes fold texts number r old new reads from to =
+    subst (λ (given : List Pairs → List Pairs). ReadsOf history (λ cs c. IsNumbered cs c number)
+    (λ cs c done. IsFolded makes fold (given c.documents) done) r old new)
+    (λ i ds. all_within texts from to ds i) reads

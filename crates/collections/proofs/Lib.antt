@@ -16,3 +16,4 @@ pub mod ReadingLemmas
 pub mod StandingLemmas
 pub mod WalkLemmas
 pub mod TreeReadLemmas
+pub mod WithinLemmas

@@ -1,21 +1,22 @@
 //! The documents of a collection, lent one after the other while their page is borrowed: nothing of them is copied.
 
 ghost use Rattle.std.specs.Prelude.{◌≡◌, ◌++◌, ◌∷◌, [], true, false, List, IfErr, IfOk, IfSome, OnOk, Some, None};
+ghost use Rattle.std.specs.Option.{option_map};
 ghost use Rattle.bson.specs.Raw.{document_spelled};
 ghost use Rattle.bson.specs.Spelling.{frame_of, pairs_bytes};
 ghost use Rattle.bson.specs.Tree.{Pairs};
 ghost use Rattle.btree.specs.Fold.{HasTaken as HasTakenEntries, between};
 ghost use Rattle.index.specs.LawfulState.{IsStorable};
 ghost use Rattle.collections.specs.Calls.{Reads};
-ghost use Rattle.collections.specs.Folding.{HasTaken, IsFolded, Lends};
+ghost use Rattle.collections.specs.Folding.{HasTaken, IsFolded, Lends, documents_within, end_under};
 ghost use Rattle.collections.specs.Reading.{IsInTree, IsNumbered, LooksUp, ReadsOf};
 ghost use Rattle.collections.specs.View.{is_stopped};
 
 use crate::applying::refusal_of;
 use crate::collections::Collections;
-use bson::RawDoc;
+use bson::{NoMemory, RawDoc};
 use btree::{Bounds, Fold, TreeFault, fold_entries};
-use index::first_key;
+use index::{document_key, first_key};
 use page::Disk;
 use pager::Pager;
 use path::Refusal;
@@ -115,6 +116,17 @@ fn lend_below<D: Disk, F: DocumentFold>(
     fold_entries(alloc, pager, root, bounds, lending)
 }
 
+/// Below which key the entries of documents lie whose texts are below this one, or of all documents.
+fn end_key(alloc: Global, number: u32, text: Option<&[u8]>) -> Result<Vec<u8>, NoMemory>
+    ensures { IfOk result (λ key. key.items
+        ≡ end_under number (option_map (λ b. b.now) text.entry)) }
+{
+    match text {
+        Some(text) => document_key(alloc, number, text),
+        None => first_key(alloc, number, 1),
+    }
+}
+
 impl<D: Disk> Collections<D> {
     /// Lends the entries between bounds of the turn's tree.
     fn lend_all<F: DocumentFold>(
@@ -138,21 +150,23 @@ impl<D: Disk> Collections<D> {
         }
     }
 
-    /// Lends the documents of the collection of a number to a fold, in ascending order of `_id`, until it is done, and hands it back.
-    /// `StorageFailed` where one is damaged.
-    pub fn fold_documents<F: DocumentFold + Drop>(
+    /// Lends the documents of the collection of a number whose `_id`s' key texts lie within bounds to a fold, in ascending order of
+    /// `_id`, until it is done, and hands it back. `StorageFailed` where one is damaged.
+    pub fn fold_documents_within<F: DocumentFold + Drop>(
         &mut self,
         number: u32,
+        texts: Bounds<'_>,
         fold: F,
     ) -> Result<F, Refusal>
         requires { F.makes fold [] fold }
         ensures reads { ReadsOf D.history (λ now c. IsNumbered now c number)
-            (λ now c done. IsFolded F.makes fold c.documents done) result self.old self.new }
+            (λ now c done. IsFolded F.makes fold (documents_within texts.entry c.documents) done)
+            result self.old self.new }
         ensures taken { IfOk result (HasTaken F.makes fold) }
     {
         self.pager.trees_fit();
-        let from = first_key(self.alloc, number, 0)?;
-        let to = first_key(self.alloc, number, 1)?;
+        let from = document_key(self.alloc, number, texts.from)?;
+        let to = end_key(self.alloc, number, texts.to)?;
         let mut lending = Lending {
             fold,
             refused: None,
@@ -166,5 +180,23 @@ impl<D: Disk> Collections<D> {
             None => Ok(lending.fold),
             Some(refusal) => Err(refusal),
         }
+    }
+
+    /// Lends all of them.
+    pub fn fold_documents<F: DocumentFold + Drop>(
+        &mut self,
+        number: u32,
+        fold: F,
+    ) -> Result<F, Refusal>
+        requires { F.makes fold [] fold }
+        ensures reads { ReadsOf D.history (λ now c. IsNumbered now c number)
+            (λ now c done. IsFolded F.makes fold c.documents done) result self.old self.new }
+        ensures taken { IfOk result (HasTaken F.makes fold) }
+    {
+        let all = Bounds {
+            from: &[],
+            to: None,
+        };
+        self.fold_documents_within(number, all, fold)
     }
 }

@@ -280,15 +280,15 @@ impl<D: Disk> Collections<D> {
         self.value_at(&key)
     }
 
-    /// The document of that `_id`, if there is one.
-    pub fn document(&mut self, number: u32, id: &[u8]) -> Result<Option<Document>, Refusal>
+    /// The document of that `_id`, if there is one, kept as its bytes: nothing of it is copied or built.
+    pub fn document(&mut self, number: u32, id: &[u8]) -> Result<Option<SpelledDocument>, Refusal>
         ensures { ReadsOf D.history (IsPlaceOf number id.now)
             (λ now place found. found ≡ stored_at place) result self.old self.new }
     {
         let Some(bytes) = self.bytes_at(number, id)? else {
             return Ok(None);
         };
-        Ok(Some(document_of(self.alloc, &bytes)?))
+        Ok(Some(spelled_in(bytes)?))
     }
 
     /// Whether there is a document of that `_id`. It isn't decoded.

@@ -1,7 +1,6 @@
 //! `aggregate`: what a pipeline makes of the documents of a collection.
 
-ghost use Rattle.std.specs.Prelude.{◌≡◌, ◌≤◌, ◌<◌, Some, All, IfOk, List, ◌∷◌, ◌++◌, length, drop};
-ghost use Rattle.bson.specs.Tree.{Pairs};
+ghost use Rattle.std.specs.Prelude.{◌≡◌, ◌≤◌, Some, All, IfOk, length};
 ghost use Rattle.outcome.specs.Outcome.{Gives};
 ghost use Rattle.aggregate.specs.Pipeline.{run as after_pipeline};
 ghost use Rattle.aggregate.specs.View.{pipeline_of};
@@ -17,14 +16,13 @@ ghost use Rattle.database_model.specs.World.{documents_of};
 
 use crate::engine::Engine;
 use aggregate::Pipeline;
-use bson::{Document, NoMemory, SpelledDocument};
+use bson::{Document, SpelledDocument};
 use filter::Projection;
 use page::Disk;
 use path::Refusal;
 use queries::needed_in;
-use replies::{ConnId, SharedDocument};
+use replies::{ConnId, spelled_all};
 use statements::STORED_LIMIT;
-use std::alloc::Global;
 
 /// What a pipeline makes of documents.
 fn after_pipeline(pipeline: &Pipeline, documents: Vec<Document>) -> Result<Vec<Document>, Refusal>
@@ -37,40 +35,6 @@ fn after_pipeline(pipeline: &Pipeline, documents: Vec<Document>) -> Result<Vec<D
         return given;
     }
     pipeline.run(documents, STORED_LIMIT as u32)
-}
-
-/// Passes a document over where some have to be, or moves it to where it can have several owners. It says how many have to be
-/// passed over still.
-fn pass_or_share(
-    alloc: Global,
-    shared: &mut Vec<SharedDocument>,
-    before: usize,
-    document: Document,
-) -> Result<usize, NoMemory>
-    ensures { IfOk result (λ left. (later : List Pairs) → shared.new.items ++ drop left later
-        ≡ shared.old.items ++ drop before (document ∷ later)) }
-{
-    if 0 < before {
-        return Ok(before - 1);
-    }
-    shared.push(SharedDocument::new(alloc, document)?)?;
-    Ok(0)
-}
-
-/// The documents from a place on, each moved to where it can have several owners.
-fn shared_from(
-    alloc: Global,
-    documents: Vec<Document>,
-    place: usize,
-) -> Result<Vec<SharedDocument>, NoMemory>
-    ensures { IfOk result (λ v. v.items ≡ drop place documents.items) }
-{
-    let mut before = place;
-    let mut shared = Vec::with_capacity(alloc, documents.len().saturating_sub(place))?;
-    'documents: for document in documents {
-        before = pass_or_share(alloc, &mut shared, before, document)?;
-    }
-    Ok(shared)
 }
 
 impl<D: Disk> Engine<D> {
@@ -141,7 +105,7 @@ impl<D: Disk> Engine<D> {
         if given.len() <= count {
             return Ok(reply);
         }
-        let rest = shared_from(self.alloc, given, count)?;
+        let rest = spelled_all(self.alloc, &given[count..])?;
         self.cursors.open(connection, namespace, rest, whole)?;
         Ok(reply)
     }

@@ -24,7 +24,7 @@ use page::Disk;
 use path::Refusal;
 use queries::{Selects, put_ids};
 use replies::{SharedDocument, total_reply};
-use statements::{after_deletions, is_deleted, matches};
+use statements::{after_deletions, is_deleted};
 use std::alloc::Global;
 
 /// Puts the key texts of the `_id`s that statements ask for behind others; false where one of them asks for none.
@@ -53,12 +53,6 @@ struct Matched<'a> {
 
 impl Selects for Matched<'_> {
     ghost selects = { λ a. is_deleted a.deletions.now };
-
-    fn selects(&self, document: &Document) -> bool {
-        self.deletions
-            .iter()
-            .any(|deletion| matches(&deletion.filter, document))
-    }
 
     fn selects_raw(&self, alloc: Global, document: &RawDoc<'_>) -> Result<bool, NoMemory> {
         is_deleted(alloc, self.deletions, document)

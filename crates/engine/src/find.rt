@@ -1,8 +1,7 @@
 //! `find`: which documents, in which order, and what is given of each.
 
-ghost use Rattle.std.specs.Prelude.{◌≡◌, ◌≢◌, ◌≤◌, ◌<◌, Some, IfOk, IfErr, All, length, map, take};
+ghost use Rattle.std.specs.Prelude.{◌≡◌, ◌≢◌, ◌≤◌, ◌<◌, Some, IfOk, IfErr, All, length, map, take, drop};
 ghost use Rattle.filter.specs.Projection.{project};
-ghost use Rattle.commands.specs.View.{documents_at};
 ghost use Rattle.database_model.specs.Cursors.{batch_of, first_batch};
 ghost use Rattle.engine.specs.Durable.{has_changes, IsSound};
 ghost use Rattle.database_model.specs.Find.{window, given, run_find, Suffices};
@@ -12,39 +11,42 @@ ghost use Rattle.replies.specs.View.{projected, IsSendable, Runs};
 ghost use Rattle.engine.specs.View.{world};
 
 use crate::engine::Engine;
-use bson::{Document, NoMemory, SpelledDocument};
+use bson::{NoMemory, SpelledDocument};
 use commands::Query;
 use filter::Projection;
 use page::Disk;
 use path::Refusal;
-use queries::share_all;
-use replies::{ConnId, SharedDocument};
-use std::alloc::Global;
+use replies::ConnId;
 
-/// What is left of items without those that are skipped and those past the limit; a limit of 0 is none.
-fn window<T>(items: &[T], skip: usize, limit: usize) -> &[T]
-    ensures { result.now ≡ window skip limit items.now }
+/// The documents from a place on.
+fn behind(
+    documents: Vec<SpelledDocument>,
+    place: usize,
+) -> Result<Vec<SpelledDocument>, NoMemory>
+    ensures { IfOk result (λ v. v.items ≡ drop place documents.items) }
 {
-    let rest = &items[skip.min(items.len())..];
-    if limit == 0 {
-        rest
-    } else {
-        &rest[..limit.min(rest.len())]
+    if place == 0 {
+        return Ok(documents);
     }
+    let mut documents = documents;
+    let place = place.min(documents.len());
+    documents.split_off(place)
 }
 
-/// Those of the documents that were found which are not skipped and within the limit.
-fn selected<'a>(
-    alloc: Global,
-    query: &Query,
-    found: &'a [SharedDocument],
-) -> Result<Vec<&'a SharedDocument>, NoMemory>
-    ensures { IfOk result
-        (λ v. documents_at v.items ≡ window query.now.skip query.now.limit found.now) }
+/// What is left of documents without those that are skipped and past the limit; a limit of 0 is none.
+fn window(
+    documents: Vec<SpelledDocument>,
+    skip: usize,
+    limit: usize,
+) -> Result<Vec<SpelledDocument>, NoMemory>
+    ensures { IfOk result (λ v. v.items ≡ window skip limit documents.items) }
 {
-    let asked = window(found, query.skip, query.limit);
-    let lent = asked.iter().collect(alloc)?;
-    Ok(lent)
+    let mut rest = behind(documents, skip)?;
+    if limit == 0 {
+        return Ok(rest);
+    }
+    rest.truncate(limit);
+    Ok(rest)
 }
 
 /// So many of the documents that match, in their order, are enough: all, or none past the limit.
@@ -77,7 +79,7 @@ impl<D: Disk> Engine<D> {
         ensures sendable { IfOk result (λ d. IsSendable d) }
     {
         let found = self.found(namespace, query, enough(query))?;
-        self.give_found(connection, namespace, query, &found, most)
+        self.give_found(connection, namespace, query, found, most)
     }
 
     /// Gives a first batch of the documents that were found, as far as they are asked for, and opens a cursor on the others.
@@ -86,39 +88,39 @@ impl<D: Disk> Engine<D> {
         connection: ConnId,
         namespace: &str,
         query: &Query,
-        found: &[SharedDocument],
+        found: Vec<SpelledDocument>,
         most: usize,
     ) -> Result<SpelledDocument, Refusal>
         requires short { length namespace.now ≤ 255 }
-        requires within { All IsWithin found.now }
+        requires within { All IsWithin found.items }
         ensures file { self.new.file ≡ self.old.file }
         ensures told { self.new.told ≡ self.old.told }
         ensures has_changes { self.new.is_changed ≡ self.old.is_changed }
         ensures runs { Runs (world self.old)
-            (first_batch (world self.old) connection namespace.now (given query.now found.now)
-            (batch_of most (given query.now found.now)))
+            (first_batch (world self.old) connection namespace.now (given query.now found.items)
+            (batch_of most (given query.now found.items)))
             (world self.new) result }
         ensures sendable { IfOk result (λ d. IsSendable d) }
     {
-        let selected = selected(self.alloc, query, found)?;
-        self.give_shared(connection, namespace, &query.projection, &selected, most)
+        let asked = window(found, query.skip, query.limit)?;
+        self.give_asked(connection, namespace, &query.projection, asked, most)
     }
 
     /// Gives a first batch of documents of which a projection is given, and opens a cursor on the others.
-    fn give_shared(
+    fn give_asked(
         &mut self,
         connection: ConnId,
         namespace: &str,
         projection: &Projection,
-        documents: &[&SharedDocument],
+        documents: Vec<SpelledDocument>,
         most: usize,
     ) -> Result<SpelledDocument, Refusal>
         requires short { length namespace.now ≤ 255 }
-        requires within { All IsWithin (projected projection.now (documents_at documents.now)) }
+        requires within { All IsWithin (projected projection.now documents.items) }
         ensures file { self.new.file ≡ self.old.file }
         ensures told { self.new.told ≡ self.old.told }
         ensures has_changes { self.new.is_changed ≡ self.old.is_changed }
-        ensures runs { let ds = projected projection.now (documents_at documents.now) in
+        ensures runs { let ds = projected projection.now documents.items in
             Runs (world self.old)
             (first_batch (world self.old) connection namespace.now ds (batch_of most ds))
             (world self.new) result }
@@ -126,11 +128,11 @@ impl<D: Disk> Engine<D> {
     {
         let (reply, count) = self
             .cursors
-            .first_batch(connection, namespace, projection, documents, most)?;
+            .first_batch(connection, namespace, projection, &documents, most)?;
         if documents.len() <= count {
             return Ok(reply);
         }
-        let rest = share_all(self.alloc, &documents[count..])?;
+        let rest = behind(documents, count)?;
         let projection = projection.copy()?;
         self.cursors.open(connection, namespace, rest, projection)?;
         Ok(reply)

@@ -14,6 +14,7 @@ ghost use Rattle.engine.specs.TakingOut.{IsHome};
 ghost use Rattle.database_model.specs.World.{documents_of};
 
 use crate::engine::Engine;
+use bson::SpelledDocument;
 use commands::Query;
 use index::Catalogued;
 use page::Disk;
@@ -65,7 +66,7 @@ impl<D: Disk> Engine<D> {
         home: &Catalogued,
         query: &Query,
         most: usize,
-    ) -> Result<Vec<SharedDocument>, Refusal>
+    ) -> Result<Vec<SpelledDocument>, Refusal>
         requires { IsSound D.history self.old }
         ensures looks { LooksOf D.history (λ now c. IsHome now c home.now)
             (λ now c found. found.items
@@ -89,7 +90,7 @@ impl<D: Disk> Engine<D> {
         namespace: &str,
         query: &Query,
         most: usize,
-    ) -> Result<Vec<SharedDocument>, Refusal>
+    ) -> Result<Vec<SpelledDocument>, Refusal>
         requires { IsSound D.history self.old }
         ensures looks { Looks D.history
             (λ now found. found.items ≡ take most

@@ -34,7 +34,7 @@ use path::Refusal;
 use queries::{Selects, put_id, put_ids};
 use replies::{REPLY_LIMIT, SharedDocument};
 use statements::{
-    ID, Ran, Tally, Write, compare_id, compare_ids, matches, read_id, run_on, unless_memory,
+    ID, Ran, Tally, Write, compare_id, read_id, run_on, unless_memory,
     update_reply, upsert_document,
 };
 use std::alloc::Global;
@@ -90,24 +90,6 @@ fn makes_any(statements: &[UpdateStatement]) -> bool
     statements.iter().any(|statement| statement.upsert)
 }
 
-/// Whether a statement matches a document.
-fn is_updated(statements: &[UpdateStatement], document: &Document) -> bool
-    ensures { result ≡ is_updated statements.now document.now }
-{
-    statements
-        .iter()
-        .any(|statement| matches(&statement.filter, document))
-}
-
-/// Whether one of these documents has the `_id` of another.
-fn has_id_of(documents: &[Document], other: &Document) -> bool
-    ensures { result ≡ has_key_of documents.now other.now }
-{
-    documents
-        .iter()
-        .any(|document| compare_ids(document, other).is_eq())
-}
-
 /// Whether a statement matches a document that stays its bytes.
 fn is_updated_raw(
     alloc: Global,
@@ -124,7 +106,7 @@ fn is_updated_raw(
     Ok(false)
 }
 
-/// Whether one of these documents has the `_id` of another that stays its bytes.
+/// Whether one of these documents has the `_id` of another, which stays its bytes.
 fn has_id_of_raw(
     alloc: Global,
     documents: &[Document],
@@ -201,10 +183,6 @@ struct Meaning<'a> {
 
 impl Selects for Meaning<'_> {
     ghost selects = { λ a. is_meant_by a.statements.now a.made.now };
-
-    fn selects(&self, document: &Document) -> bool {
-        is_updated(self.statements, document) || has_id_of(self.made, document)
-    }
 
     fn selects_raw(&self, alloc: Global, document: &RawDoc<'_>) -> Result<bool, NoMemory> {
         if is_updated_raw(alloc, self.statements, document)? {

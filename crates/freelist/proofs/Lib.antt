@@ -1,4 +1,5 @@
 pub mod CommittedLists
+pub mod FilledFiles
 pub mod LeastLaws
 pub mod ListRowsLemmas
 pub mod ListedBooks

@@ -1,7 +1,8 @@
 -- What reading a list of free pages gives.
 use Rattle.std.specs.Prelude.{◌≡◌, ◌≢◌, ℕ, ◌+◌, ◌≤◌, Bool, true, false, if◌then◌else◌}
-use Rattle.std.specs.Prelude.{List, [], ◌∷◌, ◌++◌, get_or, Option, Some, Result, Ok, Err}
+use Rattle.std.specs.Prelude.{List, [], ◌∷◌, ◌++◌, get_or, not, Option, Some, Result, Ok, Err}
 use Rattle.std.specs.Prelude.{MatchResult}
+use Rattle.std.specs.List.{list_any}
 use Rattle.freelist.specs.FreeList.{IsFreeList, ListContent, Part, named_by, pages_of, room_for}
 use Rattle.freelist.specs.FreeList.{times_in}
 use Rattle.freelist.specs.declared.list.FreeList.{FreeList}
@@ -36,6 +37,15 @@ ReadsList contents page_count first count result =
     (λ fault. fault ≡ faults.Damaged → (parts : List Part)
     → IsFreeList contents page_count first count parts → ⊥)
 
+-- just the pages from 1 to below the page count stand there, each once
+abbrev pub AreAllBelow : ℕ → List ℕ → Type 0
+AreAllBelow page_count pages = (page : ℕ) → times_in page pages ≡ room_for page_count page
+
+-- whether that is so
+abbrev pub TellsAll : ℕ → List ℕ → Bool → Type 0
+TellsAll page_count pages true = AreAllBelow page_count pages
+TellsAll page_count pages false = AreAllBelow page_count pages → ⊥
+
 -- ---- what serves the prover alone
 
 -- 1 for a page of the file that isn't marked, 0 for any other
@@ -46,6 +56,9 @@ free_in seen page = if get_or seen page true then 0 else 1
 abbrev pub unmarked : List Bool → ℕ
 unmarked [] = 0
 unmarked (seen ∷ rest) = (if seen then 0 else 1) + unmarked rest
+
+abbrev pub has_unmarked : List Bool → Bool
+has_unmarked seen = list_any not seen
 
 -- these pages were marked, or one of them was marked before
 abbrev pub Marks : Bool → List ℕ → List Bool → List Bool → Type 0

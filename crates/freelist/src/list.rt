@@ -1,7 +1,7 @@
 //! The written list of a file's free pages, and how it is read.
-ghost use Rattle.std.specs.Prelude.{◌≡◌, ◌<◌, ◌≤◌, ◌∷◌, [], ℕ, Option, Some, Err, IfOk, OnOk, OnErr, IsTrue, length, take, drop, ◌*◌};
-ghost use Rattle.freelist.specs.FreeList.{ListContent, list_pages, written};
-ghost use Rattle.freelist.specs.ListReading.{Begins, Marks, Notes, ReadsList, ReadsPart, StepsOn, content_of, unmarked};
+ghost use Rattle.std.specs.Prelude.{◌≡◌, ◌<◌, ◌≤◌, ◌∷◌, [], ◌++◌, ℕ, Option, Some, Err, IfOk, OnOk, OnErr, IsTrue, length, take, drop, ◌*◌};
+ghost use Rattle.freelist.specs.FreeList.{ListContent, list_pages, room_for, written};
+ghost use Rattle.freelist.specs.ListReading.{Begins, Marks, Notes, ReadsList, ReadsPart, StepsOn, TellsAll, content_of, free_in, has_unmarked, unmarked};
 ghost use Rattle.freelist.specs.ListWriting.{content_at};
 ghost use Rattle.freelist.specs.declared.list_fault.ListFault.TheVariants as faults;
 
@@ -40,6 +40,16 @@ impl FreeList {
             next: self.pages.get(at + 1).copied().unwrap_or(0),
             named,
         })
+    }
+
+    /// Whether each page from 1 to below the page count is one of three, and none is two of them: in use, the list's own, or
+    /// named by it.
+    pub fn fills(&self, alloc: Global, page_count: u32, in_use: &[u32]) -> Result<bool, NoMemory>
+        ensures { let listed = self.now.pages.items ++ self.now.named.items in
+            IfOk result (TellsAll page_count (in_use.now ++ listed)) }
+    {
+        let mut seen = no_marks(alloc, page_count)?;
+        Ok(marks_rest(&mut seen, in_use, self))
     }
 }
 
@@ -118,6 +128,42 @@ fn mark_all(seen: &mut [bool], pages: &[u32]) -> bool
     true
 }
 
+/// Whether a page isn't marked.
+fn has_unmarked(seen: &[bool]) -> bool
+    ensures { result ≡ has_unmarked seen.now }
+{
+    seen.iter().any(|marked| !*marked)
+}
+
+/// Marks these pages and those of a list; whether each page that wasn't marked was one of them, once.
+fn marks_rest(seen: &mut [bool], in_use: &[u32], list: &FreeList) -> bool
+    ensures { let listed = list.now.pages.items ++ list.now.named.items in
+        (page_count : ℕ) → ((n : ℕ) → free_in seen.old n ≡ room_for page_count n)
+        → TellsAll page_count (in_use.now ++ listed) result }
+{
+    if !mark_all(seen, in_use) {
+        return false;
+    }
+    if !mark_all(seen, &list.pages) {
+        return false;
+    }
+    if !mark_all(seen, &list.named) {
+        return false;
+    }
+    !has_unmarked(seen)
+}
+
+/// For each page of a file with so many whether it is marked: page 0 alone is.
+fn no_marks(alloc: Global, page_count: u32) -> Result<Vec<bool>, NoMemory>
+    ensures { IfOk result (λ seen. (n : ℕ) → free_in seen.items n ≡ room_for page_count n) }
+{
+    let mut seen = vec![in alloc; false; page_count as usize]?;
+    if let Some(place) = seen.first_mut() {
+        *place = true;
+    }
+    Ok(seen)
+}
+
 /// What was read of a list so far, and for each page of the file whether it stood there. Page 0 counts as one that did.
 #[derive(Drop)]
 pub(crate) struct Reading {
@@ -131,12 +177,8 @@ impl Reading {
         ensures begins { IfOk result (Begins page_count) }
         ensures memory { OnErr result (result ≡ Err faults.Memory) }
     {
-        let mut seen = vec![in alloc; false; page_count as usize]?;
-        if let Some(place) = seen.first_mut() {
-            *place = true;
-        }
         Ok(Reading {
-            seen,
+            seen: no_marks(alloc, page_count)?,
             list: FreeList {
                 pages: Vec::new(alloc),
                 named: Vec::new(alloc),

@@ -1,16 +1,16 @@
 -- A message during which nobody else may ask stands alone.
-use Rattle.std.proofs.Common.{◌≡◌, ◌≢◌, ℕ, zero, suc, ◌+◌, ◌<◌, ◌≤◌, Bool, true, false, ◌&&◌, ◌||◌, List, [], ◌∷◌, ◌++◌, length, take, drop, set, get_or}
-use Rattle.std.proofs.Common.{map, Option, Some, None, refl, sym, ap, subst, ◌∙◌, inl, inr, ◌⊎◌, arith}
+use Rattle.std.proofs.Common.{◌≡◌, ◌≢◌, ℕ, zero, suc, ◌+◌, ◌-◌, ◌<◌, ◌≤◌, Bool, true, false, ◌&&◌, ◌||◌, List, [], ◌∷◌, ◌++◌, length, take, drop, set, get_or}
+use Rattle.std.proofs.Common.{map, replicate, Option, Some, None, refl, sym, ap, subst, ◌∙◌, inl, inr, ◌⊎◌, arith}
 use Rattle.std.specs.Prelude.{is_some}
 use Rattle.std.specs.List.{list_any}
 use Rattle.std.proofs.lemmas.Bool.{cases_lt, true≢false}
-use Rattle.std.proofs.lemmas.List.{get_or-set_other, get_or-set_same, length-set, length-map, length-append, get_or-map, get_or_default, get_or_append_left, get_or_push}
+use Rattle.std.proofs.lemmas.List.{get_or-set_other, get_or-set_same, length-set, length-map, length-append, get_or-map, get_or_default, get_or_append_left, get_or-append_right, get_or-replicate, get_or_push, length-replicate}
 use Rattle.drivers.specs.Answering.{asks_alone}
 use Rattle.drivers.specs.AloneLaws.{is_later}
 use Rattle.front.specs.Alone.{is_alone, alone_in, has_begun, begun_in, StandsAlone, AreLentTo, NobodyBetween, GoesOnAlone, IsNobodyAlone}
 use Rattle.front.specs.Fronting.{answered}
 use Rattle.front.specs.Lending.{loan_at, borrower, IsLoanOf, Lends}
-use Rattle.front.specs.Serving.{OthersStay, fresh, fed}
+use Rattle.front.specs.Serving.{OthersStay, HaveGrown, fresh, fed}
 use Rattle.front.specs.Tying.{is_asked, was_asked, AreTied}
 use Rattle.front.specs.declared.job.Job.{Job}
 use Rattle.front.specs.declared.lending.Loan.{Loan}
@@ -173,7 +173,7 @@ stands_back alone loans owner ss new tied stay goes stands n any within e = at (
     other apart = stands n any inside (ap has_begun (sym (stay.others n any apart)) ∙ e)
 
     its : borrower (loan_at loans owner) ≡ Some n → alone ≡ Some n
-    its is = stands n any inside (asked_begun (get_or ss n any) (tied.asked owner n any is inside) (goes n any is inside e))
+    its is = stands n any inside (asked_begun (get_or ss n any) (tied.asked owner n any is) (goes n any is inside e))
 
     which : (m : ℕ) → borrower (loan_at loans owner) ≡ Some m → (n ≡ m) ⊎ (n ≢ m) → alone ≡ Some n
     which m is (inl same) = its (is ∙ ap Some (sym same))
@@ -246,6 +246,24 @@ pub stands_ended : (alone : Option ℕ) (ss : List Socket) (n : ℕ) (new : Sock
     → StandsAlone alone (set ss n new)
 stands_ended alone ss n new inside is stands =
     stands_set alone ss n new new inside (λ e. absurd (true≢false (sym e ∙ ap has_begun is))) stands
+
+-- sockets of which nothing has come stand behind them
+stands_more : (alone : Option ℕ) (ss : List Socket) (count : ℕ) → StandsAlone alone ss → StandsAlone alone (ss ++ replicate count fresh)
+stands_more alone ss count stands n any within e = at (cases_lt n (length ss))
+  where
+    more : List Socket
+    more = replicate count fresh
+
+    at : (n < length ss) ⊎ (length ss ≤ n) → alone ≡ Some n
+    at (inl before) = stands n any before (ap has_begun (sym (get_or_append_left ss more any n before)) ∙ e)
+    at (inr behind) = absurd (true≢false (sym e ∙ ap has_begun (get_or-append_right ss more (length ss) n any refl behind ∙ last)))
+      where
+        last : get_or more (n - length ss) any ≡ fresh
+        last = get_or-replicate count (n - length ss) fresh any
+            (omega (arith, within, behind, length-append ss more, length-replicate {A = Socket} count fresh))
+
+pub stands_grown : (alone : Option ℕ) (ss new : List Socket) → StandsAlone alone ss → HaveGrown ss new → StandsAlone alone new
+stands_grown alone ss new stands grows = subst (StandsAlone alone) (sym grows.grown) (stands_more alone ss grows.count stands)
 
 pub stands_fed : (alone : Option ℕ) (ss : List Socket) (n : ℕ) (any new : Socket) (bytes : List ℕ) → n < length ss → new ≡ fed (get_or ss n any) bytes
     → StandsAlone alone ss → StandsAlone alone (set ss n new)

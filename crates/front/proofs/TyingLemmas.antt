@@ -4,11 +4,11 @@ use Rattle.std.proofs.Common.{replicate, Option, Some, None, refl, sym, ap, subs
 use Rattle.std.specs.Prelude.{◌==◌, if◌then◌else◌}
 use Rattle.std.proofs.lemmas.Bool.Decides.{nat_tests}
 use Rattle.std.proofs.lemmas.Bool.{cases_lt}
-use Rattle.std.proofs.lemmas.List.{get_or-set_other, get_or-set_same, length-set, length-map, get_or-map, get_or-replicate, get_or_past, length-replicate}
+use Rattle.std.proofs.lemmas.List.{get_or-set_other, get_or-set_same, length-set, length-map, get_or-map, get_or-replicate, get_or_past, length-append, length-replicate, get_or_append_left}
 use Rattle.std.proofs.lemmas.List.{drop_all, take_all}
 use Rattle.front.specs.Fronting.{answered}
 use Rattle.front.specs.Lending.{loan_at, borrower, left_borrower, after_end}
-use Rattle.front.specs.Serving.{OthersStay}
+use Rattle.front.specs.Serving.{OthersStay, HaveGrown, fed, fresh}
 use Rattle.front.specs.Tying.{is_asked, AreTied, IsLent, Asks, LendsToNone}
 use Rattle.front.specs.declared.lending.Loan.{Loan}
 use Rattle.front.specs.declared.socket.Socket.{Socket}
@@ -77,22 +77,26 @@ borrower_ended (x ∷ xs) n (suc k) m e = borrower_ended xs n k m e
 pub tied_socket : (loans : List (Option Loan)) (ss : List Socket) (n : ℕ) (any new : Socket) → AreTied loans ss → n < length ss
     → (is_asked (get_or ss n any).job ≡ true → is_asked new.job ≡ true) → AreTied loans (set ss n new)
 tied_socket loans ss n any new tied within goes = record
-    { asked = λ k m d e inside. at k m d e (subst (λ (l : ℕ). m < l) (length-set ss n new) inside) (same_or_not m n); once = tied.once }
+    {
+      there = λ k m e. subst (λ (l : ℕ). m < l) (sym (length-set ss n new)) (tied.there k m e);
+      asked = λ k m d e. at k m d e (same_or_not m n);
+      once = tied.once;
+    }
   where
-    at : (k m : ℕ) (d : Socket) → borrower (loan_at loans k) ≡ Some m → m < length ss → (m ≡ n) ⊎ (m ≢ n) → is_asked (get_or (set ss n new) m d).job ≡ true
-    at k m d e inside (inl same) =
+    at : (k m : ℕ) (d : Socket) → borrower (loan_at loans k) ≡ Some m → (m ≡ n) ⊎ (m ≢ n) → is_asked (get_or (set ss n new) m d).job ≡ true
+    at k m d e (inl same) =
         let there : get_or (set ss n new) m d ≡ new = ap (λ (i : ℕ). get_or (set ss n new) i d) same ∙ get_or-set_same ss n new d within in
-        let waited : is_asked (get_or ss n any).job ≡ true = tied.asked k n any (e ∙ ap Some same) within in
+        let waited : is_asked (get_or ss n any).job ≡ true = tied.asked k n any (e ∙ ap Some same) in
         ap (λ (s : Socket). is_asked s.job) there ∙ goes waited
-    at k m d e inside (inr apart) = ap (λ (s : Socket). is_asked s.job) (get_or-set_other ss n m new d apart) ∙ tied.asked k m d e inside
+    at k m d e (inr apart) = ap (λ (s : Socket). is_asked s.job) (get_or-set_other ss n m new d apart) ∙ tied.asked k m d e
 
 -- a connection is lent to a socket that didn't wait
 pub tied_lent : (loans after : List (Option Loan)) (ss : List Socket) (n : ℕ) (any new : Socket) → AreTied loans ss → n < length ss
     → IsLent (Some n) loans after → is_asked (get_or ss n any).job ≡ false → is_asked new.job ≡ true → AreTied after (set ss n new)
 tied_lent loans after ss n any new tied within lent free waits =
     subst (λ (ls : List (Option Loan)). AreTied ls (set ss n new)) (sym lent.lent) (record {
-      asked = λ k m d e inside. at k m d (subst (λ (l : ℕ). m < l) (length-set ss n new) inside) (borrower_after loans lent.id lent.loan k m e)
-          (same_or_not m n);
+      there = λ k m e. subst (λ (l : ℕ). m < l) (sym (length-set ss n new)) (inside k m (borrower_after loans lent.id lent.loan k m e));
+      asked = λ k m d e. at k m d (borrower_after loans lent.id lent.loan k m e) (same_or_not m n);
       once = λ k o m e f. only k o m (borrower_after loans lent.id lent.loan k m e) (borrower_after loans lent.id lent.loan o m f);
     })
   where
@@ -102,21 +106,25 @@ tied_lent loans after ss n any new tied within lent free waits =
     -- no other connection is lent to it
     none : (k m : ℕ) → borrower (loan_at loans k) ≡ Some m → m ≡ n → ⊥
     none k m e same =
-        let waited : is_asked (get_or ss n any).job ≡ true = tied.asked k n any (e ∙ ap Some same) within in
+        let waited : is_asked (get_or ss n any).job ≡ true = tied.asked k n any (e ∙ ap Some same) in
         absurd cc
 
     its : (m : ℕ) → lent.loan.socket ≡ Some m → m ≡ n
     its m of = some_is m n (sym of ∙ lent.of)
+
+    inside : (k m : ℕ) → Either k m → m < length ss
+    inside k m (inl h) = subst (λ (i : ℕ). i < length ss) (sym (its m h.1)) within
+    inside k m (inr old) = tied.there k m old
 
     there : (m : ℕ) (d : Socket) → m ≡ n → is_asked (get_or (set ss n new) m d).job ≡ true
     there m d same =
         let is : get_or (set ss n new) m d ≡ new = ap (λ (i : ℕ). get_or (set ss n new) i d) same ∙ get_or-set_same ss n new d within in
         ap (λ (s : Socket). is_asked s.job) is ∙ waits
 
-    at : (k m : ℕ) (d : Socket) → m < length ss → Either k m → (m ≡ n) ⊎ (m ≢ n) → is_asked (get_or (set ss n new) m d).job ≡ true
-    at k m d inside (inl h) known = there m d (its m h.1)
-    at k m d inside (inr old) (inl same) = there m d same
-    at k m d inside (inr old) (inr apart) = ap (λ (s : Socket). is_asked s.job) (get_or-set_other ss n m new d apart) ∙ tied.asked k m d old inside
+    at : (k m : ℕ) (d : Socket) → Either k m → (m ≡ n) ⊎ (m ≢ n) → is_asked (get_or (set ss n new) m d).job ≡ true
+    at k m d (inl h) known = there m d (its m h.1)
+    at k m d (inr old) (inl same) = there m d same
+    at k m d (inr old) (inr apart) = ap (λ (s : Socket). is_asked s.job) (get_or-set_other ss n m new d apart) ∙ tied.asked k m d old
 
     only : (k o m : ℕ) → Either k m → Either o m → k ≡ o
     only k o m (inl h) (inl i) = h.0 ∙ sym i.0
@@ -136,7 +144,8 @@ pub tied_to_none : (loans after : List (Option Loan)) (ss : List Socket) → Are
 tied_to_none loans after ss tied (inl same) = subst (λ (ls : List (Option Loan)). AreTied ls ss) (sym same) tied
 tied_to_none loans after ss tied (inr lent) =
     subst (λ (ls : List (Option Loan)). AreTied ls ss) (sym lent.lent) (record {
-      asked = λ k m d e inside. tied.asked k m d (before k m (borrower_after loans lent.id lent.loan k m e)) inside;
+      there = λ k m e. tied.there k m (before k m (borrower_after loans lent.id lent.loan k m e));
+      asked = λ k m d e. tied.asked k m d (before k m (borrower_after loans lent.id lent.loan k m e));
       once = λ k o m e f. tied.once k o m (before k m (borrower_after loans lent.id lent.loan k m e))
           (before o m (borrower_after loans lent.id lent.loan o m f));
     })
@@ -152,37 +161,40 @@ pub tied_back : (loans after : List (Option Loan)) (owner : ℕ) (ss new : List 
     → OthersStay ss (borrower (loan_at loans owner)) new → AreTied after new
 tied_back loans after owner ss new tied is stay =
     subst (λ (ls : List (Option Loan)). AreTied ls new) (sym is) (record {
-      asked = λ k m d e inside. at k m d (borrower_left loans owner k m e) (subst (λ (l : ℕ). m < l) stay.length inside);
+      there = λ k m e. subst (λ (l : ℕ). m < l) (sym stay.length) (tied.there k m (borrower_left loans owner k m e).1);
+      asked = λ k m d e. at k m d (borrower_left loans owner k m e);
       once = λ k o m e f. tied.once k o m (borrower_left loans owner k m e).1 (borrower_left loans owner o m f).1;
     })
   where
-    at : (k m : ℕ) (d : Socket) → (k ≢ owner) × (borrower (loan_at loans k) ≡ Some m) → m < length ss → is_asked (get_or new m d).job ≡ true
-    at k m d h inside =
+    at : (k m : ℕ) (d : Socket) → (k ≢ owner) × (borrower (loan_at loans k) ≡ Some m) → is_asked (get_or new m d).job ≡ true
+    at k m d h =
         let same = stay.others m d (λ f. h.0 (tied.once k owner m h.1 (sym f))) in
-        ap (λ (s : Socket). is_asked s.job) same ∙ tied.asked k m d h.1 inside
+        ap (λ (s : Socket). is_asked s.job) same ∙ tied.asked k m d h.1
 
 -- a socket ends
 pub tied_end : (loans after : List (Option Loan)) (ss : List Socket) (n : ℕ) (new : Socket) → AreTied loans ss → after ≡ map (after_end n) loans
     → AreTied after (set ss n new)
 tied_end loans after ss n new tied is =
     subst (λ (ls : List (Option Loan)). AreTied ls (set ss n new)) (sym is) (record {
-      asked = λ k m d e inside. at k m d (borrower_ended loans n k m e) (subst (λ (l : ℕ). m < l) (length-set ss n new) inside);
+      there = λ k m e. subst (λ (l : ℕ). m < l) (sym (length-set ss n new)) (tied.there k m (borrower_ended loans n k m e).1);
+      asked = λ k m d e. at k m d (borrower_ended loans n k m e);
       once = λ k o m e f. tied.once k o m (borrower_ended loans n k m e).1 (borrower_ended loans n o m f).1;
     })
   where
-    at : (k m : ℕ) (d : Socket) → (m ≢ n) × (borrower (loan_at loans k) ≡ Some m) → m < length ss → is_asked (get_or (set ss n new) m d).job ≡ true
-    at k m d h inside = ap (λ (s : Socket). is_asked s.job) (get_or-set_other ss n m new d h.0) ∙ tied.asked k m d h.1 inside
+    at : (k m : ℕ) (d : Socket) → (m ≢ n) × (borrower (loan_at loans k) ≡ Some m) → is_asked (get_or (set ss n new) m d).job ≡ true
+    at k m d h = ap (λ (s : Socket). is_asked s.job) (get_or-set_other ss n m new d h.0) ∙ tied.asked k m d h.1
 
 -- answers are handed out
 pub tied_answered : (loans : List (Option Loan)) (ss new : List Socket) → AreTied loans ss → new ≡ map answered ss → AreTied loans new
 tied_answered loans ss new tied is =
     subst (AreTied loans) (sym is) (record {
-      asked = λ k m d e inside. at k m d e (subst (λ (l : ℕ). m < l) (length-map ss answered) inside);
+      there = λ k m e. subst (λ (l : ℕ). m < l) (sym (length-map ss answered)) (tied.there k m e);
+      asked = at;
       once = tied.once;
     })
   where
-    at : (k m : ℕ) (d : Socket) → borrower (loan_at loans k) ≡ Some m → m < length ss → is_asked (get_or (map answered ss) m d).job ≡ true
-    at k m d e inside = ap (λ (s : Socket). is_asked s.job) (get_or-map answered ss m d d inside) ∙ tied.asked k m d e inside
+    at : (k m : ℕ) (d : Socket) → borrower (loan_at loans k) ≡ Some m → is_asked (get_or (map answered ss) m d).job ≡ true
+    at k m d e = ap (λ (s : Socket). is_asked s.job) (get_or-map answered ss m d d (tied.there k m e)) ∙ tied.asked k m d e
 
 -- nothing is lent yet
 rest : (k : ℕ) → loan_at (replicate 64 None) k ≡ None
@@ -200,7 +212,8 @@ nobody k m e =
 pub tied_new : (loans : List (Option Loan)) (ss : List Socket) → loans ≡ replicate 64 None → AreTied loans ss
 tied_new loans ss is =
     subst (λ (ls : List (Option Loan)). AreTied ls ss) (sym is) (record {
-      asked = λ k m d e inside. absurd (nobody k m e);
+      there = λ k m e. absurd (nobody k m e);
+      asked = λ k m d e. absurd (nobody k m e);
       once = λ k o m e f. absurd (nobody k m e);
     })
 
@@ -246,7 +259,8 @@ tied_given loans len ss given new tied same fits is =
 pub tied_over : (loans after : List (Option Loan)) (ss : List Socket) (n : ℕ) → AreTied loans ss → after ≡ map (after_end n) loans → AreTied after ss
 tied_over loans after ss n tied is =
     subst (λ (ls : List (Option Loan)). AreTied ls ss) (sym is) (record {
-      asked = λ k m d e inside. tied.asked k m d (borrower_ended loans n k m e).1 inside;
+      there = λ k m e. tied.there k m (borrower_ended loans n k m e).1;
+      asked = λ k m d e. tied.asked k m d (borrower_ended loans n k m e).1;
       once = λ k o m e f. tied.once k o m (borrower_ended loans n k m e).1 (borrower_ended loans n o m f).1;
     })
 
@@ -255,3 +269,17 @@ pub tied_step : (loans after : List (Option Loan)) (ss : List Socket) (n : ℕ) 
     → before ≡ get_or ss n any → Asks n loans after before new → AreTied after (set ss n new)
 tied_step loans after ss n any before new tied within is asks =
     tied_asked loans after ss n any new tied within (subst (λ (s : Socket). Asks n loans after s new) is asks)
+
+-- sockets of which nothing has come stand behind them
+pub tied_grown : (loans : List (Option Loan)) (ss new : List Socket) → AreTied loans ss → HaveGrown ss new → AreTied loans new
+tied_grown loans ss new tied grows =
+    subst (AreTied loans) (sym grows.grown) (record {
+      there = λ k m e. omega (arith, tied.there k m e, length-append ss (replicate grows.count fresh));
+      asked = λ k m d e. ap (λ (s : Socket). is_asked s.job) (get_or_append_left ss (replicate grows.count fresh) d m (tied.there k m e)) ∙ tied.asked k m d e;
+      once = tied.once;
+    })
+
+pub tied_fed : (loans : List (Option Loan)) (ss there : List Socket) (n : ℕ) (any new : Socket) (bytes : List ℕ) → AreTied loans ss → HaveGrown ss there
+    → n < length there → new ≡ fed (get_or there n any) bytes → AreTied loans (set there n new)
+tied_fed loans ss there n any new bytes tied grows within is =
+    tied_socket loans there n any new (tied_grown loans ss there tied grows) within (λ e. ap (λ (s : Socket). is_asked s.job) is ∙ e)

@@ -2,7 +2,7 @@
 use Rattle.std.specs.Prelude.{◌≡◌, ℕ, ◌+◌, Bool, if◌then◌else◌, List, [], ◌∷◌, ◌++◌, map, slice_set}
 use Rattle.std.specs.Prelude.{slice_index_or, length, ◌<◌, Option, Some, None, Vec}
 use Rattle.front.specs.declared.socket.Socket.{Socket}
-use Rattle.front.specs.Serving.{fed, fresh}
+use Rattle.front.specs.Serving.{fed, fresh, HaveGrown}
 
 abbrev pub frame_to : {Z : Type 0} → ℕ → Option (Vec ℕ Z) → List (ℕ × List ℕ)
 frame_to i None = []
@@ -34,10 +34,12 @@ pub record HandsOut (replies : List (ℕ × List ℕ)) (closed : List ℕ)
   pub given : new ≡ map answered ready
   pub over : closed ≡ closed_from 0 new
 
--- bytes came on the socket of this number
+-- Bytes came on the socket of this number, which was there or is now.
 pub record IsFed (old : List Socket) (i : ℕ) (bytes : List ℕ) (new : List Socket) : Type 0 where
-  pub within : i < length old
-  pub fed : (any : Socket) → new ≡ slice_set old i (fed (slice_index_or old i any) bytes)
+  pub there : List Socket
+  pub grown : HaveGrown old there
+  pub within : i < length there
+  pub fed : (any : Socket) → new ≡ slice_set there i (fed (slice_index_or there i any) bytes)
 
 -- The socket of this number has ended: nothing of it is left.
 abbrev pub IsEnded : List Socket → ℕ → List Socket → Type 0

@@ -1,6 +1,6 @@
 -- What is done with one socket.
 use Rattle.std.specs.Prelude.{◌≡◌, ◌≢◌, ℕ, Bool, false, not, ◌&&◌, ◌||◌, is_some, ◌++◌, List, []}
-use Rattle.std.specs.Prelude.{length, slice_index_or, Option, Some, None}
+use Rattle.std.specs.Prelude.{length, replicate, slice_index_or, Option, Some, None}
 use Rattle.drivers.specs.Incoming.{whole_at, is_waiting}
 use Rattle.front.specs.declared.socket.Socket.{Socket}
 
@@ -21,6 +21,11 @@ fed socket bytes = record socket { incoming = socket.incoming ++ bytes }
 -- does
 abbrev pub waits : Socket → Bool
 waits socket = not socket.is_over && (is_some socket.job || is_waiting (whole_at socket.incoming))
+
+-- Behind the sockets that there were stand some of which nothing has come.
+pub record HaveGrown (old new : List Socket) : Type 0 where
+  pub count : ℕ
+  pub grown : new ≡ old ++ replicate count fresh
 
 -- All sockets but this one are as they were.
 pub record OthersStay (old : List Socket) (socket : Option ℕ) (new : List Socket) : Type 0 where

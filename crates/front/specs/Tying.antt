@@ -1,5 +1,5 @@
--- That loans and sockets are tied: whoever a connection is lent to waits for the reply, and no
--- socket has two connections.
+-- That loans and sockets are tied: whoever a connection is lent to is there and waits for the reply,
+-- and no socket has two connections.
 use Rattle.std.specs.Prelude.{◌≡◌, ◌<◌, ◌⊎◌, ℕ, Bool, true, false, List, length, slice_set}
 use Rattle.std.specs.Prelude.{slice_index_or, Option, Some, None}
 use Rattle.front.specs.Lending.{loan_at, borrower}
@@ -19,8 +19,9 @@ is_asked None = false
 is_asked (Some job) = was_asked job.stage
 
 pub record AreTied (loans : List (Option Loan)) (sockets : List Socket) : Type 0 where
+  pub there : (id n : ℕ) → borrower (loan_at loans id) ≡ Some n → n < length sockets
   pub asked : (id n : ℕ) (any : Socket) → borrower (loan_at loans id) ≡ Some n
-      → n < length sockets → is_asked (slice_index_or sockets n any).job ≡ true
+      → is_asked (slice_index_or sockets n any).job ≡ true
   pub once : (id other n : ℕ) → borrower (loan_at loans id) ≡ Some n
       → borrower (loan_at loans other) ≡ Some n → id ≡ other
 

@@ -1,11 +1,12 @@
 //! Sockets of drivers before a server.
 
 ghost use Rattle.server.specs.Durable.{IsSound};
-ghost use Rattle.std.specs.Prelude.{◌≡◌, ◌<◌, IfOk, true, false, None, Some, length, map};
+ghost use Rattle.std.specs.Prelude.{◌≡◌, ◌<◌, OnOk, true, false, None, Some, length, map};
 ghost use Rattle.sockets.specs.Handing.{Hands, Closes};
 ghost use Rattle.front.specs.Tying.{AreTied};
 ghost use Rattle.front.specs.Alone.{IsNobodyAlone, NobodyBetween, StandsAlone};
 ghost use Rattle.front.specs.Fronting.{frame_to, answers_from, closing, closed_from, answered};
+ghost use Rattle.front.specs.Serving.{HaveGrown};
 
 use crate::cursors::OpenCursors;
 use crate::lending::Lending;
@@ -36,6 +37,7 @@ const MOST_IDS: u64 = 1_000;
 pub struct Front<C: Clock, D: Disk> {
     clock: C,
     core: Core<D>,
+    // as many as there were at a time
     sockets: Vec<Socket>,
     lending: Lending,
     cursors: OpenCursors,
@@ -49,24 +51,24 @@ pub struct Front<C: Clock, D: Disk> {
 
 impl<C: Clock + Drop, D: Disk + Drop> Front<C, D> {
     /// A front of a server that has no connection yet.
-    pub fn new(clock: C, core: Core<D>) -> Result<Front<C, D>, NoMemory>
+    pub fn new(clock: C, core: Core<D>) -> Front<C, D>
         requires sound { IsSound D.history core }
-        ensures sound { IfOk result (λ front. IsSound D.history front.core) }
-        ensures tied { IfOk result (λ front. AreTied front.lending.loans front.sockets.items) }
-        ensures stands { IfOk result (λ front. StandsAlone front.alone front.sockets.items) }
+        ensures sound { IsSound D.history result.core }
+        ensures tied { AreTied result.lending.loans result.sockets.items }
+        ensures stands { StandsAlone result.alone result.sockets.items }
     {
         let alloc = core.allocator();
         let next_id = first_id(&clock);
-        Ok(Front {
+        Front {
             clock,
             core,
-            sockets: new_sockets(alloc)?,
+            sockets: Vec::new(alloc),
             lending: Lending::new(),
             cursors: OpenCursors::new(alloc),
             first: 0,
             alone: None,
             next_id,
-        })
+        }
     }
 
     /// The milliseconds since 1970.
@@ -151,9 +153,10 @@ impl<C: Clock + Drop, D: Disk + Drop> Front<C, D> {
             return;
         }
         let first = self.first % PLACES;
-        'sockets: for step in 0..PLACES {
-            let number = (first + step) % PLACES;
-            if self.sockets.len() <= number || !self.sockets[number].waits() {
+        let count = self.sockets.len().min(PLACES);
+        'sockets: for step in 0..count {
+            let number = (first + step) % count;
+            if !self.sockets[number].waits() {
                 continue;
             }
             if !self.lending.has_rest() {
@@ -270,7 +273,8 @@ impl<C: Clock + Drop, D: Disk + Drop> Service for Front<C, D> {
     ghost is_ended = { λ old i new. IsEnded old.sockets.items i new.sockets.items };
 
     fn take_bytes(&mut self, connection: usize, bytes: &[u8]) -> Result<(), NotTaken> {
-        if self.sockets.len() <= connection {
+        let alloc = self.core.allocator();
+        if grow(alloc, &mut self.sockets, connection).is_err() {
             return Err(NotTaken);
         }
         match self.sockets[connection].feed(bytes) {
@@ -307,15 +311,16 @@ impl<C: Clock + Drop, D: Disk + Drop> Service for Front<C, D> {
     }
 }
 
-/// Sockets of which nothing has come.
-fn new_sockets(alloc: Global) -> Result<Vec<Socket>, NoMemory>
-    ensures { IfOk result (λ sockets. StandsAlone None sockets.items) }
+/// Puts sockets of which nothing has come behind those that there are, up to that of a number.
+fn grow(alloc: Global, sockets: &mut Vec<Socket>, number: usize) -> Result<(), NoMemory>
+    requires { number < 1024 }
+    ensures grown { HaveGrown sockets.old.items sockets.new.items }
+    ensures there { OnOk result (number < length sockets.new.items) }
 {
-    let mut sockets = Vec::with_capacity(alloc, PLACES)?;
-    'places: for _ in 0..PLACES {
+    'numbers: for _ in sockets.len()..number + 1 {
         sockets.push(Socket::new(alloc))?;
     }
-    Ok(sockets)
+    Ok(())
 }
 
 /// Where object ids begin: at the nanoseconds since 1970. More of them go by than messages take ids, so a server that is started again

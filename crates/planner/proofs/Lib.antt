@@ -15,3 +15,4 @@ pub mod RangeReadingLemmas
 pub mod FoundIdLemmas
 pub mod ChosenLemmas
 pub mod FirstIdLemmas
+pub mod IdRangeLemmas

@@ -14,3 +14,4 @@ pub mod Rows
 pub mod ChoiceLaws
 pub mod IdLaws
 pub mod FirstIds
+pub mod IdRange

@@ -5,6 +5,7 @@ ghost use Rattle.planner.specs.ChoiceLaws.{ChoosesFirstBest};
 ghost use Rattle.planner.specs.IdLaws.{FindsByIds};
 ghost use Rattle.planner.specs.FirstIds.{FirstIdsLead};
 ghost use Rattle.planner.specs.FoundIds.{IdsLeadToMatching};
+ghost use Rattle.planner.specs.IdRange.{HasIdInRange, IdRangeSelects};
 ghost use Rattle.planner.specs.KeyRange.{HasKeyInRange, HasBytesInRange};
 ghost use Rattle.planner.specs.KeyScanLaws.{FindsIdText};
 ghost use Rattle.planner.specs.KeySpan.{SpansRange};
@@ -103,4 +104,14 @@ pub fn ids_lead_to_matching()
 /// answer.
 pub fn first_ids_lead()
     ensures { FirstIdsLead }
+{}
+
+/// A stored document that a filter matches has its `_id` in the range that the filter gives in the index on `_id`.
+pub fn has_id_in_range()
+    ensures { HasIdInRange }
+{}
+
+/// Of all documents whose `_id`s lie in that range, whichever others are given with them, the filter selects what it selects of all.
+pub fn id_range_selects()
+    ensures { IdRangeSelects }
 {}

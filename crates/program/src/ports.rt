@@ -49,9 +49,7 @@ pub(crate) fn listen_to_drivers<
 >(rt: &R, core: Core<D>, listened: &Listened, output: &mut impl Write) -> Result<(), ProgramFault>
     requires sound { IsSound D.history core }
 {
-    let Ok(mut front) = Front::new(rt, core) else {
-        return Err(ProgramFault::Memory);
-    };
+    let mut front = Front::new(rt, core);
     let listener = bind(rt, listened.port, output)?;
     Ok(sockets::listen(rt, listener, listened.idle, &mut front)?)
 }

@@ -127,7 +127,7 @@ module _ {D : Type 0} (history : D → History) (old new : State D) (number : �
       let stored = (found_document c.documents place.id d kept.storable (sym found)).0 in
       record { size = stored.size; depth = stored.depth }
 
-  pub over_refused : is_some (limits_fault 65535 d) ≡ true → {X : Type 0} (Q : List Collection → Place → X → Type 0)
+  pub over_refused : is_within d ≡ false → {X : Type 0} (Q : List Collection → Place → X → Type 0)
       → ReadsOf history (IsPlaceOf number text) Q (Err refusals.StorageFailed) old new
   over_refused over Q = record {
     on = reads.on;
@@ -143,7 +143,7 @@ module _ {D : Type 0} (history : D → History) (old new : State D) (number : �
           let t : IsTurnOf history old start now = has running (word_before history old new reads.on k) in
           let within = found_within now place t.now_state there (reads.answers k start now has place there) in
           let both : is_within d ≡ true = by_within d within in
-          let no : true ≡ false = sym both ∙ ap not over in
+          let no : true ≡ false = sym both ∙ over in
           absurd cc
 
 -- ---- a filter that is narrower

@@ -10,3 +10,4 @@ pub mod ByIndexLemmas
 pub mod IdTextLemmas
 pub mod OrderingLemmas
 pub mod ByOrderLemmas
+pub mod DepthLemmas

@@ -1,5 +1,5 @@
 -- Documents that are selected as they come, up to so many.
-use Rattle.std.proofs.Common.{◌≡◌, ℕ, zero, suc, ◌≤◌, ◌<◌, Bool, List, [], ◌∷◌, ◌++◌, length, take, refl, sym, ap, subst, ◌∙◌, arith}
+use Rattle.std.proofs.Common.{◌≡◌, ℕ, zero, suc, ◌≤◌, ◌<◌, Bool, true, false, List, [], ◌∷◌, ◌++◌, length, take, refl, sym, ap, subst, ◌∙◌, arith}
 use Rattle.std.proofs.Common.{append_assoc, length-append}
 use Rattle.std.specs.Prelude.{All, IfSome, Option, Some, None}
 use Rattle.std.specs.List.{filter}
@@ -53,6 +53,14 @@ one_or_none (Some d) = omega arith
 pub found_are_within : (o : Option Pairs) → IfSome o (λ d. IsWithin d) → All IsWithin (with_found o [])
 found_are_within None h = All-nil IsWithin
 found_are_within (Some d) h = All-cons IsWithin d [] h (All-nil IsWithin)
+
+-- one that is asked alone
+module _ (p : Pairs → Bool) (d : Pairs) where
+  pub taken_one : p d ≡ true → with_found (Some d) [] ≡ filter p (d ∷ [])
+  taken_one e = rw e refl
+
+  pub left_one : p d ≡ false → with_found None [] ≡ filter p (d ∷ [])
+  left_one e = rw e refl
 
 pub none_selected : {S : Type 0} (selects : S → Pairs → Bool) (start : Selecting S) → start.found.items ≡ [] → Selected selects start [] start
 none_selected selects start none = record {

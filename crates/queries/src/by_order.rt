@@ -13,13 +13,13 @@ ghost use Rattle.queries.specs.ByIndex.{AreFirstIds, IsRangeOf, LeadInOrder};
 
 use crate::by_index::range_asked;
 use crate::looking_up::look_up;
+use bson::SpelledDocument;
 use collections::Collections;
 use filter::{Filter, Sort};
 use index::{Catalogued, IndexSpec};
 use page::Disk;
 use path::Refusal;
 use planner::{IndexRange, ids_of};
-use replies::SharedDocument;
 use std::alloc::Global;
 
 /// So many entries are read where the filter passes over some: where these don't suffice, a walk through the collection is quicker.
@@ -71,7 +71,7 @@ fn looked_up_first<D: Disk>(
     filter: &Filter,
     read: &FirstIds,
     most: usize,
-) -> Result<Option<Vec<SharedDocument>>, Refusal>
+) -> Result<Option<Vec<SpelledDocument>>, Refusal>
     ensures reads { (sort : List SortField) → ReadsOf D.history
         (LeadInOrder number filter.now sort read.now.are_all (texts_of read.now.ids.items))
         (λ now c found. IfSome found
@@ -104,7 +104,7 @@ fn first_in_range<D: Disk>(
     range: &IndexRange<'_>,
     width: usize,
     most: usize,
-) -> Result<Option<Vec<SharedDocument>>, Refusal>
+) -> Result<Option<Vec<SpelledDocument>>, Refusal>
     requires { (range_of range.now).is_sorted ≡ true }
     ensures reads { (sort : List SortField)
         → IsRangeOf filter.now sort home.now.indexes.items (range_of range.now)
@@ -133,7 +133,7 @@ pub(crate) fn first_by_index<D: Disk>(
     filter: &Filter,
     sort: &Sort,
     most: usize,
-) -> Result<Option<Vec<SharedDocument>>, Refusal>
+) -> Result<Option<Vec<SpelledDocument>>, Refusal>
     ensures reads { ReadsOf D.history (IsAsked home.now)
         (λ now c found. IfSome found
         (λ v. v.items ≡ take most (order sort.now (matching filter.now c.documents))))

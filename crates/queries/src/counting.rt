@@ -11,13 +11,12 @@ ghost use Rattle.queries.specs.ById.{AreIdsOf};
 ghost use Rattle.queries.specs.Folding.{Counts};
 
 use crate::looking_up::asked_ids;
-use bson::{Document, RawDoc};
+use bson::{NoMemory, RawDoc, SpelledDocument};
 use collections::{Collections, DocumentFold};
 use filter::Filter;
 use index::Catalogued;
 use page::Disk;
 use path::Refusal;
-use statements::matches;
 use std::alloc::Global;
 
 /// How many documents match a filter, of those that are lent. No more of them is read than the filter asks for.
@@ -64,19 +63,29 @@ fn count_scanned<D: Disk>(
 }
 
 /// One where a document was found and matches a filter, and none where it wasn't or doesn't.
-fn count_found(filter: &Filter, document: Option<Document>) -> usize
-    ensures count { result ≡ length (matching filter.now (with_found document [])) }
-    ensures few { result ≤ 1 }
+fn count_found(
+    alloc: Global,
+    filter: &Filter,
+    document: Option<SpelledDocument>,
+) -> Result<usize, NoMemory>
+    ensures count { IfOk result
+        (λ count. count ≡ length (matching filter.now (with_found document []))) }
+    ensures few { IfOk result (λ count. count ≤ 1) }
 {
     let Some(document) = document else {
-        return 0;
+        return Ok(0);
     };
-    if matches(filter, &document) { 1 } else { 0 }
+    if filter.matches_raw(alloc, &document.raw())? {
+        Ok(1)
+    } else {
+        Ok(0)
+    }
 }
 
 /// How many documents of the collection of a number match a filter, where those that do have some of these `_id`s, told by their
 /// ascending key texts.
 fn count_by_ids<D: Disk>(
+    alloc: Global,
     file: &mut Collections<D>,
     number: u32,
     filter: &Filter,
@@ -92,7 +101,7 @@ fn count_by_ids<D: Disk>(
     let mut count = 0usize;
     'ids: for id in ids {
         let found = file.document(number, id)?;
-        count = count.saturating_add(count_found(filter, found));
+        count = count.saturating_add(count_found(alloc, filter, found)?);
     }
     Ok(count)
 }
@@ -110,7 +119,7 @@ pub fn count_in<D: Disk>(
         result file.old file.new }
 {
     match asked_ids(alloc, file, home, filter)? {
-        Some(ids) => count_by_ids(file, home.number, filter, &ids),
+        Some(ids) => count_by_ids(alloc, file, home.number, filter, &ids),
         None => count_scanned(alloc, file, home.number, filter),
     }
 }

@@ -19,7 +19,7 @@ pub use by_id::{put_id, put_ids};
 pub use counting::count_in;
 pub use looking_up::selected_in;
 pub use needed::needed_in;
-pub use ordering::{ordered_in, share_all};
+pub use ordering::ordered_in;
 pub use scanning::BATCH;
 pub use selects::Selects;
 pub use within::are_within;

@@ -12,23 +12,23 @@ ghost use Rattle.queries.specs.Asking.{IsAsked};
 use crate::by_index::ids_by_index;
 use crate::scanning::scanned;
 use crate::selects::Selects;
-use bson::{Document, NoMemory};
+use crate::within::is_within;
+use bson::{NoMemory, SpelledDocument};
 use collections::Collections;
 use index::Catalogued;
 use page::Disk;
 use path::Refusal;
 use planner::ascending;
 use replies::SharedDocument;
-use statements::STORED_LIMIT;
 use std::alloc::Global;
-use update::limits_fault;
 
 /// The document of an `_id` in the collection of a number. A disk may give one that is over the limits of those that are stored.
-pub(crate) fn document_within<D: Disk>(
+pub(crate) fn spelled_within<D: Disk>(
+    alloc: Global,
     file: &mut Collections<D>,
     number: u32,
     id: &[u8],
-) -> Result<Option<Document>, Refusal>
+) -> Result<Option<SpelledDocument>, Refusal>
     ensures reads { ReadsOf D.history (IsPlaceOf number id.now)
         (λ now place found. found ≡ stored_at place) result file.old file.new }
     ensures within { IfOk result (λ found. IfSome found (λ d. IsWithin d)) }
@@ -36,7 +36,7 @@ pub(crate) fn document_within<D: Disk>(
     let Some(document) = file.document(number, id)? else {
         return Ok(None);
     };
-    if limits_fault(&document, STORED_LIMIT).is_some() {
+    if !is_within(alloc, &document.raw())? {
         return Err(Refusal::StorageFailed);
     }
     Ok(Some(document))
@@ -46,8 +46,8 @@ pub(crate) fn document_within<D: Disk>(
 fn put_found<S: Selects>(
     alloc: Global,
     which: &S,
-    found: &mut Vec<SharedDocument>,
-    document: Option<Document>,
+    found: &mut Vec<SpelledDocument>,
+    document: Option<SpelledDocument>,
 ) -> Result<(), NoMemory>
     ensures { OnOk result (found.new.items
         ≡ found.old.items ++ filter (S.selects which.now) (with_found document [])) }
@@ -55,8 +55,8 @@ fn put_found<S: Selects>(
     let Some(document) = document else {
         return Ok(());
     };
-    if which.selects(&document) {
-        found.push(SharedDocument::new(alloc, document)?)?;
+    if which.selects_raw(alloc, &document.raw())? {
+        found.push(document)?;
     }
     Ok(())
 }
@@ -68,7 +68,7 @@ pub(crate) fn look_up<D: Disk, S: Selects>(
     number: u32,
     which: &S,
     id: &[u8],
-    found: &mut Vec<SharedDocument>,
+    found: &mut Vec<SpelledDocument>,
 ) -> Result<(), Refusal>
     ensures reads { ReadsOf D.history (IsPlaceOf number id.now)
         (λ now place _. found.new.items ≡ found.old.items
@@ -76,7 +76,7 @@ pub(crate) fn look_up<D: Disk, S: Selects>(
         result file.old file.new }
     ensures within { OnOk result (All IsWithin found.old.items → All IsWithin found.new.items) }
 {
-    let document = document_within(file, number, id)?;
+    let document = spelled_within(alloc, file, number, id)?;
     Ok(put_found(alloc, which, found, document)?)
 }
 
@@ -89,7 +89,7 @@ pub(crate) fn selected_by_ids<D: Disk, S: Selects>(
     which: &S,
     ids: &[Vec<u8>],
     most: usize,
-) -> Result<Vec<SharedDocument>, Refusal>
+) -> Result<Vec<SpelledDocument>, Refusal>
     ensures reads { ReadsOf D.history (AreIdsOf number (S.selects which.now) (texts_of ids.now))
         (λ now c found. found.items ≡ take most (filter (S.selects which.now) c.documents))
         result file.old file.new }
@@ -136,6 +136,39 @@ pub(crate) fn asked_ids<D: Disk, S: Selects>(
 /// The documents of a collection in a file that are looked for, in ascending order of `_id`: the first ones, up to so many. Where all
 /// of them are looked for by their `_id`s, or an index serves the filter that asks for them, they are looked up; else the collection is
 /// walked through.
+pub(crate) fn spelled_in<D: Disk, S: Selects>(
+    alloc: Global,
+    file: &mut Collections<D>,
+    home: &Catalogued,
+    which: &S,
+    most: usize,
+) -> Result<Vec<SpelledDocument>, Refusal>
+    ensures reads { ReadsOf D.history (IsAsked home.now)
+        (λ now c found. found.items ≡ take most (filter (S.selects which.now) c.documents))
+        result file.old file.new }
+    ensures within { IfOk result (λ found. All IsWithin found.items) }
+{
+    match asked_ids(alloc, file, home, which)? {
+        Some(ids) => selected_by_ids(alloc, file, home.number, which, &ids, most),
+        None => scanned(alloc, file, home.number, which, most),
+    }
+}
+
+/// Documents with values of their own, of such as may have several owners.
+fn shared_all(
+    alloc: Global,
+    documents: Vec<SpelledDocument>,
+) -> Result<Vec<SharedDocument>, NoMemory>
+    ensures { IfOk result (λ v. v.items ≡ documents.items) }
+{
+    let mut shared = Vec::with_capacity(alloc, documents.len())?;
+    'documents: for document in documents {
+        shared.push(SharedDocument::new(alloc, document.document(alloc)?)?)?;
+    }
+    Ok(shared)
+}
+
+/// The same, with values of their own.
 pub fn selected_in<D: Disk, S: Selects>(
     alloc: Global,
     file: &mut Collections<D>,
@@ -148,8 +181,6 @@ pub fn selected_in<D: Disk, S: Selects>(
         result file.old file.new }
     ensures within { IfOk result (λ found. All IsWithin found.items) }
 {
-    match asked_ids(alloc, file, home, which)? {
-        Some(ids) => selected_by_ids(alloc, file, home.number, which, &ids, most),
-        None => scanned(alloc, file, home.number, which, most),
-    }
+    let found = spelled_in(alloc, file, home, which, most)?;
+    Ok(shared_all(alloc, found)?)
 }

@@ -15,11 +15,11 @@ ghost use Rattle.queries.specs.Asking.{IsAsked};
 ghost use Rattle.queries.specs.ById.{AreIdsOf};
 ghost use Rattle.queries.specs.Folding.{Needs};
 
-use crate::looking_up::{asked_ids, document_within};
+use crate::looking_up::{asked_ids, spelled_within};
 use crate::needed_by_order::needed_by_order;
 use crate::within::built_within;
 use aggregate::Pipeline;
-use bson::{Document, NoMemory, RawDoc};
+use bson::{Document, NoMemory, RawDoc, SpelledDocument};
 use collections::{Collections, DocumentFold};
 use index::Catalogued;
 use page::Disk;
@@ -156,7 +156,7 @@ fn with_looked_up(
     pipeline: &Pipeline,
     these: Vec<Document>,
     room: &mut usize,
-    found: Option<Document>,
+    found: Option<SpelledDocument>,
 ) -> Result<Vec<Document>, NoMemory>
     ensures { (seen : List Pairs) → IsEnough (pipeline_of pipeline.now) these.items seen
         → IfOk result (λ v. IsEnough (pipeline_of pipeline.now) v.items
@@ -165,10 +165,10 @@ fn with_looked_up(
     let Some(document) = found else {
         return Ok(these);
     };
-    if !pipeline.takes(&document) {
+    if !pipeline.takes_raw(alloc, &document.raw())? {
         return Ok(these);
     }
-    with_one_more(alloc, pipeline, these, room, document)
+    with_one_more(alloc, pipeline, these, room, document.document(alloc)?)
 }
 
 /// The documents of the collection of a number that a pipeline needs, where those that it takes have some of these `_id`s, told by
@@ -195,7 +195,7 @@ fn needed_by_ids<D: Disk>(
         if are_enough(pipeline, needed.len()) {
             return Ok(needed);
         }
-        let found = document_within(file, number, id)?;
+        let found = spelled_within(alloc, file, number, id)?;
         needed = with_looked_up(alloc, pipeline, needed, &mut room, found)?;
     }
     Ok(only_needed(alloc, pipeline, needed)?)

@@ -1,6 +1,6 @@
 //! The documents that a pipeline needs, where it keeps the first ones in the order of a `$sort`, and an index is in that order.
 
-ghost use Rattle.std.specs.Prelude.{◌≡◌, All, IfOk, IfSome};
+ghost use Rattle.std.specs.Prelude.{All, IfOk, IfSome};
 ghost use Rattle.aggregate.specs.View.{pipeline_of};
 ghost use Rattle.collections.specs.Reading.{ReadsOf};
 ghost use Rattle.database_model.specs.Aggregate.{AreEnough};
@@ -8,25 +8,15 @@ ghost use Rattle.database_model.specs.Lawful.{IsWithin};
 ghost use Rattle.queries.specs.Asking.{IsAsked};
 
 use crate::by_order::first_by_index;
+use crate::ordering::built_all;
 use aggregate::Pipeline;
-use bson::{Document, NoMemory, SpelledDocument};
+use bson::Document;
 use collections::Collections;
 use filter::Filter;
 use index::Catalogued;
 use page::Disk;
 use path::Refusal;
 use std::alloc::Global;
-
-/// The documents, with values of their own.
-fn built(alloc: Global, found: &[SpelledDocument]) -> Result<Vec<Document>, NoMemory>
-    ensures { IfOk result (λ v. v.items ≡ found.now) }
-{
-    let mut built = Vec::with_capacity(alloc, found.len())?;
-    'found: for document in found {
-        built.push(document.document(alloc)?)?;
-    }
-    Ok(built)
-}
 
 /// The documents of a collection that a pipeline needs, read in the order of its `$sort`, where it keeps the first ones alone and an
 /// index in that order leads to them soon.
@@ -51,7 +41,7 @@ pub(crate) fn needed_by_order<D: Disk>(
     let all = Filter::new(alloc);
     let filter = pipeline.leading_match().unwrap_or(&all);
     match first_by_index(alloc, file, home, filter, first.sort, first.most)? {
-        Some(found) => Ok(Some(built(alloc, &found)?)),
+        Some(found) => Ok(Some(built_all(alloc, found)?)),
         None => Ok(None),
     }
 }

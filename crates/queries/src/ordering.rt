@@ -2,7 +2,6 @@
 
 ghost use Rattle.std.specs.Prelude.{◌≡◌, All, IfOk, OnOk, take};
 ghost use Rattle.collections.specs.Reading.{IsNumbered, ReadsOf};
-ghost use Rattle.commands.specs.View.{documents_at};
 ghost use Rattle.database_model.specs.Find.{matching};
 ghost use Rattle.database_model.specs.Lawful.{IsWithin};
 ghost use Rattle.filter.specs.Matches.{matches};
@@ -13,47 +12,77 @@ ghost use Rattle.queries.specs.ById.{AreIdsOf};
 ghost use Rattle.queries.specs.Folding.{Sorts, TellFirst};
 
 use crate::by_order::first_by_index;
-use crate::looking_up::{asked_ids, selected_by_ids, selected_in};
-use crate::scanning::selected;
-use bson::{NoMemory, RawDoc};
+use crate::looking_up::{asked_ids, selected_by_ids, spelled_in};
+use crate::within::built_within;
+use bson::{Document, NoMemory, RawDoc, SpelledDocument};
 use collections::{Collections, DocumentFold};
 use filter::{Filter, Sort};
 use index::Catalogued;
 use page::Disk;
 use path::Refusal;
-use replies::SharedDocument;
+use replies::spelled_all;
 use std::alloc::Global;
+use std::mem;
 
 /// So many documents more than are asked for are kept before those that come too late are let go.
 const ROOM: usize = 1024;
 
-/// The documents, with one owner more.
-pub fn share_all(
-    alloc: Global,
-    documents: &[&SharedDocument],
-) -> Result<Vec<SharedDocument>, NoMemory>
-    ensures { IfOk result (λ v. v.items ≡ documents_at documents.now) }
-{
-    let mut shared = Vec::with_capacity(alloc, documents.len())?;
-    'documents: for document in documents {
-        shared.push(document.share()?)?;
-    }
-    Ok(shared)
-}
-
 /// The first documents in the order of a sort, up to so many. Those that tie keep their order.
 fn first_ones(
+    sort: &Sort,
+    documents: Vec<Document>,
+    most: usize,
+) -> Result<Vec<Document>, NoMemory>
+    ensures first { IfOk result (λ v. v.items ≡ take most (order sort.now documents.items)) }
+    ensures within { All IsWithin documents.items → IfOk result (λ v. All IsWithin v.items) }
+{
+    let mut ordered = sort.order(documents)?;
+    ordered.truncate(most);
+    Ok(ordered)
+}
+
+/// The same, kept as their bytes.
+fn first_spelled(
     alloc: Global,
     sort: &Sort,
-    documents: &[SharedDocument],
+    documents: Vec<Document>,
     most: usize,
-) -> Result<Vec<SharedDocument>, NoMemory>
-    ensures first { IfOk result (λ v. v.items ≡ take most (order sort.now documents.now)) }
-    ensures within { All IsWithin documents.now → IfOk result (λ v. All IsWithin v.items) }
+) -> Result<Vec<SpelledDocument>, NoMemory>
+    requires { All IsWithin documents.items }
+    ensures first { IfOk result (λ v. v.items ≡ take most (order sort.now documents.items)) }
+    ensures within { IfOk result (λ v. All IsWithin v.items) }
 {
-    let lent = documents.iter().collect(alloc)?;
-    let ordered = sort.order_shared(lent)?;
-    share_all(alloc, &ordered[..most.min(ordered.len())])
+    let first = first_ones(sort, documents, most)?;
+    spelled_all(alloc, &first)
+}
+
+/// The documents, with values of their own.
+pub(crate) fn built_all(
+    alloc: Global,
+    documents: Vec<SpelledDocument>,
+) -> Result<Vec<Document>, NoMemory>
+    ensures { IfOk result (λ v. v.items ≡ documents.items) }
+{
+    let mut built = Vec::with_capacity(alloc, documents.len())?;
+    'documents: for document in documents {
+        built.push(document.document(alloc)?)?;
+    }
+    Ok(built)
+}
+
+/// The first documents in the order of a sort, of those that were found.
+fn first_found(
+    alloc: Global,
+    sort: &Sort,
+    documents: Vec<SpelledDocument>,
+    most: usize,
+) -> Result<Vec<SpelledDocument>, NoMemory>
+    requires { All IsWithin documents.items }
+    ensures first { IfOk result (λ v. v.items ≡ take most (order sort.now documents.items)) }
+    ensures within { IfOk result (λ v. All IsWithin v.items) }
+{
+    let built = built_all(alloc, documents)?;
+    first_spelled(alloc, sort, built, most)
 }
 
 /// How many documents are kept at most, where so many are asked for.
@@ -65,7 +94,7 @@ fn room_for(most: usize) -> usize {
 fn let_late_go(
     alloc: Global,
     sort: &Sort,
-    documents: &mut Vec<SharedDocument>,
+    documents: &mut Vec<Document>,
     most: usize,
 ) -> Result<(), NoMemory>
     ensures first { OnOk result (TellFirst sort.now most documents.new.items documents.old.items) }
@@ -75,7 +104,8 @@ fn let_late_go(
     if documents.len() < room_for(most) {
         return Ok(());
     }
-    *documents = first_ones(alloc, sort, documents, most)?;
+    let these = mem::replace(documents, Vec::new(alloc));
+    *documents = first_ones(sort, these, most)?;
     Ok(())
 }
 
@@ -86,7 +116,7 @@ struct Sorting<'a> {
     filter: &'a Filter,
     sort: &'a Sort,
     most: usize,
-    found: Vec<SharedDocument>,
+    found: Vec<Document>,
 }
 
 impl DocumentFold for Sorting<'_> {
@@ -97,11 +127,12 @@ impl DocumentFold for Sorting<'_> {
     }
 
     fn take(&mut self, document: &RawDoc<'_>) -> Result<(), Refusal> {
-        let Some(document) = selected(self.alloc, self.filter, document)? else {
+        if !self.filter.matches_raw(self.alloc, document)? {
             return Ok(());
-        };
+        }
+        let built = built_within(self.alloc, document)?;
         let_late_go(self.alloc, self.sort, &mut self.found, self.most)?;
-        self.found.push(document)?;
+        self.found.push(built)?;
         Ok(())
     }
 }
@@ -114,7 +145,7 @@ fn scanned_in_order<D: Disk>(
     filter: &Filter,
     sort: &Sort,
     most: usize,
-) -> Result<Vec<SharedDocument>, Refusal>
+) -> Result<Vec<SpelledDocument>, Refusal>
     ensures reads { ReadsOf D.history (λ now c. IsNumbered now c number)
         (λ now c found. found.items ≡ take most (order sort.now (matching filter.now c.documents)))
         result file.old file.new }
@@ -128,7 +159,7 @@ fn scanned_in_order<D: Disk>(
         found: Vec::new(alloc),
     };
     let sorted = file.fold_documents(number, sorting)?;
-    Ok(first_ones(alloc, sort, &sorted.found, most)?)
+    Ok(first_spelled(alloc, sort, sorted.found, most)?)
 }
 
 /// The same, where the `_id`s of all that match are told by their ascending key texts.
@@ -140,14 +171,14 @@ fn looked_up_in_order<D: Disk>(
     ids: &[Vec<u8>],
     sort: &Sort,
     most: usize,
-) -> Result<Vec<SharedDocument>, Refusal>
+) -> Result<Vec<SpelledDocument>, Refusal>
     ensures reads { ReadsOf D.history (AreIdsOf number (matches filter.now) (texts_of ids.now))
         (λ now c found. found.items ≡ take most (order sort.now (matching filter.now c.documents)))
         result file.old file.new }
     ensures within { IfOk result (λ found. All IsWithin found.items) }
 {
     let found = selected_by_ids(alloc, file, number, filter, ids, usize::MAX)?;
-    Ok(first_ones(alloc, sort, &found, most)?)
+    Ok(first_found(alloc, sort, found, most)?)
 }
 
 /// The documents of a collection in a file that match a filter, in the order of a sort: the first ones, up to so many. No more of
@@ -159,7 +190,7 @@ fn sorted_in<D: Disk>(
     filter: &Filter,
     sort: &Sort,
     most: usize,
-) -> Result<Vec<SharedDocument>, Refusal>
+) -> Result<Vec<SpelledDocument>, Refusal>
     ensures reads { ReadsOf D.history (IsAsked home.now)
         (λ now c found. found.items ≡ take most (order sort.now (matching filter.now c.documents)))
         result file.old file.new }
@@ -179,14 +210,14 @@ pub fn ordered_in<D: Disk>(
     filter: &Filter,
     sort: &Sort,
     most: usize,
-) -> Result<Vec<SharedDocument>, Refusal>
+) -> Result<Vec<SpelledDocument>, Refusal>
     ensures reads { ReadsOf D.history (IsAsked home.now)
         (λ now c found. found.items ≡ take most (order sort.now (matching filter.now c.documents)))
         result file.old file.new }
     ensures within { IfOk result (λ found. All IsWithin found.items) }
 {
     if sort.is_empty() {
-        return selected_in(alloc, file, home, filter, most);
+        return spelled_in(alloc, file, home, filter, most);
     }
     match first_by_index(alloc, file, home, filter, sort, most)? {
         Some(found) => Ok(found),

@@ -9,23 +9,22 @@ ghost use Rattle.planner.specs.IdLaws.{with_found};
 ghost use Rattle.queries.specs.Folding.{Selected};
 
 use crate::selects::Selects;
-use crate::within::built_within;
-use bson::RawDoc;
+use crate::within::copied_within;
+use bson::{RawDoc, SpelledDocument};
 use collections::{Collections, DocumentFold};
 use page::Disk;
 use path::Refusal;
-use replies::SharedDocument;
 use std::alloc::Global;
 
 /// So many documents are read at a time by whoever walks through a collection batch by batch.
 pub const BATCH: usize = 64;
 
-/// The document, with values of its own, if it is looked for.
-pub(crate) fn selected<S: Selects>(
+/// The document, with bytes of its own, if it is looked for.
+fn selected<S: Selects>(
     alloc: Global,
     which: &S,
     document: &RawDoc<'_>,
-) -> Result<Option<SharedDocument>, Refusal>
+) -> Result<Option<SpelledDocument>, Refusal>
     ensures selects { IfOk result (λ found. with_found found []
         ≡ filter (S.selects which.now) (document.now ∷ [])) }
     ensures within { IfOk result (λ found. IfSome found (λ d. IsWithin d)) }
@@ -34,8 +33,7 @@ pub(crate) fn selected<S: Selects>(
     if !which.selects_raw(alloc, document)? {
         return Ok(None);
     }
-    let built = built_within(alloc, document)?;
-    Ok(Some(SharedDocument::new(alloc, built)?))
+    Ok(Some(copied_within(alloc, document)?))
 }
 
 /// Documents that are looked for, of those that are lent: the first ones, up to so many.
@@ -44,7 +42,7 @@ struct Selecting<'a, S> {
     alloc: Global,
     which: &'a S,
     most: usize,
-    found: Vec<SharedDocument>,
+    found: Vec<SpelledDocument>,
 }
 
 impl<S: Selects> DocumentFold for Selecting<'_, S> {
@@ -74,7 +72,7 @@ pub(crate) fn scanned<D: Disk, S: Selects>(
     number: u32,
     which: &S,
     most: usize,
-) -> Result<Vec<SharedDocument>, Refusal>
+) -> Result<Vec<SpelledDocument>, Refusal>
     ensures reads { ReadsOf D.history (λ now c. IsNumbered now c number)
         (λ now c found. found.items ≡ take most (filter (S.selects which.now) c.documents))
         result file.old file.new }

@@ -11,9 +11,8 @@ ghost use Rattle.queries.specs.ByIndex.{AsksMatching};
 
 use crate::by_id::put_ids;
 use aggregate::Pipeline;
-use bson::{Document, NoMemory, RawDoc};
+use bson::{NoMemory, RawDoc};
 use filter::Filter;
-use statements::matches;
 use std::alloc::Global;
 
 /// Which documents are looked for.
@@ -21,10 +20,7 @@ pub trait Selects {
     /// Whether this one is.
     ghost selects: { Self → Pairs → Bool };
 
-    fn selects(&self, document: &Document) -> bool
-        ensures { result ≡ selects self.now document.now };
-
-    /// The same of one that stays its bytes. No more of it is read than has to be.
+    /// Whether one that stays its bytes is. No more of it is read than has to be.
     fn selects_raw(&self, alloc: Global, document: &RawDoc<'_>) -> Result<bool, NoMemory>
         ensures { IfOk result (λ answer. answer ≡ selects self.now document.now) };
 
@@ -42,10 +38,6 @@ pub trait Selects {
 impl Selects for Filter {
     ghost selects = { matches };
 
-    fn selects(&self, document: &Document) -> bool {
-        matches(self, document)
-    }
-
     fn selects_raw(&self, alloc: Global, document: &RawDoc<'_>) -> Result<bool, NoMemory> {
         self.matches_raw(alloc, document)
     }
@@ -62,10 +54,6 @@ impl Selects for Filter {
 /// Those that the pipeline takes.
 impl Selects for Pipeline {
     ghost selects = { λ a. takes (pipeline_of a) };
-
-    fn selects(&self, document: &Document) -> bool {
-        self.takes(document)
-    }
 
     fn selects_raw(&self, alloc: Global, document: &RawDoc<'_>) -> Result<bool, NoMemory> {
         self.takes_raw(alloc, document)

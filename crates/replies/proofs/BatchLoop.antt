@@ -16,15 +16,14 @@ use Rattle.replies.specs.View.{projected}
 use Rattle.replies.proofs.Steps.{drop_step}
 
 -- what a projection leaves of the documents from an index on
-pub projected_step : {X : Type 0} (lent : X → Pairs) (p : Projection) (ds : List X) (i : ℕ) (d : X) (seen : Pairs) → i < length ds → d ≡ get_or ds i d
-    → seen ≡ lent d
-    → drop i (projected p (map lent ds)) ≡ project p seen ∷ drop (i + 1) (projected p (map lent ds))
-projected_step {X} lent p ds i d seen within is same =
+pub projected_step : {X : Type 0} (lent : X → Pairs) (p : Projection) (ds : List X) (i : ℕ) (d : X) → i < length ds → d ≡ get_or ds i d
+    → drop i (projected p (map lent ds)) ≡ project p (lent d) ∷ drop (i + 1) (projected p (map lent ds))
+projected_step {X} lent p ds i d within is =
     drop-map (project p) i (map lent ds)
     ∙ ap (λ (xs : List Pairs). map (project p) xs)
     (drop-map lent i ds ∙ ap (λ (xs : List X). map lent xs) (drop_step ds i d within is)
     ∙ ap (λ (xs : List Pairs). lent d ∷ xs) (sym (drop-map lent (i + 1) ds)))
-    ∙ (λ j. project p (sym same j) ∷ sym (drop-map (project p) (i + 1) (map lent ds)) j)
+    ∙ ap (λ (xs : List Pairs). project p (lent d) ∷ xs) (sym (drop-map (project p) (i + 1) (map lent ds)))
 
 take_suc : {X : Type 0} (xs : List X) (i : ℕ) (x : X) (rest : List X) → drop i xs ≡ x ∷ rest → take (suc i) xs ≡ take i xs ++ x ∷ []
 take_suc [] zero x rest e = absurd cc

@@ -10,63 +10,31 @@ ghost use Rattle.database_model.specs.Cursors.{batch_of, items_of_documents};
 ghost use Rattle.replies.specs.View.{projected};
 
 use crate::BATCH_LIMIT;
-use bson::{Document, EncodeFault, Kind, NoMemory, encode_onto, put_head};
-use filter::{AsDocument, Projection};
+use crate::giving::Gives;
+use bson::{Kind, NoMemory, put_head};
+use filter::Projection;
 use itoa::Buffer;
-use std::alloc::AllocError;
-
-/// Puts a document within the limits of stored ones behind what stands in `out`.
-fn put_within(out: &mut Vec<u8>, document: &Document) -> Result<(), NoMemory>
-    requires { IsWithin document.now }
-    ensures bytes { OnOk result
-        (out.new.items ≡ out.old.items ++ frame_of (pairs_bytes document.now)) }
-    ensures readable { OnOk result (IsDocument document.now) }
-{
-    match encode_onto(out, document) {
-        Ok(()) => Ok(()),
-        Err(EncodeFault::Memory) => Err(AllocError),
-        Err(EncodeFault::TooLarge) => unreachable!("it is within the limits"),
-    }
-}
-
-/// Puts what a projection leaves of a document behind what stands in `out`. Where it leaves all, nothing is copied.
-fn put_projected(
-    out: &mut Vec<u8>,
-    projection: &Projection,
-    document: &Document,
-) -> Result<(), NoMemory>
-    requires { IsWithin (project projection.now document.now) }
-    ensures bytes { OnOk result (out.new.items
-        ≡ out.old.items ++ frame_of (pairs_bytes (project projection.now document.now))) }
-    ensures readable { OnOk result (IsDocument (project projection.now document.now)) }
-{
-    if projection.keeps_all() {
-        return put_within(out, document);
-    }
-    let projected = projection.of(document)?;
-    put_within(out, &projected)
-}
 
 /// Puts a document as the item of an array at this index.
-fn put_item(
+fn put_item<T: Gives>(
     out: &mut Vec<u8>,
     index: usize,
     projection: &Projection,
-    document: &Document,
+    document: &T,
 ) -> Result<(), NoMemory>
-    requires { IsWithin (project projection.now document.now) }
+    requires { IsWithin (project projection.now (T.document document.now)) }
     ensures bytes { OnOk result (out.new.items ≡ out.old.items ++ element 3 (decimal index)
-        (frame_of (pairs_bytes (project projection.now document.now)))) }
-    ensures readable { OnOk result (IsDocument (project projection.now document.now)) }
+        (frame_of (pairs_bytes (project projection.now (T.document document.now))))) }
+    ensures readable { OnOk result (IsDocument (project projection.now (T.document document.now))) }
 {
     let mut buffer = Buffer::new();
     put_head(out, Kind::Document, buffer.format(index))?;
-    put_projected(out, projection, document)
+    document.put_onto(out, projection)
 }
 
 /// Puts the first documents, as a projection leaves them, as the items of an array, and says how many: as many as fit
 /// within so many documents and `BATCH_LIMIT` bytes of the array, but at least one where any may go.
-pub fn put_batch<T: AsDocument>(
+pub fn put_batch<T: Gives>(
     out: &mut Vec<u8>,
     projection: &Projection,
     documents: &[T],
@@ -87,7 +55,7 @@ pub fn put_batch<T: AsDocument>(
             return Ok(i);
         }
         let start = out.len();
-        put_item(out, i, projection, document.as_document())?;
+        put_item(out, i, projection, document)?;
         match room.checked_sub(out.len() - start) {
             Some(left) => room = left,
             None if i == 0 => room = 0,

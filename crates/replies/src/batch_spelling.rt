@@ -10,11 +10,12 @@ ghost use Rattle.database_model.specs.Cursors.{batch_of, items_of_documents, cur
 ghost use Rattle.replies.specs.View.{projected, batch_name, IsSendable};
 
 use crate::batch::put_batch;
+use crate::giving::Gives;
 use bson::{
     Document, EncodeFault, Kind, NoMemory, SpelledDocument, Value, begin_frame, end_frame, laws,
     put_head, put_string, put_value,
 };
-use filter::{AsDocument, Projection};
+use filter::Projection;
 use std::alloc::{AllocError, Global};
 
 /// The bytes that a reply begins with room for: a batch of a few short documents takes no more.
@@ -83,7 +84,7 @@ fn end(out: &mut Vec<u8>, start: usize) -> Result<(), NoMemory>
 }
 
 /// Puts the array of a batch behind what stands in `out`, and says how many documents went into it.
-fn put_array<T: AsDocument>(
+fn put_array<T: Gives>(
     out: &mut Vec<u8>,
     projection: &Projection,
     documents: &[T],
@@ -126,7 +127,7 @@ fn put_number(out: &mut Vec<u8>, is_done: bool, number: u64) -> Result<(), NoMem
 
 /// Puts the document of a cursor behind what stands in `out`: a batch, the cursor's number or 0, and the namespace. It says
 /// how many documents went into the batch.
-fn put_cursor<T: AsDocument>(
+fn put_cursor<T: Gives>(
     out: &mut Vec<u8>,
     kind: BatchKind,
     namespace: &str,
@@ -160,7 +161,7 @@ fn put_cursor<T: AsDocument>(
 
 /// The reply with the first of these documents, each as a projection leaves it, and how many they are. Where others are
 /// left it says the cursor's number.
-pub fn batch_reply<T: AsDocument>(
+pub fn batch_reply<T: Gives>(
     alloc: Global,
     kind: BatchKind,
     namespace: &str,
@@ -191,7 +192,7 @@ pub fn batch_reply<T: AsDocument>(
 }
 
 /// The reply that gives documents in one batch, as far as they go into it.
-pub fn whole_reply<T: AsDocument>(
+pub fn whole_reply<T: Gives>(
     alloc: Global,
     namespace: &str,
     documents: &[T],

@@ -1,7 +1,7 @@
 //! Open cursors.
 //!
-//! A cursor shares its documents with the collection that they came from, so opening one copies none, and what later commands
-//! do to the collection isn't seen by it.
+//! A cursor keeps the bytes of the documents that it is to give, so what later commands do to their collection isn't seen
+//! by it.
 
 ghost use Rattle.std.specs.Prelude.{◌≡◌, ◌==◌, ◌<◌, ◌≤◌, ◌^◌, ◌+◌, ◌++◌, [], ◌∷◌, false, true, not, All, length, map, drop, OnOk, OnErr, IfOk, IfErr, IfSome, IfNone};
 ghost use Rattle.std.specs.List.{filter, position};
@@ -18,9 +18,9 @@ ghost use Rattle.replies.specs.View.{batch_name, projected, IsSendable};
 use crate::MOST_CURSORS;
 use crate::batch_spelling::{BatchKind, batch_reply};
 use crate::connection::ConnId;
-use crate::shared_document::SharedDocument;
+use crate::giving::Gives;
 use bson::{NoMemory, SpelledDocument};
-use filter::{AsDocument, Projection};
+use filter::Projection;
 use path::Refusal;
 use std::alloc::Global;
 use std::marker::Model;
@@ -34,7 +34,7 @@ pub struct OpenCursor {
     number: u64,
     connection: ConnId,
     namespace: String,
-    documents: Vec<SharedDocument>,
+    documents: Vec<SpelledDocument>,
     /// How many of the documents were given.
     given: usize,
     /// What is given of each.
@@ -76,7 +76,7 @@ impl OpenCursor {
         number: u64,
         connection: ConnId,
         namespace: &str,
-        documents: Vec<SharedDocument>,
+        documents: Vec<SpelledDocument>,
         projection: Projection,
     ) -> Result<OpenCursor, NoMemory>
         requires number { number < 2 ^ 63 }
@@ -241,7 +241,7 @@ impl Cursors {
         &mut self,
         connection: ConnId,
         namespace: &str,
-        documents: Vec<SharedDocument>,
+        documents: Vec<SpelledDocument>,
         projection: Projection,
     ) -> Result<(), NoMemory>
         requires number { self.old.next < 2 ^ 63 }
@@ -264,7 +264,7 @@ impl Cursors {
 
     /// The reply with a first batch of documents of which a projection is given, and how many they are. `TooMany` where others
     /// are left and the connection may open no cursor.
-    pub fn first_batch<T: AsDocument>(
+    pub fn first_batch<T: Gives>(
         &self,
         connection: ConnId,
         namespace: &str,

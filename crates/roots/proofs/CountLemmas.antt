@@ -1,27 +1,34 @@
--- A tree's pages are fewer than those of its file, so the counts add up.
-use Rattle.std.proofs.Common.{◌≡◌, ◌≢◌, ◌⊎◌, ℕ, ◌+◌, ◌<◌, ◌≤◌, max, Bool, true, false, List, [], ◌∷◌, length, refl, sym, ap, subst, arith, inl, inr}
-use Rattle.std.specs.Prelude.{◌&&◌, ◌==◌, nat_lt, if◌then◌else◌, is_ok, Result, Err, IfOk, MatchResult}
+-- The pages that a root reaches are fewer than those of its file, so the counts add up.
+use Rattle.std.proofs.Common.{◌≡◌, ◌≢◌, ◌⊎◌, ℕ, ◌+◌, ◌<◌, ◌≤◌, max, Bool, true, false, List, [], ◌∷◌, ◌++◌, append-nil, length, sym, ◌∙◌, ap, subst}
+use Rattle.std.proofs.Common.{arith, inl, inr}
+use Rattle.std.specs.Prelude.{◌&&◌, ◌==◌, nat_lt, if◌then◌else◌, is_ok, Result, Err, IfOk, MatchResult, Ok}
 use Rattle.std.proofs.lemmas.Bool.{cases_eq, cases_lt}
 use Rattle.std.proofs.lemmas.Bool.Decides.{nat_tests}
 use Rattle.page.specs.Format.{Sheet, sheet_in}
 use Rattle.page.specs.History.{History, KeepsWord, now, reads}
-use Rattle.page.specs.Crash.{ReadsOnly}
 use Rattle.page.specs.Page.{page_at}
 use Rattle.page.specs.declared.page_fault.PageFault.{PageFault}
 use Rattle.page.specs.declared.page_fault.PageFault.TheVariants as page_faults
 use Rattle.btree.specs.Keys.{Each, Entry, times}
 use Rattle.btree.specs.Reach.{AreOnce}
 use Rattle.btree.proofs.CapacityLemmas.{pages_are_few}
-use Rattle.btree.proofs.ListLemmas.{each_map}
 use Rattle.btree.proofs.OnceLemmas.{map_live}
+use Rattle.freelist.specs.FreeList.{Part, pages_of, room_for}
+use Rattle.freelist.proofs.ListedBooks.{room_is}
 use Rattle.roots.specs.Counting.{AreCounts, CountsPages, CountsTree}
+use Rattle.roots.specs.HeldFile.{HoldsNoFile, Reaches}
 use Rattle.roots.specs.Image.{HoldsMap, sheet_at, store_of}
+use Rattle.roots.specs.Listed.{OnlyReads}
+use Rattle.roots.specs.Root.{IsKnown}
 use Rattle.roots.specs.declared.counting.PageCounts.{PageCounts}
 use Rattle.roots.specs.declared.opening.OpenFault.{OpenFault}
 use Rattle.roots.specs.declared.opening.OpenFault.TheVariants as faults
 use Rattle.roots.specs.declared.root.Root.{Root}
 use Rattle.roots.specs.declared.store.Store.{Store}
-use Rattle.roots.proofs.FreeLemmas.{still_kept}
+use Rattle.roots.proofs.FreeLemmas.{committed_still}
+use Rattle.roots.proofs.HeldFileLemmas.{committed_live, names_the_rest, no_list_is_tree, no_parts}
+use Rattle.roots.proofs.ListingLemmas.{has_room}
+use Rattle.roots.proofs.OpeningRules.{known}
 
 abbrev one_if : Bool → ℕ
 one_if b = if b then 1 else 0
@@ -48,49 +55,102 @@ sheet_inside image root n there = elim (cases_lt 0 n) [
     none true false found either there = cc
     none false b found either there = cc
 
-never_zero : (most : ℕ) (pages : List ℕ) → Each (IsInside most) pages → times 0 pages ≡ 0
-never_zero most [] all = refl
-never_zero most (page ∷ pages) all =
-    let test : (0 == page) ≡ false = grind (arith, nat_tests, all.0) in
-    omega (arith, ap one_if test, never_zero most pages all.1)
-
--- page 0 and these
-once_with_zero : (most : ℕ) (pages : List ℕ) → Each (IsInside most) pages → AreOnce pages → AreOnce (0 ∷ pages)
-once_with_zero most pages all once n = elim (cases_eq n 0) [
-  | inl is ↦ subst (λ (m : ℕ). times m (0 ∷ pages) ≤ 1) (sym is) (omega (arith, never_zero most pages all))
-  | inr ne ↦ let test : (n == 0) ≡ false = grind (arith, nat_tests, ne) in omega (arith, ap one_if test, once n)
+has_times : (P : ℕ → Type 0) (n : ℕ) (xs : List ℕ) → Each P xs → 1 ≤ times n xs → P n
+has_times P n [] all some = absurd (omega (arith, some))
+has_times P n (x ∷ xs) all some = elim (cases_eq n x) [
+  | inl is ↦ subst P (sym is) all.0
+  | inr ne ↦ let test : (n == x) ≡ false = grind (arith, nat_tests, ne) in has_times P n xs all.1 (omega (arith, some, ap one_if test))
 ]
 
-pub tree_fits : (image : ℕ → List ℕ) (root : Root) (live : List ℕ) (entries : List Entry) → HoldsMap (sheet_at image root) root live entries
-    → length live < max root.pages 1
-tree_fits image root live entries holds =
-    let all : Each (IsInside root.pages) live =
-    each_map (λ n. is_ok (sheet_at image root n) ≡ true) (IsInside root.pages) (λ n there. sheet_inside image root n there) live
-    (map_live (store_of (sheet_at image root)) root.tree live entries holds.map) in
-    let below : Each (λ n. n < max root.pages 1) live =
-    each_map (IsInside root.pages) (λ n. n < max root.pages 1) (λ n inside. omega (arith, inside.1)) live all in
-    omega (arith, pages_are_few (max root.pages 1) (0 ∷ live) (once_with_zero root.pages live all holds.once) (omega arith, below))
+each_there : (P : ℕ → Type 0) (xs : List ℕ) → ((n : ℕ) → 1 ≤ times n xs → P n) → Each P xs
+each_there P [] there = tt
+each_there P (x ∷ xs) there =
+    let test : (x == x) ≡ true = grind (arith, nat_tests) in
+    (there x (omega (arith, ap one_if test)), each_there P xs (λ n some. there n (omega (arith, some))))
 
--- what is counted by the number of the tree's pages
-pub counts_are : (image : ℕ → List ℕ) (root : Root) (live : List ℕ) (entries : List Entry) (counts : PageCounts) (reached : ℕ)
-    → HoldsMap (sheet_at image root) root live entries → reached ≡ length live
-    → counts.pages ≡ max root.pages 1 → (reached < max root.pages 1 → 1 + reached + counts.free ≡ counts.pages) → AreCounts root live counts
-counts_are image root live entries counts reached holds is pages all = record {
+room_most : (most n : ℕ) → room_for most n ≤ 1
+room_most most n = most_one (nat_lt 0 n && nat_lt n most)
+  where
+    most_one : (b : Bool) → one_if b ≤ 1
+    most_one true = omega arith
+    most_one false = omega arith
+
+room_there : (most n : ℕ) → IsInside most n → room_for most n ≡ 1
+room_there most n inside = room_is most n inside.0 inside.1
+
+-- what a root reaches are pages of the file behind page 0, none of them twice
+reached_once : (image : ℕ → List ℕ) (root : Root) (live : List ℕ) → Reaches (sheet_at image root) root live → (n : ℕ)
+    → times n live ≤ room_for root.pages n
+reached_once image root live found n = subst (λ (l : List ℕ). times n l ≤ room_for root.pages n) (sym found.are) (elim (cases_eq root.free_list 0) [
+  | inl none ↦
+      let empty : found.parts ≡ [] = no_parts (sheet_at image root) root found.pages found.parts none found.holds.list in
+      subst (λ (l : List ℕ). times n l ≤ room_for root.pages n)
+      (sym (ap (λ (parts : List Part). found.pages ++ pages_of parts) empty ∙ append-nil found.pages)) tree_once
+  | inr some ↦ omega (arith, names_the_rest (sheet_at image root) root found.pages found.parts found.entries found.holds some n)
+])
+  where
+    tree_once : times n found.pages ≤ room_for root.pages n
+    tree_once = elim (cases_lt 0 (times n found.pages)) [
+      | inl some ↦
+          let inside : IsInside root.pages n =
+          sheet_inside image root n
+          (has_times (λ m. is_ok (sheet_at image root m) ≡ true) n found.pages
+          (map_live (store_of (sheet_at image root)) root.tree found.pages found.entries found.holds.tree.map) (omega (arith, some))) in
+          omega (arith, room_there root.pages n inside, found.holds.tree.once n)
+      | inr none ↦ omega (arith, none)
+    ]
+
+pub reached_fits : (image : ℕ → List ℕ) (root : Root) (live : List ℕ) → Reaches (sheet_at image root) root live → length live < max root.pages 1
+reached_fits image root live found =
+    let most = max root.pages 1 in
+    let below : Each (λ n. n < max root.pages 1) live =
+    each_there (λ n. n < max root.pages 1) live
+    (λ n some. let inside = has_room root.pages n (omega (arith, some, reached_once image root live found n)) in omega (arith, inside.1)) in
+    omega (arith, pages_are_few (max root.pages 1) (0 ∷ live) with_zero (omega arith, below))
+  where
+    with_zero : AreOnce (0 ∷ live)
+    with_zero n = elim (cases_eq n 0) [
+      | inl is ↦ subst (λ (m : ℕ). times m (0 ∷ live) ≤ 1) (sym is) (omega (arith, reached_once image root live found 0))
+      | inr ne ↦ let test : (n == 0) ≡ false = grind (arith, nat_tests) in
+          omega (arith, ap one_if test, reached_once image root live found n, room_most root.pages n)
+    ]
+
+-- what is counted by the number of pages that were reached
+pub counts_are : (image : ℕ → List ℕ) (root : Root) (live : List ℕ) (counts : PageCounts) (reached : ℕ) → Reaches (sheet_at image root) root live
+    → reached ≡ length live → counts.pages ≡ max root.pages 1 → (reached < max root.pages 1 → 1 + reached + counts.free ≡ counts.pages)
+    → AreCounts root live counts
+counts_are image root live counts reached found is pages all = record {
   pages = pages;
-  all = omega (arith, is, all (omega (arith, is, tree_fits image root live entries holds)));
+  all = omega (arith, is, all (omega (arith, is, reached_fits image root live found)));
 }
 
-pub counts_so : {D : Type 0} (history : D → History) (result : Result PageCounts OpenFault) (old : Store D) (disk : D)
-    → ReadsOnly (history old.disk) (history disk)
-    → (KeepsWord (history disk) → IfOk result (CountsTree (reads (now (history old.disk))) old.root))
-    → (KeepsWord (history disk) → (live : List ℕ) (entries : List Entry) → HoldsMap (sheet_at (reads (now (history old.disk))) old.root) old.root live entries
-    → MatchResult result (AreCounts old.root live) (λ fault. fault ≢ faults.Damaged))
-    → CountsPages history result old (record old { disk = disk })
-counts_so history result old disk only stands found = record {
-  root = refl;
-  stopped = refl;
-  committed = λ live entries committed. record
-      { running = committed.running; keeps = still_kept (history old.disk) (history disk) old.root live entries only committed.keeps };
-  stands = stands;
-  counts = λ k live entries committed. found k live entries (committed.keeps.holds (only.on.kept k));
+counted_by : (image : ℕ → List ℕ) (root : Root) (result : Result PageCounts OpenFault) (live : List ℕ) (entries : List Entry) → IsKnown root
+    → HoldsMap (sheet_at image root) root live entries
+    → MatchResult result (CountsTree image root) (λ fault. fault ≡ faults.Damaged → HoldsNoFile (sheet_at image root) root)
+    → MatchResult result (AreCounts root live) (λ fault. fault ≢ faults.Damaged)
+counted_by image root (Ok counts) live entries inside holds found =
+    subst (λ (l : List ℕ). AreCounts root l counts)
+    (committed_live (sheet_at image root) root live found.live entries inside.unlisted holds found.reaches) found.are
+counted_by image root (Err fault) live entries inside holds found = λ is.
+    found is live [] entries (no_list_is_tree (sheet_at image root) root inside.unlisted live entries holds).0
+
+counts_there : (image : ℕ → List ℕ) (root : Root) (result : Result PageCounts OpenFault)
+    → MatchResult result (CountsTree image root) (λ fault. fault ≡ faults.Damaged → HoldsNoFile (sheet_at image root) root)
+    → IfOk result (CountsTree image root)
+counts_there image root (Ok counts) found = found
+counts_there image root (Err fault) found = tt
+
+pub counts_so : {D : Type 0} (history : D → History) (result : Result PageCounts OpenFault) (old new : Store D) → OnlyReads history old new
+    → (KeepsWord (history new.disk) → MatchResult result (CountsTree (reads (now (history old.disk))) old.root)
+    (λ fault. fault ≡ faults.Damaged → HoldsNoFile (sheet_at (reads (now (history old.disk))) old.root) old.root))
+    → CountsPages history result old new
+counts_so history result old new only found = record {
+  root = only.root;
+  stopped = only.stopped;
+  committed = committed_still history old new only;
+  stands = λ k. counts_there (reads (now (history old.disk))) old.root result (found k);
+  counts = λ k live entries committed.
+      let image = reads (now (history old.disk)) in
+      let inside = known (image 0) (image 1) old.root (committed.keeps.opens (only.disk.on.kept k)) in
+      counted_by image old.root result live entries inside (committed.keeps.holds (only.disk.on.kept k)) (found k);
 }

@@ -18,9 +18,13 @@ use Rattle.roots.specs.declared.root.Root.{Root}
 use Rattle.roots.specs.declared.store.Store.{Store}
 use Rattle.roots.specs.declared.walk.Reached.{Reached}
 use Rattle.roots.specs.Found.{HasFoundPart, ReachesDepth}
+use Rattle.roots.specs.HeldFile.{HoldsNoFile, IsFileBook}
 use Rattle.roots.specs.Image.{HoldsMap, OpensAs, sheet_at}
-use Rattle.roots.specs.Store.{Keeps}
+use Rattle.roots.specs.Listed.{OnlyReads}
+use Rattle.roots.specs.Root.{IsKnown}
+use Rattle.roots.specs.Store.{IsCommitted, Keeps}
 use Rattle.roots.specs.Walk.{CanReach, FindsFree, IsBookOf, HasMapThere, IsMarked, Reaches, ReadsSheet, pages_in, pages_so_far}
+use Rattle.roots.proofs.HeldFileLemmas.{committed_live, no_list_is_tree}
 use Rattle.roots.proofs.OpeningRules.{known}
 
 -- from the root on
@@ -81,6 +85,11 @@ pub match_failed : {X : Type 0} (P : X → Type 0) (result : Result X OpenFault)
     → MatchResult result P (λ fault. fault ≢ faults.Damaged)
 match_failed P result e is ne = subst (λ r. MatchResult r P (λ fault. fault ≢ faults.Damaged)) (sym is) ne
 
+-- a fault, and that none of these files is there
+pub file_failed : {X : Type 0} (P : X → Type 0) (N : Type 0) (result : Result X OpenFault) (e : OpenFault) → result ≡ Err e → (e ≡ faults.Damaged → N)
+    → MatchResult result P (λ fault. fault ≡ faults.Damaged → N)
+file_failed P N result e is none = subst (λ r. MatchResult r P (λ fault. fault ≡ faults.Damaged → N)) (sym is) none
+
 -- ---- the book
 
 pub still_kept : (h0 h1 : History) (root : Root) (live : List ℕ) (entries : List Entry) → ReadsOnly h0 h1 → Keeps h0 root live entries
@@ -91,40 +100,56 @@ still_kept h0 h1 root live entries only keeps = record {
   durable = λ k j kept. subst (λ (s : ℕ → Sector). IsDurable (s j)) (sym (only.same k)) (keeps.durable (only.on.kept k) j kept);
 }
 
--- what is found is the committed tree's
-pub finds : {D : Type 0} (history : D → History) (limit : ℕ) (result : Result Book OpenFault) (old : Store D) (disk : D)
-    → ReadsOnly (history old.disk) (history disk)
-    → IfOk result (IsBookOf limit old.root) → (KeepsWord (history disk) → IfOk result (λ book. HasMapThere (reads (now (history old.disk))) old.root))
-    → (KeepsWord (history disk) → (live : List ℕ) (entries : List Entry) → HoldsMap (sheet_at (reads (now (history old.disk))) old.root) old.root live entries
-    → 1 ≤ old.root.pages
-    → MatchResult result (λ book. book ≡ opened live (max limit old.root.pages) old.root.generation) (λ fault. fault ≢ faults.Damaged))
-    → FindsFree history limit result old (record old { disk = disk })
-finds history limit result old disk only some stands found = record {
-  root = refl;
-  stopped = refl;
-  committed = λ live entries committed. record
-      { running = committed.running; keeps = still_kept (history old.disk) (history disk) old.root live entries only committed.keeps };
+-- what is found under a root that names no list is the committed tree's
+module _ (image : ℕ → List ℕ) (root : Root) (limit : ℕ) where
+  there_by : (result : Result Book OpenFault)
+      → MatchResult result (IsFileBook (sheet_at image root) root limit) (λ fault. fault ≡ faults.Damaged → HoldsNoFile (sheet_at image root) root)
+      → IfOk result (λ book. HasMapThere image root)
+  there_by (Ok book) file = (file.reaches.pages, (file.reaches.entries, file.reaches.holds.tree))
+  there_by (Err fault) file = tt
+
+  book_by : (result : Result Book OpenFault) → (live : List ℕ) (entries : List Entry) → IsKnown root → HoldsMap (sheet_at image root) root live entries
+      → MatchResult result (IsFileBook (sheet_at image root) root limit) (λ fault. fault ≡ faults.Damaged → HoldsNoFile (sheet_at image root) root)
+      → MatchResult result (λ book. book ≡ opened live (max limit root.pages) root.generation) (λ fault. fault ≢ faults.Damaged)
+  book_by (Ok book) live entries inside holds file =
+      let same : file.live ≡ live = committed_live (sheet_at image root) root live file.live entries inside.unlisted holds file.reaches in
+      let count : max (max limit root.pages) 1 ≡ max limit root.pages = omega (arith, inside.tree) in
+      file.is ∙ (λ i. opened (same i) (count i) root.generation)
+  book_by (Err fault) live entries inside holds file = λ is.
+      file is live [] entries (no_list_is_tree (sheet_at image root) root inside.unlisted live entries holds).0
+
+-- what only read leaves what is committed
+pub committed_still : {D : Type 0} (history : D → History) (old new : Store D) → OnlyReads history old new → (live : List ℕ) (entries : List Entry)
+    → IsCommitted history old live entries → IsCommitted history new live entries
+committed_still history old new only live entries committed = record {
+  running = only.stopped ∙ committed.running;
+  keeps = subst (λ (r : Root). Keeps (history new.disk) r live entries) (sym only.root)
+      (still_kept (history old.disk) (history new.disk) old.root live entries only.disk committed.keeps);
+}
+
+pub finds : {D : Type 0} (history : D → History) (limit : ℕ) (result : Result Book OpenFault) (old new : Store D) → OnlyReads history old new
+    → IfOk result (IsBookOf limit old.root)
+    → (KeepsWord (history new.disk) → MatchResult result (IsFileBook (sheet_at (reads (now (history old.disk))) old.root) old.root limit)
+    (λ fault. fault ≡ faults.Damaged → HoldsNoFile (sheet_at (reads (now (history old.disk))) old.root) old.root))
+    → FindsFree history limit result old new
+finds history limit result old new only some file = record {
+  root = only.root;
+  stopped = only.stopped;
+  committed = committed_still history old new only;
   some = some;
-  stands = stands;
+  stands = λ k. there_by (reads (now (history old.disk))) old.root limit result (file k);
+  file = file;
   book = λ k live entries committed.
       let image = reads (now (history old.disk)) in
-      let inside = known (image 0) (image 1) old.root (committed.keeps.opens (only.on.kept k)) in
-      found k live entries (committed.keeps.holds (only.on.kept k)) (omega (arith, inside.tree));
+      let inside = known (image 0) (image 1) old.root (committed.keeps.opens (only.disk.on.kept k)) in
+      book_by image old.root limit result live entries inside (committed.keeps.holds (only.disk.on.kept k)) (file k);
 }
 
-pub book_is : (book : Book) (limit found pages generation : ℕ) (given in_use live : List ℕ) → book ≡ opened given (max found 1) generation
-    → found ≡ max limit pages → 1 ≤ pages → given ≡ in_use → in_use ≡ live
-    → book ≡ opened live (max limit pages) generation
-book_is book limit found pages generation given in_use live is most some same named =
-    let count : max found 1 ≡ max limit pages = omega (arith, most, some) in
-    is ∙ (λ i. opened ((same ∙ named) i) (count i) generation)
-
-pub book_some : (book : Book) (limit found : ℕ) (root : Root) (given in_use : List ℕ) → book ≡ opened given (max found 1) root.generation
-    → found ≡ max limit root.pages → given ≡ in_use → IsBookOf limit root book
-book_some book limit found root given in_use is most same = record {
-  in_use = in_use;
-  is = is ∙ (λ i. opened (same i) (max (most i) 1) root.generation);
-}
+pub book_is : (book : Book) (limit found : ℕ) (root old : Root) (given in_use : List ℕ) → root ≡ old → book ≡ opened given (max found 1) root.generation
+    → found ≡ max limit root.pages → given ≡ in_use → book ≡ opened in_use (max (max limit old.pages) 1) old.generation
+book_is book limit found root old given in_use same is most named =
+    let count : found ≡ max limit old.pages = most ∙ ap (λ (r : Root). max limit r.pages) same in
+    is ∙ (λ i. opened (named i) (max (count i) 1) (same i).generation)
 
 pub none_so : {X E : Type 0} (result : Result X E) (P : X → Type 0) (e : E) → result ≡ Err e → IfOk result P
 none_so result P e is = subst (λ r. IfOk r P) (sym is) tt

@@ -1,6 +1,7 @@
 pub mod CountLemmas
 pub mod FoundLemmas
 pub mod FreeLemmas
+pub mod HeldFileLemmas
 pub mod ImageLemmas
 pub mod KeptPages
 pub mod ListingLemmas

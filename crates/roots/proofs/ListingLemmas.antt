@@ -49,7 +49,7 @@ damage_is old new opens.NewerFormat cause is = absurd cause
 
 -- ---- numbers that stand once are those of pages
 
-has_room : (page_count n : ℕ) → 1 ≤ room_for page_count n → (0 < n) × (n < page_count)
+pub has_room : (page_count n : ℕ) → 1 ≤ room_for page_count n → (0 < n) × (n < page_count)
 has_room page_count zero room = absurd (omega (arith, room))
 has_room page_count (suc n) room = elim (cases_lt (suc n) page_count) [
   | inl inside ↦ (omega arith, inside)

@@ -2,7 +2,8 @@
 use Rattle.std.specs.Prelude.{◌≡◌, ◌≢◌, ℕ, ◌+◌, max, List, length, Result, IfOk, MatchResult}
 use Rattle.page.specs.History.{History, KeepsWord, now, reads}
 use Rattle.btree.specs.Keys.{Entry}
-use Rattle.roots.specs.Image.{HoldsMap, sheet_at}
+use Rattle.roots.specs.HeldFile.{Reaches}
+use Rattle.roots.specs.Image.{sheet_at}
 use Rattle.roots.specs.Store.{IsCommitted, disk_history, durable_root, is_stopped}
 use Rattle.roots.specs.declared.counting.PageCounts.{PageCounts}
 use Rattle.roots.specs.declared.opening.OpenFault.{OpenFault}
@@ -10,17 +11,16 @@ use Rattle.roots.specs.declared.opening.OpenFault.TheVariants as faults
 use Rattle.roots.specs.declared.root.Root.{Root}
 use Rattle.roots.specs.declared.store.Store.{Store}
 
--- A file has the pages of its root, and always page 0. Page 0, those that the root's tree reaches
--- and the free ones are all of them.
+-- A file has the pages of its root, and always page 0. Page 0, those that the root reaches and the
+-- free ones are all of them.
 pub record AreCounts (root : Root) (live : List ℕ) (counts : PageCounts) : Type 0 where
   pub pages : counts.pages ≡ max root.pages 1
   pub all : 1 + length live + counts.free ≡ counts.pages
 
--- the counts of a tree that this root names in the image
+-- the counts of what this root reaches in the image: its tree, and the list that it names, if any
 pub record CountsTree (image : ℕ → List ℕ) (root : Root) (counts : PageCounts) : Type 0 where
   pub live : List ℕ
-  pub entries : List Entry
-  pub holds : HoldsMap (sheet_at image root) root live entries
+  pub reaches : Reaches (sheet_at image root) root live
   pub are : AreCounts root live counts
 
 -- Nothing of the store has changed, and the root has a tree, of which these are the counts; where

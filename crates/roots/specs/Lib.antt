@@ -2,6 +2,7 @@ pub mod Commit
 pub mod Counting
 pub mod FaultNames
 pub mod Found
+pub mod HeldFile
 pub mod Image
 pub mod Listed
 pub mod ListedLaws

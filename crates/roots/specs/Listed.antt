@@ -92,3 +92,9 @@ listed_fault opens.Memory = lists.Memory
 listed_fault opens.NotADatabase = lists.Damaged
 listed_fault opens.Damaged = lists.Damaged
 listed_fault opens.NewerFormat = lists.Damaged
+
+-- and the other way round
+abbrev pub read_fault : ListFault → OpenFault
+read_fault lists.Device = opens.Device
+read_fault lists.Memory = opens.Memory
+read_fault lists.Damaged = opens.Damaged

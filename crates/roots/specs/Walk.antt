@@ -1,5 +1,6 @@
 -- What a walk over a tree's pages gives: those that it reaches, each once, in the order of its
 -- keys.
+use Rattle.std.specs.Global.{Vec}
 use Rattle.std.specs.Prelude.{◌≡◌, ◌≢◌, ℕ, ◌+◌, ◌<◌, ◌≤◌, false, if◌then◌else◌, List, ◌++◌, length}
 use Rattle.std.specs.Prelude.{get_or, max, Result, Ok, Err, IfErr, IfOk, OnOk, MatchResult}
 use Rattle.page.specs.History.{History, KeepsWord, now, reads}
@@ -10,6 +11,7 @@ use Rattle.page.specs.declared.page_image.PageImage.{PageImage}
 use Rattle.btree.specs.Keys.{Entry, times}
 use Rattle.btree.specs.Store.{Store as Pages}
 use Rattle.freelist.specs.Book.{Book, opened}
+use Rattle.roots.specs.HeldFile.{HoldsNoFile, IsFileBook, Reaches as ReachesFile}
 use Rattle.roots.specs.Image.{HoldsMap, sheet_at, store_of}
 use Rattle.roots.specs.Store.{IsCommitted, disk_history, durable_root, is_stopped}
 use Rattle.roots.specs.declared.opening.OpenFault.{OpenFault}
@@ -85,6 +87,16 @@ abbrev pub HasMapThere : (ℕ → List ℕ) → Root → Type 0
 HasMapThere image root =
     (pages : List ℕ) × ((entries : List Entry) × HoldsMap (sheet_at image root) root pages entries)
 
+-- The pages that the root reaches were found, its list's own too. Damaged comes only where it has
+-- no tree there, or names a list that is none or doesn't fit the tree.
+abbrev pub FindsFile : {D : Type 0} → (D → History) → Result (Vec ℕ) OpenFault
+    → Store D → Store D → Type 0
+FindsFile history result old new =
+    KeepsWord (disk_history history new) → let root = durable_root old in
+    let sheets = sheet_at (reads (now (disk_history history old))) root in
+    MatchResult result (λ live. ReachesFile sheets root live.items)
+    (λ fault. fault ≡ faults.Damaged → HoldsNoFile sheets root)
+
 -- Nothing of the store has changed, and the root has a tree; where one is committed, the pages that
 -- it reaches are in use, and the fault isn't one of the pages.
 pub record FindsFree {D : Type 0} (history : D → History) (limit : ℕ)
@@ -97,6 +109,11 @@ pub record FindsFree {D : Type 0} (history : D → History) (limit : ℕ)
   pub stands : let image = reads (now (disk_history history old)) in
       KeepsWord (disk_history history new)
       → IfOk result (λ book. HasMapThere image (durable_root old))
+  -- and a list, if it names one, that fits the tree: the list's own pages are in use too
+  pub file : let root = durable_root old in
+      let sheets = sheet_at (reads (now (disk_history history old))) root in
+      KeepsWord (disk_history history new) → MatchResult result (IsFileBook sheets root limit)
+      (λ fault. fault ≡ faults.Damaged → HoldsNoFile sheets root)
   pub book : KeepsWord (disk_history history new) → (live : List ℕ) (entries : List Entry)
       → IsCommitted history old live entries → let root = durable_root old in
       MatchResult result (λ book. book ≡ opened live (max limit root.pages) root.generation)

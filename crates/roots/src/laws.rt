@@ -1,6 +1,7 @@
 //! Laws of the definitions, and the numbers that this crate fixes.
 ghost use Rattle.std.specs.Prelude.{◌≡◌, ℕ, List};
 ghost use Rattle.btree.specs.Keys.{Entry};
+ghost use Rattle.roots.specs.HeldFile.{HoldsOneFile, ListTellsBook, NamesTheRest, NoListIsTree, ReachedDecides};
 ghost use Rattle.roots.specs.Image.{StandsFor};
 ghost use Rattle.roots.specs.Listed.{WrittenListIsThere, WrittenListIsRead};
 ghost use Rattle.roots.specs.Numbers.{open_fault_number, commit_fault_number};
@@ -21,6 +22,31 @@ pub fn written_list_is_there()
 /// A list that was made, and whose pages are written, is what whoever reads the file gets.
 pub fn written_list_is_read()
     ensures { WrittenListIsRead }
+{}
+
+/// A file whose root names no list is its tree.
+pub fn no_list_is_tree()
+    ensures { NoListIsTree }
+{}
+
+/// A root has one tree and one list at most.
+pub fn holds_one_file()
+    ensures { HoldsOneFile }
+{}
+
+/// A list that fits the tree names just the pages that the root doesn't reach, each once.
+pub fn names_the_rest()
+    ensures { NamesTheRest }
+{}
+
+/// The book that the walk opens is the one that such a list tells.
+pub fn list_tells_book()
+    ensures { ListTellsBook }
+{}
+
+/// What the pages hold that a root reaches decides what the file holds.
+pub fn reached_decides()
+    ensures { ReachedDecides }
 {}
 
 /// A file has at most 1,048,576 pages, and at least 16 may be asked for.

@@ -1,14 +1,21 @@
 //! The list of free pages of a file, read page by page.
-ghost use Rattle.std.specs.Prelude.{◌≡◌, IfOk};
+ghost use Rattle.std.specs.Prelude.{◌≡◌, Err, IfErr, IfOk};
 ghost use Rattle.std.specs.Option.{option_map};
 ghost use Rattle.freelist.specs.ListReading.{content_of};
 ghost use Rattle.page.specs.View.{content_of as page_content};
 ghost use Rattle.freelist.specs.FreeList.{written};
-ghost use Rattle.roots.specs.Listed.{list_sheets, listed, listed_fault};
+ghost use Rattle.freelist.specs.ListReading.{ReadsList};
+ghost use Rattle.freelist.specs.declared.list_fault.ListFault.TheVariants as lists;
+ghost use Rattle.page.specs.History.{KeepsWord};
+ghost use Rattle.roots.specs.HeldFile.{ChecksStore, FitsTree};
+ghost use Rattle.roots.specs.Listed.{HasFailed, OnlyReads, list_sheets, listed, listed_by, listed_fault, read_fault};
+ghost use Rattle.roots.specs.Store.{disk_history, durable_root};
+ghost use Rattle.roots.specs.Walk.{HasCause};
 
 use crate::opening::OpenFault;
+use crate::root::Root;
 use crate::store::Store;
-use freelist::{FreeList, ListFault, ListPage, ListPages};
+use freelist::{FreeList, ListFault, ListPage, ListPages, read_list};
 use page::{Disk, PageContent, PageImage, SharedPage};
 use std::alloc::{AllocError, Global};
 
@@ -90,4 +97,65 @@ impl<D: Disk> ListPages for Store<D> {
             None => Err(ListFault::Damaged),
         }
     }
+}
+
+/// Why a file isn't opened whose list wasn't read.
+fn read_fault(fault: ListFault) -> OpenFault
+    ensures { result ≡ read_fault fault }
+{
+    match fault {
+        ListFault::Device => OpenFault::Device,
+        ListFault::Memory => OpenFault::Memory,
+        ListFault::Damaged => OpenFault::Damaged,
+    }
+}
+
+/// The list that the committed root names: one without pages where it names none.
+fn read_named<D: Disk>(alloc: Global, store: &mut Store<D>) -> Result<FreeList, ListFault>
+    ensures reads { OnlyReads D.history store.old store.new }
+    ensures list { let root = durable_root store.old in KeepsWord (disk_history D.history store.new)
+        → ReadsList (listed_by D.history store.old) root.pages root.free_list root.free_count result }
+    ensures device { result ≡ Err lists.Device → HasFailed D.history store.old store.new }
+{
+    let root = store.root();
+    if root.free_list == 0 && root.free_count == 0 {
+        return Ok(FreeList {
+            pages: Vec::new(alloc),
+            named: Vec::new(alloc),
+        });
+    }
+    read_list(alloc, store, root.pages, root.free_list, root.free_count)
+}
+
+/// Whether the list that a root names, if it names one, fits the tree that reaches these pages: each page of the file is one of the
+/// tree's, of the list's or named by it, and none two of these.
+fn fits_tree(alloc: Global, root: Root, tree: &[u32], list: &FreeList) -> Result<bool, AllocError>
+    ensures { IfOk result (FitsTree root tree.now list.now.pages.items list.now.named.items) }
+{
+    if root.free_list == 0 {
+        return Ok(true);
+    }
+    list.fills(alloc, root.pages, tree)
+}
+
+/// The list that the committed root names, whose tree reaches these pages. Damaged where what it names is no list, or where a page
+/// of the file is neither the tree's nor the list's nor named by it.
+pub(crate) fn checked_list<D: Disk>(
+    alloc: Global,
+    store: &mut Store<D>,
+    tree: &[u32],
+) -> Result<FreeList, OpenFault>
+    ensures reads { OnlyReads D.history store.old store.new }
+    ensures cause { IfErr result (HasCause (disk_history D.history store.old)
+        (disk_history D.history store.new)) }
+    ensures list { ChecksStore D.history tree.now result store.old store.new }
+{
+    let list = match read_named(alloc, store) {
+        Ok(list) => list,
+        Err(fault) => return Err(read_fault(fault)),
+    };
+    if !fits_tree(alloc, store.root(), tree, &list)? {
+        return Err(OpenFault::Damaged);
+    }
+    Ok(list)
 }

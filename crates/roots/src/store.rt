@@ -10,10 +10,12 @@ ghost use Rattle.roots.specs.Commit.{CommitsRoot, LeavesPages, MovesDisk, MovesM
 ghost use Rattle.roots.specs.Image.{IsOnPages};
 ghost use Rattle.roots.specs.Opening.{IsOpened, IsRefused};
 ghost use Rattle.roots.specs.Store.{disk_history, durable_root, is_stopped, limit_in};
-ghost use Rattle.roots.specs.Walk.{FindsFree, Looks, ReadsSheet};
+ghost use Rattle.roots.specs.Listed.{OnlyReads};
+ghost use Rattle.roots.specs.Walk.{FindsFile, FindsFree, Looks, ReadsSheet};
 ghost use Rattle.roots.specs.Turn.{AreWritten, LieBehind, end_behind, numbers_of};
 
 use crate::counting::{PageCounts, counts_of};
+use crate::listing::checked_list;
 use crate::opening::{OpenFault, read_root};
 use crate::replace::replace;
 use crate::root::{MAX_PAGES, Root};
@@ -208,27 +210,41 @@ impl<D: Disk> Store<D> {
         read_sheet(alloc, &mut self.disk, self.root, page)
     }
 
-    /// The book of the file's pages, in which those that the committed tree reaches are in use. The others below the limit, or
-    /// below the number of pages that the file has, are free. It reads each page of the tree once.
+    /// The pages that the committed root reaches: those of its tree, then those of its list of free pages, if it names one. Damaged
+    /// where they are no tree, or where the list isn't one or doesn't fit the tree. It reads each of them once.
+    fn live_pages(&mut self, alloc: Global) -> Result<Vec<u32>, OpenFault>
+        ensures looks { Looks result (disk_history D.history self.old)
+            (disk_history D.history self.new) }
+        ensures same { OnlyReads D.history self.old self.new }
+        ensures finds { FindsFile D.history result self.old self.new }
+    {
+        let mut live = reached_pages(alloc, &mut self.disk, self.root)?;
+        let list = checked_list(alloc, self, &live)?;
+        live.extend_from_slice(&list.pages)?;
+        Ok(live)
+    }
+
+    /// The book of the file's pages, in which those that the committed root reaches are in use. The others below the limit, or
+    /// below the number of pages that the file has, are free. It reads each page of the tree and of the list once.
     pub fn free_pages(&mut self, alloc: Global, limit: u32) -> Result<FreePages, OpenFault>
         ensures looks { Looks result (disk_history D.history self.old)
             (disk_history D.history self.new) }
         ensures finds { FindsFree D.history limit result self.old self.new }
     {
-        let in_use = reached_pages(alloc, &mut self.disk, self.root)?;
+        let in_use = self.live_pages(alloc)?;
         let limit = greater(limit, self.root.pages);
         Ok(FreePages::open(alloc, &in_use, limit, self.root.generation)?)
     }
 
-    /// How many pages the file has, and how many of them nothing reaches: neither page 0 nor one of the committed tree is free.
-    /// It reads each page of the tree once. Damaged where the pages are no tree.
+    /// How many pages the file has, and how many of them nothing reaches: neither page 0 nor one that the committed root reaches
+    /// is free. It reads each page of the tree and of the list once. Damaged where they are none.
     pub fn count_pages(&mut self, alloc: Global) -> Result<PageCounts, OpenFault>
         ensures looks { Looks result (disk_history D.history self.old)
             (disk_history D.history self.new) }
         ensures counts { CountsPages D.history result self.old self.new }
     {
-        let reached = reached_pages(alloc, &mut self.disk, self.root)?;
-        Ok(counts_of(self.root, reached.len()))
+        let live = self.live_pages(alloc)?;
+        Ok(counts_of(self.root, live.len()))
     }
 
     /// Makes the tree below this page the committed one. The pages that the turn made ascend; they are written, then the next

@@ -1,5 +1,6 @@
 -- A message has no fewer bytes than its document's fields take.
-use Rattle.std.proofs.Common.{◌≡◌, ℕ, zero, suc, ◌+◌, ◌%◌, ◌<◌, ◌≤◌, Bool, true, false, List, [], ◌∷◌, length, take, drop, Option, Some, None, Result, Ok, Err, refl, ap, subst, ◌∙◌, arith}
+use Rattle.std.proofs.Common.{◌≡◌, ℕ, zero, suc, ◌+◌, ◌%◌, ◌<◌, ◌≤◌, Bool, true, false, List, [], ◌∷◌, length, take, drop, Option, Some, None, Result}
+use Rattle.std.proofs.Common.{Ok, Err, refl, ap, subst, ◌∙◌, arith}
 use Rattle.std.proofs.Common.{length-append, length-take, length-drop}
 use Rattle.std.specs.Prelude.{if◌then◌else◌, ◌||◌, ◌==◌, not, nat_le, nat_lt, is_some}
 use Rattle.std.specs.Str.{is_utf8}
@@ -18,8 +19,10 @@ use Rattle.bson.specs.declared.fault.BsonFault.{BsonFault}
 use Rattle.bson.specs.declared.fault.BsonFault.TheVariants as bson_faults
 use Rattle.bson.specs.declared.kind.Kind.TheVariants as kinds
 use Rattle.outcome.specs.Outcome.{◌>>=◌, unless}
-use Rattle.op_msg.specs.Frame.{body, body_at, body_of_all, bodies_of, each_by, each_from, each_in, Frame, frame_of, front, has_twice, is_more, is_no_length, name_at, names_of, or_section}
-use Rattle.op_msg.specs.Frame.{number_at, only_of, Part, part_at, Section, section_at, sections_in, Sequence, sequence, sequence_at, sequence_in, sequences_of, flags_of}
+use Rattle.op_msg.specs.Frame.{body, body_at, body_of_all, bodies_of, each_by, each_from, each_in, Frame, frame_of, front, has_twice, is_more}
+use Rattle.op_msg.specs.Frame.{is_no_length, name_at, names_of, or_section}
+use Rattle.op_msg.specs.Frame.{number_at, only_of, Part, part_at, Section, section_at, sections_in, Sequence, sequence, sequence_at, sequence_in}
+use Rattle.op_msg.specs.Frame.{sequences_of, flags_of}
 use Rattle.op_msg.specs.Request.{array_of, body_of, document_alone, document_in, with_sequence, with_sequences}
 use Rattle.op_msg.proofs.SectionWalks.{ok_is, unless_ok}
 use Rattle.op_msg.specs.declared.fault.FrameFault.{FrameFault}
@@ -156,7 +159,8 @@ module _ {X : Type 0} (read : List ℕ → Part X) (size : X → ℕ) (Fits : X 
   each_holds zero bytes fits = (omega arith, tt)
   each_holds (suc most) bytes fits = by (each_holds most) (read bytes) refl
     where
-      by : ((left : List ℕ) → IsBytes left → Holds left (each_by read most left)) → (r : Part X) → read bytes ≡ r → Holds bytes (each_from (each_by read most) bytes r)
+      by : ((left : List ℕ) → IsBytes left → Holds left (each_by read most left)) → (r : Part X) → read bytes ≡ r
+          → Holds bytes (each_from (each_by read most) bytes r)
       by later (Err fault) is = (omega arith, tt)
       by later (Ok x) is =
           let first = one bytes x fits is in
@@ -199,7 +203,8 @@ body_holds bytes x fits e =
     subst (SectionHolds bytes) same (omega (arith, p.0), p.1, p.2)
 
 -- the documents of a section
-document_holds : (bytes : List ℕ) (x : List ℕ × List ℕ) → IsBytes bytes → part_at bytes ≡ Ok x → (length x.0 + length x.1 ≤ length bytes) × IsBytes x.0 × IsBytes x.1
+document_holds : (bytes : List ℕ) (x : List ℕ × List ℕ) → IsBytes bytes → part_at bytes ≡ Ok x
+    → (length x.0 + length x.1 ≤ length bytes) × IsBytes x.0 × IsBytes x.1
 document_holds bytes x fits e = let p = part_holds bytes x fits e in (p.0, p.1, p.2)
 
 documents_fit : (documents : List (List ℕ)) → AllFit part_at length IsBytes document_holds documents → AreBytes documents
@@ -337,8 +342,8 @@ frame_fields bytes frame ps h e =
     omega (arith, h.size, body_fields frame.body inner.0 h.body_fits inner.1, sequences_fields inner.0 ps frame.sequences h.sequences_fit inner.2)
 
 -- the document of a message at the front has the limit of a message, less what stands before it
-pub message_fields : (bytes : List ℕ) (frame : Frame) (rest : List ℕ) (ps : Pairs) → IsBytes bytes → front bytes ≡ Ok (Some (frame, rest)) → body_of frame ≡ Ok ps
-    → fields_size ps + 5 ≤ 1048555
+pub message_fields : (bytes : List ℕ) (frame : Frame) (rest : List ℕ) (ps : Pairs) → IsBytes bytes → front bytes ≡ Ok (Some (frame, rest))
+    → body_of frame ≡ Ok ps → fields_size ps + 5 ≤ 1048555
 unfolding front
 message_fields bytes frame rest ps fits e is = by (nat_lt (length bytes) 4) e
   where
@@ -348,20 +353,28 @@ message_fields bytes frame rest ps fits e is = by (nat_lt (length bytes) 4) e
     made : Frame → Result (Option (Frame × List ℕ)) FrameFault
     made f = Ok (Some (f, drop n bytes))
 
-    taken : (b : Bool) → is_no_length n ≡ false → (if b then Ok None else (frame_of (take n bytes) >>= made)) ≡ Ok (Some (frame, rest)) → fields_size ps + 5 ≤ 1048555
+    taken : (b : Bool) → is_no_length n ≡ false → (if b then Ok None else (frame_of (take n bytes) >>= made)) ≡ Ok (Some (frame, rest))
+        → fields_size ps + 5 ≤ 1048555
     taken true fine f = absurd cc
     taken false fine f =
         let got = step_to (frame_of (take n bytes)) made (Some (frame, rest)) f in
         let same : (got.0, drop n bytes) ≡ (frame, rest) = some_is (ok_is _ _ got.2) in
         let read : frame_of (take n bytes) ≡ Ok frame = got.1 ∙ ap (λ (x : Frame × List ℕ). done {E = FrameFault} x.0) same in
         let h = frame_holds (take n bytes) frame (IsBytes-take n bytes fits) read in
-        omega (arith, frame_fields (take n bytes) frame ps h is, length-take n bytes, not_less message_limit n (later_false (nat_lt n 26) (nat_lt message_limit n) fine))
+        omega (
+          arith,
+          frame_fields (take n bytes) frame ps h is,
+          length-take n bytes,
+          not_less message_limit n (later_false (nat_lt n 26) (nat_lt message_limit n) fine),
+        )
 
-    by : (b : Bool) → (if b then Ok None else unless (is_no_length n) faults.Length (if nat_lt (length bytes) n then Ok None else (frame_of (take n bytes) >>= made)))
+    by : (b : Bool)
+        → (if b then Ok None else unless (is_no_length n) faults.Length (if nat_lt (length bytes) n then Ok None else (frame_of (take n bytes) >>= made)))
         ≡ Ok (Some (frame, rest)) → fields_size ps + 5 ≤ 1048555
     by true f = absurd cc
     by false f =
-        let p = unless_ok (is_no_length n) faults.Length (if nat_lt (length bytes) n then Ok None else (frame_of (take n bytes) >>= made)) (Some (frame, rest)) f in
+        let p = unless_ok (is_no_length n) faults.Length (if nat_lt (length bytes) n then Ok None else (frame_of (take n bytes) >>= made))
+        (Some (frame, rest)) f in
         taken (nat_lt (length bytes) n) p.0 p.1
 
 pub updates_have_room : UpdatesHaveRoom

@@ -116,7 +116,7 @@ impl<S: Service> Clients<S> {
         for event in &self.events {
             if event.token() == listener_token::<S>() {
                 accepts = true;
-            } else if let Some(client) = self.table.get_mut(event.token().0) {
+            } else if let Some(client) = self.table.told_of(event.token().0) {
                 note(client, event);
             }
         }

@@ -5,6 +5,7 @@
 mod client;
 mod clients;
 mod loops;
+mod marks;
 mod queue;
 mod service;
 mod stream;

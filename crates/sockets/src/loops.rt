@@ -64,7 +64,7 @@ fn serve_turns<S: Service>(
         if left == 0 || clients.table.is_empty() {
             break;
         }
-        let limit = clients.table.is_busy(service).then_some(Duration::ZERO);
+        let limit = clients.table.is_busy().then_some(Duration::ZERO);
         if clients.wait(limit).is_err() {
             return Err(ServeFault::Accept);
         }
@@ -170,7 +170,7 @@ fn patience<S: Service>(
     service: &S,
 ) -> Option<Duration> {
     let may_accept = backlog == Backlog::More && clients.table.has_room();
-    if may_accept || clients.table.is_busy(service) {
+    if may_accept || clients.table.is_busy() {
         return Some(Duration::ZERO);
     }
     let pause = (backlog == Backlog::Refused).then_some(Duration::from_secs(PAUSE_SECONDS));

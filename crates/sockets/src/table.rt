@@ -4,6 +4,7 @@ ghost use Rattle.std.specs.Prelude.{◌≡◌, ◌<◌, ◌≤◌, length, None,
 ghost use Rattle.sockets.specs.Places.{IsGivenAt, closed_at, is_over_in};
 
 use crate::client::Client;
+use crate::marks::Marks;
 use crate::service::{Outlet, Service};
 use crate::stream::Incoming;
 use std::alloc::{AllocError, Global};
@@ -16,6 +17,8 @@ use std::time::Duration;
 #[derive(Drop)]
 pub(crate) struct Table<T, S: Service> {
     pub places: Vec<Option<Client<T>>>,
+    // those with which there is something to do: a read, a write, a turn or an end
+    busy: Marks,
     // the time of the round
     pub time: Duration,
     // whose numbers they are
@@ -30,6 +33,7 @@ impl<T: Read + Write + Drop, S: Service> Table<T, S> {
     {
         Ok(Table {
             places: free_places(alloc, count)?,
+            busy: Marks::new(alloc, count)?,
             time: Duration::ZERO,
             numbers: PhantomData,
         })
@@ -57,37 +61,60 @@ impl<T: Read + Write + Drop, S: Service> Table<T, S> {
         requires { connection < length self.old.places.items }
     {
         self.places[connection] = Some(client);
+        self.busy.set(connection);
     }
 
-    /// The connection that has the number.
-    pub fn get_mut(&mut self, connection: usize) -> Option<&mut Client<T>> {
+    /// The connection that has the number, of which something has come to be known.
+    pub fn told_of(&mut self, connection: usize) -> Option<&mut Client<T>> {
+        self.busy.set(connection);
         match self.places.get_mut(connection) {
             Some(Some(client)) => Some(client),
             _ => None,
         }
     }
 
-    /// Whether there is something to do without a further event: a read, a write, or a turn.
-    pub fn is_busy(&self, service: &S) -> bool {
-        self.places.iter().flatten().any(|client| client.is_busy()) || self.has_messages(service)
+    /// Whether there is something to do without a further event: a read, a write, a turn or an end.
+    pub fn is_busy(&self) -> bool {
+        self.busy.has_any()
+    }
+
+    /// The next connection from this number on with which there is something to do.
+    fn next_busy(&self, from: usize) -> Option<usize>
+        ensures { IfSome result (λ i. i < length self.now.places.items) }
+    {
+        let connection = self.busy.next(from)?;
+        if self.places.len() <= connection {
+            return None;
+        }
+        Some(connection)
     }
 
     /// Whether a message of some connection waits for a turn.
     pub fn has_messages(&self, service: &S) -> bool {
-        for (connection, place) in self.places.iter().enumerate() {
-            if place.is_some() && service.has_message(connection) {
+        let mut from = 0;
+        for _ in 0..self.places.len() {
+            let Some(connection) = self.next_busy(from) else {
+                return false;
+            };
+            if self.places[connection].is_some() && service.has_message(connection) {
                 return true;
             }
+            from = connection + 1;
         }
         false
     }
 
     /// Writes what waits, as far as the streams take it.
     pub fn flush(&mut self) {
-        for place in self.places.iter_mut() {
-            if let Some(client) = place {
+        let mut from = 0;
+        for _ in 0..self.places.len() {
+            let Some(connection) = self.next_busy(from) else {
+                return;
+            };
+            if let Some(client) = &mut self.places[connection] {
                 client.flush();
             }
+            from = connection + 1;
         }
     }
 
@@ -97,18 +124,25 @@ impl<T: Read + Write + Drop, S: Service> Table<T, S> {
         ensures sound { S.is_sound service.new }
     {
         let now = self.time;
-        for (connection, place) in self.places.iter_mut().enumerate() {
+        let mut from = 0;
+        for _ in 0..self.places.len() {
+            let Some(connection) = self.next_busy(from) else {
+                return;
+            };
+            let place = &mut self.places[connection];
             read_place(place, connection, buffer, service, now);
+            from = connection + 1;
         }
     }
 
     /// Ends the connections of which nothing has come for so long.
     pub fn end_idle(&mut self, limit: Duration) {
         let now = self.time;
-        for place in self.places.iter_mut() {
+        for (connection, place) in self.places.iter_mut().enumerate() {
             if let Some(client) = place {
                 if now.saturating_sub(client.heard) >= limit {
                     client.end();
+                    self.busy.set(connection);
                 }
             }
         }
@@ -126,21 +160,32 @@ impl<T: Read + Write + Drop, S: Service> Table<T, S> {
         least
     }
 
-    /// Forgets the connections that are over. Their numbers are free.
+    /// Forgets the connections that are over, whose numbers are free, and passes over those with which there is nothing to do from now
+    /// on, until something is known of them.
     pub fn settle(&mut self, service: &mut S)
         requires sound { S.is_sound service.old }
         ensures sound { S.is_sound service.new }
     {
-        for (connection, place) in self.places.iter_mut().enumerate() {
+        let mut from = 0;
+        for _ in 0..self.places.len() {
+            let Some(connection) = self.next_busy(from) else {
+                return;
+            };
+            let place = &mut self.places[connection];
             settle_place(place, connection, service);
+            if !is_busy(place, connection, service) {
+                self.busy.clear(connection);
+            }
+            from = connection + 1;
         }
     }
 
     /// Ends all connections.
     pub fn end_all(&mut self) {
-        for place in self.places.iter_mut() {
+        for (connection, place) in self.places.iter_mut().enumerate() {
             if let Some(client) = place {
                 client.end();
+                self.busy.set(connection);
             }
         }
     }
@@ -158,12 +203,14 @@ impl<T: Read + Write + Drop, S: Service> Outlet for Table<T, S> {
         let now = self.time;
         if connection < self.places.len() {
             reply_at(&mut self.places[connection], frame, now);
+            self.busy.set(connection);
         }
     }
 
     fn close(&mut self, connection: usize) {
         if connection < self.places.len() {
             close_at(&mut self.places[connection]);
+            self.busy.set(connection);
         }
     }
 }
@@ -241,5 +288,19 @@ fn settle_place<T: Read + Write + Drop, S: Service>(
     if client.is_over {
         service.forget(connection);
         *place = None;
+    }
+}
+
+/// Whether there is something to do with the connection at a place without a further event.
+fn is_busy<T: Read + Write + Drop, S: Service>(
+    place: &Option<Client<T>>,
+    connection: usize,
+    service: &S,
+) -> bool
+    requires number { connection < S.PLACES }
+{
+    match place {
+        Some(client) => client.is_busy() || service.has_message(connection),
+        None => false,
     }
 }

@@ -1,5 +1,6 @@
 -- How many bytes the `_id` of a document takes that an upsert makes: those of an equality of the filter, or of the replacement's `_id`.
-use Rattle.std.proofs.Common.{◌≡◌, ℕ, ◌+◌, ◌≤◌, max, Bool, true, false, List, [], ◌∷◌, length, Option, Some, None, Result, Ok, Err, refl, sym, ap, subst, ◌∙◌, arith}
+use Rattle.std.proofs.Common.{◌≡◌, ℕ, ◌+◌, ◌≤◌, max, Bool, true, false, List, [], ◌∷◌, length, Option, Some, None, Result, Ok, Err, refl, sym, ap}
+use Rattle.std.proofs.Common.{subst, ◌∙◌, arith}
 use Rattle.std.specs.Prelude.{if◌then◌else◌, codes, map}
 use Rattle.std.specs.List.{join_with_byte}
 use Rattle.std.specs.Str.{bytes_eq}
@@ -19,9 +20,11 @@ use Rattle.path.specs.Parts.{parts_of, path_fault}
 use Rattle.path.specs.declared.fault.PathFault.{PathFault}
 use Rattle.path.specs.declared.refusal.Refusal.{Refusal}
 use Rattle.path.specs.declared.refusal.Refusal.TheVariants as refusals
-use Rattle.filter.specs.Condition.{Predicate, equal, of_kinds, size, Condition, all, any, not_all, not_any, at, is, element, element_document, Conditions, no_conditions, condition, equals}
+use Rattle.filter.specs.Condition.{Predicate, equal, of_kinds, size, Condition, all, any, not_all, not_any, at, is, element, element_document}
+use Rattle.filter.specs.Condition.{Conditions, no_conditions, condition, equals}
 use Rattle.filter.specs.ProjectionReading.{begins_with_id, is_id}
-use Rattle.filter.specs.Reading.{array_in, every, exists, has_operators, just, named_condition, operation, or_refusal, order_operand, path_in, read_element, read_filter}
+use Rattle.filter.specs.Reading.{array_in, every, exists, has_operators, just, named_condition, operation, or_refusal, order_operand, path_in}
+use Rattle.filter.specs.Reading.{read_element, read_filter}
 use Rattle.filter.specs.Reading.{read_known, read_members, read_not, read_operand, read_operators, read_operation}
 use Rattle.filter.specs.Words.{all_kinds, operator_of, size_in}
 use Rattle.filter.specs.declared.condition.Comparison.{Comparison}
@@ -111,7 +114,8 @@ equalities_give path (condition c cs) ps qs p e =
 equality_leaves : (path : Path) (c : Condition) (ps qs : Pairs) → is_id path ≡ false → with_equality path c ps ≡ Ok qs → lookup qs id_name ≡ lookup ps id_name
 equality_leaves path (is (equal t)) ps qs p e = by (is_id path) p (begins_with_id path) refl e
   where
-    by : (a : Bool) → a ≡ false → (b : Bool) → begins_with_id path ≡ b → (if (if a then false else b) then Err refusals.ImmutableField else set_at path t ps) ≡ Ok qs
+    by : (a : Bool) → a ≡ false → (b : Bool) → begins_with_id path ≡ b
+        → (if (if a then false else b) then Err refusals.ImmutableField else set_at path t ps) ≡ Ok qs
         → lookup qs id_name ≡ lookup ps id_name
     by true q b r e = absurd cc
     by false q true r e = absurd cc
@@ -245,7 +249,8 @@ named_asks name t = by (bytes_eq name (codes "$elemMatch")) (bytes_eq name (code
 operators_size : (ps : Pairs) (cs : Conditions) → read_operators ps ≡ Ok cs → all_asked_size cs ≤ length (pairs_bytes ps) + 3
 operators_size no_pairs cs e = omega (arith, ap all_asked_size (ok_same e))
 operators_size (pair name t ps) cs e =
-    let first = if_ok_value (operation name (read_element t) (read_not t) t) (λ (c : Condition). if_ok (read_operators ps) (λ (ds : Conditions). Ok (condition c ds))) cs e in
+    let first = if_ok_value (operation name (read_element t) (read_not t) t)
+    (λ (c : Condition). if_ok (read_operators ps) (λ (ds : Conditions). Ok (condition c ds))) cs e in
     let later = if_ok_value (read_operators ps) (λ (ds : Conditions). Ok (condition first.0 ds)) cs first.2 in
     omega (
       arith,
@@ -258,7 +263,8 @@ operators_size (pair name t ps) cs e =
 operand_size : (t : Tree) (cs : Conditions) → read_operand t ≡ Ok cs → all_asked_size cs ≤ length (tree_bytes t) + 5
 operand_size (document ps) cs e = by (has_operators ps) e
   where
-    by : (b : Bool) → (if b then read_operators ps else Ok (just (is (equal (document ps))))) ≡ Ok cs → all_asked_size cs ≤ length (tree_bytes (document ps)) + 5
+    by : (b : Bool) → (if b then read_operators ps else Ok (just (is (equal (document ps))))) ≡ Ok cs
+        → all_asked_size cs ≤ length (tree_bytes (document ps)) + 5
     by true f = omega (arith, operators_size ps cs f, length-document ps)
     by false f = omega (arith, ap all_asked_size (ok_same f))
 operand_size (array ts) cs e = omega (arith, ap all_asked_size (ok_same e))
@@ -268,7 +274,8 @@ named_size : (name : List ℕ) (t : Tree) (c : Condition) → named_condition na
     → condition_size c ≤ length name + length (tree_bytes t) + 2
 named_size name t c e = by (bytes_eq name (codes "$and")) (bytes_eq name (codes "$or")) (bytes_eq name (codes "$nor")) e
   where
-    members : (make : Conditions → Condition) → ((cs : Conditions) → condition_size (make cs) ≡ 0) → if_ok (read_members t) (λ (cs : Conditions). Ok (make cs)) ≡ Ok c
+    members : (make : Conditions → Condition) → ((cs : Conditions) → condition_size (make cs) ≡ 0)
+        → if_ok (read_members t) (λ (cs : Conditions). Ok (make cs)) ≡ Ok c
         → condition_size c ≤ length name + length (tree_bytes t) + 2
     members make none f =
         let got = if_ok_value (read_members t) (λ (cs : Conditions). Ok (make cs)) c f in
@@ -281,7 +288,8 @@ named_size name t c e = by (bytes_eq name (codes "$and")) (bytes_eq name (codes 
 
     by : (a b d : Bool)
         → (if a then if_ok (read_members t) (λ rs. Ok (all rs)) else (if b then if_ok (read_members t) (λ rs. Ok (any rs))
-        else (if d then if_ok (read_members t) (λ rs. Ok (not_any rs)) else if_ok (path_in name) (λ path. if_ok (read_operand t) (λ rs. Ok (at path rs)))))) ≡ Ok c
+        else (if d then if_ok (read_members t) (λ rs. Ok (not_any rs))
+        else if_ok (path_in name) (λ path. if_ok (read_operand t) (λ rs. Ok (at path rs)))))) ≡ Ok c
         → condition_size c ≤ length name + length (tree_bytes t) + 2
     by true b d f = members all (λ cs. refl) f
     by false true d f = members any (λ cs. refl) f
@@ -328,7 +336,8 @@ lookup_spelled (pair name t ps) = by (bytes_eq id_name name) refl (lookup_spelle
 pub change_spelled : (ps : Pairs) (u : Change) → read_update ps ≡ Ok u → change_size u ≤ length (pairs_bytes ps)
 change_spelled ps u e = by (has_operators ps) e
   where
-    by : (b : Bool) → (if b then if_ok (read_edits_of ps []) (λ (es : List Edit). Ok (edits es)) else Ok (replacement ps)) ≡ Ok u → change_size u ≤ length (pairs_bytes ps)
+    by : (b : Bool) → (if b then if_ok (read_edits_of ps []) (λ (es : List Edit). Ok (edits es)) else Ok (replacement ps)) ≡ Ok u
+        → change_size u ≤ length (pairs_bytes ps)
     by true f =
         let got = if_ok_value (read_edits_of ps []) (λ (es : List Edit). Ok (edits es)) u f in
         omega (arith, ap change_size (ok_same got.2))

@@ -19,7 +19,8 @@ use Rattle.path.specs.declared.refusal.Refusal.TheVariants as refusals
 use Rattle.update.specs.Applying.{apply}
 use Rattle.update.specs.Upserts.{base_of}
 use Rattle.commands.specs.Aggregate.{read_aggregate}
-use Rattle.commands.specs.Command.{aggregate, as_command, Command, command_of, count, create, create_indexes, delete, drop, drop_indexes, explain, find, get_more, hello}
+use Rattle.commands.specs.Command.{aggregate, as_command, Command, command_of, count, create, create_indexes, delete, drop, drop_indexes, explain}
+use Rattle.commands.specs.Command.{find, get_more, hello}
 use Rattle.commands.specs.Command.{insert, kill_cursors, list_collections, list_indexes, ping, update}
 use Rattle.commands.specs.CommandLaws.{bounded}
 use Rattle.commands.specs.Count.{read_count}
@@ -42,7 +43,8 @@ use Rattle.commands.specs.Update.{UpdateStatement, Update, IsRead, read_update_c
 use Rattle.index.specs.State.{find_collection}
 use Rattle.database_model.specs.Documents.{key_of, key_checked, place}
 use Rattle.database_model.specs.Refusals.{int, total, ok_reply}
-use Rattle.database_model.specs.Update.{Changed, judged, not_changed, not_updated, run_statement, run_statements, spelled, update_from, update_reply, updated_to}
+use Rattle.database_model.specs.Update.{Changed, judged, not_changed, not_updated, run_statement, run_statements, spelled, update_from, update_reply}
+use Rattle.database_model.specs.Update.{updated_to}
 use Rattle.database_model.specs.Update.{Updated, upsert, upsert_document, upserted_entry, with_upserted}
 use Rattle.database_model.specs.World.{documents_of}
 use Rattle.statements.specs.Room.{field_size, fields_size, RepliesAreShort, RepliesHaveRoom}
@@ -294,5 +296,6 @@ replies_have_room body c cs is room = by (run_statements c.namespace 0 c.stateme
     by : (r : Result Updated Refusal) → run_statements c.namespace 0 c.statements (not_updated cs) ≡ r → (r >>= judged) ≡ r
     by (Err e) ran = refl
     by (Ok u) ran =
-        let short : nat_lt 1048555 (length (spelled (ok_reply (update_reply u)))) ≡ false = grind (arith, nat_tests, replies_are_short body c cs u is ran, room) in
+        let short : nat_lt 1048555 (length (spelled (ok_reply (update_reply u)))) ≡ false =
+        grind (arith, nat_tests, replies_are_short body c cs u is ran, room) in
         ap (λ (b : Bool). unless b refusals.BSONObjectTooLarge (let r : Result Updated Refusal = Ok u in r)) short

@@ -20,7 +20,8 @@ use Rattle.commands.specs.FieldsLaws.{there}
 use Rattle.commands.specs.Names.{namespace_of}
 use Rattle.commands.specs.OutcomeLaws.{step_of, passed}
 use Rattle.commands.specs.Statements.{statements_in, each_of}
-use Rattle.commands.specs.Update.{UpdateStatement, Update, UpdateStatementFields, no_statement_fields, statement_field, read_statement, UpdateFields, no_update_fields}
+use Rattle.commands.specs.Update.{UpdateStatement, Update, UpdateStatementFields, no_statement_fields, statement_field, read_statement, UpdateFields}
+use Rattle.commands.specs.Update.{no_update_fields}
 use Rattle.commands.specs.Update.{update_statements_in, update_field, read_update_command}
 use Rattle.commands.specs.Values.{bool_in, document_in, spelled_in, text_in}
 use Rattle.statements.specs.Room.{values_size, field_size, fields_size}
@@ -92,12 +93,14 @@ module _ (found next : UpdateStatementFields) (name : List ℕ) (t : Tree) where
   abbrev Adds : Type 0
   Adds = so_far next ≤ so_far found + one_size name t
 
-  filter_adds : (rules : Conditions) → bytes_eq name (codes "q") ≡ true → spelled_in read_filter t ≡ Ok rules → record found { filter = Some rules } ≡ next → Adds
+  filter_adds : (rules : Conditions) → bytes_eq name (codes "q") ≡ true → spelled_in read_filter t ≡ Ok rules
+      → record found { filter = Some rules } ≡ next → Adds
   filter_adds rules is e same =
       let d = step_of (document_in t) read_filter rules e in
       omega (arith, named name (codes "q") is, document_size t d.0 d.1, filter_spelled d.0 rules d.2, ap so_far same)
 
-  change_adds : (change : Change) → bytes_eq name (codes "u") ≡ true → spelled_in read_update t ≡ Ok change → record found { change = Some change } ≡ next → Adds
+  change_adds : (change : Change) → bytes_eq name (codes "u") ≡ true → spelled_in read_update t ≡ Ok change
+      → record found { change = Some change } ≡ next → Adds
   change_adds change is e same =
       let d = step_of (document_in t) read_update change e in
       omega (arith, named name (codes "u") is, document_size t d.0 d.1, change_spelled d.0 change d.2, ap so_far same)
@@ -118,7 +121,8 @@ module _ (found next : UpdateStatementFields) (name : List ℕ) (t : Tree) where
   abbrev with_multi : Bool → Result UpdateStatementFields Refusal
   with_multi multi = Ok (record found { multi = multi })
 
-  field_adds : (is_q is_u is_upsert is_multi : Bool) → bytes_eq name (codes "q") ≡ is_q → bytes_eq name (codes "u") ≡ is_u → bytes_eq name (codes "upsert") ≡ is_upsert
+  field_adds : (is_q is_u is_upsert is_multi : Bool) → bytes_eq name (codes "q") ≡ is_q → bytes_eq name (codes "u") ≡ is_u
+      → bytes_eq name (codes "upsert") ≡ is_upsert
       → (if is_q then (spelled_in read_filter t >>= with_filter)
       else (if is_u then (spelled_in read_update t >>= with_change)
       else (if is_upsert then (bool_in t >>= with_upsert)

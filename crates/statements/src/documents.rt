@@ -47,7 +47,7 @@ pub fn read_id(alloc: Global, document: &RawDoc<'_>) -> Result<Value, NoMemory>
 }
 
 /// The order of two documents by their `_id`.
-pub fn compare_ids(a: &Document, b: &Document) -> Ordering
+pub(crate) fn compare_ids(a: &Document, b: &Document) -> Ordering
     ensures { result ≡ compare (key_of a.now) (key_of b.now) }
 {
     let none = Value::Null;
@@ -134,7 +134,7 @@ pub fn id_text(alloc: Global, document: &Document) -> Result<Vec<u8>, Refusal>
 }
 
 /// Whether a document matches a filter. It takes no memory.
-pub fn matches(filter: &Filter, document: &Document) -> bool
+pub(crate) fn matches(filter: &Filter, document: &Document) -> bool
     ensures { result ≡ matches filter.now document.now }
 {
     filter.matches(document).unwrap()

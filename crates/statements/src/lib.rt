@@ -7,7 +7,7 @@ pub mod laws;
 mod statements;
 
 pub use deletions::{Left, after_deletions, is_deleted};
-pub use documents::{ID, check_key, compare_id, compare_ids, id_text, matches, read_id, stored};
+pub use documents::{ID, check_key, compare_id, id_text, read_id, stored};
 pub use statements::{
     Ran, Run, Tally, Write, run_on, unless_memory, update_reply, upsert_document,
 };

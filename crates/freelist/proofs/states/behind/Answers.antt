@@ -1,4 +1,4 @@
-use Rattle.std.proofs.Common.{◌≡◌, ◌+◌, ◌*◌, ◌/◌, ◌%◌, arith}
+use Rattle.std.proofs.Common.{◌≡◌, ◌*◌, ◌/◌, arith}
 use Rattle.std.proofs.Math.Nat.{mod-add-div'}
 use Rattle.freelist.specs.Search.{NoneFree}
 use Rattle.freelist.proofs.Searching.{past_block}

@@ -9,7 +9,7 @@ use Rattle.index.specs.View.{texts_of}
 use Rattle.planner.specs.IdLaws.{with_found}
 use Rattle.queries.proofs.CountLemmas.{AreCountedOf, all_counted_of, none_counted_of, one_counted_of}
 use Rattle.queries.specs.ById.{AreIdsOf}
-use Rattle.queries.proofs.LookingUpLemmas.{begins, ends, fails, looks_one, next_text, told_by_ids}
+use Rattle.queries.proofs.LookingUpLemmas.{HasLookedUp, begins, ends, fails, forgets, looks_one, next_text, told_by_ids}
 use Rattle.queries.proofs.counting.count_by_ids.Goals as goal
 
 pub ids-init : goal.ids-init
@@ -35,16 +35,34 @@ returns-in_err-found g c =
     (λ now place (o : Option Pairs). o ≡ stored_at place) (λ now of (count : ℕ). count ≡ length (matching rules of.documents))
     c.document.new.self c.in_err-found.field-0.0 text (texts_of (drop (c.ids.id-index + 1) c.args.ids.now)) is c.in_err-found.ensures)
 
+pub returns-in_err-count_found : goal.returns-in_err-count_found
+returns-in_err-count_found g c =
+    let rules = c.args.filter.now in
+    let text : List ℕ = c.deref.result.now in
+    let rest = texts_of (drop (c.ids.id-index + 1) c.args.ids.now) in
+    let is = next_text c.args.ids.now c.ids.id-index c.id-item.result text c.ids-test.true c.id-item.is c.deref.ensures.value in
+    let e = err_from_is_err_and c.from_residual-in_err-count_found.result c.from_residual-in_err-count_found.ensures.1 in
+    let come : HasLookedUp g.D.Disk.history c.args.number (AreIdsOf c.args.number (matches rules) (texts_of c.args.ids.now)) (texts_of c.args.ids.now)
+    (told_by_ids c.args.number (matches rules) (texts_of c.args.ids.now)) (λ all left. Unit {0}) c.args.file.now c.document.new.self rest =
+    looks_one g.D.Disk.history c.args.number (AreIdsOf c.args.number (matches rules) (texts_of c.args.ids.now)) (texts_of c.args.ids.now)
+    (told_by_ids c.args.number (matches rules) (texts_of c.args.ids.now)) (λ all left. AreCountedOf rules c.ids.count all left) c.args.file.now c.ids.file
+    (texts_of (drop c.ids.id-index c.args.ids.now)) c.ids.invariant.come
+    (λ o (x : Option Pairs). x ≡ o) (λ all left. Unit {0}) c.document.new.self text rest c.in_ok-found.found is c.in_ok-found.ensures
+    (λ all left o there so. tt) in
+    rw e.1 (forgets g.D.Disk.history c.args.number (AreIdsOf c.args.number (matches rules) (texts_of c.args.ids.now)) (texts_of c.args.ids.now)
+    (told_by_ids c.args.number (matches rules) (texts_of c.args.ids.now)) (λ all left. Unit {0}) c.args.file.now c.document.new.self rest come
+    (λ now of (count : ℕ). count ≡ length (matching rules of.documents)) e.0 e.2)
+
 pub ids-preserved : goal.ids-preserved
 ids-preserved g c =
     let rules = c.args.filter.now in
     let now = c.ids.count in
-    let more = c.count_found.result in
+    let more = c.in_ok-count_found.field-0 in
     let next = c.saturating_add-count.result in
     let text : List ℕ = c.deref.result.now in
     let is = next_text c.args.ids.now c.ids.id-index c.id-item.result text c.ids-test.true c.id-item.is c.deref.ensures.value in
     let within : length c.args.ids.now < 2 ^ 64 = omega arith in
-    let sum : next ≡ now + more = omega (arith, c.saturating_add-count.ensures, c.count_found.ensures.few, c.ids.invariant.few, c.ids-test.true, within) in
+    let sum : next ≡ now + more = omega (arith, c.saturating_add-count.ensures, c.in_ok-count_found.ensures.few, c.ids.invariant.few, c.ids-test.true, within) in
     record {
       come = looks_one g.D.Disk.history c.args.number (AreIdsOf c.args.number (matches rules) (texts_of c.args.ids.now)) (texts_of c.args.ids.now)
           (told_by_ids c.args.number (matches rules) (texts_of c.args.ids.now)) (λ all left. AreCountedOf rules now all left) c.args.file.now c.ids.file
@@ -52,8 +70,8 @@ ids-preserved g c =
           (λ o (x : Option Pairs). x ≡ o) (λ all left. AreCountedOf rules next all left)
           c.document.new.self text (texts_of (drop (c.ids.id-index + 1) c.args.ids.now)) c.in_ok-found.found is c.in_ok-found.ensures
           (λ all left o there so. one_counted_of rules now more next sum all left o
-          (c.count_found.ensures.count ∙ ap (λ (x : Option Pairs). length (matching rules (with_found x []))) there) so);
-      few = omega (arith, sum, c.count_found.ensures.few, c.ids.invariant.few);
+          (c.in_ok-count_found.ensures.count ∙ ap (λ (x : Option Pairs). length (matching rules (with_found x []))) there) so);
+      few = omega (arith, sum, c.in_ok-count_found.ensures.few, c.ids.invariant.few);
     }
 
 pub returns : goal.returns

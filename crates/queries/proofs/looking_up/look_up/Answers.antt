@@ -14,4 +14,4 @@ returns-in_err-document-clause-reads g c =
     let e = err_from_is_err_and c.from_residual.result c.from_residual.ensures.1 in
     rw (e.1, e.2) (reads_refused g.D.Disk.history (IsPlaceOf c.args.number c.args.id.now) (λ now place (o : Option Pairs). o ≡ stored_at place)
     (λ now place (_ : Unit {0}). found ≡ found
-    ++ filter p (with_found (stored_at place) [])) c.args.file.now c.document_within.new.file c.in_err-document.field-0.0 c.in_err-document.ensures.reads)
+    ++ filter p (with_found (stored_at place) [])) c.args.file.now c.spelled_within.new.file c.in_err-document.field-0.0 c.in_err-document.ensures.reads)

@@ -50,7 +50,7 @@ returns-in_err-found-clause-reads g c =
     (told_by_ids c.args.number (takes stages) (texts_of c.args.ids.now)) (λ all left. AreTakenOf stages c.ids.needed.items all left) c.args.file.now c.ids.file
     (texts_of (drop c.ids.id-index c.args.ids.now)) c.ids.invariant.come
     (λ now place (o : Option Pairs). o ≡ stored_at place) (λ now of (few : Vec Pairs Global). AreEnough stages few.items of.documents)
-    c.document_within.new.file c.in_err-found.field-0.0 text (texts_of (drop (c.ids.id-index + 1) c.args.ids.now)) is c.in_err-found.ensures.reads)
+    c.spelled_within.new.file c.in_err-found.field-0.0 text (texts_of (drop (c.ids.id-index + 1) c.args.ids.now)) is c.in_err-found.ensures.reads)
 
 pub returns-in_err-needed-clause-reads : goal.returns-in_err-needed-clause-reads
 returns-in_err-needed-clause-reads g c =
@@ -60,14 +60,14 @@ returns-in_err-needed-clause-reads g c =
     let is = next_text c.args.ids.now c.ids.id-index c.id-item.result text c.ids-test.true c.id-item.is c.deref.ensures.value in
     let e = err_from_is_err_and c.from_residual-in_err-needed.result c.from_residual-in_err-needed.ensures.1 in
     let come : HasLookedUp g.D.Disk.history c.args.number (AreIdsOf c.args.number (takes stages) (texts_of c.args.ids.now)) (texts_of c.args.ids.now)
-    (told_by_ids c.args.number (takes stages) (texts_of c.args.ids.now)) (λ all left. Unit {0}) c.args.file.now c.document_within.new.file rest =
+    (told_by_ids c.args.number (takes stages) (texts_of c.args.ids.now)) (λ all left. Unit {0}) c.args.file.now c.spelled_within.new.file rest =
     looks_one g.D.Disk.history c.args.number (AreIdsOf c.args.number (takes stages) (texts_of c.args.ids.now)) (texts_of c.args.ids.now)
     (told_by_ids c.args.number (takes stages) (texts_of c.args.ids.now)) (λ all left. AreTakenOf stages c.ids.needed.items all left) c.args.file.now c.ids.file
     (texts_of (drop c.ids.id-index c.args.ids.now)) c.ids.invariant.come
-    (λ o (x : Option Pairs). x ≡ o) (λ all left. Unit {0}) c.document_within.new.file text rest c.in_ok-found.found is c.in_ok-found.ensures.reads
+    (λ o (x : Option Pairs). x ≡ o) (λ all left. Unit {0}) c.spelled_within.new.file text rest c.in_ok-found.found is c.in_ok-found.ensures.reads
     (λ all left o there so. tt) in
     rw e.1 (forgets g.D.Disk.history c.args.number (AreIdsOf c.args.number (takes stages) (texts_of c.args.ids.now)) (texts_of c.args.ids.now)
-    (told_by_ids c.args.number (takes stages) (texts_of c.args.ids.now)) (λ all left. Unit {0}) c.args.file.now c.document_within.new.file rest come
+    (told_by_ids c.args.number (takes stages) (texts_of c.args.ids.now)) (λ all left. Unit {0}) c.args.file.now c.spelled_within.new.file rest come
     (λ now of (few : Vec Pairs Global). AreEnough stages few.items of.documents) e.0 e.2)
 
 pub ids-preserved : goal.ids-preserved
@@ -82,7 +82,7 @@ ids-preserved g c =
       come = looks_one g.D.Disk.history c.args.number (AreIdsOf c.args.number (takes stages) (texts_of c.args.ids.now)) (texts_of c.args.ids.now)
           (told_by_ids c.args.number (takes stages) (texts_of c.args.ids.now)) (λ all left. AreTakenOf stages few all left) c.args.file.now c.ids.file
           (texts_of (drop c.ids.id-index c.args.ids.now)) c.ids.invariant.come
-          (λ o (x : Option Pairs). x ≡ o) (λ all left. AreTakenOf stages next all left) c.document_within.new.file text
+          (λ o (x : Option Pairs). x ≡ o) (λ all left. AreTakenOf stages next all left) c.spelled_within.new.file text
           (texts_of (drop (c.ids.id-index + 1) c.args.ids.now)) found is c.in_ok-found.ensures.reads
           (one_taken_of stages few next found c.in_ok-needed.ensures);
       within = batch_of_within stages few next (with_found found []) c.in_ok-needed.ensures

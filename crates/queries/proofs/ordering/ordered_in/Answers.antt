@@ -16,8 +16,8 @@ returns-then-is_empty-clause-reads g c =
     let home = c.args.home.now in
     let plain = λ (ds : List Pairs). no_sort c.args.sort.now ds (sym c.if-is_empty.ensures) in
     subst (λ (Q : List Collection → Collection → Vec Pairs Global → Type 0). ReadsOf g.D.Disk.history
-    (IsAsked home) Q c.selected_in.result c.args.file.now c.selected_in.new.file)
-    (λ i now of found. found.items ≡ take c.args.most (sym (plain (matching c.args.filter.now of.documents)) i)) c.selected_in.ensures.reads
+    (IsAsked home) Q c.spelled_in.result c.args.file.now c.spelled_in.new.file)
+    (λ i now of found. found.items ≡ take c.args.most (sym (plain (matching c.args.filter.now of.documents)) i)) c.spelled_in.ensures.reads
 
 pub returns-in_err-found-clause-reads : goal.returns-in_err-found-clause-reads
 returns-in_err-found-clause-reads g c =

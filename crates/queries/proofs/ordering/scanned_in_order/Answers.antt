@@ -27,11 +27,11 @@ returns-in_err-sorted-clause-reads g c =
     (λ now of (found : Vec Pairs Global). found.items ≡ take c.args.most (order c.args.sort.now (matching c.args.filter.now of.documents))) c.args.file.now
     c.fold_documents.new.self (λ now of done. IsFolded Sorts start of.documents done) c.in_err-sorted.field-0.0 c.in_err-sorted.ensures.reads)
 
-pub returns-in_err-first_ones-clause-reads : goal.returns-in_err-first_ones-clause-reads
-returns-in_err-first_ones-clause-reads g c =
+pub returns-in_err-first_spelled-clause-reads : goal.returns-in_err-first_spelled-clause-reads
+returns-in_err-first_spelled-clause-reads g c =
     let start : Sorting = record { alloc = c.args.alloc; filter = c.args.filter; sort = c.args.sort; most = c.args.most; found = c.new.result } in
     let done : Sorting = c.in_ok-sorted.sorted in
-    let e = err_from_is_err_and c.from_residual-in_err-first_ones.result c.from_residual-in_err-first_ones.ensures.1 in
+    let e = err_from_is_err_and c.from_residual-in_err-first_spelled.result c.from_residual-in_err-first_spelled.ensures.1 in
     rw e.1
     (asked_on g.D.Disk.history (λ now of. IsNumbered now of c.args.number)
     (λ now of (found : Vec Pairs Global). found.items ≡ take c.args.most (order c.args.sort.now (matching c.args.filter.now of.documents))) c.args.file.now
@@ -42,15 +42,12 @@ pub returns-clause-reads : goal.returns-clause-reads
 returns-clause-reads g c =
     let start : Sorting = record { alloc = c.args.alloc; filter = c.args.filter; sort = c.args.sort; most = c.args.most; found = c.new.result } in
     let done : Sorting = c.in_ok-sorted.sorted in
-    let last = c.in_ok-first_ones.field-0 in
-    let first : last.items ≡ take c.args.most (order c.args.sort.now done.found.items) =
-    c.in_ok-first_ones.ensures.first ∙ ap (λ (ds : List Pairs). take c.args.most (order c.args.sort.now ds)) c.deref.ensures.value in
+    let last = c.in_ok-first_spelled.field-0 in
+    let first : last.items ≡ take c.args.most (order c.args.sort.now done.found.items) = c.in_ok-first_spelled.ensures.first in
     asked_on g.D.Disk.history (λ now of. IsNumbered now of c.args.number)
     (λ now of (found : Vec Pairs Global). found.items ≡ take c.args.most (order c.args.sort.now (matching c.args.filter.now of.documents))) c.args.file.now
     c.fold_documents.new.self (λ now of done. IsFolded Sorts start of.documents done) done (Ok last) c.in_ok-sorted.ensures.reads
     (λ now of numbered folded. all_sorted start done of.documents last.items c.new.ensures.items first folded.made)
 
-pub returns-clause-within : goal.returns-clause-within
-returns-clause-within g c =
-    c.in_ok-first_ones.ensures.within (subst (All IsWithin) (sym c.deref.ensures.value)
-    (c.in_ok-sorted.ensures.taken.made.within (subst (All IsWithin) (sym c.new.ensures.items) (All-nil IsWithin))))
+pub first_spelled-requires : goal.first_spelled-requires
+first_spelled-requires g c = c.in_ok-sorted.ensures.taken.made.within (subst (All IsWithin) (sym c.new.ensures.items) (All-nil IsWithin))

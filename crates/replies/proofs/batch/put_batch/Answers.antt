@@ -11,28 +11,28 @@ use Rattle.replies.proofs.batch.put_batch.Goals as goal
 use Rattle.replies.proofs.batch.put_batch.Goals.{in-Some, in-None}
 
 pub documents-init : goal.documents-init
-documents-init g c = no_batch (projected c.args.projection.now (map g.T.AsDocument.document c.args.documents.now)) c.args.most c.args.out.now.items
+documents-init g c = no_batch (projected c.args.projection.now (map g.T.Gives.document c.args.documents.now)) c.args.most c.args.out.now.items
 
 pub returns-then-i-most-clause-count : goal.returns-then-i-most-clause-count
 returns-then-i-most-clause-count g c =
-    full (projected c.args.projection.now (map g.T.AsDocument.document c.args.documents.now)) c.args.most c.documents.i c.documents.room c.args.out.now.items
+    full (projected c.args.projection.now (map g.T.Gives.document c.args.documents.now)) c.args.most c.documents.i c.documents.room c.args.out.now.items
     c.documents.out.items c.documents.invariant (omega (arith, c.if-i-most.true))
 
 pub put_item-requires : goal.put_item-requires
 put_item-requires g c =
-    one_within (projected c.args.projection.now (map g.T.AsDocument.document c.args.documents.now)) c.documents.i
-    (project c.args.projection.now c.as_document.result.now)
-    (drop (c.documents.i + 1) (projected c.args.projection.now (map g.T.AsDocument.document c.args.documents.now)))
-    (projected_step g.T.AsDocument.document c.args.projection.now c.args.documents.now c.documents.i c.index-documents-i.result c.as_document.result.now
-    c.documents-test.true c.index-documents-i.is c.as_document.ensures) c.requires
+    one_within (projected c.args.projection.now (map g.T.Gives.document c.args.documents.now)) c.documents.i
+    (project c.args.projection.now (g.T.Gives.document c.index-documents-i.result))
+    (drop (c.documents.i + 1) (projected c.args.projection.now (map g.T.Gives.document c.args.documents.now)))
+    (projected_step g.T.Gives.document c.args.projection.now c.args.documents.now c.documents.i c.index-documents-i.result
+    c.documents-test.true c.index-documents-i.is) c.requires
 
 pub returns-in-None-2-clause-count : goal.returns-in-None-2-clause-count
 returns-in-None-2-clause-count g c =
-    let gs = projected c.args.projection.now (map g.T.AsDocument.document c.args.documents.now) in
-    let d = project c.args.projection.now c.as_document.result.now in
+    let gs = projected c.args.projection.now (map g.T.Gives.document c.args.documents.now) in
+    let d = project c.args.projection.now (g.T.Gives.document c.index-documents-i.result) in
     let i = c.documents.i in
-    let at = projected_step g.T.AsDocument.document c.args.projection.now c.args.documents.now i c.index-documents-i.result c.as_document.result.now
-    c.documents-test.true c.index-documents-i.is c.as_document.ensures in
+    let at = projected_step g.T.Gives.document c.args.projection.now c.args.documents.now i c.index-documents-i.result
+    c.documents-test.true c.index-documents-i.is in
     let grown : length c.put_item.new.out.items ≡ length c.documents.out.items + item_size i d =
     ap length c.in_ok-put_item.ensures.bytes ∙ length-append c.documents.out.items (element 3 (decimal i) (frame_of (pairs_bytes d))) in
     let over : c.documents.room < item_size i d =
@@ -44,11 +44,11 @@ returns-in-None-2-clause-count g c =
 
 pub documents-preserved : goal.documents-preserved
 documents-preserved g c =
-    let gs = projected c.args.projection.now (map g.T.AsDocument.document c.args.documents.now) in
-    let d = project c.args.projection.now c.as_document.result.now in
+    let gs = projected c.args.projection.now (map g.T.Gives.document c.args.documents.now) in
+    let d = project c.args.projection.now (g.T.Gives.document c.index-documents-i.result) in
     let i = c.documents.i in
-    let at = projected_step g.T.AsDocument.document c.args.projection.now c.args.documents.now i c.index-documents-i.result c.as_document.result.now
-    c.documents-test.true c.index-documents-i.is c.as_document.ensures in
+    let at = projected_step g.T.Gives.document c.args.projection.now c.args.documents.now i c.index-documents-i.result
+    c.documents-test.true c.index-documents-i.is in
     let grown : length c.put_item.new.out.items ≡ length c.documents.out.items + item_size i d =
     ap length c.in_ok-put_item.ensures.bytes ∙ length-append c.documents.out.items (element 3 (decimal i) (frame_of (pairs_bytes d))) in
     let other : i ≢ c.args.most = omega (arith, c.if-i-most.false) in

@@ -23,7 +23,7 @@ put-requires g c = int_short (batch_name c.args.kind) [] 0 c.args.namespace.now
 
 pub end-requires-clause-short : goal.end-requires-clause-short
 end-requires-clause-short g c =
-    let lent = g.T.AsDocument.document in
+    let lent = g.T.Gives.document in
     let gs = projected c.args.projection.now (map lent c.args.documents.now) in
     let n = c.in_ok-count.count in
     let name = batch_name c.args.kind in
@@ -40,7 +40,7 @@ end-requires-clause-short g c =
 
 pub new-requires : goal.new-requires
 new-requires g c =
-    let lent = g.T.AsDocument.document in
+    let lent = g.T.Gives.document in
     let gs = projected c.args.projection.now (map lent c.args.documents.now) in
     let n = c.in_ok-count.count in
     let name = batch_name c.args.kind in
@@ -64,7 +64,7 @@ new-requires g c =
 
 pub returns-clause-reply : goal.returns-clause-reply
 returns-clause-reply g c =
-    let lent = g.T.AsDocument.document in
+    let lent = g.T.Gives.document in
     let gs = projected c.args.projection.now (map lent c.args.documents.now) in
     let n = c.in_ok-count.count in
     let name = batch_name c.args.kind in
@@ -88,7 +88,7 @@ returns-clause-reply g c =
 
 pub returns-clause-sendable : goal.returns-clause-sendable
 returns-clause-sendable g c =
-    let lent = g.T.AsDocument.document in
+    let lent = g.T.Gives.document in
     let gs = projected c.args.projection.now (map lent c.args.documents.now) in
     let n = c.in_ok-count.count in
     let name = batch_name c.args.kind in

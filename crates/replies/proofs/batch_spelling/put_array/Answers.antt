@@ -8,7 +8,7 @@ use Rattle.replies.proofs.batch_spelling.put_array.Goals as goal
 
 pub end-requires-clause-short : goal.end-requires-clause-short
 end-requires-clause-short g c =
-    let gs = projected c.args.projection.now (map g.T.AsDocument.document c.args.documents.now) in
+    let gs = projected c.args.projection.now (map g.T.Gives.document c.args.documents.now) in
     let batch = items_bytes 0 (items_of_documents (take c.in_ok-count.count gs)) in
     omega (
       arith,

@@ -12,7 +12,7 @@ use Rattle.replies.proofs.batch_spelling.put_cursor.Goals as goal
 
 pub end-requires-clause-short : goal.end-requires-clause-short
 end-requires-clause-short g c =
-    let lent = g.T.AsDocument.document in
+    let lent = g.T.Gives.document in
     let gs = projected c.args.projection.now (map lent c.args.documents.now) in
     let n = c.in_ok-count.count in
     let name = batch_name c.args.kind in
@@ -32,7 +32,7 @@ end-requires-clause-short g c =
 
 pub returns-clause-bytes : goal.returns-clause-bytes
 returns-clause-bytes g c =
-    let lent = g.T.AsDocument.document in
+    let lent = g.T.Gives.document in
     let gs = projected c.args.projection.now (map lent c.args.documents.now) in
     let n = c.in_ok-count.count in
     let name = batch_name c.args.kind in

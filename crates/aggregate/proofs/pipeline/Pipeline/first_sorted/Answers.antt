@@ -11,4 +11,4 @@ returns c =
     let e = c.in-Some-Sort-default in
     let behind : List Stage = map stage_of e.behind.now in
     let is : behind_match stages ≡ sort_stage e.sort ∷ behind = search rules in
-    first_are_enough c.sorts_in_parts.ensures e.sort behind c.in-Some.most c.in-Some.ensures stages is
+    first_are_enough c.sorts_in_parts.ensures e.sort behind c.in_ok-most.most c.in_ok-most.ensures stages is

@@ -1,9 +1,7 @@
-use Rattle.std.proofs.Common.{◌≡◌, List, ap, sym, subst, ◌∙◌, arith}
-use Rattle.std.specs.Prelude.{All, Some}
+use Rattle.std.proofs.Common.{◌≡◌, ap, arith}
+use Rattle.std.specs.Prelude.{Some}
 use Rattle.std.proofs.lemmas.Result.{err_from_is_err_and}
-use Rattle.bson.specs.Tree.{Pairs}
 use Rattle.database_model.specs.Find.{given, query_result, run_find}
-use Rattle.database_model.specs.Lawful.{IsWithin}
 use Rattle.engine.specs.View.{world}
 use Rattle.database_model.specs.World.{documents_of}
 use Rattle.engine.proofs.Finding.{given_enough, given_within_limits}
@@ -28,17 +26,14 @@ returns-clause-performs g c =
     let q = c.args.query.now in
     let w = world old in
     let found = c.in_ok-found.found in
-    let seen = c.deref.result.now in
     let documents = documents_of w.collections c.args.namespace.now in
-    let within : All IsWithin seen = subst (λ (ds : List Pairs). All IsWithin ds) (sym c.deref.ensures.value) c.in_ok-found.ensures.within in
     gives_behind g.D.Disk.history old mid c.give_found.new.self c.in_ok-found.ensures.looks.reads c.give_found.ensures.file
     (ap (λ t. t.value) c.give_found.ensures.told) c.give_found.ensures.has_changes
-    c.args.connection c.args.namespace.now (given q seen) c.args.most
+    c.args.connection c.args.namespace.now (given q found.items) c.args.most
     (run_find w c.args.connection (record { namespace = c.args.namespace.now; query = q; batch_size = Some c.args.most })) c.give_found.result
-    c.requires.short (given_within_limits q seen within) c.give_found.ensures.runs
+    c.requires.short (given_within_limits q found.items c.in_ok-found.ensures.within) c.give_found.ensures.runs
     (λ k.
-    let same : given q seen ≡ query_result q documents =
-    ap (given q) c.deref.ensures.value
-    ∙ given_enough q c.enough.result documents found.items c.enough.ensures (c.in_ok-found.ensures.looks.answers k)
+    let same : given q found.items ≡ query_result q documents =
+    given_enough q c.enough.result documents found.items c.enough.ensures (c.in_ok-found.ensures.looks.answers k)
     (omega (arith, found.ok.0, found.ok.1, found.small)) in
-    run_find-is w c.args.connection c.args.namespace.now q c.args.most (given q seen) same)
+    run_find-is w c.args.connection c.args.namespace.now q c.args.most (given q found.items) same)

@@ -1,6 +1,6 @@
-use Rattle.std.proofs.Common.{◌≡◌, ◌≤◌, ◌<◌, ◌+◌, List, [], ◌∷◌, ◌++◌, length, map, drop, refl, sym, ap, subst, ◌∙◌, arith}
+use Rattle.std.proofs.Common.{◌≡◌, ◌≤◌, ◌<◌, ◌+◌, ◌-◌, List, [], ◌∷◌, ◌++◌, length, map, drop, refl, sym, ap, subst, ◌∙◌, arith, length-drop}
 use Rattle.std.specs.Prelude.{All}
-use Rattle.std.proofs.lemmas.List.{map-id}
+use Rattle.std.proofs.lemmas.List.{map-id, take_all}
 use Rattle.std.proofs.lemmas.List.Elements.{All-drop}
 use Rattle.std.proofs.lemmas.Result.{err_from_is_err_and}
 use Rattle.bson.specs.Tree.{Pairs}
@@ -52,10 +52,22 @@ returns-then-len-count-clause-runs g c =
     c.in_ok-reply.ensures.batch)
     (omega (arith, c.if-len-count.true, c.len.ensures, c.args.given.ok))
 
+pub spelled_all-requires : goal.spelled_all-requires
+spelled_all-requires g c =
+    let behind = c.deref-2.result.now in
+    let left =
+    take_all (length behind - c.in_ok-reply.count) (drop c.in_ok-reply.count behind) (omega (arith, length-drop c.in_ok-reply.count behind))
+    ∙ ap (drop c.in_ok-reply.count) c.deref-2.ensures.value in
+    subst (λ (es : List Pairs). All IsWithin es) (sym left) (All-drop IsWithin c.in_ok-reply.count c.args.given.items c.requires.within)
+
 pub open-requires-clause-within : goal.open-requires-clause-within
 open-requires-clause-within g c =
+    let behind = c.deref-2.result.now in
+    let left =
+    take_all (length behind - c.in_ok-reply.count) (drop c.in_ok-reply.count behind) (omega (arith, length-drop c.in_ok-reply.count behind))
+    ∙ ap (drop c.in_ok-reply.count) c.deref-2.ensures.value in
     let rest : map (project c.new-whole.result) c.in_ok-rest.rest.items ≡ drop c.in_ok-reply.count c.args.given.items =
-    all_stay c.new-whole.result c.in_ok-rest.rest.items c.new-whole.ensures ∙ c.in_ok-rest.ensures in
+    all_stay c.new-whole.result c.in_ok-rest.rest.items c.new-whole.ensures ∙ c.in_ok-rest.ensures ∙ left in
     subst (λ (es : List Pairs). All IsWithin es) (sym rest) (All-drop IsWithin c.in_ok-reply.count c.args.given.items c.requires.within)
 
 pub returns-clause-runs : goal.returns-clause-runs
@@ -66,8 +78,12 @@ returns-clause-runs g c =
     all_stay c.new-whole.result (map (λ (d : Pairs). d) seen) c.new-whole.ensures ∙ map-id seen ∙ c.deref.ensures.value in
     let n = c.in_ok-reply.count in
     let reply = c.in_ok-reply.reply in
+    let behind = c.deref-2.result.now in
+    let left =
+    take_all (length behind - c.in_ok-reply.count) (drop c.in_ok-reply.count behind) (omega (arith, length-drop c.in_ok-reply.count behind))
+    ∙ ap (drop c.in_ok-reply.count) c.deref-2.ensures.value in
     let rest : map (project c.new-whole.result) c.in_ok-rest.rest.items ≡ drop n c.args.given.items =
-    all_stay c.new-whole.result c.in_ok-rest.rest.items c.new-whole.ensures ∙ c.in_ok-rest.ensures in
+    all_stay c.new-whole.result c.in_ok-rest.rest.items c.new-whole.ensures ∙ c.in_ok-rest.ensures ∙ left in
     let over : n < length c.args.given.items = omega (arith, c.if-len-count.false, c.len.ensures, c.args.given.ok) in
     let made : world_of c.args.self.now.told.value c.open.new.self ≡ with_cursor w c.args.connection c.args.namespace.now c.args.given.items n =
     ap (world_of c.args.self.now.told.value) c.in_ok-open.ensures.ok

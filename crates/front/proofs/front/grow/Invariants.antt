@@ -1,0 +1,6 @@
+use Rattle.std.proofs.Common.{◌≡◌, length}
+use Rattle.front.specs.Serving.{HaveGrown}
+use Rattle.front.proofs.front.grow.Given as goal
+
+abbrev pub invariant-numbers : goal.invariant-numbers
+invariant-numbers l = (length l.sockets.items ≡ l.counter) × HaveGrown l.initial.sockets.items l.sockets.items

@@ -1,0 +1,13 @@
+use Rattle.std.proofs.Common.{◌≡◌, ◌+◌, ◌<◌, [], List, ℕ, length, drop, ap, arith}
+use Rattle.std.proofs.lemmas.Bool.Decides.{nat_tests}
+use Rattle.std.proofs.lemmas.List.{drop_all}
+use Rattle.queries.proofs.DepthLemmas.{inner, nests_no_deeper}
+use Rattle.queries.proofs.within.is_shallow.Goals as goal
+
+pub returns : goal.returns
+returns c = λ few d spelled.
+    let bytes : List ℕ = c.args.bytes.now in
+    let none : drop c.bytes.byte-index bytes ≡ [] = drop_all c.bytes.byte-index bytes (omega (arith, c.bytes-test.false)) in
+    let all : c.bytes.count ≡ inner bytes = omega (arith, c.bytes.invariant.counted, ap inner none) in
+    let below : c.bytes.count < 90 = grind (arith, nat_tests, few) in
+    omega (arith, below, all, nests_no_deeper bytes d spelled)

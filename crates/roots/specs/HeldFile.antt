@@ -1,0 +1,135 @@
+-- What a file holds whose root may name a list of free pages beside its tree.
+use Rattle.std.specs.Prelude.{◌≡◌, ◌≢◌, ℕ, ◌+◌, ◌≤◌, max, Bool, true, false, List, [], ◌++◌}
+use Rattle.std.specs.Prelude.{Option, Result, MatchResult}
+use Rattle.page.specs.Format.{Sheet}
+use Rattle.page.specs.History.{History, KeepsWord, now, reads}
+use Rattle.page.specs.declared.page_fault.PageFault.{PageFault}
+use Rattle.btree.specs.Keys.{Entry, times}
+use Rattle.freelist.specs.Book.{Book, opened}
+use Rattle.freelist.specs.FreeList.{IsFreeList, IsPartition, ListContent, Part, named_by, opened_by}
+use Rattle.freelist.specs.FreeList.{pages_of, room_for, times_in}
+use Rattle.freelist.specs.ListReading.{AreAllBelow}
+use Rattle.freelist.specs.declared.list.FreeList.{FreeList}
+use Rattle.roots.specs.Image.{HoldsMap, IsOnPages, sheet_at}
+use Rattle.roots.specs.Listed.{listed_sheet}
+use Rattle.roots.specs.Root.{IsUnlisted}
+use Rattle.roots.specs.Store.{disk_history, durable_root}
+use Rattle.roots.specs.declared.opening.OpenFault.{OpenFault}
+use Rattle.roots.specs.declared.opening.OpenFault.TheVariants as faults
+use Rattle.roots.specs.declared.root.Root.{Root}
+use Rattle.roots.specs.declared.store.Store.{Store}
+
+-- what each of these pages is of a list
+abbrev pub list_in : (ℕ → Result Sheet PageFault) → ℕ → Option ListContent
+list_in sheets page = listed_sheet (sheets page)
+
+-- The list that a root names in these pages, where its tree reaches these. First page 0 is no list:
+-- which pages are free, such a file doesn't tell. A list has each page of the file that the tree
+-- doesn't reach: it is the list's own, or the list names it.
+pub record HasList (sheets : ℕ → Result Sheet PageFault) (root : Root) (pages : List ℕ)
+    (parts : List Part) : Type 0 where
+  pub list : IsFreeList (list_in sheets) root.pages root.free_list root.free_count parts
+  pub all : root.free_list ≢ 0 → IsPartition root.pages pages parts
+
+-- The root's tree reaches these pages and has these entries, and these parts are the root's list.
+pub record HoldsFile (sheets : ℕ → Result Sheet PageFault) (root : Root) (pages : List ℕ)
+    (parts : List Part) (entries : List Entry) : Type 0 where
+  pub tree : HoldsMap sheets root pages entries
+  pub list : HasList sheets root pages parts
+
+-- the pages that a root reaches: those of its tree, then the list's own
+abbrev pub reached_by : List ℕ → List Part → List ℕ
+reached_by pages parts = pages ++ pages_of parts
+
+-- ---- laws
+
+-- a root that names no list has the tree alone
+abbrev pub NoListIsTree : Type 0
+NoListIsTree = (sheets : ℕ → Result Sheet PageFault) (root : Root) → IsUnlisted root
+    → (pages : List ℕ) (entries : List Entry) → HoldsMap sheets root pages entries
+    → HoldsFile sheets root pages [] entries
+    × ((parts : List Part) → HasList sheets root pages parts → parts ≡ [])
+
+-- a root has one tree and one list at most
+abbrev pub HoldsOneFile : Type 0
+HoldsOneFile = (sheets : ℕ → Result Sheet PageFault) (root : Root) (pages others : List ℕ)
+    (parts rest : List Part) (entries more : List Entry)
+    → HoldsFile sheets root pages parts entries → HoldsFile sheets root others rest more
+    → (pages ≡ others) × ((parts ≡ rest) × (entries ≡ more))
+
+-- a list names just the pages of the file that the root doesn't reach, each once
+abbrev pub NamesTheRest : Type 0
+NamesTheRest = (sheets : ℕ → Result Sheet PageFault) (root : Root) (pages : List ℕ)
+    (parts : List Part) (entries : List Entry) → HoldsFile sheets root pages parts entries
+    → root.free_list ≢ 0 → (page : ℕ)
+    → times page (reached_by pages parts) + times_in page (named_by parts)
+    ≡ room_for root.pages page
+
+-- so it tells the book that is opened with the pages that the root reaches
+abbrev pub ListTellsBook : Type 0
+ListTellsBook = (sheets : ℕ → Result Sheet PageFault) (root : Root) (pages : List ℕ)
+    (parts : List Part) (entries : List Entry) → HoldsFile sheets root pages parts entries
+    → root.free_list ≢ 0 → (limit version : ℕ) → root.pages ≤ limit
+    → opened (reached_by pages parts) limit version
+    ≡ opened_by (named_by parts) root.pages limit version
+
+-- What the root's pages hold decides it all: an image with the same in them holds the same file.
+abbrev pub ReachedDecides : Type 0
+ReachedDecides = (image other : ℕ → List ℕ) (root : Root) (pages : List ℕ) (parts : List Part)
+    (entries : List Entry) → HoldsFile (sheet_at image root) root pages parts entries
+    → ((k : ℕ) → IsOnPages (reached_by pages parts) k → other k ≡ image k)
+    → HoldsFile (sheet_at other root) root pages parts entries
+
+-- ---- what is read
+
+-- a list with these pages of its own that names these
+pub record HasListOn (sheets : ℕ → Result Sheet PageFault) (root : Root) (tree : List ℕ)
+    (pages named : List ℕ) : Type 0 where
+  pub parts : List Part
+  pub has : HasList sheets root tree parts
+  pub pages_are : pages ≡ pages_of parts
+  pub named_are : named ≡ named_by parts
+
+-- whether the list that a root names, if it names one, fits the tree
+abbrev pub FitsTree : Root → List ℕ → List ℕ → List ℕ → Bool → Type 0
+FitsTree root tree pages named true =
+    root.free_list ≢ 0 → AreAllBelow root.pages (tree ++ (pages ++ named))
+FitsTree root tree pages named false =
+    (root.free_list ≢ 0) × (AreAllBelow root.pages (tree ++ (pages ++ named)) → ⊥)
+
+-- The root's list was read; it is damaged only where the root has none beside this tree.
+abbrev pub ChecksList : (ℕ → Result Sheet PageFault) → Root → List ℕ
+    → Result FreeList OpenFault → Type 0
+ChecksList sheets root tree result =
+    MatchResult result
+    (λ list. HasListOn sheets root tree list.pages.items list.named.items)
+    (λ fault. fault ≡ faults.Damaged → (parts : List Part) → HasList sheets root tree parts → ⊥)
+
+-- what the root of a store's disk names there
+abbrev pub ChecksStore : {D : Type 0} → (D → History) → List ℕ → Result FreeList OpenFault
+    → Store D → Store D → Type 0
+ChecksStore history tree result old new =
+    KeepsWord (disk_history history new) → let root = durable_root old in
+    ChecksList (sheet_at (reads (now (disk_history history old))) root) root tree result
+
+-- a file of which these are the pages that its root reaches
+pub record Reaches (sheets : ℕ → Result Sheet PageFault) (root : Root)
+    (live : List ℕ) : Type 0 where
+  pub pages : List ℕ
+  pub parts : List Part
+  pub entries : List Entry
+  pub holds : HoldsFile sheets root pages parts entries
+  pub are : live ≡ reached_by pages parts
+
+-- these sheets are no file of this root
+abbrev pub HoldsNoFile : (ℕ → Result Sheet PageFault) → Root → Type 0
+HoldsNoFile sheets root =
+    (pages : List ℕ) (parts : List Part) (entries : List Entry)
+    → HoldsFile sheets root pages parts entries → ⊥
+
+-- The book of a file: the pages that its root reaches are in use.
+pub record IsFileBook (sheets : ℕ → Result Sheet PageFault) (root : Root) (limit : ℕ)
+    (book : Book) : Type 0 where
+  pub live : List ℕ
+  pub reaches : Reaches sheets root live
+  pub is : book ≡ opened live (max (max limit root.pages) 1) root.generation
