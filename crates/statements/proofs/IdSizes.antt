@@ -25,12 +25,10 @@ use Rattle.filter.specs.Condition.{Conditions, no_conditions, condition, equals}
 use Rattle.filter.specs.ProjectionReading.{begins_with_id, is_id}
 use Rattle.filter.specs.Reading.{array_in, every, exists, has_operators, just, named_condition, operation, or_refusal, order_operand, path_in}
 use Rattle.filter.specs.Reading.{read_element, read_filter}
-use Rattle.filter.specs.Reading.{read_known, read_members, read_not, read_operand, read_operators, read_operation}
+use Rattle.filter.specs.Reading.{read_known, read_members, read_not, read_operand, read_operators}
 use Rattle.filter.specs.Words.{all_kinds, operator_of, size_in}
 use Rattle.filter.specs.declared.condition.Comparison.{Comparison}
 use Rattle.filter.specs.declared.condition.Comparison.TheVariants as comparisons
-use Rattle.filter.specs.declared.operator.Operator.{Operator}
-use Rattle.filter.specs.declared.operator.Operator.TheVariants as operators
 use Rattle.update.specs.Update.{Path, set, Edit, Update as Change, replacement, edits}
 use Rattle.update.specs.Applying.{apply, changed}
 use Rattle.update.specs.IdEditLaws.{edits_keep_id, ok_same}
@@ -220,23 +218,38 @@ AsksOf t r = (c : Condition) → r ≡ Ok c → asked_size c ≤ length (tree_by
 none_of : (t : Tree) (r : Result Condition Refusal) → AsksNone r → AsksOf t r
 none_of t r none c e = omega (arith, none c e)
 
-operation_asks : (o : Operator) (t : Tree) → AsksOf t (read_operation o t)
-operation_asks operators.Equal t = λ c e. omega (arith, ap asked_size (ok_same e))
-operation_asks operators.Above t = none_of t _ (order_none comparisons.Above t)
-operation_asks operators.AtLeast t = none_of t _ (order_none comparisons.AtLeast t)
-operation_asks operators.Below t = none_of t _ (order_none comparisons.Below t)
-operation_asks operators.AtMost t = none_of t _ (order_none comparisons.AtMost t)
-operation_asks operators.In t = none_of t _ (then_none (array_in t) (λ (ts : Items). any (equals ts)) (λ ts. refl))
-operation_asks operators.Exists t = none_of t _ (exists_none t)
-operation_asks operators.Type t = none_of t _ (then_none (all_kinds t) (λ ks. is (of_kinds (map kind_byte ks))) (λ ks. refl))
-operation_asks operators.All t = none_of t _ (then_none (array_in t) (λ (ts : Items). every (equals ts)) (λ ts. every_none (equals ts)))
-operation_asks operators.Size t = none_of t _ (then_none (size_in t) (λ n. is (size n)) (λ n. refl))
-operation_asks operators.NotEqual t = none_of t _ (asks_none _ refl)
-operation_asks operators.NotIn t = none_of t _ (then_none (array_in t) (λ (ts : Items). not_any (equals ts)) (λ ts. refl))
-
-known_asks : (o : Option Operator) (t : Tree) → AsksOf t (read_known o t)
-known_asks None t = λ c e. absurd cc
-known_asks (Some o) t = operation_asks o t
+-- an operator is chosen by its name: whichever it is, no more is asked to be equal than its operand
+known_asks : (name : List ℕ) (t : Tree) → AsksOf t (read_known (operator_of name) t)
+known_asks name t =
+    (asks (λ o. read_known o t) (bytes_eq name (codes "$eq")) _ _
+    (λ c e. omega (arith, ap asked_size (ok_same e)))
+    (asks (λ o. read_known o t) (bytes_eq name (codes "$gt")) _ _
+    (none_of t _ (order_none comparisons.Above t))
+    (asks (λ o. read_known o t) (bytes_eq name (codes "$gte")) _ _
+    (none_of t _ (order_none comparisons.AtLeast t))
+    (asks (λ o. read_known o t) (bytes_eq name (codes "$lt")) _ _
+    (none_of t _ (order_none comparisons.Below t))
+    (asks (λ o. read_known o t) (bytes_eq name (codes "$lte")) _ _
+    (none_of t _ (order_none comparisons.AtMost t))
+    (asks (λ o. read_known o t) (bytes_eq name (codes "$in")) _ _
+    (none_of t _ (then_none (array_in t) (λ (ts : Items). any (equals ts)) (λ ts. refl)))
+    (asks (λ o. read_known o t) (bytes_eq name (codes "$exists")) _ _
+    (none_of t _ (exists_none t))
+    (asks (λ o. read_known o t) (bytes_eq name (codes "$type")) _ _
+    (none_of t _ (then_none (all_kinds t) (λ ks. is (of_kinds (map kind_byte ks))) (λ ks. refl)))
+    (asks (λ o. read_known o t) (bytes_eq name (codes "$all")) _ _
+    (none_of t _ (then_none (array_in t) (λ (ts : Items). every (equals ts)) (λ ts. every_none (equals ts))))
+    (asks (λ o. read_known o t) (bytes_eq name (codes "$size")) _ _
+    (none_of t _ (then_none (size_in t) (λ n. is (size n)) (λ n. refl)))
+    (asks (λ o. read_known o t) (bytes_eq name (codes "$ne")) _ _
+    (none_of t _ (asks_none _ refl))
+    (asks (λ o. read_known o t) (bytes_eq name (codes "$nin")) _ _
+    (none_of t _ (then_none (array_in t) (λ (ts : Items). not_any (equals ts)) (λ ts. refl)))
+    (λ c e. absurd cc)))))))))))))
+  where
+    asks : {X : Type 0} (f : X → Result Condition Refusal) (b : Bool) (x y : X) → AsksOf t (f x) → AsksOf t (f y) → AsksOf t (f (if b then x else y))
+    asks f true x y first later = first
+    asks f false x y first later = later
 
 named_asks : (name : List ℕ) (t : Tree) → AsksOf t (operation name (read_element t) (read_not t) t)
 named_asks name t = by (bytes_eq name (codes "$elemMatch")) (bytes_eq name (codes "$not"))
@@ -244,7 +257,7 @@ named_asks name t = by (bytes_eq name (codes "$elemMatch")) (bytes_eq name (code
     by : (a b : Bool) → AsksOf t (if a then read_element t else (if b then read_not t else read_known (operator_of name) t))
     by true b = none_of t _ (element_none t)
     by false true = none_of t _ (not_none t)
-    by false false = known_asks (operator_of name) t
+    by false false = known_asks name t
 
 operators_size : (ps : Pairs) (cs : Conditions) → read_operators ps ≡ Ok cs → all_asked_size cs ≤ length (pairs_bytes ps) + 3
 operators_size no_pairs cs e = omega (arith, ap all_asked_size (ok_same e))
