@@ -14,13 +14,13 @@ use Rattle.database_model.specs.Find.{matching}
 use Rattle.queries.specs.ByIndex.{AsksTaken}
 
 -- A pipeline takes what its `$match` in front asks for, and all documents where there is none.
-taken_by : (s : Stage) (stages : List Stage) → AsksTaken (s ∷ stages) (unwrap_or no_conditions (leading_match (s ∷ stages)))
+taken_by : (s : Stage) (stages : List Stage) → AsksTaken (s ∷ stages) (unwrap_or (leading_match (s ∷ stages)) no_conditions)
 taken_by (match_stage rules) stages ds = refl
 taken_by other stages ds = refl
 
-pub asks_taken : (stages : List Stage) (o : Option Conditions) → o ≡ leading_match stages → AsksTaken stages (unwrap_or no_conditions o)
-asks_taken [] o is ds = ap (λ (o : Option Conditions). filter (matches (unwrap_or no_conditions o)) ds) is
-asks_taken (s ∷ stages) o is ds = ap (λ (o : Option Conditions). filter (matches (unwrap_or no_conditions o)) ds) is ∙ taken_by s stages ds
+pub asks_taken : (stages : List Stage) (o : Option Conditions) → o ≡ leading_match stages → AsksTaken stages (unwrap_or o no_conditions)
+asks_taken [] o is ds = ap (λ (o : Option Conditions). filter (matches (unwrap_or o no_conditions)) ds) is
+asks_taken (s ∷ stages) o is ds = ap (λ (o : Option Conditions). filter (matches (unwrap_or o no_conditions)) ds) is ∙ taken_by s stages ds
 
 -- all that a pipeline takes are enough
 taken_enough : (stages : List Stage) (ds : List Pairs) → IsEnough stages (filter (takes stages) ds) (filter (takes stages) ds)

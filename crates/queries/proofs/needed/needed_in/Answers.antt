@@ -8,15 +8,15 @@ use Rattle.queries.specs.Asking.{IsAsked}
 use Rattle.queries.proofs.ReadingLemmas.{reads_behind, reads_made, reads_refused}
 use Rattle.queries.proofs.needed.needed_in.Goals as goal
 
-pub returns-in_err-needed_by_order-clause-reads : goal.returns-in_err-needed_by_order-clause-reads
-returns-in_err-needed_by_order-clause-reads g c =
+pub returns-in_err-few-clause-reads : goal.returns-in_err-few-clause-reads
+returns-in_err-few-clause-reads g c =
     let stages = pipeline_of c.args.pipeline.now in
     let e = err_from_is_err_and c.from_residual.result c.from_residual.ensures.1 in
     rw (e.1, e.2)
     (reads_refused g.D.Disk.history (IsAsked c.args.home.now)
     (λ now of (found : Option (Vec Pairs Global)). IfSome found (λ few. AreEnough stages few.items of.documents))
     (λ now of (few : Vec Pairs Global). AreEnough stages few.items of.documents) c.args.file.now c.needed_by_order.new.file
-    c.in_err-needed_by_order.field-0.0 c.in_err-needed_by_order.ensures.reads)
+    c.in_err-few.field-0.0 c.in_err-few.ensures.reads)
 
 pub returns-in-Some-clause-reads : goal.returns-in-Some-clause-reads
 returns-in-Some-clause-reads g c =
@@ -24,7 +24,7 @@ returns-in-Some-clause-reads g c =
     reads_made g.D.Disk.history (IsAsked c.args.home.now)
     (λ now of (found : Option (Vec Pairs Global)). IfSome found (λ few. AreEnough stages few.items of.documents))
     (λ now of (few : Vec Pairs Global). AreEnough stages few.items of.documents) c.args.file.now c.needed_by_order.new.file
-    c.in_ok-needed_by_order.field-0 c.in-Some.few c.in_ok-needed_by_order.ensures.reads
+    c.in_ok-few.field-0 c.in-Some.few c.in_ok-few.ensures.reads
     (λ now of asked told.
     subst (λ (o : Option (Vec Pairs Global)). IfSome o (λ few. AreEnough stages few.items of.documents)) c.in-Some.is told)
 
@@ -35,6 +35,6 @@ returns-in-None-clause-reads g c =
     (λ now of (found : Option (Vec Pairs Global)). IfSome found (λ few. AreEnough stages few.items of.documents)) (IsAsked c.args.home.now)
     (λ now of (few : Vec Pairs Global). AreEnough stages few.items of.documents)
     (λ now of (few : Vec Pairs Global). AreEnough stages few.items of.documents)
-    c.args.file.now c.needed_by_order.new.file c.needed_by_id.new.file c.in_ok-needed_by_order.field-0 c.needed_by_id.result
-    c.in_ok-needed_by_order.ensures.reads c.needed_by_id.ensures.reads
+    c.args.file.now c.needed_by_order.new.file c.needed_by_id.new.file c.in_ok-few.field-0 c.needed_by_id.result
+    c.in_ok-few.ensures.reads c.needed_by_id.ensures.reads
     (λ now of asked told. record { other = of; was = asked; right = λ few right. right })
