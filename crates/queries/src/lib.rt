@@ -9,6 +9,7 @@ mod by_order;
 mod counting;
 mod looking_up;
 mod needed;
+mod needed_by_order;
 mod ordering;
 mod scanning;
 mod selects;
