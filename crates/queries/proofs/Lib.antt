@@ -8,6 +8,7 @@ pub mod NeededLemmas
 pub mod ByIdLemmas
 pub mod LookingUpLemmas
 pub mod ByIndexLemmas
+pub mod IdRangeLemmas
 pub mod IdTextLemmas
 pub mod OrderingLemmas
 pub mod ByOrderLemmas

@@ -2,4 +2,5 @@ pub mod Asking
 pub mod ById
 pub mod ByIndex
 pub mod Folding
+pub mod IdRange
 pub mod Within

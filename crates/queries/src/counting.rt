@@ -1,7 +1,7 @@
 //! How many documents of a collection match.
 
 ghost use Rattle.std.specs.Prelude.{◌≡◌, ◌≤◌, IfOk, [], ◌∷◌, length};
-ghost use Rattle.collections.specs.Reading.{IsNumbered, ReadsOf};
+ghost use Rattle.collections.specs.Reading.{ReadsOf};
 ghost use Rattle.database_model.specs.Find.{matching};
 ghost use Rattle.filter.specs.Matches.{matches};
 ghost use Rattle.index.specs.View.{texts_of};
@@ -10,6 +10,7 @@ ghost use Rattle.queries.specs.Asking.{IsAsked};
 ghost use Rattle.queries.specs.ById.{AreIdsOf};
 ghost use Rattle.queries.specs.Folding.{Counts};
 
+use crate::id_range::fold_asked;
 use crate::looking_up::asked_ids;
 use bson::{NoMemory, RawDoc, SpelledDocument};
 use collections::{Collections, DocumentFold};
@@ -43,14 +44,14 @@ impl DocumentFold for Counting<'_> {
     }
 }
 
-/// How many documents of the collection of a number in a file match a filter, by a walk through all of it.
+/// How many documents of a collection in a file match a filter, by a walk through it.
 fn count_scanned<D: Disk>(
     alloc: Global,
     file: &mut Collections<D>,
-    number: u32,
+    home: &Catalogued,
     filter: &Filter,
 ) -> Result<usize, Refusal>
-    ensures { ReadsOf D.history (λ now c. IsNumbered now c number)
+    ensures { ReadsOf D.history (IsAsked home.now)
         (λ now c count. count ≡ length (matching filter.now c.documents))
         result file.old file.new }
 {
@@ -59,7 +60,7 @@ fn count_scanned<D: Disk>(
         filter,
         count: 0,
     };
-    Ok(file.fold_documents(number, counting)?.count)
+    Ok(fold_asked(alloc, file, home, filter, counting)?.count)
 }
 
 /// One where a document was found and matches a filter, and none where it wasn't or doesn't.
@@ -120,6 +121,6 @@ pub fn count_in<D: Disk>(
 {
     match asked_ids(alloc, file, home, filter)? {
         Some(ids) => count_by_ids(alloc, file, home.number, filter, &ids),
-        None => count_scanned(alloc, file, home.number, filter),
+        None => count_scanned(alloc, file, home, filter),
     }
 }

@@ -7,6 +7,7 @@ mod by_id;
 mod by_index;
 mod by_order;
 mod counting;
+mod id_range;
 mod looking_up;
 mod needed;
 mod needed_by_order;

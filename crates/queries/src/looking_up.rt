@@ -150,7 +150,7 @@ pub(crate) fn spelled_in<D: Disk, S: Selects>(
 {
     match asked_ids(alloc, file, home, which)? {
         Some(ids) => selected_by_ids(alloc, file, home.number, which, &ids, most),
-        None => scanned(alloc, file, home.number, which, most),
+        None => scanned(alloc, file, home, which, most),
     }
 }
 

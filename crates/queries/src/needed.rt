@@ -5,7 +5,7 @@ ghost use Rattle.std.specs.List.{filter};
 ghost use Rattle.bson.specs.Tree.{Pairs};
 ghost use Rattle.aggregate.specs.Taking.{takes, IsEnough, SufficesTaken};
 ghost use Rattle.aggregate.specs.View.{pipeline_of};
-ghost use Rattle.collections.specs.Reading.{IsNumbered, ReadsOf};
+ghost use Rattle.collections.specs.Reading.{ReadsOf};
 ghost use Rattle.commands.specs.View.{documents_at};
 ghost use Rattle.database_model.specs.Aggregate.{AreEnough};
 ghost use Rattle.database_model.specs.Lawful.{IsWithin};
@@ -15,6 +15,7 @@ ghost use Rattle.queries.specs.Asking.{IsAsked};
 ghost use Rattle.queries.specs.ById.{AreIdsOf};
 ghost use Rattle.queries.specs.Folding.{Needs};
 
+use crate::id_range::fold_asked;
 use crate::looking_up::{asked_ids, spelled_within};
 use crate::needed_by_order::needed_by_order;
 use crate::within::built_within;
@@ -123,15 +124,15 @@ impl DocumentFold for Needing<'_> {
     }
 }
 
-/// The documents of the collection of a number in a file that a pipeline needs, by a walk through it: of those that it takes no more
-/// than it keeps. Where it sorts them and keeps the first ones, it never holds many more than these.
+/// The documents of a collection in a file that a pipeline needs, by a walk through it: of those that it takes no more than it keeps.
+/// Where it sorts them and keeps the first ones, it never holds many more than these.
 fn needed_scanned<D: Disk>(
     alloc: Global,
     file: &mut Collections<D>,
-    number: u32,
+    home: &Catalogued,
     pipeline: &Pipeline,
 ) -> Result<Vec<Document>, Refusal>
-    ensures reads { ReadsOf D.history (λ now c. IsNumbered now c number)
+    ensures reads { ReadsOf D.history (IsAsked home.now)
         (λ now c few. AreEnough (pipeline_of pipeline.now) few.items c.documents)
         result file.old file.new }
     ensures within { IfOk result (λ few. All IsWithin few.items) }
@@ -143,7 +144,7 @@ fn needed_scanned<D: Disk>(
         room: ROOM,
         is_enough: are_enough(pipeline, 0),
     };
-    let walked = file.fold_documents(number, needing)?;
+    let walked = fold_asked(alloc, file, home, pipeline, needing)?;
     if walked.is_enough {
         return Ok(walked.needed);
     }
@@ -216,7 +217,7 @@ fn needed_by_id<D: Disk>(
 {
     match asked_ids(alloc, file, home, pipeline)? {
         Some(ids) => needed_by_ids(alloc, file, home.number, pipeline, &ids),
-        None => needed_scanned(alloc, file, home.number, pipeline),
+        None => needed_scanned(alloc, file, home, pipeline),
     }
 }
 

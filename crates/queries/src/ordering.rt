@@ -1,7 +1,7 @@
 //! The first documents in an order. No more of them are kept than are asked for, and some that come too late.
 
 ghost use Rattle.std.specs.Prelude.{◌≡◌, All, IfOk, OnOk, take};
-ghost use Rattle.collections.specs.Reading.{IsNumbered, ReadsOf};
+ghost use Rattle.collections.specs.Reading.{ReadsOf};
 ghost use Rattle.database_model.specs.Find.{matching};
 ghost use Rattle.database_model.specs.Lawful.{IsWithin};
 ghost use Rattle.filter.specs.Matches.{matches};
@@ -12,6 +12,7 @@ ghost use Rattle.queries.specs.ById.{AreIdsOf};
 ghost use Rattle.queries.specs.Folding.{Sorts, TellFirst};
 
 use crate::by_order::first_by_index;
+use crate::id_range::fold_asked;
 use crate::looking_up::{asked_ids, selected_by_ids, spelled_in};
 use crate::within::built_within;
 use bson::{Document, NoMemory, RawDoc, SpelledDocument};
@@ -137,16 +138,16 @@ impl DocumentFold for Sorting<'_> {
     }
 }
 
-/// The first documents in the order of a sort that match a filter, up to so many, by a walk through the collection of a number.
+/// The first documents in the order of a sort that match a filter, up to so many, by a walk through the collection.
 fn scanned_in_order<D: Disk>(
     alloc: Global,
     file: &mut Collections<D>,
-    number: u32,
+    home: &Catalogued,
     filter: &Filter,
     sort: &Sort,
     most: usize,
 ) -> Result<Vec<SpelledDocument>, Refusal>
-    ensures reads { ReadsOf D.history (λ now c. IsNumbered now c number)
+    ensures reads { ReadsOf D.history (IsAsked home.now)
         (λ now c found. found.items ≡ take most (order sort.now (matching filter.now c.documents)))
         result file.old file.new }
     ensures within { IfOk result (λ found. All IsWithin found.items) }
@@ -158,7 +159,7 @@ fn scanned_in_order<D: Disk>(
         most,
         found: Vec::new(alloc),
     };
-    let sorted = file.fold_documents(number, sorting)?;
+    let sorted = fold_asked(alloc, file, home, filter, sorting)?;
     Ok(first_spelled(alloc, sort, sorted.found, most)?)
 }
 
@@ -198,7 +199,7 @@ fn sorted_in<D: Disk>(
 {
     match asked_ids(alloc, file, home, filter)? {
         Some(ids) => looked_up_in_order(alloc, file, home.number, filter, &ids, sort, most),
-        None => scanned_in_order(alloc, file, home.number, filter, sort, most),
+        None => scanned_in_order(alloc, file, home, filter, sort, most),
     }
 }
 

@@ -2,16 +2,19 @@
 
 ghost use Rattle.std.specs.Prelude.{◌≡◌, All, IfOk, IfErr, IfSome, [], ◌∷◌, take};
 ghost use Rattle.std.specs.List.{filter};
-ghost use Rattle.collections.specs.Reading.{IsNumbered, ReadsOf};
+ghost use Rattle.collections.specs.Reading.{ReadsOf};
 ghost use Rattle.database_model.specs.Lawful.{IsWithin};
 ghost use Rattle.index.specs.LawfulState.{IsStorable};
 ghost use Rattle.planner.specs.IdLaws.{with_found};
+ghost use Rattle.queries.specs.Asking.{IsAsked};
 ghost use Rattle.queries.specs.Folding.{Selected};
 
+use crate::id_range::fold_asked;
 use crate::selects::Selects;
 use crate::within::copied_within;
 use bson::{RawDoc, SpelledDocument};
 use collections::{Collections, DocumentFold};
+use index::Catalogued;
 use page::Disk;
 use path::Refusal;
 use std::alloc::Global;
@@ -64,16 +67,15 @@ impl<S: Selects> DocumentFold for Selecting<'_, S> {
     }
 }
 
-/// The documents of the collection of a number in a file that are looked for, by a walk through all of it: the first ones, up to so
-/// many.
+/// The documents of a collection in a file that are looked for, by a walk through it: the first ones, up to so many.
 pub(crate) fn scanned<D: Disk, S: Selects>(
     alloc: Global,
     file: &mut Collections<D>,
-    number: u32,
+    home: &Catalogued,
     which: &S,
     most: usize,
 ) -> Result<Vec<SpelledDocument>, Refusal>
-    ensures reads { ReadsOf D.history (λ now c. IsNumbered now c number)
+    ensures reads { ReadsOf D.history (IsAsked home.now)
         (λ now c found. found.items ≡ take most (filter (S.selects which.now) c.documents))
         result file.old file.new }
     ensures within { IfOk result (λ found. All IsWithin found.items) }
@@ -84,5 +86,5 @@ pub(crate) fn scanned<D: Disk, S: Selects>(
         most,
         found: Vec::new(alloc),
     };
-    Ok(file.fold_documents(number, selecting)?.found)
+    Ok(fold_asked(alloc, file, home, which, selecting)?.found)
 }

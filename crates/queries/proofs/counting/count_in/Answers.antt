@@ -1,7 +1,6 @@
 use Rattle.std.proofs.Common.{◌≡◌, ℕ, List, Option, Vec, Global, length, subst, sym}
 use Rattle.std.specs.Prelude.{IfSome}
 use Rattle.std.proofs.lemmas.Result.{err_from_is_err_and}
-use Rattle.collections.specs.Reading.{IsNumbered}
 use Rattle.database_model.specs.Find.{matching}
 use Rattle.filter.specs.Matches.{matches}
 use Rattle.index.specs.View.{texts_of}
@@ -44,7 +43,7 @@ returns-in-None g c =
     let rules = c.args.filter.now in
     reads_behind g.D.Disk.history (IsAsked home)
     (λ now of (o : Option (Vec (Vec ℕ Global) Global)). IfSome o (λ ids. AreIdsOf home.number (matches rules) (texts_of ids.items) now of))
-    (λ now of. IsNumbered now of home.number) (λ now of (count : ℕ). count ≡ length (matching rules of.documents))
+    (IsAsked home) (λ now of (count : ℕ). count ≡ length (matching rules of.documents))
     (λ now of (count : ℕ). count ≡ length (matching rules of.documents))
     c.args.file.now c.asked_ids.new.file c.count_scanned.new.file c.in_ok-ids.field-0 c.count_scanned.result c.in_ok-ids.ensures c.count_scanned.ensures
-    (λ now of asked told. record { other = of; was = asked.numbered; right = λ count right. right })
+    (λ now of asked told. record { other = of; was = asked; right = λ count right. right })

@@ -3,7 +3,6 @@ use Rattle.std.specs.Prelude.{IfSome}
 use Rattle.std.specs.List.{filter}
 use Rattle.std.proofs.lemmas.Result.{err_from_is_err_and}
 use Rattle.bson.specs.Tree.{Pairs}
-use Rattle.collections.specs.Reading.{IsNumbered}
 use Rattle.index.specs.View.{texts_of}
 use Rattle.queries.specs.Asking.{IsAsked}
 use Rattle.queries.specs.ById.{AreIdsOf}
@@ -45,7 +44,7 @@ returns-in-None-clause-reads g c =
     let p = g.S.Selects.selects c.args.which.now in
     reads_behind g.D.Disk.history (IsAsked home)
     (λ now of (o : Option (Vec (Vec ℕ Global) Global)). IfSome o (λ ids. AreIdsOf home.number p (texts_of ids.items) now of))
-    (λ now of. IsNumbered now of home.number) (λ now of (found : Vec Pairs Global). found.items ≡ take c.args.most (filter p of.documents))
+    (IsAsked home) (λ now of (found : Vec Pairs Global). found.items ≡ take c.args.most (filter p of.documents))
     (λ now of (found : Vec Pairs Global). found.items ≡ take c.args.most (filter p of.documents))
     c.args.file.now c.asked_ids.new.file c.scanned.new.file c.in_ok-ids.field-0 c.scanned.result c.in_ok-ids.ensures c.scanned.ensures.reads
-    (λ now of asked told. record { other = of; was = asked.numbered; right = λ found right. right })
+    (λ now of asked told. record { other = of; was = asked; right = λ found right. right })

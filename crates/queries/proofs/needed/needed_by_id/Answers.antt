@@ -4,7 +4,6 @@ use Rattle.std.proofs.lemmas.Result.{err_from_is_err_and}
 use Rattle.bson.specs.Tree.{Pairs}
 use Rattle.aggregate.specs.Taking.{takes}
 use Rattle.aggregate.specs.View.{pipeline_of}
-use Rattle.collections.specs.Reading.{IsNumbered}
 use Rattle.database_model.specs.Aggregate.{AreEnough}
 use Rattle.index.specs.View.{texts_of}
 use Rattle.queries.specs.Asking.{IsAsked}
@@ -47,8 +46,8 @@ returns-in-None-clause-reads g c =
     let stages = pipeline_of c.args.pipeline.now in
     reads_behind g.D.Disk.history (IsAsked home)
     (λ now of (o : Option (Vec (Vec ℕ Global) Global)). IfSome o (λ ids. AreIdsOf home.number (takes stages) (texts_of ids.items) now of))
-    (λ now of. IsNumbered now of home.number) (λ now of (few : Vec Pairs Global). AreEnough stages few.items of.documents)
+    (IsAsked home) (λ now of (few : Vec Pairs Global). AreEnough stages few.items of.documents)
     (λ now of (few : Vec Pairs Global). AreEnough stages few.items of.documents)
     c.args.file.now c.asked_ids.new.file c.needed_scanned.new.file c.in_ok-ids.field-0 c.needed_scanned.result c.in_ok-ids.ensures
     c.needed_scanned.ensures.reads
-    (λ now of asked told. record { other = of; was = asked.numbered; right = λ few right. right })
+    (λ now of asked told. record { other = of; was = asked; right = λ few right. right })

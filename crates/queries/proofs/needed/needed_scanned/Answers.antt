@@ -1,18 +1,20 @@
 use Rattle.std.proofs.Common.{Ok, Err, Vec, Global}
 use Rattle.std.proofs.lemmas.Result.{err_from_is_err_and}
 use Rattle.bson.specs.Tree.{Pairs}
+use Rattle.aggregate.specs.Taking.{takes}
 use Rattle.aggregate.specs.View.{pipeline_of}
-use Rattle.collections.specs.Folding.{IsFolded}
-use Rattle.collections.specs.Reading.{IsNumbered}
+use Rattle.collections.specs.Folding.{documents_within}
 use Rattle.collections.proofs.ReadingLemmas.{asked_on, asked_refused}
 use Rattle.database_model.specs.Aggregate.{AreEnough}
+use Rattle.queries.specs.Asking.{IsAsked}
 use Rattle.queries.specs.Folding.{Needs}
+use Rattle.queries.specs.IdRange.{IsWalked}
 use Rattle.queries.specs.declared.needed.Needing.{Needing}
-use Rattle.queries.proofs.NeededLemmas.{all_needed, are_within, enough_needed, needed_of_within, none_needed}
+use Rattle.queries.proofs.NeededLemmas.{all_needed, are_within, enough_needed, enough_within, needed_of_within, none_needed}
 use Rattle.queries.proofs.needed.needed_scanned.Goals as goal
 
-pub fold_documents-requires : goal.fold_documents-requires
-fold_documents-requires g c =
+pub fold_asked-requires : goal.fold_asked-requires
+fold_asked-requires g c =
     let start : Needing = record
     { alloc = c.args.alloc; pipeline = c.args.pipeline; needed = c.new.result; room = 1024; is_enough = c.are_enough.result } in
     none_needed start c.new.ensures.items c.are_enough.ensures
@@ -24,8 +26,8 @@ returns-in_err-walked-clause-reads g c =
     { alloc = c.args.alloc; pipeline = c.args.pipeline; needed = c.new.result; room = 1024; is_enough = c.are_enough.result } in
     let e = err_from_is_err_and c.from_residual.result c.from_residual.ensures.1 in
     rw (e.1, e.2)
-    (asked_refused g.D.Disk.history (λ now of. IsNumbered now of c.args.number) (λ now of (few : Vec Pairs Global). AreEnough stages few.items of.documents)
-    c.args.file.now c.fold_documents.new.self (λ now of done. IsFolded Needs start of.documents done) c.in_err-walked.field-0.0 c.in_err-walked.ensures.reads)
+    (asked_refused g.D.Disk.history (IsAsked c.args.home.now) (λ now of (few : Vec Pairs Global). AreEnough stages few.items of.documents)
+    c.args.file.now c.fold_asked.new.file (λ now of done. IsWalked (takes stages) Needs start of.documents done) c.in_err-walked.field-0.0 c.in_err-walked.ensures.reads)
 
 pub returns-then-walked-clause-reads : goal.returns-then-walked-clause-reads
 returns-then-walked-clause-reads g c =
@@ -33,9 +35,11 @@ returns-then-walked-clause-reads g c =
     let start : Needing = record
     { alloc = c.args.alloc; pipeline = c.args.pipeline; needed = c.new.result; room = 1024; is_enough = c.are_enough.result } in
     let walked : Needing = c.in_ok-walked.walked in
-    asked_on g.D.Disk.history (λ now of. IsNumbered now of c.args.number) (λ now of (few : Vec Pairs Global). AreEnough stages few.items of.documents)
-    c.args.file.now c.fold_documents.new.self (λ now of done. IsFolded Needs start of.documents done) walked (Ok walked.needed) c.in_ok-walked.ensures.reads
-    (λ now of numbered folded. enough_needed start walked of.documents folded.made c.new.ensures.items c.if-walked.true)
+    asked_on g.D.Disk.history (IsAsked c.args.home.now) (λ now of (few : Vec Pairs Global). AreEnough stages few.items of.documents)
+    c.args.file.now c.fold_asked.new.file (λ now of done. IsWalked (takes stages) Needs start of.documents done) walked (Ok walked.needed) c.in_ok-walked.ensures.reads
+    (λ now of asked all.
+    enough_within stages walked.needed.items all.texts of.documents all.same
+    (enough_needed start walked (documents_within all.texts of.documents) all.folded.made c.new.ensures.items c.if-walked.true))
 
 pub returns-then-walked-clause-within : goal.returns-then-walked-clause-within
 returns-then-walked-clause-within g c =
@@ -53,9 +57,9 @@ returns-in_err-only_needed-clause-reads g c =
     { alloc = c.args.alloc; pipeline = c.args.pipeline; needed = c.new.result; room = 1024; is_enough = c.are_enough.result } in
     let e = err_from_is_err_and c.from_residual-in_err-only_needed.result c.from_residual-in_err-only_needed.ensures.1 in
     rw e.1
-    (asked_on g.D.Disk.history (λ now of. IsNumbered now of c.args.number) (λ now of (few : Vec Pairs Global). AreEnough stages few.items of.documents)
-    c.args.file.now c.fold_documents.new.self (λ now of done. IsFolded Needs start of.documents done) c.in_ok-walked.walked (Err e.0)
-    c.in_ok-walked.ensures.reads (λ now of numbered folded. e.2))
+    (asked_on g.D.Disk.history (IsAsked c.args.home.now) (λ now of (few : Vec Pairs Global). AreEnough stages few.items of.documents)
+    c.args.file.now c.fold_asked.new.file (λ now of done. IsWalked (takes stages) Needs start of.documents done) c.in_ok-walked.walked (Err e.0)
+    c.in_ok-walked.ensures.reads (λ now of asked walked. e.2))
 
 pub returns-clause-reads : goal.returns-clause-reads
 returns-clause-reads g c =
@@ -64,10 +68,12 @@ returns-clause-reads g c =
     { alloc = c.args.alloc; pipeline = c.args.pipeline; needed = c.new.result; room = 1024; is_enough = c.are_enough.result } in
     let walked : Needing = c.in_ok-walked.walked in
     let last = c.in_ok-only_needed.field-0 in
-    asked_on g.D.Disk.history (λ now of. IsNumbered now of c.args.number) (λ now of (few : Vec Pairs Global). AreEnough stages few.items of.documents)
-    c.args.file.now c.fold_documents.new.self (λ now of done. IsFolded Needs start of.documents done) walked (Ok last) c.in_ok-walked.ensures.reads
-    (λ now of numbered folded. all_needed start walked of.documents folded.made c.new.ensures.items last.items c.if-walked.false
-    c.in_ok-only_needed.ensures)
+    asked_on g.D.Disk.history (IsAsked c.args.home.now) (λ now of (few : Vec Pairs Global). AreEnough stages few.items of.documents)
+    c.args.file.now c.fold_asked.new.file (λ now of done. IsWalked (takes stages) Needs start of.documents done) walked (Ok last) c.in_ok-walked.ensures.reads
+    (λ now of asked all.
+    enough_within stages last.items all.texts of.documents all.same
+    (all_needed start walked (documents_within all.texts of.documents) all.folded.made c.new.ensures.items last.items c.if-walked.false
+    c.in_ok-only_needed.ensures))
 
 pub returns-clause-within : goal.returns-clause-within
 returns-clause-within g c =

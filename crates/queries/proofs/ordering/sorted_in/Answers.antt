@@ -2,7 +2,6 @@ use Rattle.std.proofs.Common.{◌≡◌, ℕ, List, Option, Vec, Global, take, a
 use Rattle.std.specs.Prelude.{IfSome}
 use Rattle.std.proofs.lemmas.Result.{err_from_is_err_and}
 use Rattle.bson.specs.Tree.{Pairs}
-use Rattle.collections.specs.Reading.{IsNumbered}
 use Rattle.database_model.specs.Find.{matching}
 use Rattle.filter.specs.Matches.{matches}
 use Rattle.filter.specs.Sort.{order}
@@ -49,9 +48,9 @@ returns-in-None-clause-reads g c =
     let p = matches c.args.filter.now in
     reads_behind g.D.Disk.history (IsAsked home)
     (λ now of (o : Option (Vec (Vec ℕ Global) Global)). IfSome o (λ ids. AreIdsOf home.number p (texts_of ids.items) now of))
-    (λ now of. IsNumbered now of home.number)
+    (IsAsked home)
     (λ now of (found : Vec Pairs Global). found.items ≡ take c.args.most (order c.args.sort.now (matching c.args.filter.now of.documents)))
     (λ now of (found : Vec Pairs Global). found.items ≡ take c.args.most (order c.args.sort.now (matching c.args.filter.now of.documents)))
     c.args.file.now c.asked_ids.new.file c.scanned_in_order.new.file c.in_ok-ids.field-0 c.scanned_in_order.result c.in_ok-ids.ensures
     c.scanned_in_order.ensures.reads
-    (λ now of asked told. record { other = of; was = asked.numbered; right = λ found right. right })
+    (λ now of asked told. record { other = of; was = asked; right = λ found right. right })
