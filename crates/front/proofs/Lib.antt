@@ -1,3 +1,4 @@
+pub mod GrowingLemmas
 mod EachLemmas
 mod LoanLemmas
 mod HandingLemmas
