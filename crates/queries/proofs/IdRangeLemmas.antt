@@ -1,12 +1,12 @@
 -- All documents that are looked for lie between the ends of a filter's range of `_id`s.
-use Rattle.std.proofs.Common.{◌≡◌, ℕ, Bool, true, false, not, ◌&&◌, List, [], ◌∷◌, ◌++◌, length, take, Option, Some, None, Result, refl, sym, ap, subst, ◌∙◌}
-use Rattle.std.specs.Prelude.{All, nat_eq}
+use Rattle.std.proofs.Common.{◌≡◌, ℕ, Bool, true, false, not, ◌&&◌, List, [], ◌∷◌, ◌++◌, get_or, Option, Some, None, Result, refl, sym, ap, subst, ◌∙◌}
+use Rattle.std.specs.Prelude.{All}
 use Rattle.std.specs.List.{filter}
 use Rattle.std.specs.Option.{option_and_then, option_map}
 use Rattle.std.specs.Ordering.{is_gt, is_lt, nat_cmp, ordering_then}
 use Rattle.std.specs.declared.cmp.Ordering.{Ordering}
 use Rattle.std.specs.declared.cmp.Ordering.TheVariants.{Less, Equal, Greater}
-use Rattle.std.proofs.lemmas.Cmp.{nat_cmp_total}
+use Rattle.std.proofs.lemmas.Cmp.{alike_right, nat_cmp_total}
 use Rattle.bson.specs.Tree.{Tree, scalar, document, array, Pairs}
 use Rattle.value_order.specs.KeyText.{tree_text}
 use Rattle.page.specs.History.{History}
@@ -54,7 +54,7 @@ up_to_end (c ∷ last) (b ∷ text) (h ∷ high) ends up = by (nat_cmp b c) (nat
     by Greater p e f ends up later = absurd cc
     by o Greater e f ends up later = absurd (let no = ends [] in cc)
     by Less Less e f ends up later = rw (nat_cmp_total.trans b c h e f) refl
-    by Less Equal e f ends up later = rw (sym (nat_cmp_total.congr c h b f) ∙ nat_cmp_total.antisymm c b) refl
+    by Less Equal e f ends up later = rw (sym (alike_right nat_cmp_total c h b f) ∙ e) refl
     by Equal Less e f ends up later = rw (nat_cmp_total.congr b c h e ∙ f) refl
     by Equal Equal e f ends up later = rw (nat_cmp_total.congr b c h e ∙ f) (later ends up)
 
@@ -74,7 +74,7 @@ plain_id d storable stored = by (key_of d) (ap (option_and_then no_list) (sym st
 
 module _ (rs : Conditions) (r : Range) (is : IsIdRange rs r) (first last : List ℕ) (end : Option (List ℕ)) (begins : first ≡ first_key (fields_of r.index) r)
     (stops : last ≡ last_key (fields_of r.index) r) (ends : IsEndOf last end) where
-  given : Range
+  abbrev given : Range
   given = range_in rs [] None
 
   from : first ≡ first_key (fields_of None) given
@@ -93,10 +93,7 @@ module _ (rs : Conditions) (r : Range) (is : IsIdRange rs r) (first last : List 
   pub matching_within : PassWithin (matches rs) first end
   matching_within ds storable stored =
       id_range_selects rs [] (has_id_within first end) ds (subst IsSpellable is.given is.spellable) storable
-      (λ k d below. plain_id (at k d) (storable k d below) (stored k d below)) lies
-    where
-      at : ℕ → Pairs → Pairs
-      at k d = get_or ds k d
+      (λ k d below. plain_id (get_or ds k d) (storable k d below) (stored k d below)) lies
 
 -- ---- documents that are looked for
 
