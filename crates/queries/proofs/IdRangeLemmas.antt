@@ -140,10 +140,10 @@ module _ {D F : Type 0} (history : D → History) (makes : F → List Pairs → 
         other = c;
         was = asked.numbered;
         right = λ done folded. record {
-            texts = texts;
-            same =
-                (λ i. filter passes (filter (has_id_within (from i) (to i)) c.documents))
-                ∙ within c.documents ((found_collection now c.name c state asked.numbered.found).0).storable asked.stored;
-            folded = folded;
-          };
+          texts = texts;
+          same =
+              (λ i. filter passes (filter (has_id_within (from i) (to i)) c.documents))
+              ∙ within c.documents ((found_collection now c.name c state asked.numbered.found).0).storable asked.stored;
+          folded = folded;
+        };
       })

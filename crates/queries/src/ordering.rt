@@ -29,11 +29,7 @@ use std::mem;
 const ROOM: usize = 1024;
 
 /// The first documents in the order of a sort, up to so many. Those that tie keep their order.
-fn first_ones(
-    sort: &Sort,
-    documents: Vec<Document>,
-    most: usize,
-) -> Result<Vec<Document>, NoMemory>
+fn first_ones(sort: &Sort, documents: Vec<Document>, most: usize) -> Result<Vec<Document>, NoMemory>
     ensures first { IfOk result (λ v. v.items ≡ take most (order sort.now documents.items)) }
     ensures within { All IsWithin documents.items → IfOk result (λ v. All IsWithin v.items) }
 {
