@@ -19,10 +19,7 @@ use path::Refusal;
 use replies::ConnId;
 
 /// The documents from a place on.
-fn behind(
-    documents: Vec<SpelledDocument>,
-    place: usize,
-) -> Result<Vec<SpelledDocument>, NoMemory>
+fn behind(documents: Vec<SpelledDocument>, place: usize) -> Result<Vec<SpelledDocument>, NoMemory>
     ensures { IfOk result (λ v. v.items ≡ drop place documents.items) }
 {
     if place == 0 {

@@ -34,8 +34,8 @@ use path::Refusal;
 use queries::{Selects, put_id, put_ids};
 use replies::{REPLY_LIMIT, SharedDocument};
 use statements::{
-    ID, Ran, Tally, Write, compare_id, read_id, run_on, unless_memory,
-    update_reply, upsert_document,
+    ID, Ran, Tally, Write, compare_id, read_id, run_on, unless_memory, update_reply,
+    upsert_document,
 };
 use std::alloc::Global;
 

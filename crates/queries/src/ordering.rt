@@ -54,10 +54,7 @@ fn first_spelled(
 }
 
 /// The documents, with values of their own.
-pub(crate) fn built_all(
-    alloc: Global,
-    documents: Vec<SpelledDocument>,
-) -> Result<Vec<Document>, NoMemory>
+fn built_all(alloc: Global, documents: Vec<SpelledDocument>) -> Result<Vec<Document>, NoMemory>
     ensures { IfOk result (λ v. v.items ≡ documents.items) }
 {
     let mut built = Vec::with_capacity(alloc, documents.len())?;

@@ -96,10 +96,7 @@ fn spelled_within(alloc: Global, document: &Document) -> Result<SpelledDocument,
 }
 
 /// Documents within the limits of stored ones, kept as their bytes.
-pub fn spelled_all(
-    alloc: Global,
-    documents: &[Document],
-) -> Result<Vec<SpelledDocument>, NoMemory>
+pub fn spelled_all(alloc: Global, documents: &[Document]) -> Result<Vec<SpelledDocument>, NoMemory>
     requires { All IsWithin documents.now }
     ensures { IfOk result (λ v. v.items ≡ documents.now) }
 {
