@@ -76,12 +76,11 @@ borrower_ended (x ∷ xs) n (suc k) m e = borrower_ended xs n k m e
 -- a socket that waited goes on waiting
 pub tied_socket : (loans : List (Option Loan)) (ss : List Socket) (n : ℕ) (any new : Socket) → AreTied loans ss → n < length ss
     → (is_asked (get_or ss n any).job ≡ true → is_asked new.job ≡ true) → AreTied loans (set ss n new)
-tied_socket loans ss n any new tied within goes = record
-    {
-      there = λ k m e. subst (λ (l : ℕ). m < l) (sym (length-set ss n new)) (tied.there k m e);
-      asked = λ k m d e. at k m d e (same_or_not m n);
-      once = tied.once;
-    }
+tied_socket loans ss n any new tied within goes = record {
+  there = λ k m e. subst (λ (l : ℕ). m < l) (sym (length-set ss n new)) (tied.there k m e);
+  asked = λ k m d e. at k m d e (same_or_not m n);
+  once = tied.once;
+}
   where
     at : (k m : ℕ) (d : Socket) → borrower (loan_at loans k) ≡ Some m → (m ≡ n) ⊎ (m ≢ n) → is_asked (get_or (set ss n new) m d).job ≡ true
     at k m d e (inl same) =

@@ -3,6 +3,7 @@ pub mod WithinLemmas
 pub mod WalkingLemmas
 pub mod SelectLemmas
 pub mod CountLemmas
+pub mod NeededByOrderLemmas
 pub mod NeededLemmas
 pub mod ByIdLemmas
 pub mod LookingUpLemmas

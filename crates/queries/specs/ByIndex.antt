@@ -2,6 +2,8 @@
 use Rattle.std.specs.Prelude.{◌≡◌, ◌≤◌, ℕ, Bool, true, List, [], length, take, Some, Contains}
 use Rattle.std.specs.List.{filter}
 use Rattle.bson.specs.Tree.{Tree, Pairs}
+use Rattle.aggregate.specs.Stage.{Stage}
+use Rattle.aggregate.specs.Taking.{takes}
 use Rattle.filter.specs.Condition.{Conditions}
 use Rattle.filter.specs.Matches.{matches}
 use Rattle.filter.specs.Sort.{SortField, order}
@@ -18,6 +20,10 @@ use Rattle.planner.specs.Plan.{Range, range_in}
 -- the filter matches each document that passes
 abbrev pub AsksMatching : (Pairs → Bool) → Conditions → Type 0
 AsksMatching passes rs = (d : Pairs) → passes d ≡ true → matches rs d ≡ true
+
+-- The filter matches the documents that a pipeline takes, and no others.
+abbrev pub AsksTaken : List Stage → Conditions → Type 0
+AsksTaken stages rs = (ds : List Pairs) → filter (matches rs) ds ≡ filter (takes stages) ds
 
 -- The range is what the filter and a sort give in one of the indexes.
 pub record IsRangeOf (rs : Conditions) (sort : List SortField) (indexes : List Definition)

@@ -10,6 +10,7 @@ mod counting;
 mod id_range;
 mod looking_up;
 mod needed;
+mod needed_by_order;
 mod ordering;
 mod scanning;
 mod selects;

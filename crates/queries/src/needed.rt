@@ -17,6 +17,7 @@ ghost use Rattle.queries.specs.Folding.{Needs};
 
 use crate::id_range::fold_asked;
 use crate::looking_up::{asked_ids, spelled_within};
+use crate::needed_by_order::needed_by_order;
 use crate::within::built_within;
 use aggregate::Pipeline;
 use bson::{Document, NoMemory, RawDoc, SpelledDocument};
@@ -201,9 +202,9 @@ fn needed_by_ids<D: Disk>(
     Ok(only_needed(alloc, pipeline, needed)?)
 }
 
-/// The documents of a collection in a file that a pipeline needs: of those that it takes no more than it keeps. Where a `$match` in
-/// front asks for an `_id`, or an index serves it, they are looked up; else the collection is walked through.
-pub fn needed_in<D: Disk>(
+/// The documents of a collection in a file that a pipeline needs, in ascending order of `_id`: of those that it takes no more than it
+/// keeps. Where a `$match` in front asks for an `_id`, or an index serves it, they are looked up; else the collection is walked through.
+fn needed_by_id<D: Disk>(
     alloc: Global,
     file: &mut Collections<D>,
     home: &Catalogued,
@@ -217,5 +218,24 @@ pub fn needed_in<D: Disk>(
     match asked_ids(alloc, file, home, pipeline)? {
         Some(ids) => needed_by_ids(alloc, file, home.number, pipeline, &ids),
         None => needed_scanned(alloc, file, home, pipeline),
+    }
+}
+
+/// The documents of a collection in a file that a pipeline needs. Where it keeps the first ones of a `$sort` and an index is in that
+/// order, they are read in that order, as far as they are kept.
+pub fn needed_in<D: Disk>(
+    alloc: Global,
+    file: &mut Collections<D>,
+    home: &Catalogued,
+    pipeline: &Pipeline,
+) -> Result<Vec<Document>, Refusal>
+    ensures reads { ReadsOf D.history (IsAsked home.now)
+        (λ now c few. AreEnough (pipeline_of pipeline.now) few.items c.documents)
+        result file.old file.new }
+    ensures within { IfOk result (λ few. All IsWithin few.items) }
+{
+    match needed_by_order(alloc, file, home, pipeline)? {
+        Some(few) => Ok(few),
+        None => needed_by_id(alloc, file, home, pipeline),
     }
 }

@@ -54,7 +54,10 @@ fn first_spelled(
 }
 
 /// The documents, with values of their own.
-fn built_all(alloc: Global, documents: Vec<SpelledDocument>) -> Result<Vec<Document>, NoMemory>
+pub(crate) fn built_all(
+    alloc: Global,
+    documents: Vec<SpelledDocument>,
+) -> Result<Vec<Document>, NoMemory>
     ensures { IfOk result (λ v. v.items ≡ documents.items) }
 {
     let mut built = Vec::with_capacity(alloc, documents.len())?;

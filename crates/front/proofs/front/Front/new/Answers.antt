@@ -2,4 +2,4 @@ use Rattle.front.proofs.TyingLemmas.{tied_new}
 use Rattle.front.proofs.front.Front.new.Goals as goal
 
 pub returns-clause-tied : goal.returns-clause-tied
-returns-clause-tied g c = tied_new c.new.result.loans c.new-sockets.result.items c.new.ensures
+returns-clause-tied g c = tied_new c.new-2.result.loans c.new.result.items c.new-2.ensures

@@ -1,0 +1,61 @@
+//! The documents that a pipeline needs, where it keeps the first ones in the order of a `$sort`, and an index is in that order.
+
+ghost use Rattle.std.specs.Prelude.{◌≡◌, All, IfOk, IfSome};
+ghost use Rattle.aggregate.specs.View.{pipeline_of};
+ghost use Rattle.collections.specs.Reading.{ReadsOf};
+ghost use Rattle.database_model.specs.Aggregate.{AreEnough};
+ghost use Rattle.database_model.specs.Lawful.{IsWithin};
+ghost use Rattle.filter.specs.Condition.{no_conditions};
+ghost use Rattle.queries.specs.Asking.{IsAsked};
+ghost use Rattle.queries.specs.ByIndex.{AsksTaken};
+
+use crate::by_order::first_by_index;
+use crate::ordering::built_all;
+use aggregate::Pipeline;
+use bson::Document;
+use collections::Collections;
+use filter::Filter;
+use index::Catalogued;
+use page::Disk;
+use path::Refusal;
+use std::alloc::Global;
+
+/// The filter of a `$match` in front of a pipeline; the one that all documents match where there is none.
+fn asked_by<'a>(pipeline: &'a Pipeline, all: &'a Filter) -> &'a Filter
+    requires { all.now ≡ no_conditions }
+    ensures { AsksTaken (pipeline_of pipeline.now) result.now }
+{
+    match pipeline.leading_match() {
+        Some(filter) => filter,
+        None => all,
+    }
+}
+
+/// The documents of a collection that a pipeline needs, read in the order of its `$sort`, where it keeps the first ones alone and an
+/// index in that order leads to them soon.
+pub(crate) fn needed_by_order<D: Disk>(
+    alloc: Global,
+    file: &mut Collections<D>,
+    home: &Catalogued,
+    pipeline: &Pipeline,
+) -> Result<Option<Vec<Document>>, Refusal>
+    ensures reads { ReadsOf D.history (IsAsked home.now)
+        (λ now c found. IfSome found
+        (λ few. AreEnough (pipeline_of pipeline.now) few.items c.documents))
+        result file.old file.new }
+    ensures within { IfOk result (λ found. IfSome found (λ few. All IsWithin few.items)) }
+{
+    if file.is_stopped() {
+        return Err(Refusal::StorageFailed);
+    }
+    let Some(first) = pipeline.first_sorted() else {
+        return Ok(None);
+    };
+    let all = Filter::new(alloc);
+    let filter = asked_by(pipeline, &all);
+    let Some(found) = first_by_index(alloc, file, home, filter, first.sort, first.most)? else {
+        return Ok(None);
+    };
+    let built = built_all(alloc, found)?;
+    Ok(Some(built))
+}
