@@ -1,6 +1,5 @@
 -- All documents that are looked for lie between the ends of a filter's range of `_id`s.
 use Rattle.std.proofs.Common.{◌≡◌, ℕ, Bool, true, false, not, ◌&&◌, List, [], ◌∷◌, ◌++◌, get_or, Option, Some, None, Result, refl, sym, ap, subst, ◌∙◌}
-use Rattle.std.specs.Prelude.{All}
 use Rattle.std.specs.List.{filter}
 use Rattle.std.specs.Option.{option_and_then, option_map}
 use Rattle.std.specs.Ordering.{is_gt, is_lt, nat_cmp, ordering_then}
@@ -16,9 +15,9 @@ use Rattle.btree.specs.Keys.{is_within, key_cmp}
 use Rattle.btree.specs.declared.folding.Bounds.{Bounds}
 use Rattle.filter.specs.Condition.{Conditions}
 use Rattle.filter.specs.Matches.{matches}
-use Rattle.index.specs.LawfulState.{IsLawfulState, IsStorable}
+use Rattle.index.specs.LawfulState.{IsStorable}
 use Rattle.index.specs.OtherKeys.{IsEndOf}
-use Rattle.index.specs.State.{Collection, key_of}
+use Rattle.index.specs.State.{key_of}
 use Rattle.index.specs.declared.catalogue_reading.Catalogued.{Catalogued}
 use Rattle.index.proofs.FoundLawLemmas.{found_collection}
 use Rattle.collections.specs.Folding.{IsFolded, documents_within}
