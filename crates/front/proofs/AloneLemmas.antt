@@ -4,7 +4,8 @@ use Rattle.std.proofs.Common.{map, replicate, Option, Some, None, refl, sym, ap,
 use Rattle.std.specs.Prelude.{is_some}
 use Rattle.std.specs.List.{list_any}
 use Rattle.std.proofs.lemmas.Bool.{cases_lt, true≢false}
-use Rattle.std.proofs.lemmas.List.{get_or-set_other, get_or-set_same, length-set, length-map, length-append, get_or-map, get_or_default, get_or_append_left, get_or-append_right, get_or-replicate, get_or_push, length-replicate}
+use Rattle.std.proofs.lemmas.List.{get_or-set_other, get_or-set_same, length-set, length-map, length-append, get_or-map}
+use Rattle.std.proofs.lemmas.List.{get_or_default, get_or_append_left, get_or-append_right, get_or-replicate, get_or_push, length-replicate}
 use Rattle.drivers.specs.Answering.{asks_alone}
 use Rattle.drivers.specs.AloneLaws.{is_later}
 use Rattle.front.specs.Alone.{is_alone, alone_in, has_begun, begun_in, StandsAlone, AreLentTo, NobodyBetween, GoesOnAlone, IsNobodyAlone}

@@ -4,7 +4,8 @@ use Rattle.std.proofs.Common.{replicate, Option, Some, None, refl, sym, ap, subs
 use Rattle.std.specs.Prelude.{◌==◌, if◌then◌else◌}
 use Rattle.std.proofs.lemmas.Bool.Decides.{nat_tests}
 use Rattle.std.proofs.lemmas.Bool.{cases_lt}
-use Rattle.std.proofs.lemmas.List.{get_or-set_other, get_or-set_same, length-set, length-map, get_or-map, get_or-replicate, get_or_past, length-append, length-replicate, get_or_append_left}
+use Rattle.std.proofs.lemmas.List.{get_or-set_other, get_or-set_same, length-set, length-map, get_or-map}
+use Rattle.std.proofs.lemmas.List.{get_or-replicate, get_or_past, length-append, length-replicate, get_or_append_left}
 use Rattle.std.proofs.lemmas.List.{drop_all, take_all}
 use Rattle.front.specs.Fronting.{answered}
 use Rattle.front.specs.Lending.{loan_at, borrower, left_borrower, after_end}

@@ -1,5 +1,5 @@
--- That loans and sockets are tied: whoever a connection is lent to is there and waits for the reply,
--- and no socket has two connections.
+-- That loans and sockets are tied: whoever a connection is lent to is there and waits for the
+-- reply, and no socket has two connections.
 use Rattle.std.specs.Prelude.{◌≡◌, ◌<◌, ◌⊎◌, ℕ, Bool, true, false, List, length, slice_set}
 use Rattle.std.specs.Prelude.{slice_index_or, Option, Some, None}
 use Rattle.front.specs.Lending.{loan_at, borrower}
