@@ -11,7 +11,8 @@ use Rattle.freelist.specs.Sound.{IsSound}
 use Rattle.freelist.specs.declared.turns.Change.{Change}
 use Rattle.freelist.specs.declared.turns.Change.TheVariants as changes
 use Rattle.roots.specs.declared.store.Store.{Store}
-use Rattle.roots.specs.Image.{sheet_at}
+use Rattle.freelist.specs.FreeList.{IsFreeList, Part, pages_of}
+use Rattle.roots.specs.Image.{list_in, sheet_at}
 use Rattle.roots.specs.Store.{disk_history, durable_root}
 use Rattle.roots.specs.Turn.{LieBehind}
 
@@ -45,9 +46,19 @@ pub record IsBookFor (made : List Sheet) (book : Book) : Type 0 where
   pub behind : (n : ℕ) → is_free book.states n ≡ true
       → AllByRecursion (λ (sheet : Sheet). sheet.page < n) made
 
+-- these are the own pages of the list that the committed root names, if it names one
+abbrev pub AreListed : {D : Type 0} → (D → History) → Store D → List ℕ → Type 0
+AreListed history store listed =
+    KeepsWord (disk_history history store) → let root = durable_root store in
+    let sheets = sheet_at (reads (now (disk_history history store))) root in
+    (parts : List Part)
+    → IsFreeList (list_in sheets) root.pages root.free_list root.free_count parts
+    → listed ≡ pages_of parts
+
 pub record IsKept {D : Type 0} (history : D → History) (store : Store D) (cache : PageCache)
-    (made : List Sheet) (book : Book) : Type 0 where
+    (made : List Sheet) (book : Book) (listed : List ℕ) : Type 0 where
   pub cached : Agrees history store cache
   pub ascending : LieBehind 0 made
   pub each : AllByRecursion (IsNew (durable_root store).generation cache) made
   pub booked : IsBookFor made book
+  pub listed : AreListed history store listed

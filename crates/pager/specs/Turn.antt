@@ -1,10 +1,12 @@
 -- Between two commits of a pager.
 use Rattle.std.specs.Prelude.{◌≡◌, ℕ, ◌<◌, Bool, ◌||◌, nat_lt, not, List, [], take, length}
-use Rattle.page.specs.History.{History, KeepsWord}
+use Rattle.page.specs.History.{History, KeepsWord, now, reads}
 use Rattle.btree.specs.Keys.{Entry, times}
 use Rattle.btree.specs.Store.{Grows, IsSame, flag}
 use Rattle.freelist.specs.Book.{Book, is_free, is_in_use, undone}
-use Rattle.roots.specs.Store.{IsCommitted}
+use Rattle.freelist.specs.FreeList.{Part}
+use Rattle.roots.specs.Image.{HasList, reached_by, sheet_at}
+use Rattle.roots.specs.Store.{IsCommitted, durable_root}
 use Rattle.roots.specs.Turn.{LieBehind}
 use Rattle.pager.specs.Kept.{IsBookFor}
 use Rattle.pager.specs.State.{State}
@@ -18,14 +20,18 @@ pub record AreInUse (pages : List ℕ) (book : Book) : Type 0 where
       → is_free book.states n ≡ not (is_in_use book.states n)
 
 -- No turn runs: nothing was made or retired. While the disk keeps its word, these entries are
--- committed, and in the book just the pages that their tree reaches are in use.
+-- committed, and in the book just the pages that the root reaches are in use: those of the tree and
+-- those of its list.
 pub record IsBegun {D : Type 0} (history : D → History) (p : State D) (live : List ℕ)
     (entries : List Entry) : Type 0 where
   pub made : p.made ≡ []
   pub retired : p.retired ≡ []
   pub turn : p.book.turn ≡ []
   pub committed : KeepsWord (pager_history history p) → IsCommitted history p.store live entries
-  pub in_use : KeepsWord (pager_history history p) → AreInUse live p.book
+  pub in_use : KeepsWord (pager_history history p) → let root = durable_root p.store in
+      (parts : List Part)
+      → HasList (sheet_at (reads (now (pager_history history p))) root) root live parts
+      → AreInUse (reached_by live parts) p.book
 
 -- Undoing all that was made and retired since a turn began leads back to a pager that begins with
 -- the same entries.

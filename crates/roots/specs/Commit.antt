@@ -34,15 +34,16 @@ pub record CommitsRoot {D : Type 0} (history : D → History) (root_page : ℕ)
 
 -- What reads give after it: the pages that were handed in, where it is done, and in each other page
 -- what was there.
-pub record LeavesPages {D : Type 0} (history : D → History) (made : List Sheet) (tree : ℕ)
-    (result : Result (Unit {0}) CommitFault) (old new : Store D) : Type 0 where
+pub record LeavesPages {D : Type 0} (history : D → History) (made : List Sheet)
+    (tree free_list free_count : ℕ) (result : Result (Unit {0}) CommitFault) (old new : Store D) : Type 0 where
   pub others : KeepsWord (disk_history history new) → (k : ℕ) → 2 ≤ k
       → (IsOnPages (numbers_of made) k → ⊥)
       → reads (now (disk_history history new)) k ≡ reads (now (disk_history history old)) k
   pub written : KeepsWord (disk_history history new) → LieBehind 0 made
       → OnOk result (AreWritten (reads (now (disk_history history new))) made)
   pub root : AllByRecursion (λ (sheet : Sheet). sheet.page < 1048576) made
-      → OnOk result (durable_root new ≡ next_root (durable_root old) made tree)
+      → OnOk result
+      (durable_root new ≡ next_root (durable_root old) made tree free_list free_count)
   pub still : OnErr result (durable_root new ≡ durable_root old)
 
 -- A crash at any moment of the call leaves the entries from before, or those of the turn. At Ok it
@@ -60,13 +61,14 @@ pub record MovesMap {D : Type 0} (history : D → History) (next : Root) (pages 
       (λ image. StandsFor image before)
 
 -- For whatever entries are committed, and whatever turn is handed in.
-abbrev pub MovesMaps : {D : Type 0} → (D → History) → List Sheet → ℕ
+abbrev pub MovesMaps : {D : Type 0} → (D → History) → List Sheet → (tree free_list free_count : ℕ)
     → Result (Unit {0}) CommitFault → Store D → Store D → Type 0
-MovesMaps history made tree result old new =
+MovesMaps history made tree free_list free_count result old new =
     (before : List Entry) (live : List ℕ) → IsCommitted history old live before
-    → (after : List Entry) (pages : List ℕ)
-    → IsTurn (disk_history history old) (durable_root old) live made tree pages after
-    → MovesMap history (next_root (durable_root old) made tree) pages before after result old new
+    → let next = next_root (durable_root old) made tree free_list free_count in
+    (after : List Entry) (pages : List ℕ)
+    → IsTurn (disk_history history old) (durable_root old) live made next pages after
+    → MovesMap history next pages before after result old new
 
 -- The same of a disk alone, whose next root this is.
 pub record MovesRoot (next : Root) (pages : List ℕ) (before after : List Entry) {E : Type 0}
@@ -78,6 +80,7 @@ abbrev pub MovesDisk : {E : Type 0} → List Sheet → Root → Result (Unit {0}
     → History → History → Type 0
 MovesDisk made next result old new =
     (root : Root) (before : List Entry) (live : List ℕ) → Keeps old root live before
-    → (after : List Entry) (pages : List ℕ) → IsTurn old root live made next.tree pages after
-    → next ≡ next_root root made next.tree → next.generation < 2 ^ 64
+    → (after : List Entry) (pages : List ℕ) → IsTurn old root live made next pages after
+    → next ≡ next_root root made next.tree next.free_list next.free_count
+    → next.generation < 2 ^ 64
     → MovesRoot next pages before after result old new

@@ -3,7 +3,8 @@ use Rattle.std.specs.Prelude.{◌≡◌, ◌≢◌, ℕ, ◌+◌, max, List, len
 use Rattle.page.specs.History.{History, KeepsWord, now, reads}
 use Rattle.btree.specs.Keys.{Entry}
 use Rattle.roots.specs.HeldFile.{Reaches}
-use Rattle.roots.specs.Image.{sheet_at}
+use Rattle.freelist.specs.FreeList.{Part}
+use Rattle.roots.specs.Image.{HasList, reached_by, sheet_at}
 use Rattle.roots.specs.Store.{IsCommitted, disk_history, durable_root, is_stopped}
 use Rattle.roots.specs.declared.counting.PageCounts.{PageCounts}
 use Rattle.roots.specs.declared.opening.OpenFault.{OpenFault}
@@ -34,5 +35,8 @@ pub record CountsPages {D : Type 0} (history : D → History) (result : Result P
   pub stands : let image = reads (now (disk_history history old)) in
       KeepsWord (disk_history history new) → IfOk result (CountsTree image (durable_root old))
   pub counts : KeepsWord (disk_history history new) → (live : List ℕ) (entries : List Entry)
-      → IsCommitted history old live entries
-      → MatchResult result (AreCounts (durable_root old) live) (λ fault. fault ≢ faults.Damaged)
+      → IsCommitted history old live entries → let root = durable_root old in
+      (parts : List Part)
+      → HasList (sheet_at (reads (now (disk_history history old))) root) root live parts
+      → MatchResult result (AreCounts root (reached_by live parts))
+      (λ fault. fault ≢ faults.Damaged)

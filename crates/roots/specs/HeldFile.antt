@@ -10,8 +10,7 @@ use Rattle.freelist.specs.FreeList.{IsFreeList, IsPartition, ListContent, Part, 
 use Rattle.freelist.specs.FreeList.{pages_of, room_for, times_in}
 use Rattle.freelist.specs.ListReading.{AreAllBelow}
 use Rattle.freelist.specs.declared.list.FreeList.{FreeList}
-use Rattle.roots.specs.Image.{HoldsMap, IsOnPages, sheet_at}
-use Rattle.roots.specs.Listed.{listed_sheet}
+use Rattle.roots.specs.Image.{HasList, HoldsMap, IsOnPages, reached_by, sheet_at}
 use Rattle.roots.specs.Root.{IsUnlisted}
 use Rattle.roots.specs.Store.{disk_history, durable_root}
 use Rattle.roots.specs.declared.opening.OpenFault.{OpenFault}
@@ -19,27 +18,11 @@ use Rattle.roots.specs.declared.opening.OpenFault.TheVariants as faults
 use Rattle.roots.specs.declared.root.Root.{Root}
 use Rattle.roots.specs.declared.store.Store.{Store}
 
--- what each of these pages is of a list
-abbrev pub list_in : (ℕ → Result Sheet PageFault) → ℕ → Option ListContent
-list_in sheets page = listed_sheet (sheets page)
-
--- The list that a root names in these pages, where its tree reaches these. First page 0 is no list:
--- which pages are free, such a file doesn't tell. A list has each page of the file that the tree
--- doesn't reach: it is the list's own, or the list names it.
-pub record HasList (sheets : ℕ → Result Sheet PageFault) (root : Root) (pages : List ℕ)
-    (parts : List Part) : Type 0 where
-  pub list : IsFreeList (list_in sheets) root.pages root.free_list root.free_count parts
-  pub all : root.free_list ≢ 0 → IsPartition root.pages pages parts
-
 -- The root's tree reaches these pages and has these entries, and these parts are the root's list.
 pub record HoldsFile (sheets : ℕ → Result Sheet PageFault) (root : Root) (pages : List ℕ)
     (parts : List Part) (entries : List Entry) : Type 0 where
   pub tree : HoldsMap sheets root pages entries
   pub list : HasList sheets root pages parts
-
--- the pages that a root reaches: those of its tree, then the list's own
-abbrev pub reached_by : List ℕ → List Part → List ℕ
-reached_by pages parts = pages ++ pages_of parts
 
 -- ---- laws
 

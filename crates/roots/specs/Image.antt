@@ -1,7 +1,7 @@
 -- What an image of the disk stands for: the entries of the tree whose root page its root names.
-use Rattle.std.specs.Prelude.{◌≡◌, ◌⊎◌, ℕ, ◌<◌, ◌&&◌, nat_lt, if◌then◌else◌, List, [], ◌∷◌, Result}
-use Rattle.std.specs.Prelude.{Ok, Err, is_ok}
-use Rattle.page.specs.Content.{Content, chain}
+use Rattle.std.specs.Prelude.{◌≡◌, ◌≢◌, ◌⊎◌, ℕ, ◌<◌, ◌&&◌, nat_lt, if◌then◌else◌, List, [], ◌∷◌}
+use Rattle.std.specs.Prelude.{◌++◌, Option, Some, None, Result, Ok, Err, is_ok}
+use Rattle.page.specs.Content.{Content, leaf, branch, chain, free_list}
 use Rattle.page.specs.Format.{Sheet, sheet_in}
 use Rattle.page.specs.Page.{page_at, IsSectorOf}
 use Rattle.page.specs.declared.page_fault.PageFault.{PageFault}
@@ -9,6 +9,7 @@ use Rattle.page.specs.declared.page_fault.PageFault.TheVariants as faults
 use Rattle.btree.specs.Keys.{Entry}
 use Rattle.btree.specs.Store.{Store, no_device}
 use Rattle.btree.specs.Reach.{HasMap, AreOnce}
+use Rattle.freelist.specs.FreeList.{IsFreeList, IsPartition, ListContent, Part, pages_of}
 use Rattle.roots.specs.Root.{root_of}
 use Rattle.roots.specs.declared.root.Root.{Root}
 
@@ -34,11 +35,45 @@ store_of sheets = record {
   full_takes = 0;
 }
 
+-- ---- the list of free pages
+
+-- What a page is of a list: the page that goes on, and the pages that it names. A page of another
+-- kind is none.
+abbrev pub listed : Content → Option ListContent
+listed (leaf items) = None
+listed (branch arms) = None
+listed (chain next bytes) = None
+listed (free_list next pages) = Some (record { next = next; named = pages })
+
+abbrev pub listed_sheet : Result Sheet PageFault → Option ListContent
+listed_sheet (Ok sheet) = listed sheet.content
+listed_sheet (Err fault) = None
+
+-- what each of these pages is of a list
+abbrev pub list_in : (ℕ → Result Sheet PageFault) → ℕ → Option ListContent
+list_in sheets page = listed_sheet (sheets page)
+
+-- The list that a root names in these pages, where its tree reaches these. First page 0 is no list:
+-- which pages are free, such a file doesn't tell. A list has each page of the file that the tree
+-- doesn't reach: it is the list's own, or the list names it.
+pub record HasList (sheets : ℕ → Result Sheet PageFault) (root : Root) (pages : List ℕ)
+    (parts : List Part) : Type 0 where
+  pub list : IsFreeList (list_in sheets) root.pages root.free_list root.free_count parts
+  pub all : root.free_list ≢ 0 → IsPartition root.pages pages parts
+
+-- the pages that a root reaches: those of its tree, then the list's own
+abbrev pub reached_by : List ℕ → List Part → List ℕ
+reached_by pages parts = pages ++ pages_of parts
+
+-- ---- a file
+
 -- The root's tree in these pages reaches these, each once, and has these entries. Tree 0 is empty.
+-- The list of free pages that the root names, if it names one, fits the tree.
 pub record HoldsMap (sheets : ℕ → Result Sheet PageFault) (root : Root) (pages : List ℕ)
     (entries : List Entry) : Type 0 where
   pub map : HasMap (store_of sheets) root.tree pages entries
   pub once : AreOnce pages
+  pub listed : (parts : List Part) × HasList sheets root pages parts
 
 -- the root sectors of the image give this root
 abbrev pub OpensAs : (ℕ → List ℕ) → Root → Type 0

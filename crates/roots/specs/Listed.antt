@@ -1,7 +1,6 @@
 -- The list of free pages that a file holds, page by page.
-use Rattle.std.specs.Prelude.{◌≡◌, ℕ, ◌<◌, ◌≤◌, ◌^◌, List, [], ◌∷◌, ◌++◌, length, Option, Some}
-use Rattle.std.specs.Prelude.{None}
-use Rattle.std.specs.Prelude.{Result, Ok, Err}
+use Rattle.std.specs.Prelude.{◌≡◌, ℕ, ◌<◌, ◌≤◌, ◌^◌, List, [], ◌∷◌, ◌++◌, length, Option}
+use Rattle.std.specs.Prelude.{Result}
 use Rattle.freelist.specs.Book.{Book}
 use Rattle.freelist.specs.FreeList.{AreOnceBelow, Holds, ListContent, Part, first_page, written}
 use Rattle.freelist.specs.ListLaws.{GivesBack}
@@ -10,30 +9,17 @@ use Rattle.freelist.specs.ListWriting.{IsMade, count_with}
 use Rattle.freelist.specs.declared.list.FreeList.{FreeList}
 use Rattle.freelist.specs.declared.list_fault.ListFault.{ListFault}
 use Rattle.freelist.specs.declared.list_fault.ListFault.TheVariants as lists
-use Rattle.page.specs.Content.{Content, leaf, branch, chain, free_list}
+use Rattle.page.specs.Content.{free_list}
 use Rattle.page.specs.Crash.{ReadsOnly}
 use Rattle.page.specs.Format.{Sheet}
 use Rattle.page.specs.History.{History, KeepsWord, now, reads}
-use Rattle.page.specs.declared.page_fault.PageFault.{PageFault}
-use Rattle.roots.specs.Image.{sheet_at}
+use Rattle.roots.specs.Image.{listed_sheet, sheet_at}
 use Rattle.roots.specs.Store.{disk_history, durable_root, is_stopped}
 use Rattle.roots.specs.Turn.{AreWritten}
 use Rattle.roots.specs.declared.opening.OpenFault.{OpenFault}
 use Rattle.roots.specs.declared.opening.OpenFault.TheVariants as opens
 use Rattle.roots.specs.declared.root.Root.{Root}
 use Rattle.roots.specs.declared.store.Store.{Store}
-
--- What a page is of a list: the page that goes on, and the pages that it names. A page of another
--- kind is none.
-abbrev pub listed : Content → Option ListContent
-listed (leaf items) = None
-listed (branch arms) = None
-listed (chain next bytes) = None
-listed (free_list next pages) = Some (record { next = next; named = pages })
-
-abbrev pub listed_sheet : Result Sheet PageFault → Option ListContent
-listed_sheet (Ok sheet) = listed sheet.content
-listed_sheet (Err fault) = None
 
 -- what each page of a file with this root is of a list
 abbrev pub listed_in : (ℕ → List ℕ) → Root → ℕ → Option ListContent

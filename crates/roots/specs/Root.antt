@@ -39,16 +39,16 @@ fields_in bytes = record {
   free_count = little_number 4 (drop 36 bytes);
 }
 
--- no file has a list of free pages yet
-abbrev pub is_unlisted : Root → Bool
-is_unlisted root = (root.free_list == 0) && (root.free_count == 0)
+-- the list of free pages begins below the number of the file's pages, and names fewer than these
+abbrev pub is_list_possible : Root → Bool
+is_list_possible root = nat_lt root.free_list root.pages && nat_lt root.free_count root.pages
 
 -- A commit has a number, a file has at most 1,048,576 pages, and the tree begins below their
 -- number.
 abbrev pub is_possible : Root → Bool
 is_possible root =
     nat_lt 0 root.generation && (nat_lt root.tree root.pages
-    && (not (nat_lt 1048576 root.pages) && is_unlisted root))
+    && (not (nat_lt 1048576 root.pages) && is_list_possible root))
 
 unfoldable pub begins_right : List ℕ → Bool
 begins_right bytes = little_number 8 bytes == little_number 8 magic
@@ -106,7 +106,8 @@ IsUnlisted root = (root.free_list ≡ 0) × (root.free_count ≡ 0)
 pub record IsKnown (root : Root) : Type 0 where
   pub tree : root.tree < root.pages
   pub pages : root.pages ≤ 1048576
-  pub unlisted : IsUnlisted root
+  pub free_list : root.free_list < root.pages
+  pub free_count : root.free_count < root.pages
 
 -- a root that a commit may write
 pub record IsPossible (root : Root) : Type 0 where
@@ -114,4 +115,5 @@ pub record IsPossible (root : Root) : Type 0 where
   pub generation : root.generation < 2 ^ 64
   pub tree : root.tree < root.pages
   pub pages : root.pages ≤ 1048576
-  pub unlisted : IsUnlisted root
+  pub free_list : root.free_list < root.pages
+  pub free_count : root.free_count < root.pages

@@ -3,7 +3,8 @@ use Rattle.std.specs.Prelude.{◌≡◌, ◌⊎◌, ℕ, ◌<◌, max, min, Bool
 use Rattle.page.specs.History.{History, KeepsWord, now, reads}
 use Rattle.page.specs.Crash.{IsDurable}
 use Rattle.btree.specs.Keys.{Entry}
-use Rattle.roots.specs.Image.{OpensAs, HoldsMap, IsKept, sheet_at}
+use Rattle.freelist.specs.FreeList.{Part}
+use Rattle.roots.specs.Image.{HasList, HoldsMap, IsKept, OpensAs, reached_by, sheet_at}
 use Rattle.roots.specs.declared.root.Root.{Root}
 use Rattle.roots.specs.declared.store.Config.{Config}
 use Rattle.roots.specs.declared.store.Store.{Store}
@@ -28,11 +29,13 @@ abbrev pub IsRunning : {D : Type 0} → Store D → Type 0
 IsRunning store = is_stopped store ≡ false
 
 -- While the disk keeps its word: its root is this one, whose tree reaches these pages and has these
--- entries, and a crash leaves what these pages and the roots hold.
+-- entries, and a crash leaves what the roots, these pages and those of the root's list hold.
 pub record Keeps (h : History) (root : Root) (live : List ℕ) (entries : List Entry) : Type 0 where
   pub opens : KeepsWord h → OpensAs (reads (now h)) root
   pub holds : KeepsWord h → HoldsMap (sheet_at (reads (now h)) root) root live entries
-  pub durable : KeepsWord h → (k : ℕ) → IsKept live k → IsDurable (now h k)
+  pub durable : KeepsWord h → (parts : List Part)
+      → HasList (sheet_at (reads (now h)) root) root live parts
+      → (k : ℕ) → IsKept (reached_by live parts) k → IsDurable (now h k)
 
 -- These entries are committed, and these pages live.
 pub record IsCommitted {D : Type 0} (history : D → History) (store : Store D) (live : List ℕ)

@@ -11,8 +11,9 @@ use Rattle.page.specs.declared.page_image.PageImage.{PageImage}
 use Rattle.btree.specs.Keys.{Entry, times}
 use Rattle.btree.specs.Store.{Store as Pages}
 use Rattle.freelist.specs.Book.{Book, opened}
+use Rattle.freelist.specs.FreeList.{Part, pages_of}
 use Rattle.roots.specs.HeldFile.{HoldsNoFile, IsFileBook, Reaches as ReachesFile}
-use Rattle.roots.specs.Image.{HoldsMap, sheet_at, store_of}
+use Rattle.roots.specs.Image.{HasList, HoldsMap, reached_by, sheet_at, store_of}
 use Rattle.roots.specs.Store.{IsCommitted, disk_history, durable_root, is_stopped}
 use Rattle.roots.specs.declared.opening.OpenFault.{OpenFault}
 use Rattle.roots.specs.declared.opening.OpenFault.TheVariants as faults
@@ -98,23 +99,28 @@ FindsFile history result old new =
     (λ fault. fault ≡ faults.Damaged → HoldsNoFile sheets root)
 
 -- Nothing of the store has changed, and the root has a tree; where one is committed, the pages that
--- it reaches are in use, and the fault isn't one of the pages.
+-- the root reaches are in use, and the fault isn't one of the pages. The second of the result are
+-- the pages of the root's list.
 pub record FindsFree {D : Type 0} (history : D → History) (limit : ℕ)
-    (result : Result Book OpenFault) (old new : Store D) : Type 0 where
+    (result : Result (Book × Vec ℕ) OpenFault) (old new : Store D) : Type 0 where
   pub root : durable_root new ≡ durable_root old
   pub stopped : is_stopped new ≡ is_stopped old
   pub committed : (live : List ℕ) (entries : List Entry) → IsCommitted history old live entries
       → IsCommitted history new live entries
-  pub some : IfOk result (IsBookOf limit (durable_root old))
+  pub some : IfOk result (λ found. IsBookOf limit (durable_root old) found.0)
   pub stands : let image = reads (now (disk_history history old)) in
       KeepsWord (disk_history history new)
-      → IfOk result (λ book. HasMapThere image (durable_root old))
+      → IfOk result (λ found. HasMapThere image (durable_root old))
   -- and a list, if it names one, that fits the tree: the list's own pages are in use too
   pub file : let root = durable_root old in
       let sheets = sheet_at (reads (now (disk_history history old))) root in
-      KeepsWord (disk_history history new) → MatchResult result (IsFileBook sheets root limit)
+      KeepsWord (disk_history history new) → MatchResult result (λ found. IsFileBook sheets root limit found.0)
       (λ fault. fault ≡ faults.Damaged → HoldsNoFile sheets root)
   pub book : KeepsWord (disk_history history new) → (live : List ℕ) (entries : List Entry)
       → IsCommitted history old live entries → let root = durable_root old in
-      MatchResult result (λ book. book ≡ opened live (max limit root.pages) root.generation)
+      let image = reads (now (disk_history history old)) in
+      MatchResult result (λ found. (parts : List Part)
+      → HasList (sheet_at image root) root live parts
+      → (found.0 ≡ opened (reached_by live parts) (max limit root.pages) root.generation)
+      × (found.1.items ≡ pages_of parts))
       (λ fault. fault ≢ faults.Damaged)
