@@ -3,6 +3,7 @@ use Rattle.std.specs.Prelude.{◌≡◌, ◌≢◌, ℕ, List, Result, IfErr, If
 use Rattle.page.specs.History.{History, KeepsWord, now, reads}
 use Rattle.btree.specs.Keys.{Entry}
 use Rattle.roots.specs.Counting.{AreCounts, CountsTree}
+use Rattle.roots.specs.Image.{reached_by}
 use Rattle.roots.specs.Store.{durable_root}
 use Rattle.roots.specs.declared.counting.PageCounts.{PageCounts}
 use Rattle.roots.specs.declared.opening.OpenFault.{OpenFault}
@@ -15,12 +16,13 @@ use Rattle.collections.specs.Standing.{HasState}
 use Rattle.collections.specs.State.{State}
 use Rattle.collections.specs.View.{disk_history, is_changed}
 
--- The image holds these collections, and these are the counts of its root, by the pages that its
--- tree reaches.
+-- The image holds these collections, and these are the counts of its root, by the pages that it
+-- reaches: those of its tree, and those of the list of free pages that it names, if any.
 pub record HasCounts (image : ℕ → List ℕ) (collections : List Collection)
     (counts : PageCounts) : Type 0 where
   pub holds : Holds image collections
-  pub are : AreCounts holds.stands.root holds.stands.pages counts
+  pub are : let file = holds.stands in
+      AreCounts file.root (reached_by file.pages file.holds.listed.0) counts
 
 -- Why the pages of a file that holds collections weren't counted: the device failed, or memory ran
 -- out.
