@@ -81,14 +81,6 @@ fn takes_raw(alloc: Global, stages: &[Stage], document: &RawDoc<'_>) -> Result<b
 }
 
 impl Pipeline {
-    /// Whether it takes a document at all: where its first stage is a `$match`, whether that matches. It makes the same
-    /// of the documents that it takes as of all of them. It takes no memory.
-    pub fn takes(&self, document: &Document) -> bool
-        ensures { result ≡ takes (pipeline_of self.now) document.now }
-    {
-        takes(&self.stages, document)
-    }
-
     /// The filter of a `$match` in front, by which alone it takes a document.
     pub fn leading_match(&self) -> Option<&Filter>
         ensures { option_map (λ f. f.now) result ≡ leading_match (pipeline_of self.now) }
@@ -96,7 +88,8 @@ impl Pipeline {
         leading_match(&self.stages)
     }
 
-    /// The same of a document that stays its bytes.
+    /// Whether it takes a document at all: where its first stage is a `$match`, whether that matches. It makes the same
+    /// of the documents that it takes as of all of them. The document stays its bytes.
     pub fn takes_raw(&self, alloc: Global, document: &RawDoc<'_>) -> Result<bool, NoMemory>
         ensures { IfOk result (λ answer. answer ≡ takes (pipeline_of self.now) document.now) }
     {

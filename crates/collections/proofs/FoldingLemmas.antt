@@ -38,7 +38,7 @@ use Rattle.collections.specs.View.{disk_history, is_stopped}
 use Rattle.collections.specs.declared.folding.Lending.{Lending}
 use Rattle.collections.proofs.CauseLemmas.{word_before}
 use Rattle.collections.proofs.WalkLemmas.{few_documents}
-use Rattle.collections.proofs.WithinLemmas.{all_within, not_before, window_within, within_shorter}
+use Rattle.collections.proofs.WithinLemmas.{not_before, window_within, within_shorter}
 
 -- ---- a document that may be stored
 
@@ -192,13 +192,3 @@ module _ {D F : Type 0} (history : D → History) (makes : F → List Pairs → 
       }
       by_answer first cs has c numbered k (Err e) is told =
           inl (subst (λ o. MatchOption o (makes start.fold (documents_within texts c.documents) now.fold) (λ e. e ≡ refusals.OutOfMemory)) is told)
-
--- with no bounds it is lent all documents
-pub folded_all : {D F : Type 0} (history : D → History) (makes : F → List Pairs → F → Type 0) (fold : F) (texts : Bounds) (number : ℕ) (r : Result F Refusal)
-    (old new : State D) → ReadsOf history (λ cs c. IsNumbered cs c number) (λ cs c done. IsFolded makes fold (documents_within texts c.documents) done) r old new
-    → texts.from.now ≡ [] → option_map (λ b. b.now) texts.to ≡ None
-    → ReadsOf history (λ cs c. IsNumbered cs c number) (λ cs c done. IsFolded makes fold c.documents done) r old new
-folded_all history makes fold texts number r old new reads from to =
-    subst (λ (given : List Pairs → List Pairs). ReadsOf history (λ cs c. IsNumbered cs c number)
-    (λ cs c done. IsFolded makes fold (given c.documents) done) r old new)
-    (λ i ds. all_within texts from to ds i) reads

@@ -103,13 +103,7 @@ module _ (number : ℕ) (small : number < 2 ^ 32) where
       (Some (key_under number 1 [])) (ends_before (end_of texts)) xs
       ∙ ap (kept texts) listed ∙ kept_documents texts ds
 
--- ---- of all documents
-
-pub all_within : (texts : Bounds) → texts.from.now ≡ [] → end_of texts ≡ None → (ds : List Pairs) → documents_within texts ds ≡ ds
-all_within texts from to [] = refl
-all_within texts from to (d ∷ ds) =
-    let later = all_within texts from to ds in
-    λ i. cond (not (is_lt (key_cmp (tree_text (key_of d)) (from i))) && is_within (to i) (tree_text (key_of d))) (d ∷ later i) (later i)
+-- ---- no more than all documents
 
 pub within_shorter : (texts : Bounds) (ds : List Pairs) → length (documents_within texts ds) ≤ length ds
 within_shorter texts [] = omega arith

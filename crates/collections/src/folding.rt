@@ -181,22 +181,4 @@ impl<D: Disk> Collections<D> {
             Some(refusal) => Err(refusal),
         }
     }
-
-    /// Lends all of them.
-    pub fn fold_documents<F: DocumentFold + Drop>(
-        &mut self,
-        number: u32,
-        fold: F,
-    ) -> Result<F, Refusal>
-        requires { F.makes fold [] fold }
-        ensures reads { ReadsOf D.history (λ now c. IsNumbered now c number)
-            (λ now c done. IsFolded F.makes fold c.documents done) result self.old self.new }
-        ensures taken { IfOk result (HasTaken F.makes fold) }
-    {
-        let all = Bounds {
-            from: &[],
-            to: None,
-        };
-        self.fold_documents_within(number, all, fold)
-    }
 }

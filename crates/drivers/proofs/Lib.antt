@@ -1,5 +1,3 @@
 mod CleaningLemmas
 mod AskingLaws
-mod SeekingLemmas
-mod SectionLemmas
 mod PlanLaws

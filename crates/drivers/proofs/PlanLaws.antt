@@ -7,7 +7,8 @@ use Rattle.std.proofs.lemmas.Slice.Eq.{bytes_eq-Decides}
 use Rattle.bson.specs.Tree.{Tree, Pairs, no_pairs, pair, Items, append}
 use Rattle.bson.specs.Lookup.{lookup}
 use Rattle.path.specs.Parts.{path_of}
-use Rattle.drivers.specs.Answering.{wait_of, kill_wait, distinct_kept, distinct_wait, collections_wait, batch_wait, write_wait, other_wait, is_modification, is_single}
+use Rattle.drivers.specs.Answering.{wait_of, kill_wait, distinct_kept, distinct_wait, collections_wait, batch_wait, write_wait, other_wait}
+use Rattle.drivers.specs.Answering.{is_modification, is_single}
 use Rattle.drivers.specs.Cleaning.{own_rule, is_kept, kept}
 use Rattle.driver_replies.specs.Cursors.{ids_of, ids_in, no_kills}
 use Rattle.drivers.specs.Laws.{IgnoredLeavesThePlan}
@@ -168,7 +169,8 @@ modification-alike ids ps qs h =
     }
 
 distinct-alike : (ps qs : Pairs) → AreAlike ps qs → distinct_wait ps ≡ distinct_wait qs
-distinct-alike ps qs h = ap (λ (x : Option Tree). distinct_kept (option_map no_values (path_or_none (path_of (text_or_none x))))) (h.found (codes "key") no_rule_key)
+distinct-alike ps qs h =
+    ap (λ (x : Option Tree). distinct_kept (option_map no_values (path_or_none (path_of (text_or_none x))))) (h.found (codes "key") no_rule_key)
 
 single-alike : (command : List ℕ) (t : Tree) (ps qs : Pairs) → AreAlike (pair command t ps) (pair command t qs)
     → is_single (pair command t ps) ≡ is_single (pair command t qs)
@@ -198,8 +200,12 @@ wait-alike ids command t ps qs h =
     other = pair command t qs
 
     choose : Wait → Wait → Modification → Wait → Bool → Wait → Wait
-    choose kill listed m distinct single rest = if bytes_eq command (codes "killCursors") then kill else if bytes_eq command (codes "listCollections") then listed
-        else if bytes_eq command (codes "listIndexes") then waits.Indexes else if bytes_eq command (codes "dropDatabase") then waits.Listed else if bytes_eq command (codes "explain") then waits.Explained
+    choose kill listed m distinct single rest =
+        if bytes_eq command (codes "killCursors") then kill
+        else if bytes_eq command (codes "listCollections") then listed
+        else if bytes_eq command (codes "listIndexes") then waits.Indexes
+        else if bytes_eq command (codes "dropDatabase") then waits.Listed
+        else if bytes_eq command (codes "explain") then waits.Explained
         else if is_modification command then waits.Found m else if bytes_eq command (codes "distinct") then distinct else if single
         then waits.Single else rest
 

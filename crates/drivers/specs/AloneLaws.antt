@@ -27,8 +27,8 @@ use Rattle.drivers.specs.Answering.{distinct_on, asks_alone, answered_by, answer
 use Rattle.drivers.specs.Cleaning.{kept}
 use Rattle.drivers.specs.Starting.{name_of}
 use Rattle.drivers.specs.declared.command.Asked.TheVariants as askeds
-use Rattle.drivers.specs.declared.message.BodyFault.{BodyFault}
-use Rattle.drivers.specs.declared.message.Message.{Message}
+use Rattle.driver_messages.specs.declared.message.BodyFault.{BodyFault}
+use Rattle.driver_messages.specs.declared.message.Message.{Message}
 use Rattle.drivers.specs.declared.plan.Plan.{Plan}
 use Rattle.drivers.specs.declared.plan.Wait.{Wait}
 use Rattle.drivers.specs.declared.plan.Wait.TheVariants as waits

@@ -35,8 +35,8 @@ use Rattle.driver_replies.specs.Indexes.{indexes_told}
 use Rattle.driver_replies.specs.Listing.{name_in, batch_in, retold}
 use Rattle.drivers.specs.Explaining.{explained}
 use Rattle.drivers.specs.Starting.{name_of, unheard}
-use Rattle.drivers.specs.declared.message.BodyFault.{BodyFault}
-use Rattle.drivers.specs.declared.message.Message.{Message}
+use Rattle.driver_messages.specs.declared.message.BodyFault.{BodyFault}
+use Rattle.driver_messages.specs.declared.message.Message.{Message}
 use Rattle.drivers.specs.declared.plan.Plan.{Plan}
 use Rattle.drivers.specs.declared.plan.Wait.{Wait}
 use Rattle.drivers.specs.declared.plan.Wait.TheVariants as waits

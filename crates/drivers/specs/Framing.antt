@@ -7,8 +7,8 @@ use Rattle.bson.specs.Tree.{Pairs}
 use Rattle.bson.specs.Spelling.{frame_of, pairs_bytes}
 use Rattle.bson.specs.Limits.{message_limit}
 use Rattle.op_msg.specs.Request.{le_32, reply_bytes}
-use Rattle.drivers.specs.declared.message.Form.{Form}
-use Rattle.drivers.specs.declared.message.Form.TheVariants as forms
+use Rattle.driver_messages.specs.declared.message.Form.{Form}
+use Rattle.driver_messages.specs.declared.message.Form.TheVariants as forms
 use Rattle.drivers.specs.declared.step.Step.{Step}
 use Rattle.drivers.specs.declared.step.Step.TheVariants as steps
 

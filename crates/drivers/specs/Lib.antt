@@ -3,15 +3,10 @@ pub mod Reasons
 pub mod Rules
 pub mod Cleaning
 pub mod Commands
-pub mod ForeignTypes
 pub mod Starting
 pub mod Laws
 pub mod Explaining
 pub mod Answering
-pub mod Seeking
-pub mod SeekingView
-pub mod Incoming
-pub mod WireView
 pub mod Framing
 pub mod Rows
 pub mod AloneLaws

@@ -3,8 +3,8 @@
 use Rattle.std.specs.Prelude.{ℕ, ℤ, pos, List, ◌++◌, codes, Option, Some, None}
 use Rattle.bson.specs.Tree.{scalar, int64, Pairs, no_pairs, pair}
 use Rattle.driver_replies.specs.Fields.{int, words}
-use Rattle.drivers.specs.ForeignTypes.{type_name}
-use Rattle.drivers.specs.declared.foreign.ForeignType.{ForeignType}
+use Rattle.driver_messages.specs.ForeignTypes.{text_before}
+use Rattle.driver_messages.specs.declared.foreign.ForeignType.{ForeignType}
 use Rattle.drivers.specs.declared.reason.Reason.{Reason}
 use Rattle.drivers.specs.declared.reason.Reason.TheVariants as reasons
 
@@ -24,10 +24,6 @@ says number word sentence = record { code = number; name = word; before = senten
 abbrev pub names : ℕ → List ℕ → List ℕ → List ℕ → Row
 names number word front back =
     record { code = number; name = word; before = front; behind = Some back }
-
--- what stands before the place of a value of a type that the database doesn't have
-abbrev pub text_before : ForeignType → List ℕ
-text_before kind = codes "docpage has no BSON type " ++ type_name kind ++ codes " (at '"
 
 abbrev pub row_of : Reason → Row
 row_of reasons.TooManyServers =

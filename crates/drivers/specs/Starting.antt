@@ -20,11 +20,11 @@ use Rattle.drivers.specs.Cleaning.{first_refused, kept}
 use Rattle.drivers.specs.Commands.{command_of}
 use Rattle.driver_replies.specs.Cursors.{cursor_of, ids_of, first_id, kill_one}
 use Rattle.drivers.specs.declared.server_info.ServerInfo.{ServerInfo}
-use Rattle.drivers.specs.declared.message.BodyFault.{BodyFault}
-use Rattle.drivers.specs.declared.message.BodyFault.TheVariants as faults
-use Rattle.drivers.specs.declared.message.Form.{Form}
-use Rattle.drivers.specs.declared.message.Form.TheVariants as forms
-use Rattle.drivers.specs.declared.message.Message.{Message}
+use Rattle.driver_messages.specs.declared.message.BodyFault.{BodyFault}
+use Rattle.driver_messages.specs.declared.message.BodyFault.TheVariants as faults
+use Rattle.driver_messages.specs.declared.message.Form.{Form}
+use Rattle.driver_messages.specs.declared.message.Form.TheVariants as forms
+use Rattle.driver_messages.specs.declared.message.Message.{Message}
 use Rattle.drivers.specs.declared.command.Asked.{Asked}
 use Rattle.drivers.specs.declared.command.Asked.TheVariants as askeds
 use Rattle.drivers.specs.declared.command.Command.{Command}

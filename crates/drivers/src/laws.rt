@@ -1,7 +1,7 @@
 //! Laws of the definitions, as contracts.
 
 ghost use Rattle.drivers.specs.Laws.{AsksOwnFields, IgnoredMakesNoDifference, IgnoredLeavesThePlan};
-ghost use Rattle.drivers.specs.Rows.{QueryRows, ForeignRows, StepRows};
+ghost use Rattle.drivers.specs.Rows.{StepRows};
 
 /// Something is asked of the database only if the command is one for it and no field of it is refused: the command without the fields
 /// that the database doesn't have.
@@ -19,9 +19,7 @@ pub fn ignored_leaves_the_plan()
     ensures { IgnoredLeavesThePlan }
 {}
 
-/// Messages, foreign types and commands, worked by hand.
+/// Commands, worked by hand.
 pub fn rows()
-    ensures queries { QueryRows }
-    ensures foreign { ForeignRows }
-    ensures steps { StepRows }
+    ensures { StepRows }
 {}

@@ -16,10 +16,10 @@ use crate::cleaning::kept;
 use crate::command::Asked;
 use crate::distinct::distinct_wait;
 use crate::explaining::explained;
-use crate::message::Message;
 use crate::server_info::ServerInfo;
 use crate::starting::{name_of, start, unheard};
 use crate::step::Step;
+use driver_messages::Message;
 use bson::{Array, Document, NoMemory, Text};
 use driver_replies::{
     Batch, Distinct, FreshIds, Kills, Modification, Part, Tally, Write, collection_of,

@@ -13,11 +13,11 @@ use crate::cleaning::{first_refused, kept};
 use crate::command::{Asked, Command, Own, command_of};
 use crate::distinct::distinct_first;
 use crate::handshake::{build_reply, handshake_reply, ok_reply};
-use crate::message::{BodyFault, Form, Message};
 use crate::modifying::modify_first;
 use crate::reason::{Reason, refusal_reply};
 use crate::server_info::ServerInfo;
 use crate::step::Step;
+use driver_messages::{BodyFault, Form, Message};
 use bson::{Document, NoMemory, Value};
 use driver_replies::{
     Fact, cursor_of, document_of, first_id, ids_of, kill_one, list_command, set, text_or_none,

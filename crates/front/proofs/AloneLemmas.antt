@@ -192,7 +192,8 @@ stands_written alone loans owner len ss given new tied same fits stay goes stand
     subst (λ (os : List Socket). OthersStay os (borrower (loan_at loans owner)) new) same stay in
     let on : GoesOnAlone ss (borrower (loan_at loans owner)) new =
     subst (λ (os : List Socket). GoesOnAlone os (borrower (loan_at loans owner)) new) same goes in
-    subst (StandsAlone alone) (sym (written len ss new others.length (ap length (sym same) ∙ fits))) (stands_back alone loans owner ss new tied others on stands)
+    subst (StandsAlone alone) (sym (written len ss new others.length (ap length (sym same) ∙ fits)))
+    (stands_back alone loans owner ss new tied others on stands)
 
 -- ---- between its questions
 

@@ -1,7 +1,7 @@
 -- What is done with one socket.
 use Rattle.std.specs.Prelude.{◌≡◌, ◌≢◌, ℕ, Bool, false, not, ◌&&◌, ◌||◌, is_some, ◌++◌, List, []}
 use Rattle.std.specs.Prelude.{length, replicate, slice_index_or, Option, Some, None}
-use Rattle.drivers.specs.Incoming.{whole_at, is_waiting}
+use Rattle.driver_messages.specs.Incoming.{whole_at, is_waiting}
 use Rattle.front.specs.declared.socket.Socket.{Socket}
 
 -- a socket of which nothing has come

@@ -1,6 +1,7 @@
--- How deep a document nests, told by its bytes: each document and each array in it begins with a byte of its own.
-use Rattle.std.proofs.Common.{◌≡◌, ℕ, suc, max, ◌+◌, ◌≤◌, ◌<◌, Bool, true, false, List, [], ◌∷◌, ◌++◌, drop, length, refl, sym, ap, subst, ◌∙◌, arith}
-use Rattle.std.specs.Prelude.{◌==◌, ◌||◌, if◌then◌else◌}
+-- How deep a document nests, told by its bytes: each document and each array in it begins with a byte of its own, and has seven in all.
+use Rattle.std.proofs.Common.{◌≡◌, ℕ, suc, max, ◌+◌, ◌*◌, ◌≤◌, Bool, true, false, List, [], ◌∷◌, ◌++◌, length, refl, ap, arith}
+use Rattle.std.specs.Prelude.{◌==◌, ◌||◌}
+use Rattle.std.proofs.lemmas.List.{length-append}
 use Rattle.std.specs.Int.{w32, to_le_bytes}
 use Rattle.std.specs.Fmt.{decimal}
 use Rattle.bson.specs.Tree.{Tree, scalar, document, array, Pairs, no_pairs, pair, Items, no_items, item}
@@ -28,39 +29,59 @@ inner_frame : (content : List ℕ) → inner content ≤ inner (frame_of content
 inner_frame content =
     omega (arith, inner-append (to_le_bytes w32 (length content + 5)) (content ++ 0 ∷ []), inner-append content (0 ∷ []))
 
+length_frame : (content : List ℕ) → length (frame_of content) ≡ length content + 5
+length_frame content = omega (arith, length-append content (0 ∷ []))
+
 inner_element : (type : ℕ) (name value : List ℕ) → counted (begins type) + inner value ≤ inner (element type name value)
 inner_element type name value = omega (arith, inner-append name (0 ∷ value))
+
+length_element : (type : ℕ) (name value : List ℕ) → 2 + length value ≤ length (element type name value)
+length_element type name value = omega (arith, length-append name (0 ∷ value))
+
+-- Elements nest so deep at most: a level has a byte that begins it, and seven bytes of its own, which are its type, the zero behind its name, its
+-- length and its end.
+record Nests (depth : ℕ) (bytes : List ℕ) : Type 0 where
+  begun : depth ≤ inner bytes
+  long : 7 * depth ≤ length bytes
+
+-- one more element, and those behind it
+nests_max : (a b : ℕ) (xs ys : List ℕ) → Nests a xs → Nests b ys → Nests (max a b) (xs ++ ys)
+nests_max a b xs ys one rest = record {
+  begun = omega (arith, one.begun, rest.begun, inner-append xs ys);
+  long = omega (arith, one.long, rest.long, length-append xs ys);
+}
+
+-- one level more
+nests_under : (depth type : ℕ) (name content : List ℕ) → begins type ≡ true → Nests depth content
+    → Nests (suc depth) (element type name (frame_of content))
+nests_under depth type name content is nests = record {
+  begun = omega (arith, nests.begun, ap counted is, inner_frame content, inner_element type name (frame_of content));
+  long = omega (arith, nests.long, length_frame content, length_element type name (frame_of content));
+}
 
 mutual
   unfolding tree_bytes pairs_bytes items_bytes
 
-  tree_nests : (t : Tree) → levels t ≤ counted (begins (type_byte t)) + inner (tree_bytes t)
-  tree_nests (scalar s) = omega arith
-  tree_nests (document ps) = omega (arith, pairs_nest ps, inner_frame (pairs_bytes ps))
-  tree_nests (array ts) = omega (arith, items_nest 0 ts, inner_frame (items_bytes 0 ts))
+  tree_nests : (name : List ℕ) (t : Tree) → Nests (levels t) (element (type_byte t) name (tree_bytes t))
+  tree_nests name (scalar s) = record { begun = omega arith; long = omega arith }
+  tree_nests name (document ps) = nests_under (pairs_levels ps) 3 name (pairs_bytes ps) refl (pairs_nest ps)
+  tree_nests name (array ts) = nests_under (items_levels ts) 4 name (items_bytes 0 ts) refl (items_nest 0 ts)
 
-  pairs_nest : (ps : Pairs) → pairs_levels ps ≤ inner (pairs_bytes ps)
-  pairs_nest no_pairs = omega arith
+  pairs_nest : (ps : Pairs) → Nests (pairs_levels ps) (pairs_bytes ps)
+  pairs_nest no_pairs = record { begun = omega arith; long = omega arith }
   pairs_nest (pair name t ps) =
-      omega (
-        arith,
-        tree_nests t,
-        pairs_nest ps,
-        inner_element (type_byte t) name (tree_bytes t),
-        inner-append (element (type_byte t) name (tree_bytes t)) (pairs_bytes ps),
-      )
+      nests_max (levels t) (pairs_levels ps) (element (type_byte t) name (tree_bytes t)) (pairs_bytes ps) (tree_nests name t) (pairs_nest ps)
 
-  items_nest : (i : ℕ) (ts : Items) → items_levels ts ≤ inner (items_bytes i ts)
-  items_nest i no_items = omega arith
+  items_nest : (i : ℕ) (ts : Items) → Nests (items_levels ts) (items_bytes i ts)
+  items_nest i no_items = record { begun = omega arith; long = omega arith }
   items_nest i (item t ts) =
-      omega (
-        arith,
-        tree_nests t,
-        items_nest (i + 1) ts,
-        inner_element (type_byte t) (decimal i) (tree_bytes t),
-        inner-append (element (type_byte t) (decimal i) (tree_bytes t)) (items_bytes (i + 1) ts),
-      )
+      nests_max (levels t) (items_levels ts) (element (type_byte t) (decimal i) (tree_bytes t)) (items_bytes (i + 1) ts) (tree_nests (decimal i) t)
+      (items_nest (i + 1) ts)
 
 -- a document nests no deeper than such bytes stand in its spelling
 pub nests_no_deeper : (bytes : List ℕ) (d : Pairs) → Spells bytes d → pairs_levels d ≤ inner bytes
-nests_no_deeper bytes d h = omega (arith, pairs_nest d, inner_frame (pairs_bytes d), ap inner h.spelled)
+nests_no_deeper bytes d h = omega (arith, (pairs_nest d).begun, inner_frame (pairs_bytes d), ap inner h.spelled)
+
+-- nor than there is room
+pub has_room : (bytes : List ℕ) (d : Pairs) → Spells bytes d → 7 * pairs_levels d + 5 ≤ length bytes
+has_room bytes d h = omega (arith, (pairs_nest d).long, length_frame (pairs_bytes d), ap length h.spelled)

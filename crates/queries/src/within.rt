@@ -24,11 +24,17 @@ pub fn are_within(documents: &[Document]) -> bool
         .all(|document| limits_fault(document, STORED_LIMIT).is_none())
 }
 
-/// Whether bytes that spell a document surely nest no deeper than a stored one may: too few of them can begin a
-/// document or an array.
+/// Fewer bytes spell no document that nests deeper than a stored one may: each document and each array in it has seven of its own.
+const SHALLOW: usize = 7 * STORED_LEVELS as usize;
+
+/// Whether bytes that spell a document surely nest no deeper than a stored one may: there are few, or too few of them can begin
+/// a document or an array.
 fn is_shallow(bytes: &[u8]) -> bool
     ensures { result ≡ true → (d : Pairs) → Spells bytes.now d → pairs_levels d < 90 }
 {
+    if bytes.len() < SHALLOW {
+        return true;
+    }
     let mut count = 0usize;
     'bytes: for byte in bytes {
         if *byte == 3 || *byte == 4 {

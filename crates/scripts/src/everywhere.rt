@@ -1,12 +1,10 @@
 //! Tests that are played once more for each place where their device may stop or fail.
 
-use crate::fault::Fault;
-use crate::lines::Line;
 use crate::player::{Manner, Player};
 use crate::script::Test;
 use crate::test::Failure;
-use crate::words::{Word, head_of};
 use page::MemDisk;
+use script_text::{Fault, Line, Word, head_of};
 use std::alloc::{AllocError, Global};
 
 /// The images that a power cut may leave, by masks of eleven bits.

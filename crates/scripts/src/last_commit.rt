@@ -1,7 +1,7 @@
 //! A file whose last commit has the greatest number that there is.
 
-use crate::fault::Fault;
 use page::{Disk, MemDisk};
+use script_text::Fault;
 
 /// The number of a root's commit.
 fn number_in(root: &[u8; 512]) -> u64 {

@@ -2,29 +2,18 @@
 //! what differs, and how many tests passed.
 #![tactic(auto)]
 
-mod byte_text;
 mod device;
 mod everywhere;
-mod expansion;
-mod fault;
 mod last_commit;
-mod lines;
-mod message;
-mod numbers;
 mod player;
 mod playing;
-mod reply;
 mod script;
 mod session;
-mod tables;
 mod test;
-mod values;
-mod words;
 
 use everywhere::play_test;
-use fault::Fault;
-use lines::lines_of;
 use script::tests_of;
+use script_text::{Fault, lines_of};
 use std::alloc::Global;
 use std::process::ExitCode;
 use std::{env, fs, io};

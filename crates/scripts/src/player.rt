@@ -1,13 +1,10 @@
 //! Plays the lines of a test to a server: what is sent, turns, and what they hand out.
 
 use crate::device::Orders;
-use crate::fault::{Fault, differs};
-use crate::message::{Draft, Shape};
-use crate::reply::{Reply, number_of};
 use crate::session::Session;
-use crate::tables::Subject;
 use op_msg::FrameFault;
 use page::MemDisk;
+use script_text::{Draft, Fault, Reply, Shape, Subject, differs, number_of};
 use server::{Counts, OpenFault, TurnOut};
 use std::alloc::Global;
 use std::collections::VecDeque;

@@ -1,16 +1,10 @@
 //! What a line of a test asks for.
 
-use crate::byte_text::bytes_in;
-use crate::fault::{Fault, differs};
 use crate::last_commit::with_last_commit;
-use crate::message::Draft;
-use crate::numbers::number_in;
 use crate::player::Player;
-use crate::reply::{Reply, batch_reply, done, is_document, with_ids};
-use crate::values::{document_in, documents_in, values_in};
-use crate::words::Word;
 use bson::{Array, Document, Text, Value, decode};
 use page::MemDisk;
+use script_text::{Draft, Fault, Reply, Word, batch_reply, bytes_in, differs, document_in, documents_in, done, is_document, number_in, values_in, with_ids};
 use std::alloc::{AllocError, Global};
 
 /// The code of a refusal because the device failed.

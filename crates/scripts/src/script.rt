@@ -1,10 +1,8 @@
 //! A script: tests with titles.
 
-use crate::fault::Fault;
-use crate::lines::Line;
-use crate::numbers::number_in;
 use crate::player::MOST_PAGES;
 use crate::test::Failure;
+use script_text::{Fault, Line, number_in};
 use std::alloc::{AllocError, Global};
 
 /// A test: its title, what its head says, and its lines.

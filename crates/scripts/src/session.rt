@@ -1,9 +1,9 @@
 //! A server whose device a script has in its hands.
 
 use crate::device::{Device, Orders};
-use crate::fault::Fault;
 use engine::ConnId;
 use page::MemDisk;
+use script_text::Fault;
 use server::{CheckFault, Config, Core, Counts, FeedFault, OpenFault, TurnFault, TurnOut};
 use std::alloc::Global;
 use std::marker::Model;

@@ -1,16 +1,7 @@
 //! Tests, line by line.
 
-use crate::byte_text::bytes_in;
-use crate::expansion::{opened, with_number};
-use crate::fault::Fault;
-use crate::lines::Line;
-use crate::message::Draft;
-use crate::numbers::{number_in, row_in};
 use crate::player::Player;
-use crate::reply::done;
-use crate::tables::subject_of;
-use crate::values::document_in;
-use crate::words::{Head, Kind, Word, head_of};
+use script_text::{Draft, Fault, Head, Kind, Line, Word, bytes_in, document_in, done, head_of, number_in, opened, row_in, subject_of, with_number};
 
 /// The connection on which a test looks at what stands in the server.
 const LOOKING: u8 = 63;

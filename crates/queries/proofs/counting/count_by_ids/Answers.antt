@@ -62,7 +62,8 @@ ids-preserved g c =
     let text : List ℕ = c.deref.result.now in
     let is = next_text c.args.ids.now c.ids.id-index c.id-item.result text c.ids-test.true c.id-item.is c.deref.ensures.value in
     let within : length c.args.ids.now < 2 ^ 64 = omega arith in
-    let sum : next ≡ now + more = omega (arith, c.saturating_add-count.ensures, c.in_ok-count_found.ensures.few, c.ids.invariant.few, c.ids-test.true, within) in
+    let sum : next ≡ now + more =
+    omega (arith, c.saturating_add-count.ensures, c.in_ok-count_found.ensures.few, c.ids.invariant.few, c.ids-test.true, within) in
     record {
       come = looks_one g.D.Disk.history c.args.number (AreIdsOf c.args.number (matches rules) (texts_of c.args.ids.now)) (texts_of c.args.ids.now)
           (told_by_ids c.args.number (matches rules) (texts_of c.args.ids.now)) (λ all left. AreCountedOf rules now all left) c.args.file.now c.ids.file

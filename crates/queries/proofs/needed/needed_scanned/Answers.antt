@@ -27,7 +27,8 @@ returns-in_err-walked-clause-reads g c =
     let e = err_from_is_err_and c.from_residual.result c.from_residual.ensures.1 in
     rw (e.1, e.2)
     (asked_refused g.D.Disk.history (IsAsked c.args.home.now) (λ now of (few : Vec Pairs Global). AreEnough stages few.items of.documents)
-    c.args.file.now c.fold_asked.new.file (λ now of done. IsWalked (takes stages) Needs start of.documents done) c.in_err-walked.field-0.0 c.in_err-walked.ensures.reads)
+    c.args.file.now c.fold_asked.new.file (λ now of done. IsWalked (takes stages) Needs start of.documents done)
+    c.in_err-walked.field-0.0 c.in_err-walked.ensures.reads)
 
 pub returns-then-walked-clause-reads : goal.returns-then-walked-clause-reads
 returns-then-walked-clause-reads g c =
@@ -36,7 +37,8 @@ returns-then-walked-clause-reads g c =
     { alloc = c.args.alloc; pipeline = c.args.pipeline; needed = c.new.result; room = 1024; is_enough = c.are_enough.result } in
     let walked : Needing = c.in_ok-walked.walked in
     asked_on g.D.Disk.history (IsAsked c.args.home.now) (λ now of (few : Vec Pairs Global). AreEnough stages few.items of.documents)
-    c.args.file.now c.fold_asked.new.file (λ now of done. IsWalked (takes stages) Needs start of.documents done) walked (Ok walked.needed) c.in_ok-walked.ensures.reads
+    c.args.file.now c.fold_asked.new.file (λ now of done. IsWalked (takes stages) Needs start of.documents done)
+    walked (Ok walked.needed) c.in_ok-walked.ensures.reads
     (λ now of asked all.
     enough_within stages walked.needed.items all.texts of.documents all.same
     (enough_needed start walked (documents_within all.texts of.documents) all.folded.made c.new.ensures.items c.if-walked.true))

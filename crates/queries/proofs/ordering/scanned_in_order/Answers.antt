@@ -27,7 +27,8 @@ returns-in_err-sorted-clause-reads g c =
     rw (e.1, e.2)
     (asked_refused g.D.Disk.history (IsAsked c.args.home.now)
     (λ now of (found : Vec Pairs Global). found.items ≡ take c.args.most (order c.args.sort.now (matching c.args.filter.now of.documents))) c.args.file.now
-    c.fold_asked.new.file (λ now of done. IsWalked (matches c.args.filter.now) Sorts start of.documents done) c.in_err-sorted.field-0.0 c.in_err-sorted.ensures.reads)
+    c.fold_asked.new.file (λ now of done. IsWalked (matches c.args.filter.now) Sorts start of.documents done) c.in_err-sorted.field-0.0
+    c.in_err-sorted.ensures.reads)
 
 pub returns-in_err-first_spelled-clause-reads : goal.returns-in_err-first_spelled-clause-reads
 returns-in_err-first_spelled-clause-reads g c =

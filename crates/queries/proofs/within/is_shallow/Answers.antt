@@ -1,7 +1,7 @@
-use Rattle.std.proofs.Common.{◌≡◌, ◌+◌, ◌<◌, [], List, ℕ, length, drop, ap, arith}
+use Rattle.std.proofs.Common.{◌≡◌, ◌<◌, [], List, ℕ, drop, ap, arith}
 use Rattle.std.proofs.lemmas.Bool.Decides.{nat_tests}
 use Rattle.std.proofs.lemmas.List.{drop_all}
-use Rattle.queries.proofs.DepthLemmas.{inner, nests_no_deeper}
+use Rattle.queries.proofs.DepthLemmas.{has_room, inner, nests_no_deeper}
 use Rattle.queries.proofs.within.is_shallow.Goals as goal
 
 pub returns : goal.returns
@@ -11,3 +11,7 @@ returns c = λ few d spelled.
     let all : c.bytes.count ≡ inner bytes = omega (arith, c.bytes.invariant.counted, ap inner none) in
     let below : c.bytes.count < 90 = grind (arith, nat_tests, few) in
     omega (arith, below, all, nests_no_deeper bytes d spelled)
+
+pub returns-then-bytes-lt-SHALLOW : goal.returns-then-bytes-lt-SHALLOW
+returns-then-bytes-lt-SHALLOW c = λ few d spelled.
+    omega (arith, has_room c.args.bytes.now d spelled, c.if-bytes-lt-SHALLOW.true)

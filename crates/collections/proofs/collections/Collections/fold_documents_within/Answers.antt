@@ -20,7 +20,8 @@ returns-in_err-lend_all-clause-reads g c =
     let bounds : Bounds = record { from = c.deref.result; to = Some c.deref-2.result } in
     let e = err_from_is_err_and c.from_residual-in_err-lend_all.result c.from_residual-in_err-lend_all.ensures.1 in
     rw (e.1, e.2)
-    (asks_refused g.D.Disk.history (λ now of. IsNumbered now of c.args.number) (λ now of done. IsFolded makes c.args.fold (documents_within c.args.texts of.documents) done)
+    (asks_refused g.D.Disk.history (λ now of. IsNumbered now of c.args.number)
+    (λ now of done. IsFolded makes c.args.fold (documents_within c.args.texts of.documents) done)
     c.args.self.now c.lend_all.new.self (IsInTree (λ entries (u : Unit {0}). Lends makes start (between bounds entries) c.lend_all.new.lending))
     c.in_err-lend_all.field-0.0 c.in_err-lend_all.ensures.reads)
 
@@ -30,7 +31,8 @@ returns-in-None-clause-reads g c =
     let start : Lending g.row.F.Denot = record { fold = c.args.fold; refused = None } in
     let bounds : Bounds = record { from = c.deref.result; to = Some c.deref-2.result } in
     let from : bounds.from.now ≡ key_under c.args.number 0 c.args.texts.from.now = c.deref.ensures.value ∙ c.in_ok-from.ensures in
-    let to : option_map (λ b. b.now) bounds.to ≡ Some (end_under c.args.number (option_map (λ b. b.now) c.args.texts.to)) = ap Some (c.deref-2.ensures.value ∙ c.in_ok-to.ensures) in
+    let to : option_map (λ b. b.now) bounds.to ≡ Some (end_under c.args.number (option_map (λ b. b.now) c.args.texts.to)) =
+    ap Some (c.deref-2.ensures.value ∙ c.in_ok-to.ensures) in
     folded history g.F.DocumentFold.makes start c.lend_all.new.lending bounds c.args.texts c.args.number c.args.self.now c.lend_all.new.self from to
     (subst (λ (s : State g.row.D.Denot). TreesFit history s.pager) c.self.view_is c.trees_fit.ensures) c.in_ok-lend_all.ensures.running
     c.in_ok-lend_all.ensures.reads (Ok c.lend_all.new.lending.fold) (c.in-None.is, refl)
@@ -41,7 +43,8 @@ returns-clause-reads g c =
     let start : Lending g.row.F.Denot = record { fold = c.args.fold; refused = None } in
     let bounds : Bounds = record { from = c.deref.result; to = Some c.deref-2.result } in
     let from : bounds.from.now ≡ key_under c.args.number 0 c.args.texts.from.now = c.deref.ensures.value ∙ c.in_ok-from.ensures in
-    let to : option_map (λ b. b.now) bounds.to ≡ Some (end_under c.args.number (option_map (λ b. b.now) c.args.texts.to)) = ap Some (c.deref-2.ensures.value ∙ c.in_ok-to.ensures) in
+    let to : option_map (λ b. b.now) bounds.to ≡ Some (end_under c.args.number (option_map (λ b. b.now) c.args.texts.to)) =
+    ap Some (c.deref-2.ensures.value ∙ c.in_ok-to.ensures) in
     folded history g.F.DocumentFold.makes start c.lend_all.new.lending bounds c.args.texts c.args.number c.args.self.now c.lend_all.new.self from to
     (subst (λ (s : State g.row.D.Denot). TreesFit history s.pager) c.self.view_is c.trees_fit.ensures) c.in_ok-lend_all.ensures.running
     c.in_ok-lend_all.ensures.reads (Err c.in-Some.refusal) c.in-Some.is

@@ -1,0 +1,2 @@
+mod SeekingLemmas
+mod SectionLemmas

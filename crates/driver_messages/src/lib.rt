@@ -1,0 +1,17 @@
+//! Messages of MongoDB drivers: the bytes of a socket, in whatever chunks they come, and what is sent in them.
+#![tactic(auto)]
+
+mod foreign;
+mod incoming;
+pub mod laws;
+mod message;
+mod place;
+mod sections;
+mod seeking;
+mod stream_fault;
+mod wire;
+
+pub use foreign::{Foreign, ForeignType};
+pub use incoming::Incoming;
+pub use message::{BodyFault, Form, Message};
+pub use stream_fault::StreamFault;
