@@ -32,7 +32,8 @@ stopped_not b stopped runs = absurd cc
 
 -- a turn that was ended, a moment after which nothing was done
 ends_after : (before word : Type 0) → (word → before)
-    → (no_room : Moment → Type 0) (world_was : World) (connections : List Connection) (given : List (ℕ × List ℕ)) (left : World) (start end later : Moment) → end ≡ later
+    → (no_room : Moment → Type 0) (world_was : World) (connections : List Connection) (given : List (ℕ × List ℕ)) (left : World) (start end later : Moment)
+    → end ≡ later
     → EndsTurn before (IsCaused start end) (no_room end) world_was connections given left
     → EndsTurn word (IsCaused start later) (no_room later) world_was connections given left
 ends_after before word kept no_room world_was connections given left start end later same s = record {
