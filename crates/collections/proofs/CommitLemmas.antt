@@ -1,19 +1,33 @@
 -- How the commit of a turn ends.
-use Rattle.std.proofs.Common.{◌≡◌, ◌⊎◌, ℕ, false, List, sym, ap, inl, inr}
-use Rattle.std.specs.Prelude.{Result, Ok, Err}
+use Rattle.std.proofs.Common.{◌≡◌, ◌⊎◌, ℕ, ◌+◌, ◌-◌, ◌<◌, ◌≤◌, ◌^◌, false, List, refl, sym, ap, subst, inl, inr, arith}
+use Rattle.std.specs.Prelude.{Result, Ok, Err, min}
+use Rattle.std.proofs.lemmas.Bool.{cases_lt}
+use Rattle.page.specs.Crash.{ReadsOnly}
 use Rattle.page.specs.History.{History, KeepsWord}
+use Rattle.page.proofs.Moments.{reads_nothing}
+use Rattle.btree.specs.Store.{IsSame, Stays}
+use Rattle.btree.proofs.StoreLemmas.{grows_same}
 use Rattle.roots.specs.declared.store.CommitFault.{CommitFault}
 use Rattle.roots.specs.Image.{StandsFor}
+use Rattle.roots.specs.Store as stores
 use Rattle.roots.specs.declared.root.Root.{Root}
-use Rattle.pager.specs.Commit.{Commits as CommitsPages, MovesTurns, Moves as MovesPages}
+use Rattle.pager.specs.Commit.{Commits as CommitsPages, CountsTakes, FindsNoRoom as FindsNoRoomFor, MovesTurns, Moves as MovesPages}
 use Rattle.pager.specs.State.{State as PagerState}
+use Rattle.pager.specs.View.{base_of, pager_history, store_of}
 use Rattle.index.specs.State.{Collection}
 use Rattle.collections.specs.State.{State}
-use Rattle.collections.specs.Committing.{Commits}
+use Rattle.collections.specs.Committing.{Commits, FindsNoRoom}
 use Rattle.collections.specs.Holding.{Holds}
 use Rattle.collections.specs.Standing.{HasState, IsTurnOf}
-use Rattle.collections.specs.View.{disk_history, is_stopped}
-use Rattle.collections.proofs.StandingLemmas.{begins, rests_at}
+use Rattle.collections.specs.View.{disk_history, is_stopped, pages_of}
+use Rattle.collections.proofs.StandingLemmas.{begins, rests_at, state_stays}
+
+-- a count that stops at the greatest number
+counted_once : (old new : ℕ) → new ≡ min (old + 1) (2 ^ 64 - 1) → (old < new) ⊎ (new ≡ 18446744073709551615)
+counted_once old new is = elim (cases_lt old (2 ^ 64 - 1)) [
+  | inl less ↦ inl (omega (arith, is, less))
+  | inr most ↦ inr (omega (arith, is, most))
+]
 
 module _ {D : Type 0} (history : D → History) (old : State D) (pager : PagerState D) where
   abbrev new : State D
@@ -34,10 +48,41 @@ module _ {D : Type 0} (history : D → History) (old : State D) (pager : PagerSt
     moved : (k : KeepsWord (disk_history history new)) → MovesPages history (turn k).pages (turn k).before (turn k).after result old.pager pager
     moved k = moves (turn k).began (turn k).live (turn k).before (turn k).begun (turn k).pages (turn k).after (λ _. (turn k).turn)
 
-  pub committed : CommitsPages history old.root (Ok tt) old.pager pager → pager.book.full_takes ≡ old.pager.book.full_takes
+  -- The pages are as they were, but for the count.
+  finds_no_room : old.pager.book.full_takes ≤ pager.book.full_takes → FindsNoRoomFor old.pager pager → FindsNoRoom history old new
+  finds_no_room more (inl (most, same)) = inl (most, ap (λ (p : PagerState D). record old { pager = p }) same)
+  finds_no_room more (inr is) =
+      let disk : disk_history history new ≡ disk_history history old = ap (λ (p : PagerState D). pager_history history p) is in
+      let stays : Stays (pages_of history old) (pages_of history new) = record {
+        base = ap (λ (p : PagerState D). base_of p) is;
+        reads = subst (ReadsOnly (disk_history history old)) (sym disk) (reads_nothing (disk_history history old));
+      } in
+      let same : KeepsWord (disk_history history new) → IsSame (pages_of history old) (pages_of history new) = λ k. record {
+        word = subst KeepsWord disk k;
+        page = ap (λ (p : PagerState D). (store_of history p).page) is;
+        live = ap (λ (p : PagerState D). (store_of history p).live) is;
+        made = ap (λ (p : PagerState D). (store_of history p).made) is;
+        retired = ap (λ (p : PagerState D). (store_of history p).retired) is;
+        failures = omega (arith, ap (λ (h : History). h.failures) disk);
+        full_takes = more;
+      } in
+      inr (record {
+        counted = counted_once old.pager.book.full_takes pager.book.full_takes (ap (λ (p : PagerState D). p.book.full_takes) is);
+        untouched = record {
+          disk = disk;
+          stopped = ap (λ (p : PagerState D). stores.is_stopped p.store) is;
+          version = ap (λ (p : PagerState D). (stores.durable_root p.store).generation) is;
+        };
+        state = λ start now has. state_stays history old new start now
+            (grows_same (pages_of history old) (pages_of history new) stays same) refl
+            (λ k. (same k).made) (λ k. (same k).retired) has;
+      })
+
+  pub committed : CommitsPages history old.root (Ok tt) old.pager pager → CountsTakes (Ok tt) old.pager pager
       → MovesTurns history old.root (Ok tt) old.pager pager → Commits history (Ok tt) old new
   committed commits takes moves = record {
-    takes = takes;
+    takes = takes.grows;
+    found = takes.same;
     on = commits.on;
     running = commits.running;
     version = commits.version;
@@ -66,17 +111,18 @@ module _ {D : Type 0} (history : D → History) (old : State D) (pager : PagerSt
     };
   }
 
-  pub not_committed : (fault : CommitFault) → CommitsPages history old.root (Err fault) old.pager pager → pager.book.full_takes ≡ old.pager.book.full_takes
+  pub not_committed : (fault : CommitFault) → CommitsPages history old.root (Err fault) old.pager pager → CountsTakes (Err fault) old.pager pager
       → MovesTurns history old.root (Err fault) old.pager pager → Commits history (Err fault) old new
   not_committed fault commits takes moves = record {
-    takes = takes;
+    takes = takes.grows;
+    found = takes.same;
     on = commits.on;
     running = tt;
     version = tt;
     still = ap (λ (r : Root). r.generation) commits.still;
     rests = tt;
     memory = λ is. ap (λ (p : PagerState D). record old { pager = p }) (commits.memory is);
-    full = λ is. ((commits.full is).0, ap (λ (p : PagerState D). record old { pager = p }) (commits.full is).1);
+    full = λ is. finds_no_room takes.grows (commits.full is);
     stops = λ is. (commits.stops is).0;
     device = λ is k. commits.device is k;
     idle = λ is. ap (λ (p : PagerState D). record old { pager = p }) (commits.idle is);
@@ -90,7 +136,7 @@ module _ {D : Type 0} (history : D → History) (old : State D) (pager : PagerSt
   }
 
   pub commits_so : (result : Result (Unit {0}) CommitFault) → CommitsPages history old.root result old.pager pager
-      → pager.book.full_takes ≡ old.pager.book.full_takes
+      → CountsTakes result old.pager pager
       → MovesTurns history old.root result old.pager pager → Commits history result old new
   commits_so (Ok tt) commits takes moves = committed commits takes moves
   commits_so (Err fault) commits takes moves = not_committed fault commits takes moves

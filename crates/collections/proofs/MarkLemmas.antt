@@ -33,13 +33,13 @@ untouched_so {D = D} history old pager root made retired undone = record {
   disk = ap (λ (p : PagerState D). pager_history history p) undone;
   stopped = ap (λ (p : PagerState D). stores.is_stopped p.store) undone;
   version = ap (λ (p : PagerState D). (stores.durable_root p.store).generation) undone;
-  takes = ap (λ (p : PagerState D). p.book.full_takes) undone;
 }
 
 pub returns_so : {D : Type 0} (history : D → History) (mark : Mark) (old : State D) (pager : PagerState D)
     → pager ≡ undone_to mark.pages.made mark.pages.retired old.pager → Returns history mark.pages.made mark.pages.retired old.pager pager
     → ReturnsTo history mark old (record { pager = pager; root = mark.root })
-returns_so history mark old pager undone returns = record {
+returns_so {D = D} history mark old pager undone returns = record {
+  takes = ap (λ (p : PagerState D). p.book.full_takes) undone;
   untouched = untouched_so history old pager mark.root mark.pages.made mark.pages.retired undone;
   back = λ earlier is goes.
       let r = returns earlier.pager is.orderly goes is.made is.retired in
@@ -58,10 +58,11 @@ begun_again history old new made retired leads none empty same is start now has 
 pub undoes_so : {D : Type 0} (history : D → History) (old : State D) (pager : PagerState D) (root made retired : ℕ) → pager ≡ undone_to made retired old.pager
     → LeadsBack history made retired old.pager pager → made ≡ 0 → retired ≡ 0
     → root ≡ (stores.durable_root pager.store).tree → Undoes history old (record { pager = pager; root = root })
-undoes_so history old pager root made retired undone leads none empty is =
+undoes_so {D = D} history old pager root made retired undone leads none empty is =
     let same = untouched_so history old pager root made retired undone in
     record {
       untouched = same;
+      takes = ap (λ (p : PagerState D). p.book.full_takes) undone;
       rests = rests_at root (stores.durable_root pager.store).tree is;
       state = λ start now has. begun_again history old (record { pager = pager; root = root }) made retired leads none empty same is start now has;
     }

@@ -1,13 +1,16 @@
 -- What the commit of a turn gives.
-use Rattle.std.specs.Prelude.{◌≡◌, ◌⊎◌, ◌+◌, ◌-◌, ◌^◌, false, true, List, Result, Err, OnOk, OnErr}
+use Rattle.std.specs.Prelude.{◌≡◌, ◌≢◌, ◌⊎◌, ◌+◌, ◌-◌, ◌≤◌, ◌^◌, false, true, List, Result, Err}
+use Rattle.std.specs.Prelude.{OnOk, OnErr}
 use Rattle.page.specs.History.{History, KeepsWord}
 use Rattle.page.specs.Crash.{GoesOn, LeavesOnly, LeavesNow}
+use Rattle.btree.specs.Store.{HasNoPage}
 use Rattle.roots.specs.declared.store.CommitFault.{CommitFault}
 use Rattle.roots.specs.declared.store.CommitFault.TheVariants as faults
 use Rattle.index.specs.State.{Collection}
 use Rattle.collections.specs.State.{State}
 use Rattle.collections.specs.Calls.{HasFailed}
 use Rattle.collections.specs.Holding.{Holds}
+use Rattle.collections.specs.Marks.{IsUntouched}
 use Rattle.collections.specs.Standing.{HasState}
 use Rattle.collections.specs.View.{disk_history, generation, is_changed, is_stopped, pages_of}
 
@@ -22,6 +25,18 @@ pub record Moves {D : Type 0} (history : D → History) (start now : List Collec
       (LeavesNow (disk_history history new) (λ image. Holds image now))
   pub begun : OnOk result (HasState history new now now)
 
+-- No page was free for the file's list of free pages, which is counted, and nothing else changed.
+pub record FindsNoPage {D : Type 0} (history : D → History) (old new : State D) : Type 0 where
+  pub counted : HasNoPage (pages_of history old) (pages_of history new)
+  pub untouched : IsUntouched history old new
+  pub state : (start now : List Collection) → HasState history old start now
+      → HasState history new start now
+
+-- Why a commit finds no room: no greater generation is left, or no page is free.
+abbrev pub FindsNoRoom : {D : Type 0} → (D → History) → State D → State D → Type 0
+FindsNoRoom history old new =
+    ((generation old ≡ 2 ^ 64 - 1) × (new ≡ old)) ⊎ FindsNoPage history old new
+
 -- The turn was made durable, or not.
 pub record Commits {D : Type 0} (history : D → History)
     (result : Result (Unit {0}) CommitFault) (old new : State D) : Type 0 where
@@ -30,12 +45,13 @@ pub record Commits {D : Type 0} (history : D → History)
   pub version : OnOk result (generation new ≡ generation old + 1)
   pub still : OnErr result (generation new ≡ generation old)
   pub rests : OnOk result (is_changed new ≡ false)
-  -- no page is asked for
-  pub takes : (pages_of history new).full_takes ≡ (pages_of history old).full_takes
+  -- how often a page was asked for and none was free: never fewer, and more often only at Full
+  pub takes : (pages_of history old).full_takes ≤ (pages_of history new).full_takes
+  pub found : result ≢ Err faults.Full
+      → (pages_of history new).full_takes ≡ (pages_of history old).full_takes
   -- the turn is still there, to be undone
   pub memory : result ≡ Err faults.Memory → new ≡ old
-  -- Full comes only where no greater generation is left
-  pub full : result ≡ Err faults.Full → (generation old ≡ 2 ^ 64 - 1) × (new ≡ old)
+  pub full : result ≡ Err faults.Full → FindsNoRoom history old new
   pub stops : result ≡ Err faults.Device → is_stopped new ≡ true
   pub device : result ≡ Err faults.Device → KeepsWord (disk_history history new)
       → HasFailed history old new

@@ -21,7 +21,6 @@ pub record IsUntouched {D : Type 0} (history : D → History) (old new : State D
   pub disk : disk_history history new ≡ disk_history history old
   pub stopped : is_stopped new ≡ is_stopped old
   pub version : generation new ≡ generation old
-  pub takes : (pages_of history new).full_takes ≡ (pages_of history old).full_takes
 
 -- The collections are those of then, and the turn goes on from there.
 pub record IsBackAt {D : Type 0} (history : D → History) (earlier new : State D) : Type 0 where
@@ -34,12 +33,14 @@ pub record IsBackAt {D : Type 0} (history : D → History) (earlier new : State 
 pub record ReturnsTo {D : Type 0} (history : D → History) (mark : Mark)
     (old new : State D) : Type 0 where
   pub untouched : IsUntouched history old new
+  pub takes : (pages_of history new).full_takes ≡ (pages_of history old).full_takes
   pub back : (earlier : State D) → IsMarkOf mark earlier → GoesFrom history earlier old
       → IsBackAt history earlier new
 
 -- back to where the turn began
 pub record Undoes {D : Type 0} (history : D → History) (old new : State D) : Type 0 where
   pub untouched : IsUntouched history old new
+  pub takes : (pages_of history new).full_takes ≡ (pages_of history old).full_takes
   pub rests : is_changed new ≡ false
   pub state : (start now : List Collection) → HasState history old start now
       → HasState history new start start

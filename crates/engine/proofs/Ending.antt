@@ -1,14 +1,15 @@
 -- How a turn ends: what it changed is durable, or not.
-use Rattle.std.proofs.Common.{◌≡◌, ◌≢◌, ◌⊎◌, inl, inr, ℕ, true, false, List, map, Result, Ok, Err, refl, sym, ap, subst, ◌∙◌, ◌+◌, ◌-◌, ◌^◌}
+use Rattle.std.proofs.Common.{◌≡◌, ◌≢◌, ◌⊎◌, inl, inr, arith, ℕ, true, false, List, map, Result, Ok, Err, refl, sym, ap, subst, ◌∙◌, ◌+◌, ◌-◌, ◌≤◌, ◌^◌}
 use Rattle.std.specs.Prelude.{not, All, Bool, if◌then◌else◌}
 use Rattle.page.specs.History.{History}
 use Rattle.page.specs.Crash.{GoesOn, LeavesOnly, LeavesNow}
 use Rattle.page.proofs.Moments.{goes_nowhere, started}
+use Rattle.btree.specs.Store.{HasNoPage, Store}
 use Rattle.roots.specs.declared.store.CommitFault.{CommitFault}
 use Rattle.roots.specs.declared.store.CommitFault.TheVariants as faults
 use Rattle.collections.specs.Committing as files
 use Rattle.collections.specs.Holding as images
-use Rattle.collections.specs.Marks.{Undoes}
+use Rattle.collections.specs.Marks.{IsUntouched, Undoes}
 use Rattle.collections.specs.Standing.{HasState}
 use Rattle.collections.specs.State.{State}
 use Rattle.collections.specs.View as views
@@ -20,14 +21,21 @@ use Rattle.replies.proofs.CursorSteps.{rested_untouched, untouched_untouched}
 use Rattle.std.proofs.lemmas.List.Elements.{All-filter, All-map}
 use Rattle.database_model.specs.Lawful.{IsWithin, IsLawfulState, AreLawfulCursors}
 use Rattle.engine.specs.View.{world_of, world, turn_start}
-use Rattle.engine.specs.Durable.{disk_history, generation, has_changes, is_stopped, IsRunning, IsSound}
+use Rattle.engine.specs.Durable.{disk_history, file_of, full_takes_of, generation, has_changes, is_stopped, IsRunning, IsSound}
 use Rattle.opening.specs.Holding.{Holds}
-use Rattle.engine.specs.Committing.{Commits}
+use Rattle.engine.specs.Committing.{Commits, FoundNoPage}
 use Rattle.engine.specs.declared.engine.Engine.{Engine}
 
 -- the end of a turn changes no cursor's documents
 rested_lawful : (cs : List Cursor) → AreLawfulCursors cs → AreLawfulCursors (map at_rest cs)
 rested_lawful cs h = All-map (λ (c : Cursor). All IsWithin c.rest) at_rest cs h
+
+no_page_then : (a b c : Store) → HasNoPage a b → c.full_takes ≡ b.full_takes → HasNoPage a c
+no_page_then a b c (inl more) same = inl (omega (arith, more, same))
+no_page_then a b c (inr most) same = inr (same ∙ most)
+
+abbrev failed : CommitFault → Result (Unit {0}) CommitFault
+failed fault = Err fault
 
 module _ {D : Type 0} (history : D → History) (old new : Engine D) (h : IsSound history old) where
   -- until the commit a crash leaves the collections from the beginning of the turn
@@ -62,7 +70,8 @@ module _ {D : Type 0} (history : D → History) (old new : Engine D) (h : IsSoun
       full = λ e. absurd cc;
       version = sym (counted rests);
       ended = idle;
-      takes = refl;
+      takes = omega arith;
+      found = λ e. refl;
       running = λ e. refl;
       any_moment =
           λ run. started (disk_history history old) (λ image. Holds image (turn_start old) ⊎ Holds image (world old).collections)
@@ -76,9 +85,30 @@ module _ {D : Type 0} (history : D → History) (old new : Engine D) (h : IsSoun
       rested = subst (λ (t : CursorTable). are_untouched t.list ≡ true) (sym made) (rested_untouched old.cursors.list);
     }
 
+  -- the file where a commit found no room, and then where the turn was taken back
+  module _ (mid : State D) (undoes : Undoes history mid new.file) where
+    pub untouched_since : files.FindsNoRoom history old.file mid → IsUntouched history old.file new.file
+    untouched_since (inl (most, same)) = subst (λ (f : State D). IsUntouched history f new.file) same undoes.untouched
+    untouched_since (inr found) = record {
+      disk = undoes.untouched.disk ∙ found.untouched.disk;
+      stopped = undoes.untouched.stopped ∙ found.untouched.stopped;
+      version = undoes.untouched.version ∙ found.untouched.version;
+    }
+
+    pub state_since : files.FindsNoRoom history old.file mid → (start now : List Collection) → HasState history old.file start now
+        → HasState history new.file start start
+    state_since (inl (most, same)) start now has = undoes.state start now (subst (λ (f : State D). HasState history f start now) (sym same) has)
+    state_since (inr found) start now has = undoes.state start now (found.state start now has)
+
+    pub room_cause : files.FindsNoRoom history old.file mid → (generation old ≡ 2 ^ 64 - 1) ⊎ FoundNoPage history old new
+    room_cause (inl (most, same)) = inl most
+    room_cause (inr found) = inr (no_page_then (views.pages_of history old.file) (views.pages_of history mid) (views.pages_of history new.file) found.counted
+    undoes.takes)
+
   -- the collections are as they were at the beginning of the turn
   module _ (rests : has_changes new ≡ false) (back : world new ≡ after_undo (turn_start old) (world old)) (ended : turn_start new ≡ (world new).collections)
-      (undoes : Undoes history old.file new.file) where
+      (untouched : IsUntouched history old.file new.file)
+      (state : (start now : List Collection) → HasState history old.file start now → HasState history new.file start start) where
     now_state : (world new).collections ≡ turn_start old
     now_state = ap (λ (w : World). w.collections) back
 
@@ -93,18 +123,21 @@ module _ {D : Type 0} (history : D → History) (old new : Engine D) (h : IsSoun
       before = subst IsLawfulState (sym first_state) h.before;
       quiet = λ e. ended;
       file = subst (λ (cs : List Collection). HasState history new.file cs (world new).collections) (sym first_state)
-          (subst (HasState history new.file (turn_start old)) (sym now_state) (undoes.state (turn_start old) (world old).collections h.file));
+          (subst (HasState history new.file (turn_start old)) (sym now_state) (state (turn_start old) (world old).collections h.file));
     }
 
     pub rested_again : are_untouched (world new).cursors ≡ true
     rested_again = ap (λ (w : World). are_untouched w.cursors) back ∙ untouched_untouched (world old).cursors
 
     abbrev disk_same : disk_history history new ≡ disk_history history old
-    disk_same = undoes.untouched.disk
+    disk_same = untouched.disk
 
-    pub undone_after : has_changes old ≡ true → (fault : CommitFault) → fault ≢ faults.Device → (fault ≡ faults.Full → generation old ≡ 2 ^ 64 - 1)
+    pub undone_after : has_changes old ≡ true → (fault : CommitFault) → fault ≢ faults.Device
+        → (fault ≡ faults.Full → (generation old ≡ 2 ^ 64 - 1) ⊎ FoundNoPage history old new)
+        → full_takes_of history old ≤ full_takes_of history new
+        → (fault ≢ faults.Full → full_takes_of history new ≡ full_takes_of history old)
         → Commits history (Err fault) old new
-    undone_after moved fault other most =
+    undone_after moved fault other cause takes found =
         let not_device : (let r : Result (Unit {0}) CommitFault = Err fault in r) ≢ Err faults.Device = λ e. other (ap fault_of e) in
         let before : IsRunning old → LeavesOnly (disk_history history old) (disk_history history new) (λ image. Holds image (turn_start old)) =
         λ run. subst (λ (d : History). LeavesOnly (disk_history history old) d (λ image. Holds image (turn_start old))) (sym disk_same)
@@ -115,11 +148,12 @@ module _ {D : Type 0} (history : D → History) (old new : Engine D) (h : IsSoun
           done = tt;
           stops = λ e. absurd (not_device e);
           memory = λ e. back;
-          full = λ e. (back, most (ap fault_of e));
-          version = undoes.untouched.version;
+          full = λ e. (back, cause (ap fault_of e));
+          version = untouched.version;
           ended = ended;
-          takes = undoes.untouched.takes;
-          running = λ e. undoes.untouched.stopped;
+          takes = takes;
+          found = λ other_fault. found (λ e. other_fault (ap failed e));
+          running = λ e. untouched.stopped;
           any_moment = λ run k image left. inl (before run k image left);
           kept = λ run e. before run;
           acknowledged = λ run. tt;
@@ -174,6 +208,7 @@ module _ {D : Type 0} (history : D → History) (old new : Engine D) (h : IsSoun
           version = saved.version ∙ sym (counted moved);
           ended = ended;
           takes = saved.takes;
+          found = saved.found;
           running = λ e. saved.running.1 ∙ sym saved.running.0;
           any_moment = at_any_moment (Ok tt) saved;
           kept = λ run e. tt;
@@ -198,6 +233,7 @@ module _ {D : Type 0} (history : D → History) (old new : Engine D) (h : IsSoun
           version = saved.still;
           ended = ended;
           takes = saved.takes;
+          found = saved.found;
           running = λ e. absurd (e refl);
           any_moment = at_any_moment (Err faults.Device) saved;
           kept = λ run e. absurd (e refl);

@@ -1,16 +1,23 @@
 -- What the commit of a turn does to an engine.
-use Rattle.std.specs.Prelude.{◌≡◌, ◌≢◌, ◌⊎◌, ◌<◌, ◌+◌, ◌-◌, ◌^◌, true, false, ◌&&◌, if◌then◌else◌}
-use Rattle.std.specs.Prelude.{Result, Ok, Err, is_ok, OnOk, OnErr}
+use Rattle.std.specs.Prelude.{◌≡◌, ◌≢◌, ◌⊎◌, ◌<◌, ◌≤◌, ◌+◌, ◌-◌, ◌^◌, true, false, ◌&&◌}
+use Rattle.std.specs.Prelude.{if◌then◌else◌, Result, Ok, Err, is_ok, OnOk, OnErr}
 use Rattle.page.specs.History.{History, KeepsWord}
 use Rattle.page.specs.Crash.{GoesOn, LeavesOnly, LeavesNow}
+use Rattle.btree.specs.Store.{HasNoPage}
 use Rattle.roots.specs.declared.store.CommitFault.{CommitFault}
 use Rattle.roots.specs.declared.store.CommitFault.TheVariants as faults
+use Rattle.collections.specs.View.{pages_of}
 use Rattle.database_model.specs.World.{are_untouched, after_commit, after_undo}
 use Rattle.engine.specs.View.{world, turn_start}
 use Rattle.engine.specs.Durable.{disk_history, file_of, full_takes_of, generation, has_changes}
 use Rattle.engine.specs.Durable.{is_stopped, IsRunning, IsSound}
 use Rattle.opening.specs.Holding.{Holds}
 use Rattle.engine.specs.declared.engine.Engine.{Engine}
+
+-- A page was asked for and none was free, which is counted (the count stays at its greatest value).
+abbrev pub FoundNoPage : {D : Type 0} → (D → History) → Engine D → Engine D → Type 0
+FoundNoPage history old new =
+    HasNoPage (pages_of history (file_of old)) (pages_of history (file_of new))
 
 -- The turn was ended, and what it changed is durable, or not.
 pub record Commits {D : Type 0} (history : D → History) (result : Result (Unit {0}) CommitFault)
@@ -21,15 +28,16 @@ pub record Commits {D : Type 0} (history : D → History) (result : Result (Unit
   pub stops : result ≡ Err faults.Device
       → (world new ≡ after_commit (world old)) × (is_stopped new ≡ true)
   pub memory : result ≡ Err faults.Memory → world new ≡ after_undo (turn_start old) (world old)
-  -- Full comes only where no greater generation is left
+  -- Full comes only where no greater generation is left, or no page was free
   pub full : result ≡ Err faults.Full → (world new ≡ after_undo (turn_start old) (world old))
-      × (generation old ≡ 2 ^ 64 - 1)
+      × ((generation old ≡ 2 ^ 64 - 1) ⊎ FoundNoPage history old new)
   -- a commit has the next number; where nothing was changed, or the turn is not done, there is none
   pub version : generation new
       ≡ (if is_ok result && has_changes old then generation old + 1 else generation old)
   pub ended : turn_start new ≡ (world new).collections
-  -- no page is asked for
-  pub takes : full_takes_of history new ≡ full_takes_of history old
+  -- how often a page was asked for and none was free: never fewer, and more often only at Full
+  pub takes : full_takes_of history old ≤ full_takes_of history new
+  pub found : result ≢ Err faults.Full → full_takes_of history new ≡ full_takes_of history old
   pub running : result ≢ Err faults.Device → is_stopped new ≡ is_stopped old
   -- a crash at any moment of the call leaves the collections as they were before the turn or as
   -- they are after it

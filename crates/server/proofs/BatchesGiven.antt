@@ -148,8 +148,8 @@ history_gives number at state (steps.Gone id ∷ later) given ends new h had dra
     history_gives number at (ended state id) later given ends new h had one.drawn (left_whole number had (forget state.world id) one)
 history_gives number at state (steps.Turn ∷ later) given ends new h had drawn has =
     let beside = IsCaused at h.3.at in
-    let one = turn_gives number beside (RoomRanOut at state) state h.0 h.1 h.5 had drawn has in
-    gives_on number (batches_of_turn number beside (RoomRanOut at state) state h.1 h.0 h.5)
+    let one = turn_gives number beside (RoomRanOut at h.3.at state) state h.0 h.1 h.5 had drawn has in
+    gives_on number (batches_of_turn number beside (RoomRanOut at h.3.at state) state h.1 h.0 h.5)
     (batches_in number h.3.at h.0 later h.2 h.4 new h.9) had h.0.world new.world one
     (history_gives number h.3.at h.0 later h.2 h.4 new h.9 one.rest one.drawn one.is_left)
 

@@ -1,12 +1,12 @@
 -- How moments follow each other, and causes of refusals grow with them.
-use Rattle.std.proofs.Common.{◌≡◌, inl, inr, ℕ, ◌+◌, ◌≤◌, ◌<◌, List, [], ◌∷◌, ◌++◌, true, false, sym, ap, ◌∙◌, subst, arith}
+use Rattle.std.proofs.Common.{◌≡◌, inl, inr, ℕ, ◌+◌, ◌-◌, ◌^◌, ◌≤◌, ◌<◌, List, [], ◌∷◌, ◌++◌, true, false, sym, ap, ◌∙◌, subst, arith}
 use Rattle.std.proofs.lemmas.Bool.{cases_lt}
 use Rattle.std.specs.Prelude.{◌⊎◌, Bool, IsTrue, Result, if◌then◌else◌}
 use Rattle.bson.specs.Tree.{Pairs}
 use Rattle.bson.specs.declared.fault.BsonFault.{BsonFault}
 use Rattle.path.specs.declared.refusal.Refusal.{Refusal}
 use Rattle.path.specs.declared.refusal.Refusal.TheVariants as refusals
-use Rattle.page.specs.History.{History}
+use Rattle.page.specs.History.{History, KeepsWord}
 use Rattle.page.specs.Crash.{GoesOn}
 use Rattle.roots.specs.declared.store.CommitFault.{CommitFault}
 use Rattle.collections.specs.Calls.{GoesFrom, HasWriteCause, IsTooLarge}
@@ -14,6 +14,7 @@ use Rattle.collections.specs.State.{State}
 use Rattle.collections.specs.View as views
 use Rattle.database_model.specs.World.{World, after_commit}
 use Rattle.database_model.specs.Step.{step, Answers}
+use Rattle.engine.specs.Committing as engines
 use Rattle.engine.specs.Committing.{Commits}
 use Rattle.engine.specs.Writing.{FileCause}
 use Rattle.engine.specs.Durable.{disk_history, file_of, full_takes_of, generation, has_changes, IsRunning, IsSound}
@@ -148,7 +149,7 @@ module _ {D : Type 0} (history : D → History) (old new : Engine D) where
     generation = omega (arith, goes_generation goes);
   }
 
-  -- the end of a turn asks for no page
+  -- the end of a turn, which may find no page
   pub commit_follows : (result : Result (Unit {0}) CommitFault) → Commits history result old new
       → FollowsInTurn (engine_moment history old) (engine_moment history new)
   commit_follows result commits =
@@ -157,7 +158,7 @@ module _ {D : Type 0} (history : D → History) (old new : Engine D) where
           word = commits.on.kept;
           clock = commits.on.clock;
           failures = commits.on.failures;
-          takes = λ k. omega (arith, commits.takes);
+          takes = λ k. commits.takes;
           generation = once.0;
         },
         once.1,
@@ -208,6 +209,15 @@ turn_follows history old mid new goes end = (
   follows_further (engine_moment history old) (engine_moment history mid) (engine_moment history new) (goes_follows history old mid goes) end.0,
   omega (arith, goes_generation history old mid goes, end.1),
 )
+
+-- Why a turn's commit finds no room, by the whole turn.
+pub room_ran_out : {D : Type 0} (history : D → History) (old mid new : Engine D) → GoesFrom history (file_of old) (file_of mid)
+    → KeepsWord (disk_history history mid)
+    → (generation mid ≡ 2 ^ 64 - 1) ⊎ engines.FoundNoPage history mid new
+    → ((engine_moment history old).generation ≡ 2 ^ 64 - 1) ⊎ FoundNoPage (engine_moment history old) (engine_moment history new)
+room_ran_out history old mid new goes k (inl most) = inl (sym (goes_generation history old mid goes) ∙ most)
+room_ran_out history old mid new goes k (inr (inl more)) = inr (inl (omega (arith, more, (goes.frame k).full_takes)))
+room_ran_out history old mid new goes k (inr (inr most)) = inr (inr (omega (arith, most)))
 
 -- what the commands of a turn changed is committed
 pub commits_changes : {D : Type 0} (history : D → History) (old mid new : Engine D) (changed : Bool) → has_changes mid ≡ changed → IsSound history mid

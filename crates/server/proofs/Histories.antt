@@ -82,7 +82,8 @@ one_at_most (steps.Bytes id chunk) = omega arith
 one_at_most (steps.Gone id) = omega arith
 one_at_most steps.Turn = omega arith
 
-pub one_turn : (first last : Instant) (out : Out) → Turns (IsCaused first.moment last.moment) (RoomRanOut first.moment first.state) first.state out last.state
+pub one_turn : (first last : Instant) (out : Out)
+    → Turns (IsCaused first.moment last.moment) (RoomRanOut first.moment last.moment first.state) first.state out last.state
     → Happens first.moment first.state (steps.Turn ∷ []) out.replies (end_at last ∷ []) last.state
 one_turn first last out turns = (last.state, out, [], end_at last, [], turns, refl, sym (append-nil out.replies), refl, (refl, refl, refl))
 
@@ -446,7 +447,8 @@ module _ {D : Type 0} (history : D → History) (first : Core D) (all : List Ste
             lost = does.lost;
             happens = λ k. before new 1 does.adds (safe.on.kept k);
             turn = λ k. subst
-                (λ (m : Moment). Turns (IsCaused m (moment_of history last)) (RoomRanOut m (state now)) (state now) does.lost (state last)) s.moment
+                (λ (m : Moment). Turns (IsCaused m (moment_of history last)) (RoomRanOut m (moment_of history last) (state now)) (state now) does.lost
+                (state last)) s.moment
                 (does.turn k);
             counted = refl;
           },

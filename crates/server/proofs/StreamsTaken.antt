@@ -321,7 +321,7 @@ alone id at state (steps.Gone n ∷ later) given ends new h ascends unended =
     (rest.0 ∙ ap (λ (x : Connection). taken_over x (events_for id later)) same, rest.1 ∙ ap (λ (x : Connection). connection_over x (events_for id later)) same)
 alone id at state (steps.Turn ∷ later) given ends new h ascends unended =
     let mid = h.0 in
-    let after = turned (IsCaused at h.3.at) (RoomRanOut at state) state mid h.1 h.5 in
+    let after = turned (IsCaused at h.3.at) (RoomRanOut at h.3.at state) state mid h.1 h.5 in
     let rises : are_ascending mid.connections ≡ true = ap are_ascending after ∙ after_ascends state.connections ascends in
     let rest = alone id h.3.at mid later h.2 h.4 new h.9 rises unended in
     let same : connection_in mid.connections id ≡ connection_after (connection_in state.connections id) =

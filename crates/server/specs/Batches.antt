@@ -54,7 +54,7 @@ batches_in number at state (steps.Bytes id chunk ∷ later) given ends new h =
 batches_in number at state (steps.Gone id ∷ later) given ends new h =
     batches_in number at (ended state id) later given ends new h
 batches_in number at state (steps.Turn ∷ later) given ends new h =
-    batches_of_turn number (IsCaused at h.3.at) (RoomRanOut at state) state h.1 h.0 h.5
+    batches_of_turn number (IsCaused at h.3.at) (RoomRanOut at h.3.at state) state h.1 h.0 h.5
     ++ batches_in number h.3.at h.0 later h.2 h.4 new h.9
 
 -- These batches and what the cursor has left, where it is open still, are what it had.

@@ -54,7 +54,7 @@ pub record LosesTurn (first : Instant) (done : List Step) (given : List (ℕ × 
   pub lost : Out
   pub happens : HasKeptWord last → Happens first.moment first.state done given earlier before
   pub turn : HasKeptWord last → Turns (IsCaused (last_moment first.moment earlier) last.moment)
-      (RoomRanOut (last_moment first.moment earlier) before) before lost last.state
+      (RoomRanOut (last_moment first.moment earlier) last.moment before) before lost last.state
   pub counted : ends ≡ earlier ++ end_at last ∷ []
 
 -- A history of these steps, and then one turn that handed out nothing, by its fault and whether the

@@ -40,7 +40,7 @@ pub record Loses (first : Instant) (step : Step) (old new : DriveOut)
   pub is : step ≡ steps.Turn
   pub lost : Out
   pub turn : HasKeptWord last → Turns (IsCaused first.moment last.moment)
-      (RoomRanOut first.moment first.state) first.state lost last.state
+      (RoomRanOut first.moment last.moment first.state) first.state lost last.state
   pub adds : Adds [] 1 old new
 
 -- By the result, and whether the server had stopped before the step.

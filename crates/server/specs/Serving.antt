@@ -15,7 +15,8 @@ pub record TurnGives {D : Type 0} (history : D → History) (old : Core D)
   pub out : Out
   pub turns : KeepsWord (disk_history history new)
       → Turns (IsCaused (moment_of history old) (moment_of history new))
-      (RoomRanOut (moment_of history old) (state old)) (state old) out (state new)
+      (RoomRanOut (moment_of history old) (moment_of history new) (state old)) (state old)
+      out (state new)
   -- on any disk: to whom its frames go
   pub hands_out : HandsOut (state old) out
   pub replies_are : replies ≡ out.replies

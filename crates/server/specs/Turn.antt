@@ -1,11 +1,11 @@
 -- What a turn may do. It takes the first whole message of each open connection, in rising
 -- connection number, and runs them one after the other. Done: the world is the last step's, and the
--- replies are theirs. Undone, which only want of memory or of a greater generation makes it: the
--- state is the one before, every reply is the refusal that says of what, and cursors that were
--- opened, advanced or killed are closed. A fault at a connection's front closes it, done or undone.
--- Cut, where the device failed in the commit: the world is the last step's, no reply is handed out,
--- and no connection is closed. A message with moreToCome gets no reply, and replies that are handed
--- out are numbered 1, 2, 3 and so on for each connection.
+-- replies are theirs. Undone, which only want of memory, of a greater generation or of a free page
+-- makes it: the state is the one before, every reply is the refusal that says of what, and cursors
+-- that were opened, advanced or killed are closed. A fault at a connection's front closes it, done
+-- or undone. Cut, where the device failed in the commit: the world is the last step's, no reply is
+-- handed out, and no connection is closed. A message with moreToCome gets no reply, and replies
+-- that are handed out are numbered 1, 2, 3 and so on for each connection.
 use Rattle.std.specs.Prelude.{◌≡◌, ◌⊎◌, ℕ, ◌+◌, Bool, true, false, nat_lt, if◌then◌else◌, List, []}
 use Rattle.std.specs.Prelude.{◌∷◌, ◌++◌, length, Result, Ok, Err, Option, Some, None}
 use Rattle.bson.specs.Tree.{Pairs}

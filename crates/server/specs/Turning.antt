@@ -22,7 +22,8 @@ pub record TakesTurn {D : Type 0} (history : D → History) (old : Core D)
   -- while the disk keeps its word, it is done, or undone; or it answers no message
   pub turns : IfOk result (λ out. KeepsWord (disk_history history new)
       → Turns (IsCaused (moment_of history old) (moment_of history new))
-      (RoomRanOut (moment_of history old) (state old)) (state old) (out_of out) (state new))
+      (RoomRanOut (moment_of history old) (moment_of history new) (state old)) (state old)
+      (out_of out) (state new))
   -- on any disk: to whom its frames go, one for each message that is taken, and what it leaves of
   -- what came
   pub hands_out : IfOk result (λ out. HandsOut (state old) (out_of out))

@@ -21,7 +21,7 @@ ghost use Rattle.server.specs.Turn.{front_of, connections_taken, taken_at, call_
 ghost use Rattle.server.specs.Taking.{Serves, IsAnswer, EndsTurn, BreaksTurn};
 ghost use Rattle.server.specs.View.{frames_in};
 ghost use Rattle.server.specs.Causes.{IsCaused, OfAnyCause};
-ghost use Rattle.server.specs.History.{NoCommitIsLeft};
+ghost use Rattle.server.specs.History.{FindsNoRoom};
 ghost use Rattle.server.specs.Moment.{FollowsInTurn};
 ghost use Rattle.server.specs.Durable.{engine_moment};
 
@@ -181,7 +181,8 @@ pub(crate) fn run_messages<D: Disk>(
     ensures settles { IfSome result (λ given. EndsTurn
         (KeepsWord (disk_history D.history engine.new))
         (IsCaused (engine_moment D.history engine.old) (engine_moment D.history engine.new))
-        (NoCommitIsLeft (engine_moment D.history engine.old) (world engine.old) connections.old.items)
+        (FindsNoRoom (engine_moment D.history engine.old) (engine_moment D.history engine.new)
+        (world engine.old) connections.old.items)
         (world engine.old) connections.old.items (frames_in given.items) (world engine.new)) }
     ensures breaks { result ≡ None → KeepsWord (disk_history D.history engine.new)
         → BreaksTurn

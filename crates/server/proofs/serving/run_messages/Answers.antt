@@ -19,7 +19,7 @@ use Rattle.server.specs.Turn.{ChangeNothing, calls, frames_of, refused_frames}
 use Rattle.server.specs.Taking.{HaveRoom, full_body, respelled_frames}
 use Rattle.server.specs.View.{frames_in}
 use Rattle.path.specs.declared.refusal.Refusal.TheVariants.{OutOfMemory, Full}
-use Rattle.server.proofs.CauseLemmas.{goes_generation, commit_follows, undo_follows, turn_follows, commits_changes, idle_commit, runs_over}
+use Rattle.server.proofs.CauseLemmas.{commit_follows, undo_follows, turn_follows, commits_changes, idle_commit, room_ran_out, runs_over}
 use Rattle.server.proofs.Images.{unwritten, unwritten_on, then_on, moved, moved_back, failed_further, on_same}
 use Rattle.server.proofs.Refusing.{refused_room, refused_respelled, whole}
 use Rattle.server.proofs.serving.run_messages.Goals as goal
@@ -150,7 +150,6 @@ returns-in-Err-Full-clause-settles g c =
     ∙ length-map (frames_in first) (λ f. (f.0, respelled f.1 full_body)) ∙ length-map first (λ f. (f.0, f.1.items)) in
     let long : length new ≡ c.args.refusals.len = search rules in
     let full = c.in-Err-Full.ensures.full (ap failed c.in-Err-Full.field-0-is) in
-    let generation_was = sym (goes_generation history e0 e1 serve.goes) ∙ full.1 in
     let changing : KeepsWord (disk_history history e2) → ChangeNothing OfAnyCause (world e0) (calls c.args.connections.now.items) → ⊥ = λ k nothing.
     let same = serve.quiet (c.commit_turn.ensures.on.kept k)
     (subst (λ (ls : List Connection). ChangeNothing OfAnyCause (world e0) (calls ls)) (sym taken) nothing) in
@@ -162,7 +161,10 @@ returns-in-Err-Full-clause-settles g c =
       runs = λ k. runs_over history e0 e1 e2 serve.goes after c.deref_mut.result.now c.args.connections.now.items taken serves.replies
           (serves.runs (c.commit_turn.ensures.on.kept k));
       ends = inr (
-        inr (ap frames_in (whole new _ c.args.refusals.len long) ∙ given, λ k. (generation_was, changing k)),
+        inr (
+          ap frames_in (whole new _ c.args.refusals.len long) ∙ given,
+          λ k. (room_ran_out history e0 e1 e2 serve.goes (c.commit_turn.ensures.on.kept k) full.1, changing k),
+        ),
         full.0
             ∙ ap (λ (cs : List Collection). after_undo cs (world e1)) before,
       );

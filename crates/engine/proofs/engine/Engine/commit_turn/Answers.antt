@@ -1,11 +1,11 @@
-use Rattle.std.proofs.Common.{Ok, Err, sym, subst, ap, ◌∙◌}
+use Rattle.std.proofs.Common.{Ok, Err, arith, refl, sym, subst, ap, ◌∙◌}
 use Rattle.std.specs.Prelude.{Result}
 use Rattle.roots.specs.declared.store.CommitFault.{CommitFault}
 use Rattle.roots.specs.declared.store.CommitFault.TheVariants as faults
 use Rattle.collections.specs.Committing as files
 use Rattle.collections.specs.Marks.{Undoes}
 use Rattle.collections.specs.State.{State}
-use Rattle.engine.proofs.Ending.{kept_as_it_is, undone_after, committed_now, cut_now}
+use Rattle.engine.proofs.Ending.{kept_as_it_is, undone_after, committed_now, cut_now, room_cause, state_since, untouched_since}
 use Rattle.engine.proofs.engine.Engine.commit_turn.Goals as goal
 
 pub returns-then-not-self : goal.returns-then-not-self
@@ -40,16 +40,19 @@ returns-in-Err-Memory g c =
     let D = g.row.D.Denot in
     let result = c.in-Err-Memory.is ∙ ap (λ (e : CommitFault). Err e) c.in-Err-Memory.field-0-is in
     let undoes = subst (λ (f : State D). Undoes g.D.Disk.history f new.file) (c.commit-2.ensures.memory result) c.take_back.ensures.file in
-    undone_after g.D.Disk.history old new c.requires.sound c.take_back.ensures.rests c.take_back.ensures.world c.take_back.ensures.turn_start undoes
-    c.if-not-self.false faults.Memory (λ e. absurd cc) (λ e. absurd cc)
+    undone_after g.D.Disk.history old new c.requires.sound c.take_back.ensures.rests c.take_back.ensures.world c.take_back.ensures.turn_start
+    undoes.untouched undoes.state c.if-not-self.false faults.Memory (λ e. absurd cc) (λ e. absurd cc) (omega (arith, undoes.takes)) (λ e. undoes.takes)
 
 pub returns-in-Err-Full : goal.returns-in-Err-Full
 returns-in-Err-Full g c =
+    let history = g.D.Disk.history in
     let old = c.args.self.now in
     let new = c.take_back-in-Err-Full.new.self in
-    let D = g.row.D.Denot in
+    let mid = c.commit-2.new.self in
     let result = c.in-Err-Full.is ∙ ap (λ (e : CommitFault). Err e) c.in-Err-Full.field-0-is in
-    let undoes = subst (λ (f : State D). Undoes g.D.Disk.history f new.file) (c.commit-2.ensures.full result).1 c.take_back-in-Err-Full.ensures.file in
-    undone_after g.D.Disk.history old new c.requires.sound c.take_back-in-Err-Full.ensures.rests c.take_back-in-Err-Full.ensures.world
-    c.take_back-in-Err-Full.ensures.turn_start undoes
-    c.if-not-self.false faults.Full (λ e. absurd cc) (λ e. (c.commit-2.ensures.full result).0)
+    let room = c.commit-2.ensures.full result in
+    let undoes = c.take_back-in-Err-Full.ensures.file in
+    undone_after history old new c.requires.sound c.take_back-in-Err-Full.ensures.rests c.take_back-in-Err-Full.ensures.world
+    c.take_back-in-Err-Full.ensures.turn_start (untouched_since history old new c.requires.sound mid undoes room)
+    (state_since history old new c.requires.sound mid undoes room) c.if-not-self.false faults.Full (λ e. absurd cc)
+    (λ e. room_cause history old new c.requires.sound mid undoes room) (omega (arith, c.commit-2.ensures.takes, undoes.takes)) (λ e. absurd (e refl))

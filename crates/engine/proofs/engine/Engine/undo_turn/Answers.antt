@@ -9,12 +9,12 @@ use Rattle.engine.proofs.engine.Engine.undo_turn.Goals as goal
 pub returns-clause-sound : goal.returns-clause-sound
 returns-clause-sound g c =
     sound_again g.D.Disk.history c.args.self.now c.take_back.new.self c.requires.sound c.take_back.ensures.rests c.take_back.ensures.world
-    c.take_back.ensures.turn_start c.take_back.ensures.file
+    c.take_back.ensures.turn_start c.take_back.ensures.file.untouched c.take_back.ensures.file.state
 
 pub returns-clause-rested : goal.returns-clause-rested
 returns-clause-rested g c =
     rested_again g.D.Disk.history c.args.self.now c.take_back.new.self c.requires.sound c.take_back.ensures.rests c.take_back.ensures.world
-    c.take_back.ensures.turn_start c.take_back.ensures.file
+    c.take_back.ensures.turn_start c.take_back.ensures.file.untouched c.take_back.ensures.file.state
 
 pub returns-then-not-self-clause-sound : goal.returns-then-not-self-clause-sound
 returns-then-not-self-clause-sound g c =

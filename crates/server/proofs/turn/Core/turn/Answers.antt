@@ -32,9 +32,10 @@ stopped_not b stopped runs = absurd cc
 
 -- a turn that was ended, a moment after which nothing was done
 ends_after : (before word : Type 0) → (word → before)
-    → (no_room : Type 0) (world_was : World) (connections : List Connection) (given : List (ℕ × List ℕ)) (left : World) (start end later : Moment) → end ≡ later
-    → EndsTurn before (IsCaused start end) no_room world_was connections given left
-    → EndsTurn word (IsCaused start later) no_room world_was connections given left
+    → (no_room : Moment → Type 0) (world_was : World) (connections : List Connection) (given : List (ℕ × List ℕ)) (left : World) (start end later : Moment)
+    → end ≡ later
+    → EndsTurn before (IsCaused start end) (no_room end) world_was connections given left
+    → EndsTurn word (IsCaused start later) (no_room later) world_was connections given left
 ends_after before word kept no_room world_was connections given left start end later same s = record {
   replies = s.replies;
   one_each = s.one_each;
@@ -42,7 +43,7 @@ ends_after before word kept no_room world_was connections given left start end l
   runs = λ k. subst (λ (m : Moment). Runs (IsCaused start m) world_was (calls connections) s.replies s.last) same (s.runs (kept k));
   ends = ⊎_elim
       (λ done. inl done)
-      (λ refused. inr (⊎_elim (λ memory. inl memory) (λ room. inr (room.0, λ k. room.1 (kept k))) refused.0, refused.1))
+      (λ refused. inr (⊎_elim (λ memory. inl memory) (λ room. inr (room.0, λ k. subst no_room same (room.1 (kept k)))) refused.0, refused.1))
       s.ends;
 }
 
@@ -148,7 +149,8 @@ returns g c =
     let word : Type 0 = KeepsWord (disk_history history c.forget_closed.new.engine) in
     let frames = frames_in c.in-Some.replies.items in
     let settles =
-    ends_after (KeepsWord (disk_history history c.run_messages.new.engine)) word (subst KeepsWord forgot.disk) (RoomRanOut old (state core))
+    ends_after (KeepsWord (disk_history history c.run_messages.new.engine)) word (subst KeepsWord forgot.disk)
+    (λ (m : Moment). RoomRanOut old m (state core))
     (world core.engine) connections frames (world c.run_messages.new.engine) old
     (engine_moment history c.run_messages.new.engine) new
     (sym (same_engine_moment history c.run_messages.new.engine c.forget_closed.new.engine forgot.file)) c.in-Some.ensures.settles in
@@ -160,9 +162,9 @@ returns g c =
         rests = forgot.has_changes ∙ ran.rests;
         ascending = ap are_ascending left ∙ after_ascends connections c.requires.sound.ascending;
       };
-      turns = λ k. turned word (IsCaused old new) (RoomRanOut old (state core)) core frames (world c.run_messages.new.engine) prepared.closed.items
+      turns = λ k. turned word (IsCaused old new) (RoomRanOut old new (state core)) core frames (world c.run_messages.new.engine) prepared.closed.items
           (world c.forget_closed.new.engine) _ settles closes forgets left k;
-      hands_out = handed_out word (IsCaused old new) (RoomRanOut old (state core)) core frames (world c.run_messages.new.engine) prepared.closed.items
+      hands_out = handed_out word (IsCaused old new) (RoomRanOut old new (state core)) core frames (world c.run_messages.new.engine) prepared.closed.items
           (world c.forget_closed.new.engine) _ settles closes forgets left;
       leaves = left;
       fails = search rules;
