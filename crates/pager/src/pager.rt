@@ -121,7 +121,8 @@ impl<D: Disk> Pager<D> {
     }
 
     /// How many pages the file has by the last commit, and how many of them nothing reaches. It reads each page of the committed
-    /// tree from the disk, not from the cache. Damaged where these pages are no tree.
+    /// tree, and of the list that the root names, from the disk, not from the cache. Damaged where these pages are no tree, or no
+    /// list that fits it.
     pub fn count_pages(&mut self) -> Result<PageCounts, OpenFault>
         ensures { CountsPages D.history result self.old self.new }
     {
