@@ -123,7 +123,7 @@ pub list_below : (sheets : ℕ → Result Sheet PageFault) (root : Root) (pages 
 list_below sheets root pages parts some has = (
   subst (λ (n : ℕ). n < root.pages) has.list.begins (first_below parts (all_pages root.pages (pages_of parts ++ named_by parts) has.list.once)),
   subst (λ (n : ℕ). n < root.pages) has.list.counted (once_fits root.pages root.pages (named_by parts) some (omega arith) (λ n.
-  omega (arith, has.list.once n, times_in-append n (pages_of parts) (named_by parts), times_same n (named_by parts)))),
+      omega (arith, has.list.once n, times_in-append n (pages_of parts) (named_by parts), times_same n (named_by parts)))),
 )
   where
     first_below : (those : List Part) → AllByRecursion (λ (n : ℕ). (0 < n) × (n < root.pages)) (pages_of those ++ named_by those)

@@ -88,8 +88,8 @@ possible_known root is = record {
 
 read_known : (bytes : List ℕ) (root : Root) → root_in bytes ≡ Ok root → IsKnown root
 read_known bytes root is = elim (known_by (are_zeros bytes) (begins_right bytes) (nat_lt 1 (little_number 4 (drop 8 bytes))) (is_sound bytes) bytes root is) [
-  | inl none ↦ subst IsKnown (sym none) 
-  (record { tree = omega arith; pages = omega arith; free_list = omega arith; free_count = omega arith })
+  | inl none ↦ subst IsKnown (sym none)
+      (record { tree = omega arith; pages = omega arith; free_list = omega arith; free_count = omega arith })
   | inr (sound, at) ↦ subst IsKnown (sym at) (possible_known (fields_in bytes) (sound_possible bytes sound))
 ]
 
