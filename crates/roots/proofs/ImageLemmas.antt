@@ -14,7 +14,8 @@ use Rattle.btree.proofs.ReachLemmas.{Moves, map_moved}
 use Rattle.freelist.specs.FreeList.{Holds, Part, pages_of}
 use Rattle.freelist.proofs.WrittenLists.{reading_is_exact}
 use Rattle.roots.specs.Root.{root_of}
-use Rattle.roots.specs.Image.{sheet_at, content_in, store_of, HasList, HoldsMap, HoldsTree, OpensAs, StandsFor, IsOnPages, IsKept, list_in, listed_sheet, reached_by}
+use Rattle.roots.specs.Image.{sheet_at, content_in, store_of, HasList, HoldsMap, HoldsTree, OpensAs, StandsFor, IsOnPages, IsKept}
+use Rattle.roots.specs.Image.{list_in, listed_sheet, reached_by}
 use Rattle.roots.specs.declared.root.Root.{Root}
 
 -- a page lies in its sectors alone,

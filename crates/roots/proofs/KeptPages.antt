@@ -81,7 +81,7 @@ pub kept_there : (image : ℕ → List ℕ) (old : Root) (made : List Sheet) (tr
     → IsAt (store_of (λ k. made_or made k (sheet_at image (next_root old made tree free_list free_count) k))) n content
 kept_there image old made tree free_list free_count n content ne at =
     let next : Root = next_root old made tree free_list free_count in
-    let found : IsFound (sheet_at image old n) content = found_at (sheet_at image old n) content at.live at.holds in
+    let found : IsFound (sheet_at image old n) content = found_at (sheet_at image old) n content at.live at.holds in
     let there : made_or made n (sheet_at image next n) ≡ Ok found.sheet =
     made_other made n (sheet_at image next n) ne ∙ still_read image old next n found.sheet (omega arith) (omega arith) found.is in
     record { number = at.number; live = ap is_ok there; holds = ap content_of there ∙ found.holds }

@@ -1,4 +1,4 @@
-use Rattle.std.proofs.Common.{rules, List, ◌++◌, ◌≡◌, ℕ, Ok, Err, refl, subst}
+use Rattle.std.proofs.Common.{rules, List, ◌++◌, ◌≡◌, ℕ, Ok, Err, subst}
 use Rattle.page.specs.History.{Sector, now, reads}
 use Rattle.roots.specs.HeldFile.{ChecksList}
 use Rattle.roots.specs.Image.{sheet_at}
@@ -42,4 +42,4 @@ returns-clause-finds g c =
     (subst (λ (t : List ℕ). ChecksList (sheet_at (reads (now (history c.reached_pages.new.disk))) root) root t (Ok list)) c.deref.ensures.value
     (c.in_ok-list.ensures.list k)) in
     let all : c.extend_from_slice.new.self.items ≡ live ++ list.pages.items = search rules in
-    all_reached sheets root live c.extend_from_slice.new.self list.pages list (c.in_ok-live.ensures.found mid) there all refl
+    all_reached sheets root live c.extend_from_slice.new.self _ list (c.in_ok-live.ensures.found mid) there all (search rules)
