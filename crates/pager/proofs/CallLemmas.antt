@@ -28,7 +28,8 @@ no_longer : {X : Type 0} (a b : Option X) → b ≡ None → ((x : X) → a ≡ 
 no_longer None b none less = refl
 no_longer {X = X} (Some x) b none less = let never : Some x ≡ None = sym (less x refl) ∙ none in absurd cc
 
-pub read_kept : {D : Type 0} {listed : List ℕ} (history : D → History) (store new : Store D) (cache after : PageCache) (made : List Sheet) (book : Book) (page : ℕ)
+pub read_kept : {D : Type 0} {listed : List ℕ} (history : D → History) (store new : Store D) (cache after : PageCache) (made : List Sheet) (book : Book)
+    (page : ℕ)
     (result : Result Sheet TreeFault) → IsKept history store cache made book listed
     → ReadsPage history page result store new cache after → AllByRecursion (λ (m : Sheet). m.page ≢ page) made → IsKept history new after made book listed
 read_kept {listed = listed} history store new cache after made book page result so read ne = record {
@@ -46,7 +47,8 @@ read_kept {listed = listed} history store new cache after made book page result 
   listed = still_listed history store new read.only listed so.listed;
 }
 
-pub read_value : {D : Type 0} {listed : List ℕ} (history : D → History) (store new : Store D) (cache after : PageCache) (made : List Sheet) (retired : List ℕ) (book : Book)
+pub read_value : {D : Type 0} {listed : List ℕ} (history : D → History) (store new : Store D) (cache after : PageCache) (made : List Sheet)
+    (retired : List ℕ) (book : Book)
     (page : ℕ) (result : Result Sheet TreeFault) (old : State D)
     → record { store = store; made = made; retired = retired; book = book } ≡ old → IsKept history store cache made book listed
     → ReadsPage history page result store new cache after → AllByRecursion (λ (m : Sheet). m.page ≢ page) made

@@ -111,7 +111,8 @@ module _ {D : Type 0} (history : D → History) (start : State D) (live : List �
   not_free : (n : ℕ) → 1 ≤ times n live → not (is_free start.book.states n) ≡ true
   not_free n some = elim (cases_lt n (length start.book.states)) [
     | inl within ↦
-        let used : is_in_use start.book.states n ≡ true = flag_is (is_in_use start.book.states n) (omega (arith, some, used_live history start live before begun k n within)) in
+        let used : is_in_use start.book.states n ≡ true =
+        flag_is (is_in_use start.book.states n) (omega (arith, some, used_live history start live before begun k n within)) in
         not_both (nat_lt 0 n) (is_free_state (get_or start.book.states n states.Retired)) (used_state (get_or start.book.states n states.Retired) used)
     | inr past ↦
         not_both (nat_lt 0 n) (is_free_state (get_or start.book.states n states.Retired))
@@ -160,7 +161,8 @@ module _ {D : Type 0} (history : D → History) (start : State D) (live : List �
           few = omega (arith, entries_are_few (store_of history p) tree pages after turn.holds, pages_are_few 1048576 pages once all);
         }
 
-pub trees_fit : {D : Type 0} {listed : List ℕ} (history : D → History) (store : Store D) (cache : PageCache) (made : List Sheet) (retired : List ℕ) (book : Book)
+pub trees_fit : {D : Type 0} {listed : List ℕ} (history : D → History) (store : Store D) (cache : PageCache) (made : List Sheet) (retired : List ℕ)
+    (book : Book)
     → IsKept history store cache made book listed
     → TreesFit history (record { store = store; made = made; retired = retired; book = book })
 trees_fit history store cache made retired book so start live before begun root pages after turn k =

@@ -54,7 +54,8 @@ module _ {D : Type 0} {listed : List ℕ} (history : D → History) (store : Sto
         let waiting = all_waiting version (retired ++ listed) book ∙ so.booked.none_waits in
         record {
           used = λ n within.
-              let low : n < length book.states = omega (arith, within, committed_length last planned sound pins waiting, all_length version (retired ++ listed) book) in
+              let low : n < length book.states =
+              omega (arith, within, committed_length last planned sound pins waiting, all_length version (retired ++ listed) book) in
               let count = account history p start turn.grows.stays k live before begun so.booked listed so.listed root pages after turn version n in
               let now_used = used_now history p start turn.grows.stays k live before begun so.booked listed so.listed n low in
               let both = times_append n retired listed in
@@ -82,7 +83,8 @@ module _ {D : Type 0} {listed : List ℕ} (history : D → History) (store : Sto
         → AreInUse (reached_by pages parts) (committed last planned)
     in_use_after last new is parts has =
         let none : parts ≡ [] =
-        no_parts (sheet_at (reads (now (disk_history history new))) (durable_root new)) (durable_root new) pages parts (ap (λ (r : Root). r.free_list) is) has in
+        no_parts (sheet_at (reads (now (disk_history history new))) (durable_root new)) (durable_root new) pages parts
+        (ap (λ (r : Root). r.free_list) is) has in
         subst (λ (reached : List ℕ). AreInUse reached (committed last planned)) (sym (ap (reached_by pages) none ∙ append-nil pages)) (tree_in_use last)
 
   module _ (root : ℕ) (result : Result (Unit {0}) CommitFault) (new : Store D) (commits : CommitsRoot history root result store new)

@@ -132,7 +132,8 @@ module _ {D : Type 0} (history : D → History) (disk : D) (mid new : Store D) (
       (subst (λ (read : ℕ → List ℕ). HoldsMap (sheet_at read root) root live there.1.0) (reads_mid k) there.1.1) in
       let list_now = list_then k (IsListIn parts) list in
       (finds.book k live there.1.0 committed held.0 held.1).1
-      ∙ ap pages_of (reading_is_exact (list_in (sheet_at image root)) root.pages root.free_list root.free_count root.free_count held.0 parts held.1.list list_now)
+      ∙ ap pages_of (reading_is_exact (list_in (sheet_at image root)) root.pages root.free_list root.free_count root.free_count held.0 parts held.1.list
+      list_now)
 
   pub kept_opened : (cache : PageCache) (made : List Sheet) → made ≡ [] → ((n : ℕ) → kept cache n ≡ None)
       → IsKept history new cache made book found.1.items

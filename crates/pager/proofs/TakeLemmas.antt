@@ -336,7 +336,8 @@ fresh_refused {D = D} history store made more retired book new_book old count vi
     (HasFailed (store_of history (start history store made retired book new_book count)) (store_of history (new made)))) (sym is)
     (take_failed history store made retired book new_book count fault refuses word)))
 
-pub fresh_done : {D : Type 0} {listed : List ℕ} (history : D → History) (store : Store D) (cache : PageCache) (made more : List Sheet) (retired : List ℕ) (book new_book : Book)
+pub fresh_done : {D : Type 0} {listed : List ℕ} (history : D → History) (store : Store D) (cache : PageCache) (made more : List Sheet) (retired : List ℕ)
+    (book new_book : Book)
     (old : State D) → IsKept history store cache made book listed
     → record { store = store; made = made; retired = retired; book = book } ≡ old → (sheet : Sheet) → more ≡ made ++ sheet ∷ []
     → Takes (Some sheet.page) book new_book → (page : ℕ) → sheet.page ≡ page → (content : Content) → sheet.content ≡ content
@@ -356,7 +357,8 @@ fresh_done {D = D} history store cache made more retired book new_book old so vi
     → IsMade (store_of history (new made book)) (store_of history (new (made ++ sheet ∷ []) (taken sheet.page book))) sheet.page x) content_is
     (one_made history store cache made retired book so sheet takes.0)))))
 
-pub fresh_kept : {D : Type 0} {listed : List ℕ} (history : D → History) (store : Store D) (cache after_cache : PageCache) (made more : List Sheet) (book new_book : Book)
+pub fresh_kept : {D : Type 0} {listed : List ℕ} (history : D → History) (store : Store D) (cache after_cache : PageCache) (made more : List Sheet)
+    (book new_book : Book)
     → IsKept history store cache made book listed
     → (sheet : Sheet) → more ≡ made ++ sheet ∷ [] → Takes (Some sheet.page) book new_book → (page : ℕ) → sheet.page ≡ page → kept after_cache page ≡ None
     → ((n : ℕ) → n ≢ page → kept after_cache n ≡ kept cache n)
@@ -378,7 +380,8 @@ fresh_stays_refused {D = D} history store made more retired book new_book old co
     (subst (λ (s : State D). Stays (store_of history s) (store_of history (after made))) view_is
     (refused_stays history store made retired book new_book count fault refuses))
 
-pub fresh_stays : {D : Type 0} {listed : List ℕ} (history : D → History) (store : Store D) (cache : PageCache) (made more : List Sheet) (retired : List ℕ) (book new_book : Book)
+pub fresh_stays : {D : Type 0} {listed : List ℕ} (history : D → History) (store : Store D) (cache : PageCache) (made more : List Sheet) (retired : List ℕ)
+    (book new_book : Book)
     (old : State D) → IsKept history store cache made book listed
     → record { store = store; made = made; retired = retired; book = book } ≡ old → (sheet : Sheet) → more ≡ made ++ sheet ∷ []
     → Takes (Some sheet.page) book new_book

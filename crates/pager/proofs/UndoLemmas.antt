@@ -108,7 +108,8 @@ module _ {D : Type 0} {listed : List ℕ} (history : D → History) (store : Sto
   }
 
 -- back to where the turn began
-pub begun_again : {D : Type 0} {listed : List ℕ} (history : D → History) (store : Store D) (cache : PageCache) (made : List Sheet) (retired : List ℕ) (book : Book)
+pub begun_again : {D : Type 0} {listed : List ℕ} (history : D → History) (store : Store D) (cache : PageCache) (made : List Sheet) (retired : List ℕ)
+    (book : Book)
     (so : IsKept history store cache made book listed)
     (start : State D) (live : List ℕ) (entries : List Entry) → IsBegun history start live entries
     → let p : State D = record { store = store; made = made; retired = retired; book = book } in
@@ -130,7 +131,8 @@ begun_again {D = D} history store cache made retired book so start live entries 
       };
     }
 
-pub leads_back : {D : Type 0} {listed : List ℕ} (history : D → History) (store : Store D) (cache : PageCache) (made : List Sheet) (retired : List ℕ) (book : Book)
+pub leads_back : {D : Type 0} {listed : List ℕ} (history : D → History) (store : Store D) (cache : PageCache) (made : List Sheet) (retired : List ℕ)
+    (book : Book)
     → IsKept history store cache made book listed → (some few : ℕ)
     → let p : State D = record { store = store; made = made; retired = retired; book = book } in LeadsBack history some few p (undone_to some few p)
 leads_back {D = D} history store cache made retired book so some few start live entries begun grows none empty =

@@ -42,7 +42,8 @@ invariant_of-self-in-Err g c =
     let writes : c.deref-4.result.now ≡ written_of (retired_all v (i.retired.items ++ i.listed.items) i.book) i.made.items = c.deref-4.ensures.value ∙ items in
     let content : AllByRecursion (λ (m : Sheet). IsContent m.content) (written_of (retired_all v (i.retired.items ++ i.listed.items) i.book) i.made.items) =
     subst (AllByRecursion (λ (m : Sheet). IsContent m.content)) items c.in-Ok.ensures.content in
-    let back : c.undo_to.new.self ≡ i.book = c.undo_to.ensures ∙ (λ j. undone (c.mark-mark.ensures j) (plan j)) ∙ back_all v (i.retired.items ++ i.listed.items) i.book in
+    let back : c.undo_to.new.self ≡ i.book =
+    c.undo_to.ensures ∙ (λ j. undone (c.mark-mark.ensures j) (plan j)) ∙ back_all v (i.retired.items ++ i.listed.items) i.book in
     let fault = c.in-Err.fault in
     let leaves = subst (λ (w : List Sheet). LeavesPages history w c.args.root 0 0 (Err fault) i.store c.commit.new.self) writes c.in-Err.ensures.pages in
     subst (λ (b : Book). IsKept history c.commit.new.self i.cache i.made.items b i.listed.items) (sym back)
@@ -62,7 +63,8 @@ returns-in-Err-clause-commits g c =
     let writes : c.deref-4.result.now ≡ written_of (retired_all v (i.retired.items ++ i.listed.items) i.book) i.made.items = c.deref-4.ensures.value ∙ items in
     let content : AllByRecursion (λ (m : Sheet). IsContent m.content) (written_of (retired_all v (i.retired.items ++ i.listed.items) i.book) i.made.items) =
     subst (AllByRecursion (λ (m : Sheet). IsContent m.content)) items c.in-Ok.ensures.content in
-    let back : c.undo_to.new.self ≡ i.book = c.undo_to.ensures ∙ (λ j. undone (c.mark-mark.ensures j) (plan j)) ∙ back_all v (i.retired.items ++ i.listed.items) i.book in
+    let back : c.undo_to.new.self ≡ i.book =
+    c.undo_to.ensures ∙ (λ j. undone (c.mark-mark.ensures j) (plan j)) ∙ back_all v (i.retired.items ++ i.listed.items) i.book in
     let fault = c.in-Err.fault in
     let leaves = subst (λ (w : List Sheet). LeavesPages history w c.args.root 0 0 (Err fault) i.store c.commit.new.self) writes c.in-Err.ensures.pages in
     let moves = subst (λ (w : List Sheet). MovesMaps history w c.args.root 0 0 (Err fault) i.store c.commit.new.self) writes c.in-Err.ensures.moves in
@@ -86,7 +88,8 @@ returns-in-Err-clause-moves g c =
     let writes : c.deref-4.result.now ≡ written_of (retired_all v (i.retired.items ++ i.listed.items) i.book) i.made.items = c.deref-4.ensures.value ∙ items in
     let content : AllByRecursion (λ (m : Sheet). IsContent m.content) (written_of (retired_all v (i.retired.items ++ i.listed.items) i.book) i.made.items) =
     subst (AllByRecursion (λ (m : Sheet). IsContent m.content)) items c.in-Ok.ensures.content in
-    let back : c.undo_to.new.self ≡ i.book = c.undo_to.ensures ∙ (λ j. undone (c.mark-mark.ensures j) (plan j)) ∙ back_all v (i.retired.items ++ i.listed.items) i.book in
+    let back : c.undo_to.new.self ≡ i.book =
+    c.undo_to.ensures ∙ (λ j. undone (c.mark-mark.ensures j) (plan j)) ∙ back_all v (i.retired.items ++ i.listed.items) i.book in
     let fault = c.in-Err.fault in
     let leaves = subst (λ (w : List Sheet). LeavesPages history w c.args.root 0 0 (Err fault) i.store c.commit.new.self) writes c.in-Err.ensures.pages in
     let moves = subst (λ (w : List Sheet). MovesMaps history w c.args.root 0 0 (Err fault) i.store c.commit.new.self) writes c.in-Err.ensures.moves in
@@ -117,7 +120,8 @@ invariant_of-self-2 g c =
     subst (λ (w : List Sheet). LeavesPages history w c.args.root 0 0 (Ok tt) i.store new) writes
     (subst (λ (r : Result (Unit {0}) CommitFault). LeavesPages history c.deref-4.result.now c.args.root 0 0 r i.store new) ok c.commit.ensures.pages) in
     let last = c.root.result.generation in
-    let book : c.commit-2.new.self ≡ committed last (retired_all v (i.retired.items ++ i.listed.items) i.book) = c.commit-2.ensures ∙ ap (committed last) plan in
+    let book : c.commit-2.new.self ≡ committed last (retired_all v (i.retired.items ++ i.listed.items) i.book) =
+    c.commit-2.ensures ∙ ap (committed last) plan in
     let keeps = subst (λ (w : List Sheet). KeepsAll w i.cache c.keep_all.new.cache) (c.deref-5.ensures.value ∙ items) c.keep_all.ensures in
     subst (λ (made : List Sheet). IsKept history new c.keep_all.new.cache made c.commit-2.new.self c.clear-3.new.self.items) (sym c.clear.ensures.items)
     (subst (IsKept history new c.keep_all.new.cache [] c.commit-2.new.self) (sym c.clear-3.ensures.items)
@@ -147,7 +151,8 @@ returns-clause-moves g c =
     let moves = subst (λ (w : List Sheet). MovesMaps history w c.args.root 0 0 (Ok tt) i.store new) writes
     (subst (λ (r : Result (Unit {0}) CommitFault). MovesMaps history c.deref-4.result.now c.args.root 0 0 r i.store new) ok c.commit.ensures.moves) in
     let last = c.root.result.generation in
-    let book : c.commit-2.new.self ≡ committed last (retired_all v (i.retired.items ++ i.listed.items) i.book) = c.commit-2.ensures ∙ ap (committed last) plan in
+    let book : c.commit-2.new.self ≡ committed last (retired_all v (i.retired.items ++ i.listed.items) i.book) =
+    c.commit-2.ensures ∙ ap (committed last) plan in
     let after : List Sheet → List ℕ → Book → State D = λ m r b. record { store = new; made = m; retired = r; book = b } in
     subst (λ (s : State D). MovesTurns history c.args.root (Ok tt) s (after c.clear.new.self.items c.clear-2.new.self.items c.commit-2.new.self)) c.self.view_is
     (subst (MovesTurns history c.args.root (Ok tt) (record { store = i.store; made = i.made.items; retired = i.retired.items; book = i.book }))
