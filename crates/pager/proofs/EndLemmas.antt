@@ -150,7 +150,7 @@ module _ {D : Type 0} {listed : List ℕ} (history : D → History) (store : Sto
     made = tt;
     retired = tt;
     memory = λ is. absurd (commits.no_memory is);
-    full = λ is. ((commits.full is).0, (λ i. record { store = (commits.full is).1 i; made = made; retired = retired; book = book }));
+    full = λ is. inl ((commits.full is).0, (λ i. record { store = (commits.full is).1 i; made = made; retired = retired; book = book }));
     device = commits.device;
     stops = λ is. (commits.stops is, refl);
     idle = λ is i. record { store = commits.idle is i; made = made; retired = retired; book = book };

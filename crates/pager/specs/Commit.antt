@@ -1,7 +1,9 @@
 -- What the commit of a turn does.
-use Rattle.std.specs.Prelude.{◌≡◌, ◌⊎◌, ℕ, ◌+◌, ◌-◌, ◌^◌, true, List, [], Result, Err, OnOk, OnErr}
+use Rattle.std.specs.Prelude.{◌≡◌, ◌≢◌, ◌⊎◌, ℕ, ◌+◌, ◌-◌, ◌≤◌, ◌^◌, true, List, [], Result, Err}
+use Rattle.std.specs.Prelude.{OnOk, OnErr}
 use Rattle.page.specs.History.{History, KeepsWord}
 use Rattle.page.specs.Crash.{GoesOn, LeavesOnly, LeavesNow}
+use Rattle.freelist.specs.Book.{refused}
 use Rattle.btree.specs.Keys.{Entry, times}
 use Rattle.btree.specs.Reach.{HasMap}
 use Rattle.btree.specs.Store.{Grows}
@@ -12,6 +14,19 @@ use Rattle.roots.specs.declared.store.CommitFault.TheVariants as faults
 use Rattle.pager.specs.State.{State}
 use Rattle.pager.specs.Turn.{IsBegun}
 use Rattle.pager.specs.View.{pager_history, store_of}
+
+-- Why a commit finds no room: no greater generation is left, or no page is free for its list of
+-- free pages, which is counted.
+abbrev pub FindsNoRoom : {D : Type 0} → State D → State D → Type 0
+FindsNoRoom old new =
+    (((durable_root old.store).generation ≡ 2 ^ 64 - 1) × (new ≡ old))
+    ⊎ (new ≡ record old { book = refused old.book })
+
+-- How often a page was asked for and none was free: never fewer, and more often only at Full.
+pub record CountsTakes {D : Type 0} (result : Result (Unit {0}) CommitFault)
+    (old new : State D) : Type 0 where
+  pub grows : old.book.full_takes ≤ new.book.full_takes
+  pub same : result ≢ Err faults.Full → new.book.full_takes ≡ old.book.full_takes
 
 -- A turn was committed with this root page, or not.
 pub record Commits {D : Type 0} (history : D → History) (root : ℕ)
@@ -28,9 +43,7 @@ pub record Commits {D : Type 0} (history : D → History) (root : ℕ)
   pub retired : OnOk result (new.retired ≡ [])
   -- nothing changed
   pub memory : result ≡ Err faults.Memory → new ≡ old
-  -- Full comes only where no greater generation is left
-  pub full : result ≡ Err faults.Full
-      → ((durable_root old.store).generation ≡ 2 ^ 64 - 1) × (new ≡ old)
+  pub full : result ≡ Err faults.Full → FindsNoRoom old new
   pub device : result ≡ Err faults.Device → KeepsWord (pager_history history new)
       → HasDeviceCause history old.store new.store
   -- the turn is still there, to be undone

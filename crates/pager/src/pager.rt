@@ -49,7 +49,7 @@ impl<D: Disk> Pager<D> {
     ghost use Rattle.std.specs.Prelude.{IfOk, IfErr, length};
     ghost use Rattle.roots.specs.Store.{durable_root, is_stopped};
     ghost use Rattle.pager.specs.Capacity.{TreesFit};
-    ghost use Rattle.pager.specs.Commit.{Commits, MovesTurns};
+    ghost use Rattle.pager.specs.Commit.{Commits, CountsTakes, MovesTurns};
     ghost use Rattle.pager.specs.Counting.{CountsPages};
     ghost use Rattle.pager.specs.Opening.{HasLimit, IsOpened, IsRefused};
     ghost use Rattle.pager.specs.State.{State};
@@ -165,7 +165,7 @@ impl<D: Disk> Pager<D> {
     /// last root named. An `Err` leaves the turn, to be undone. It reads nothing.
     pub fn commit(&mut self, root: u32) -> Result<(), CommitFault>
         ensures commits { Commits D.history root result self.old self.new }
-        ensures takes { self.new.book.full_takes ≡ self.old.book.full_takes }
+        ensures takes { CountsTakes result self.old self.new }
         ensures moves { MovesTurns D.history root result self.old self.new }
     {
         let mark = self.book.mark();

@@ -1,4 +1,4 @@
-use Rattle.std.proofs.Common.{◌≡◌, ℕ, List, [], ◌++◌, ap, sym, subst, ◌∙◌, Ok, Err}
+use Rattle.std.proofs.Common.{◌≡◌, ℕ, List, [], ◌++◌, ap, arith, sym, subst, ◌∙◌, Ok, Err}
 use Rattle.std.specs.Prelude.{Result}
 use Rattle.std.specs.List.{AllByRecursion}
 use Rattle.page.specs.Content.{IsContent}
@@ -7,7 +7,7 @@ use Rattle.freelist.specs.Book.{Book, committed, undone}
 use Rattle.roots.specs.declared.store.CommitFault.{CommitFault}
 use Rattle.roots.specs.declared.store.CommitFault.TheVariants as faults
 use Rattle.roots.specs.Commit.{CommitsRoot, LeavesPages, MovesMaps}
-use Rattle.pager.specs.Commit.{Commits, MovesTurns}
+use Rattle.pager.specs.Commit.{Commits, CountsTakes, MovesTurns}
 use Rattle.pager.specs.Kept.{IsKept}
 use Rattle.pager.specs.State.{State}
 use Rattle.pager.specs.Writing.{KeepsAll, retired_all, written_of}
@@ -159,9 +159,14 @@ returns-clause-moves g c =
     (λ j. after (sym c.clear.ensures.items j) (sym c.clear-2.ensures.items j) (sym book j))
     (moves_done history i.store i.cache i.made.items i.retired.items i.book c.self.invariant v c.args.root new commits moves leaves content last))
 
+-- a count that is as it was
+counted : {D : Type 0} (result : Result (Unit {0}) CommitFault) (old new : State D) → new.book.full_takes ≡ old.book.full_takes → CountsTakes result old new
+counted result old new same = record { grows = omega (arith, same); same = λ _. same }
+
 pub returns-in_default-clause-takes : goal.returns-in_default-clause-takes
 returns-in_default-clause-takes g c =
-    ap (λ (b : Book). b.full_takes) c.in_default.ensures.err ∙ ap (λ (s : State g.row.D.Denot). s.book.full_takes) c.self.view_is
+    counted _ _ _
+    (ap (λ (b : Book). b.full_takes) c.in_default.ensures.err ∙ ap (λ (s : State g.row.D.Denot). s.book.full_takes) c.self.view_is)
 
 pub returns-in-Err-clause-takes : goal.returns-in-Err-clause-takes
 returns-in-Err-clause-takes g c =
@@ -169,8 +174,9 @@ returns-in-Err-clause-takes g c =
     let v = c.root-version.result.generation in
     let plan : c.plan_commit.new.book ≡ retired_all v (i.retired.items ++ i.listed.items) i.book =
     c.in-Ok.ensures.retired ∙ (λ j. retired_all v (c.deref-2.ensures.value j ++ c.deref-3.ensures.value j) i.book) in
-    ap (λ (b : Book). b.full_takes) (c.undo_to.ensures ∙ (λ j. undone (c.mark-mark.ensures j) (plan j)) ∙ back_all v (i.retired.items ++ i.listed.items) i.book)
-    ∙ ap (λ (s : State g.row.D.Denot). s.book.full_takes) c.self.view_is
+    counted _ _ _
+    (ap (λ (b : Book). b.full_takes) (c.undo_to.ensures ∙ (λ j. undone (c.mark-mark.ensures j) (plan j)) ∙ back_all v (i.retired.items ++ i.listed.items) i.book)
+    ∙ ap (λ (s : State g.row.D.Denot). s.book.full_takes) c.self.view_is)
 
 pub returns-clause-takes : goal.returns-clause-takes
 returns-clause-takes g c =
@@ -178,5 +184,6 @@ returns-clause-takes g c =
     let v = c.root-version.result.generation in
     let plan : c.plan_commit.new.book ≡ retired_all v (i.retired.items ++ i.listed.items) i.book =
     c.in-Ok.ensures.retired ∙ (λ j. retired_all v (c.deref-2.ensures.value j ++ c.deref-3.ensures.value j) i.book) in
-    ap (λ (b : Book). b.full_takes) (c.commit-2.ensures ∙ ap (committed c.root.result.generation) plan) ∙ all_full v (i.retired.items ++ i.listed.items) i.book
-    ∙ ap (λ (s : State g.row.D.Denot). s.book.full_takes) c.self.view_is
+    counted _ _ _
+    (ap (λ (b : Book). b.full_takes) (c.commit-2.ensures ∙ ap (committed c.root.result.generation) plan) ∙ all_full v (i.retired.items ++ i.listed.items) i.book
+    ∙ ap (λ (s : State g.row.D.Denot). s.book.full_takes) c.self.view_is)
