@@ -175,7 +175,8 @@ returns-in-Err-clause-takes g c =
     let plan : c.plan_commit.new.book ≡ retired_all v (i.retired.items ++ i.listed.items) i.book =
     c.in-Ok.ensures.retired ∙ (λ j. retired_all v (c.deref-2.ensures.value j ++ c.deref-3.ensures.value j) i.book) in
     counted _ _ _
-    (ap (λ (b : Book). b.full_takes) (c.undo_to.ensures ∙ (λ j. undone (c.mark-mark.ensures j) (plan j)) ∙ back_all v (i.retired.items ++ i.listed.items) i.book)
+    (ap (λ (b : Book). b.full_takes) (c.undo_to.ensures ∙ (λ j. undone (c.mark-mark.ensures j) (plan j))
+    ∙ back_all v (i.retired.items ++ i.listed.items) i.book)
     ∙ ap (λ (s : State g.row.D.Denot). s.book.full_takes) c.self.view_is)
 
 pub returns-clause-takes : goal.returns-clause-takes
