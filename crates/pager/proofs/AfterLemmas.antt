@@ -1,6 +1,6 @@
 -- What every pager keeps holds after a commit.
 use Rattle.std.proofs.Common.{◌≡◌, ◌≢◌, ℕ, ◌+◌, ◌<◌, ◌≤◌, Bool, true, false, List, [], ◌∷◌, refl, sym, ◌∙◌, ap, subst, arith, inl, inr, Some, None}
-use Rattle.std.specs.Prelude.{◌&&◌, nat_lt, if◌then◌else◌, Ok, Err}
+use Rattle.std.specs.Prelude.{◌&&◌, nat_lt, if◌then◌else◌, Result, Ok, Err}
 use Rattle.std.specs.List.{AllByRecursion}
 use Rattle.std.proofs.lemmas.Bool.{cases_lt}
 use Rattle.std.proofs.lemmas.Bool.Decides.{nat_tests}
@@ -11,20 +11,24 @@ use Rattle.page.specs.History.{History, KeepsWord, now, reads}
 use Rattle.page.specs.Page.{IsSectorOf, page_at}
 use Rattle.page.specs.PageLaws.{IsSheet}
 use Rattle.page.specs.declared.page_cache.PageCache.{PageCache}
+use Rattle.page.specs.declared.page_fault.PageFault.{PageFault}
 use Rattle.page.specs.declared.page_fault.PageFault.TheVariants as page_faults
 use Rattle.freelist.specs.Book.{Book, committed, is_in_use}
+use Rattle.freelist.specs.FreeList.{IsFreeList, Part, pages_of}
 use Rattle.freelist.proofs.SoundBooks.{stays_sound}
 use Rattle.roots.specs.declared.root.Root.{Root}
 use Rattle.roots.specs.declared.store.CommitFault.{CommitFault}
+use Rattle.roots.specs.declared.store.CommitFault.TheVariants as faults
 use Rattle.roots.specs.declared.store.Store.{Store}
-use Rattle.roots.specs.Commit.{LeavesPages}
-use Rattle.roots.specs.Image.{IsOnPages, sheet_at}
+use Rattle.roots.specs.Commit.{CommitsRoot, LeavesPages}
+use Rattle.roots.specs.Image.{IsOnPages, list_in, sheet_at}
 use Rattle.roots.specs.Store.{disk_history, durable_root}
 use Rattle.roots.specs.Turn.{LieBehind, end_behind, made_or, next_root, numbers_of}
+use Rattle.roots.proofs.HeldFileLemmas.{no_parts}
 use Rattle.roots.proofs.ImageLemmas.{sheet_same}
 use Rattle.roots.proofs.KeptPages.{made_there, still_read}
 use Rattle.roots.proofs.MadeLemmas.{inside_end, sheets_after}
-use Rattle.pager.specs.Kept.{IsBookFor, IsKept, IsNew}
+use Rattle.pager.specs.Kept.{AreListed, IsBookFor, IsKept, IsNew}
 use Rattle.pager.specs.Writing.{KeepsAll, retired_all, written_of}
 use Rattle.pager.proofs.BookLemmas.{all_full, all_length, all_pins, all_sound, all_waiting, committed_length, committed_waiting}
 use Rattle.pager.proofs.ListLemmas.{all_both, all_weaker, made_none}
@@ -39,8 +43,13 @@ some_number image root n sheet is = by_test (nat_lt 0 n) refl is
     by_test true test is = grind (arith, nat_tests, test)
     by_test false test is = absurd cc
 
-module _ {D : Type 0} (history : D → History) (store : Store D) (cache : PageCache) (made : List Sheet) (retired : List ℕ) (book : Book)
-    (so : IsKept history store cache made book) (version : ℕ) where
+-- a list that begins nowhere has no parts
+no_list : (sheets : ℕ → Result Sheet PageFault) (root : Root) (parts : List Part) → root.free_list ≡ 0
+    → IsFreeList (list_in sheets) root.pages root.free_list root.free_count parts → parts ≡ []
+no_list sheets root parts none list = no_parts sheets root [] parts none (record { list = list; all = λ some. absurd (some none) })
+
+module _ {D : Type 0} {listed : List ℕ} (history : D → History) (store : Store D) (cache : PageCache) (made : List Sheet) (retired : List ℕ) (book : Book)
+    (so : IsKept history store cache made book listed) (version : ℕ) where
   abbrev pub planned : Book
   planned = retired_all version retired book
 
@@ -81,11 +90,11 @@ module _ {D : Type 0} (history : D → History) (store : Store D) (cache : PageC
         behind = λ n free. tt;
       }
 
-  module _ (new : Store D) (after : PageCache) (tree : ℕ) (leaves : LeavesPages history written tree (Ok tt) store new)
+  module _ (new : Store D) (after : PageCache) (tree : ℕ) (leaves : LeavesPages history written tree 0 0 (Ok tt) store new)
       (content : AllByRecursion (λ (m : Sheet). IsContent m.content) written) (keeps : KeepsAll written cache after)
       (on : KeepsWord (disk_history history new) → KeepsWord (disk_history history store)) where
     abbrev next : Root
-    next = next_root (durable_root store) written tree
+    next = next_root (durable_root store) written tree 0 0
 
     abbrev before : ℕ → List ℕ
     before = reads (now (disk_history history store))
@@ -150,7 +159,7 @@ module _ {D : Type 0} (history : D → History) (store : Store D) (cache : PageC
         above last [] lie = tt
         above last (m ∷ ms) lie = (omega (arith, lie.0), above m.page ms lie.1)
 
-    pub kept_after : (last : ℕ) → IsKept history new after [] (committed last planned)
+    pub kept_after : (last : ℕ) → IsKept history new after [] (committed last planned) []
     kept_after last = record {
       cached = λ k n found is.
           let root : durable_root new ≡ next = leaves.root written_inside in
@@ -158,14 +167,23 @@ module _ {D : Type 0} (history : D → History) (store : Store D) (cache : PageC
       ascending = tt;
       each = tt;
       booked = booked_after last;
+      listed = λ running k parts list.
+          sym (ap pages_of (no_list (sheet_at behind (durable_root new)) (durable_root new) parts
+          (ap (λ (r : Root). r.free_list) (leaves.root written_inside)) list));
     }
 
+  -- A store that goes on after a commit that failed is as it was.
+  listed_failed : (new : Store D) (tree : ℕ) (fault : CommitFault) → CommitsRoot history tree (Err fault) store new → AreListed history new listed
+  listed_failed new tree faults.Device commits = λ running. let never : true ≡ false = sym (commits.stops refl) ∙ running in absurd cc
+  listed_failed new tree faults.Memory commits = absurd (commits.no_memory refl)
+  listed_failed new tree faults.Full commits = subst (λ (s : Store D). AreListed history s listed) (sym (commits.full refl).1) so.listed
+
   -- a commit that failed: the pages that it wrote aren't in the cache
-  pub kept_failed : (new : Store D) (tree : ℕ) (fault : CommitFault) → LeavesPages history written tree (Err fault) store new
-      → (KeepsWord (disk_history history new) → KeepsWord (disk_history history store)) → IsKept history new cache made book
-  kept_failed new tree fault leaves on = record {
+  pub kept_failed : (new : Store D) (tree : ℕ) (fault : CommitFault) → CommitsRoot history tree (Err fault) store new
+      → LeavesPages history written tree 0 0 (Err fault) store new → IsKept history new cache made book listed
+  kept_failed new tree fault commits leaves = record {
     cached = λ k n found is.
-        let there : sheet_at (reads (now (disk_history history store))) (durable_root store) n ≡ Ok found = so.cached (on k) n found is in
+        let there : sheet_at (reads (now (disk_history history store))) (durable_root store) n ≡ Ok found = so.cached (commits.on.kept k) n found is in
         let some : 0 < n = some_number (reads (now (disk_history history store))) (durable_root store) n found there in
         ap (λ (r : Root). sheet_at (reads (now (disk_history history new))) r n) leaves.still
         ∙ sheet_same (reads (now (disk_history history store))) (reads (now (disk_history history new))) (durable_root store) n
@@ -182,6 +200,7 @@ module _ {D : Type 0} (history : D → History) (store : Store D) (cache : PageC
           uncached = one.uncached;
         }) made so.each;
     booked = so.booked;
+    listed = listed_failed new tree fault commits;
   }
     where
       off_written : (n j : ℕ) → IsSectorOf n j → (ms : List Sheet) → AllByRecursion (λ (m : Sheet). m.page ≢ n) ms → IsOnPages (numbers_of ms) j → ⊥

@@ -1,5 +1,5 @@
 -- A pager in which no turn runs has the tree of its committed root.
-use Rattle.std.proofs.Common.{◌≡◌, ℕ, ◌≤◌, Bool, true, false, List, [], ◌∷◌, length, get_or, refl, ◌∙◌, ap, arith, inl, inr}
+use Rattle.std.proofs.Common.{◌≡◌, ℕ, ◌<◌, ◌≤◌, Bool, true, false, List, [], ◌∷◌, length, get_or, refl, ◌∙◌, ap, arith, inl, inr}
 use Rattle.std.specs.Prelude.{◌&&◌, not, is_ok, nat_lt, reverse, Result}
 use Rattle.std.proofs.lemmas.Bool.{cases_lt}
 use Rattle.std.proofs.lemmas.List.{get_or_past}
@@ -12,6 +12,7 @@ use Rattle.btree.specs.Store.{flag}
 use Rattle.btree.proofs.ReachLemmas.{Moves, map_moved}
 use Rattle.btree.proofs.StoreLemmas.{grows_itself}
 use Rattle.freelist.specs.Book.{is_free, is_free_state, is_in_use, is_used_state}
+use Rattle.freelist.specs.FreeList.{pages_of}
 use Rattle.freelist.specs.declared.states.PageState.{PageState}
 use Rattle.freelist.specs.declared.states.PageState.TheVariants as states
 use Rattle.roots.specs.Image.{content_in, sheet_at, store_of as image_store}
@@ -22,7 +23,7 @@ use Rattle.pager.specs.State.{State}
 use Rattle.pager.specs.Turn.{IsBegun}
 use Rattle.pager.specs.View.{pager_history, sheets_of, store_of}
 use Rattle.pager.proofs.BookLemmas.{one_time}
-use Rattle.pager.proofs.MemberLemmas.{more_times}
+use Rattle.pager.proofs.MemberLemmas.{more_times, times_append}
 
 -- what is in use isn't free
 used_state : (s : PageState) (some : Bool) → is_used_state s ≡ true → (some && is_free_state s) ≡ false
@@ -43,10 +44,15 @@ module _ {D : Type 0} (history : D → History) (p : State D) (live : List ℕ) 
   on_disk : (n : ℕ) → sheets_of history p n ≡ sheets n
   on_disk n = ap (λ (made : List Sheet). made_or made n (sheets n)) begun.made
 
+  pub used_live : (n : ℕ) → n < length p.book.states → times n live ≤ flag (is_in_use p.book.states n)
+  used_live n within =
+      let held = ((begun.committed k).keeps.holds k).listed in
+      omega (arith, (begun.in_use k held.0 held.1).used n within, times_append n live (pages_of held.0))
+
   not_free : (n : ℕ) → 1 ≤ times n live → is_free p.book.states n ≡ false
   not_free n reached = elim (cases_lt n (length p.book.states)) [
     | inl within ↦ used_state (get_or p.book.states n states.Retired) (nat_lt 0 n)
-        (some_used (is_in_use p.book.states n) (omega (arith, reached, (begun.in_use k).used n within)))
+        (some_used (is_in_use p.book.states n) (omega (arith, reached, used_live n within)))
     | inr past ↦ ap (λ (s : PageState). nat_lt 0 n && is_free_state s) (get_or_past p.book.states n states.Retired past) ∙ none_free (nat_lt 0 n)
   ]
     where

@@ -1,6 +1,6 @@
 -- What a turn makes of the book: pages in use, before and after its commit.
-use Rattle.std.proofs.Common.{◌≡◌, ◌≢◌, ℕ, zero, suc, ◌+◌, ◌<◌, Bool, true, false, List, [], ◌∷◌, ◌++◌, length, take, map, set, get_or, refl, sym, ◌∙◌, ap}
-use Rattle.std.proofs.Common.{arith, inl, inr}
+use Rattle.std.proofs.Common.{◌≡◌, ◌≢◌, ℕ, zero, suc, ◌+◌, ◌<◌, ◌≤◌, Bool, true, false, List, [], ◌∷◌, ◌++◌, length, take, map, set, get_or, refl, sym, ◌∙◌, ap}
+use Rattle.std.proofs.Common.{arith, inl, inr, length-append}
 use Rattle.std.specs.Prelude.{◌==◌, ◌&&◌, not, nat_lt, if◌then◌else◌}
 use Rattle.std.proofs.lemmas.Bool.{cases_Bool, cases_eq}
 use Rattle.std.proofs.lemmas.Bool.Decides.{nat_tests}
@@ -14,10 +14,11 @@ use Rattle.freelist.specs.Undone.{Call, after, retire}
 use Rattle.freelist.specs.declared.states.PageState.{PageState}
 use Rattle.freelist.specs.declared.states.PageState.TheVariants as states
 use Rattle.freelist.specs.declared.turns.Change.{Change}
+use Rattle.freelist.specs.declared.turns.Change.TheVariants as changes
 use Rattle.freelist.specs.declared.turns.Retirement.{Retirement}
 use Rattle.freelist.proofs.Rewinding.{below, one_same, used_is}
 use Rattle.freelist.proofs.SoundBooks.{stays_sound}
-use Rattle.freelist.proofs.Undoing.{undoing_leads_back}
+use Rattle.freelist.proofs.Undoing.{undone-undone, undoing_leads_back}
 use Rattle.roots.specs.Turn.{numbers_of}
 use Rattle.pager.specs.Kept.{IsBookFor, takes_of}
 use Rattle.pager.specs.Writing.{retired_all}
@@ -81,6 +82,28 @@ back_all v pages b =
     let calls : List Call = map (λ p. retire p v) pages in
     let full : (after calls b).full_takes ≡ b.full_takes = ap (λ (c : Book). c.full_takes) (sym (retired_after v pages b)) ∙ all_full v pages b in
     ap (undone (length b.turn)) (retired_after v pages b) ∙ undoing_leads_back b calls ∙ (λ i. record b { full_takes = full i })
+
+-- nor is anything taken back
+longer : (p v : ℕ) (b : Book) → length b.turn ≤ length (retired p v b).turn
+longer p v b = elim (cases_Bool (is_in_use b.states p)) [
+  | inl so ↦ rw so (omega (arith, length-append b.turn (changes.Retired p v ∷ [])))
+  | inr not_so ↦ rw not_so (omega arith)
+]
+
+pub all_longer : (v : ℕ) (pages : List ℕ) (b : Book) → length b.turn ≤ length (retired_all v pages b).turn
+all_longer v [] b = omega arith
+all_longer v (p ∷ pages) b = omega (arith, longer p v b, all_longer v pages (retired p v b))
+
+-- two lists of pages, one after the other
+pub all_joined : (v : ℕ) (pages more : List ℕ) (b : Book) → retired_all v (pages ++ more) b ≡ retired_all v more (retired_all v pages b)
+all_joined v [] more b = refl
+all_joined v (p ∷ pages) more b = all_joined v pages more (retired p v b)
+
+-- what leads back to the first leads back to where that leads
+pub back_both : (old mid last : Book) → length old.turn ≤ length mid.turn → length mid.turn ≤ length last.turn → undone (length mid.turn) last ≡ mid
+    → undone (length old.turn) mid ≡ old → undone (length old.turn) last ≡ old
+back_both old mid last first second back before =
+    sym (undone-undone (length old.turn) (length mid.turn) last first second) ∙ ap (undone (length old.turn)) back ∙ before
 
 retired_last : (v : ℕ) (pages : List ℕ) (p : ℕ) (b : Book) → retired_all v (pages ++ p ∷ []) b ≡ retired p v (retired_all v pages b)
 retired_last v [] p b = refl

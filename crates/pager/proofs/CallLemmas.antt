@@ -22,16 +22,17 @@ use Rattle.pager.specs.Kept.{IsKept, IsNew}
 use Rattle.pager.specs.State.{State}
 use Rattle.pager.specs.View.{root_numbers, sheets_of, store_of}
 use Rattle.pager.proofs.ListLemmas.{all_both, made_none}
-use Rattle.pager.proofs.ReadLemmas.{sheet_in}
+use Rattle.pager.proofs.ReadLemmas.{sheet_in, still_listed}
 
 no_longer : {X : Type 0} (a b : Option X) → b ≡ None → ((x : X) → a ≡ Some x → b ≡ Some x) → a ≡ None
 no_longer None b none less = refl
 no_longer {X = X} (Some x) b none less = let never : Some x ≡ None = sym (less x refl) ∙ none in absurd cc
 
-pub read_kept : {D : Type 0} (history : D → History) (store new : Store D) (cache after : PageCache) (made : List Sheet) (book : Book) (page : ℕ)
-    (result : Result Sheet TreeFault) → IsKept history store cache made book
-    → ReadsPage history page result store new cache after → AllByRecursion (λ (m : Sheet). m.page ≢ page) made → IsKept history new after made book
-read_kept history store new cache after made book page result so read ne = record {
+pub read_kept : {D : Type 0} {listed : List ℕ} (history : D → History) (store new : Store D) (cache after : PageCache) (made : List Sheet) (book : Book)
+    (page : ℕ)
+    (result : Result Sheet TreeFault) → IsKept history store cache made book listed
+    → ReadsPage history page result store new cache after → AllByRecursion (λ (m : Sheet). m.page ≢ page) made → IsKept history new after made book listed
+read_kept {listed = listed} history store new cache after made book page result so read ne = record {
   cached = read.agrees so.cached;
   ascending = so.ascending;
   each = all_both (IsNew (durable_root store).generation cache) (λ (m : Sheet). m.page ≢ page) (IsNew (durable_root new).generation after)
@@ -43,11 +44,13 @@ read_kept history store new cache after made book page result so read ne = recor
         uncached = no_longer (kept after m.page) (kept cache m.page) new_one.uncached (λ found is. read.others m.page found other is);
       }) made so.each ne;
   booked = so.booked;
+  listed = still_listed history store new read.only listed so.listed;
 }
 
-pub read_value : {D : Type 0} (history : D → History) (store new : Store D) (cache after : PageCache) (made : List Sheet) (retired : List ℕ) (book : Book)
+pub read_value : {D : Type 0} {listed : List ℕ} (history : D → History) (store new : Store D) (cache after : PageCache) (made : List Sheet)
+    (retired : List ℕ) (book : Book)
     (page : ℕ) (result : Result Sheet TreeFault) (old : State D)
-    → record { store = store; made = made; retired = retired; book = book } ≡ old → IsKept history store cache made book
+    → record { store = store; made = made; retired = retired; book = book } ≡ old → IsKept history store cache made book listed
     → ReadsPage history page result store new cache after → AllByRecursion (λ (m : Sheet). m.page ≢ page) made
     → KeepsWord (store_of history (record { store = new; made = made; retired = retired; book = book }))
     → IfOk result (λ shared. content_in (sheets_of history old page) ≡ shared.content)

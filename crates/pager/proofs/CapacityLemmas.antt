@@ -32,6 +32,7 @@ use Rattle.pager.specs.Kept.{IsKept, IsNew}
 use Rattle.pager.specs.State.{State}
 use Rattle.pager.specs.Turn.{IsBegun}
 use Rattle.pager.specs.View.{pager_history, sheets_of, store_of}
+use Rattle.pager.proofs.BeginLemmas.{used_live}
 use Rattle.pager.proofs.BookLemmas.{no_time, one_time}
 use Rattle.pager.proofs.ListLemmas.{all_weaker}
 use Rattle.pager.proofs.MemberLemmas.{more_times, times_reverse}
@@ -110,7 +111,8 @@ module _ {D : Type 0} (history : D → History) (start : State D) (live : List �
   not_free : (n : ℕ) → 1 ≤ times n live → not (is_free start.book.states n) ≡ true
   not_free n some = elim (cases_lt n (length start.book.states)) [
     | inl within ↦
-        let used : is_in_use start.book.states n ≡ true = flag_is (is_in_use start.book.states n) (omega (arith, some, (begun.in_use k).used n within)) in
+        let used : is_in_use start.book.states n ≡ true =
+        flag_is (is_in_use start.book.states n) (omega (arith, some, used_live history start live before begun k n within)) in
         not_both (nat_lt 0 n) (is_free_state (get_or start.book.states n states.Retired)) (used_state (get_or start.book.states n states.Retired) used)
     | inr past ↦
         not_both (nat_lt 0 n) (is_free_state (get_or start.book.states n states.Retired))
@@ -159,8 +161,9 @@ module _ {D : Type 0} (history : D → History) (start : State D) (live : List �
           few = omega (arith, entries_are_few (store_of history p) tree pages after turn.holds, pages_are_few 1048576 pages once all);
         }
 
-pub trees_fit : {D : Type 0} (history : D → History) (store : Store D) (cache : PageCache) (made : List Sheet) (retired : List ℕ) (book : Book)
-    → IsKept history store cache made book
+pub trees_fit : {D : Type 0} {listed : List ℕ} (history : D → History) (store : Store D) (cache : PageCache) (made : List Sheet) (retired : List ℕ)
+    (book : Book)
+    → IsKept history store cache made book listed
     → TreesFit history (record { store = store; made = made; retired = retired; book = book })
 trees_fit history store cache made retired book so start live before begun root pages after turn k =
     let inside : AllByRecursion (λ (m : Sheet). m.page < 1048576) made =

@@ -112,7 +112,7 @@ each_counted (m ∷ ms) = (
       (λ x some. omega (arith, some, more_times x.page m.page (numbers_of ms))) ms (each_counted ms),
 )
 
-times_append : (n : ℕ) (xs ys : List ℕ) → times n (xs ++ ys) ≡ times n xs + times n ys
+pub times_append : (n : ℕ) (xs ys : List ℕ) → times n (xs ++ ys) ≡ times n xs + times n ys
 times_append n [] ys = omega arith
 times_append n (x ∷ xs) ys = omega (arith, times_append n xs ys)
 

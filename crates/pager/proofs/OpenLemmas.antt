@@ -1,6 +1,7 @@
 -- What opening leaves.
 use Rattle.std.proofs.Common.{◌≡◌, ℕ, zero, suc, ◌+◌, ◌<◌, ◌≤◌, max, min, false, List, [], ◌∷◌, length, set, replicate, refl, sym, ◌∙◌, ap, subst, arith, inl}
 use Rattle.std.proofs.Common.{inr, Some, None}
+use Rattle.std.specs.Global.{Vec}
 use Rattle.std.specs.Prelude.{Ok}
 use Rattle.std.proofs.lemmas.Bool.{cases_eq}
 use Rattle.std.proofs.lemmas.List.{get_or-set_other, get_or-set_same, length-replicate, length-set}
@@ -17,17 +18,21 @@ use Rattle.btree.specs.Store.{flag}
 use Rattle.freelist.specs.Book.{Book, is_in_use, is_used_state, opened, with_used}
 use Rattle.freelist.specs.declared.states.PageState.{PageState}
 use Rattle.freelist.specs.declared.states.PageState.TheVariants as states
+use Rattle.freelist.specs.FreeList.{pages_of}
 use Rattle.freelist.proofs.SoundBooks.{opens_sound}
+use Rattle.freelist.proofs.WrittenLists.{reading_is_exact}
 use Rattle.roots.specs.declared.root.Root.{Root}
 use Rattle.roots.specs.declared.store.Store.{Store}
-use Rattle.roots.specs.Image.{HoldsMap, OpensAs, sheet_at}
+use Rattle.roots.specs.Image.{HasList, HoldsMap, OpensAs, list_in, reached_by, sheet_at}
 use Rattle.roots.specs.Opening.{IsOpened as IsStoreOpened}
 use Rattle.roots.specs.Store.{IsCommitted, disk_history, durable_root}
 use Rattle.roots.specs.Walk.{FindsFree, HasMapThere}
-use Rattle.pager.specs.Kept.{IsBookFor, IsKept}
+use Rattle.roots.proofs.CountLemmas.{reached_once, room_most}
+use Rattle.pager.specs.Kept.{AreListed, IsBookFor, IsKept}
 use Rattle.pager.specs.Opening.{IsOpened}
 use Rattle.pager.specs.Turn.{IsBegun}
 use Rattle.pager.proofs.BookLemmas.{no_time, one_time, others_of}
+use Rattle.pager.proofs.ReadLemmas.{HasListIn, IsListIn, of_same}
 
 length_used : (in_use : List ℕ) (pages : List PageState) → length (with_used in_use pages) ≡ length pages
 length_used [] pages = refl
@@ -84,9 +89,12 @@ booked_new in_use count generation few = record {
   behind = λ n free. tt;
 }
 
-module _ {D : Type 0} (history : D → History) (disk : D) (mid new : Store D) (book : Book) (limit : ℕ) (few : limit ≤ 1048576)
+module _ {D : Type 0} (history : D → History) (disk : D) (mid new : Store D) (found : Book × Vec ℕ) (limit : ℕ) (few : limit ≤ 1048576)
     (first : IsStoreOpened history disk mid)
-    (only : ReadsOnly (disk_history history mid) (disk_history history new)) (finds : FindsFree history limit (Ok book) mid new) where
+    (only : ReadsOnly (disk_history history mid) (disk_history history new)) (finds : FindsFree history limit (Ok found) mid new) where
+  abbrev book : Book
+  book = found.0
+
   booked : IsBookFor [] book
   booked = subst (IsBookFor []) (sym finds.some.is) (booked_new finds.some.in_use _ (durable_root mid).generation (omega (arith, few, first.known.pages)))
 
@@ -98,12 +106,43 @@ module _ {D : Type 0} (history : D → History) (disk : D) (mid new : Store D) (
       let most : length book.states ≡ max limit (durable_root new).pages = omega (arith, long, first.known.tree, ap (λ (r : Root). r.pages) finds.root) in
       most ∙ ap (λ (n : ℕ). max n (durable_root new).pages) is
 
-  pub kept_opened : (cache : PageCache) (made : List Sheet) → made ≡ [] → ((n : ℕ) → kept cache n ≡ None) → IsKept history new cache made book
-  kept_opened cache made is none = subst (λ (m : List Sheet). IsKept history new cache m book) (sym is) (record {
+  -- entries that the disk's root has when it is opened are committed in the store
+  committed_then : (live : List ℕ) (entries : List Entry) → HoldsMap (sheet_at (reads (now (history disk))) (durable_root mid)) (durable_root mid) live entries
+      → IsCommitted history mid live entries
+  committed_then live entries holds = first.committed live entries (λ _. holds)
+
+  -- a list that the root names was its list when the book was made
+  list_then : KeepsWord (disk_history history new) → (P : (ℕ → Sector) → Root → Type 0) → P (now (disk_history history new)) (durable_root new)
+      → P (now (disk_history history mid)) (durable_root mid)
+  list_then k P holds =
+      of_same P (now (disk_history history new)) (now (disk_history history mid)) (durable_root new) (durable_root mid) (only.same k) finds.root holds
+
+  reads_mid : KeepsWord (disk_history history new) → reads (now (disk_history history mid)) ≡ reads (now (history disk))
+  reads_mid k = reads_synced (now (history disk)) (now (disk_history history mid)) (first.only.syncs (only.on.kept k))
+
+  -- the pages beside the book are those of the root's list
+  listed_opened : AreListed history new found.1.items
+  listed_opened running k parts list =
+      let root = durable_root mid in
+      let image = reads (now (disk_history history mid)) in
+      let there : HasMapThere image root = finds.stands k in
+      let live = there.0 in
+      let held = there.1.1.listed in
+      let committed = committed_then live there.1.0
+      (subst (λ (read : ℕ → List ℕ). HoldsMap (sheet_at read root) root live there.1.0) (reads_mid k) there.1.1) in
+      let list_now = list_then k (IsListIn parts) list in
+      (finds.book k live there.1.0 committed held.0 held.1).1
+      ∙ ap pages_of (reading_is_exact (list_in (sheet_at image root)) root.pages root.free_list root.free_count root.free_count held.0 parts held.1.list
+      list_now)
+
+  pub kept_opened : (cache : PageCache) (made : List Sheet) → made ≡ [] → ((n : ℕ) → kept cache n ≡ None)
+      → IsKept history new cache made book found.1.items
+  kept_opened cache made is none = subst (λ (m : List Sheet). IsKept history new cache m book found.1.items) (sym is) (record {
     cached = λ k n found there. let never : Some found ≡ None = sym there ∙ none n in absurd cc;
     ascending = tt;
     each = tt;
     booked = booked;
+    listed = listed_opened;
   })
 
   begins : (live : List ℕ) (entries : List Entry)
@@ -113,20 +152,28 @@ module _ {D : Type 0} (history : D → History) (disk : D) (mid new : Store D) (
     made = refl;
     retired = refl;
     turn = booked.turn;
-    committed = λ k. finds.committed live entries (committed_then k);
-    in_use = λ k.
-        let is : book ≡ opened live (max limit (durable_root mid).pages) (durable_root mid).generation = finds.book k live entries (committed_then k) in
-        let once : AreOnce live = (holds k).once in
+    committed = λ k. finds.committed live entries (committed_then live entries (holds_then k));
+    in_use = λ k parts has.
+        let root = durable_root mid in
+        let image = reads (now (disk_history history mid)) in
+        let reached = reached_by live parts in
+        let has_then : HasList (sheet_at image root) root live parts = list_then k (HasListIn live parts) has in
+        let tree = subst (λ (read : ℕ → List ℕ). HoldsMap (sheet_at read root) root live entries) (sym (reads_mid k)) (holds_then k) in
+        let is : book ≡ opened reached (max limit root.pages) root.generation =
+        (finds.book k live entries (committed_then live entries (holds_then k)) parts has_then).0 in
+        let once : AreOnce reached = λ n.
+        let most = reached_once image root reached
+        (record { pages = live; parts = parts; entries = entries; holds = record { tree = tree; list = has_then }; are = refl }) n in
+        omega (arith, most, room_most root.pages n) in
         record {
-          used = λ n within. subst (λ (b : Book). n < length b.states → times n live ≡ flag (is_in_use b.states n)) (sym is)
-              (opened_used live (max limit (durable_root mid).pages) (durable_root mid).generation once n) within;
+          used = λ n within. subst (λ (b : Book). n < length b.states → times n reached ≡ flag (is_in_use b.states n)) (sym is)
+              (opened_used reached (max limit root.pages) root.generation once n) within;
           others = others_of [] book booked;
         };
   }
     where
-      committed_then : KeepsWord (disk_history history new) → IsCommitted history mid live entries
-      committed_then k =
-          first.committed live entries (λ _. subst (λ (r : Root). HoldsMap (sheet_at (reads (now (history disk))) r) r live entries) finds.root (holds k))
+      holds_then : KeepsWord (disk_history history new) → HoldsMap (sheet_at (reads (now (history disk))) (durable_root mid)) (durable_root mid) live entries
+      holds_then k = subst (λ (r : Root). HoldsMap (sheet_at (reads (now (history disk))) r) r live entries) finds.root (holds k)
 
   pub opened_so : (made : List Sheet) (retired : List ℕ) → made ≡ [] → retired ≡ []
       → IsOpened history disk (record { store = new; made = made; retired = retired; book = book })
@@ -141,7 +188,7 @@ module _ {D : Type 0} (history : D → History) (disk : D) (mid new : Store D) (
         on = goes_further h0 h1 h2 first.on only.on;
         opens = λ k. subst (OpensAs (reads (now h0))) (sym finds.root) (first.opens (only.on.kept k));
         stands = λ k.
-            let same : reads (now h1) ≡ reads (now h0) = reads_synced (now h0) (now h1) (first.only.syncs (only.on.kept k)) in
+            let same : reads (now h1) ≡ reads (now h0) = reads_mid k in
             let there : HasMapThere (reads (now h1)) (durable_root mid) = finds.stands k in (
               there.1.0,
               record {

@@ -1,25 +1,38 @@
 -- A page is read from the cache or from the disk.
-use Rattle.std.proofs.Common.{◌≡◌, ℕ, Some, refl, sym, ◌∙◌, ap, inl, inr}
+use Rattle.std.proofs.Common.{◌≡◌, ℕ, List, Some, refl, sym, ◌∙◌, ap, subst, inl, inr}
 use Rattle.std.specs.Prelude.{Result, Ok, Err}
 use Rattle.page.specs.Cache.{kept}
 use Rattle.page.specs.Format.{Sheet}
-use Rattle.page.specs.History.{History, KeepsWord, now, reads}
+use Rattle.page.specs.History.{History, KeepsWord, Sector, now, reads}
 use Rattle.page.specs.declared.page_fault.PageFault.{PageFault}
 use Rattle.page.specs.declared.page_cache.PageCache.{PageCache}
 use Rattle.page.proofs.Moments.{reads_nothing}
 use Rattle.btree.specs.declared.pages.TreeFault.{TreeFault}
+use Rattle.freelist.specs.FreeList.{IsFreeList, Part}
 use Rattle.roots.specs.declared.opening.OpenFault.{OpenFault}
 use Rattle.roots.specs.declared.opening.OpenFault.TheVariants as opens
 use Rattle.roots.specs.declared.root.Root.{Root}
 use Rattle.roots.specs.declared.store.Store.{Store}
-use Rattle.roots.specs.Image.{sheet_at}
+use Rattle.roots.specs.Image.{HasList, list_in, sheet_at}
 use Rattle.roots.specs.Store.{disk_history, durable_root}
 use Rattle.roots.specs.Walk.{HasCause}
 use Rattle.pager.specs.Calls.{HasReadCause, Keeps, OnlyRead, ReadsPage, tree_fault}
-use Rattle.pager.specs.Kept.{Agrees}
+use Rattle.pager.specs.Kept.{Agrees, AreListed}
 
 pub nothing_read : {D : Type 0} (history : D → History) (store : Store D) → OnlyRead history store store
 nothing_read history store = record { root = refl; stopped = refl; reads = reads_nothing (disk_history history store) }
+
+-- what holds of sectors and a root holds of the same ones
+pub of_same : (P : (ℕ → Sector) → Root → Type 0) (s t : ℕ → Sector) (a b : Root) → s ≡ t → a ≡ b → P s a → P t b
+of_same P s t a b same is holds = subst (P t) is (subst (λ (u : ℕ → Sector). P u a) same holds)
+
+-- the list of free pages that a root names in these sectors
+abbrev pub IsListIn : List Part → (ℕ → Sector) → Root → Type 0
+IsListIn parts sectors root = IsFreeList (list_in (sheet_at (reads sectors) root)) root.pages root.free_list root.free_count parts
+
+-- which fits the tree that reaches these pages
+abbrev pub HasListIn : List ℕ → List Part → (ℕ → Sector) → Root → Type 0
+HasListIn live parts sectors root = HasList (sheet_at (reads sectors) root) root live parts
 
 abbrev pub sheet_in : {D : Type 0} → (D → History) → Store D → ℕ → Result Sheet PageFault
 sheet_in history store n = sheet_at (reads (now (disk_history history store))) (durable_root store) n
@@ -34,6 +47,12 @@ module _ {D : Type 0} (history : D → History) (old new : Store D) (only : Only
   pub still_agrees : (before after : PageCache) → ((n : ℕ) (found : Sheet) → kept after n ≡ Some found → kept before n ≡ Some found)
       → Agrees history old before → Agrees history new after
   still_agrees before after less agrees k n found is = still_there k n ∙ agrees (only.reads.on.kept k) n found (less n found is)
+
+  pub still_listed : (listed : List ℕ) → AreListed history old listed → AreListed history new listed
+  still_listed listed are running k parts list =
+      are (sym only.stopped ∙ running) (only.reads.on.kept k) parts
+      (of_same (IsListIn parts) (now (disk_history history new)) (now (disk_history history old)) (durable_root new) (durable_root old) (only.reads.same k)
+      only.root list)
 
   -- no page was read
   pub read_failed : (page : ℕ) (fault : TreeFault) (before after : PageCache) → ((n : ℕ) → kept after n ≡ kept before n)

@@ -86,8 +86,8 @@ module _ (b : Book) (page : ℕ) (least : least_free b.states ≡ Some page) whe
 
 -- ---- a page more
 
-module _ {D : Type 0} (history : D → History) (store : Store D) (cache : PageCache) (made : List Sheet) (retired : List ℕ) (book : Book)
-    (kept_so : IsKept history store cache made book)
+module _ {D : Type 0} {listed : List ℕ} (history : D → History) (store : Store D) (cache : PageCache) (made : List Sheet) (retired : List ℕ) (book : Book)
+    (kept_so : IsKept history store cache made book listed)
     (sheet : Sheet) (least : least_free book.states ≡ Some sheet.page) where
   below_all : AllByRecursion (λ (m : Sheet). m.page < sheet.page) made
   below_all = kept_so.booked.behind sheet.page (was_free book sheet.page least)
@@ -204,7 +204,7 @@ module _ {D : Type 0} (history : D → History) (store : Store D) (cache : PageC
           | inr not_less ↦ omega (arith, ne, not_less)
         ]
 
-    pub one_kept : IsKept history store after_cache (made ++ sheet ∷ []) (taken sheet.page book)
+    pub one_kept : IsKept history store after_cache (made ++ sheet ∷ []) (taken sheet.page book) listed
     one_kept = record {
       cached = agrees_still;
       ascending = lie_more 0 made sheet kept_so.ascending (some_page book sheet.page least) below_all;
@@ -228,6 +228,7 @@ module _ {D : Type 0} (history : D → History) (store : Store D) (cache : PageC
         count = kept_so.booked.count;
         behind = behind_still;
       };
+      listed = kept_so.listed;
     }
 
 -- ---- no page more
@@ -289,10 +290,10 @@ module _ {D : Type 0} (history : D → History) (store : Store D) (made : List S
   take_failed faults.Order is word = absurd is
   take_failed faults.Length is word = absurd is
 
-  pub refused_kept : (cache : PageCache) (fault : TreeFault) → Refuses fault book new_book → IsKept history store cache made book
-      → IsKept history store cache made new_book
-  refused_kept cache faults.Memory is so = subst (IsKept history store cache made) (sym is) so
-  refused_kept cache faults.Full (none, is) so = subst (IsKept history store cache made) (sym is) (record {
+  pub refused_kept : (cache : PageCache) (listed : List ℕ) (fault : TreeFault) → Refuses fault book new_book → IsKept history store cache made book listed
+      → IsKept history store cache made new_book listed
+  refused_kept cache listed faults.Memory is so = subst (λ (b : Book). IsKept history store cache made b listed) (sym is) so
+  refused_kept cache listed faults.Full (none, is) so = subst (λ (b : Book). IsKept history store cache made b listed) (sym is) (record {
     cached = so.cached;
     ascending = so.ascending;
     each = so.each;
@@ -305,12 +306,13 @@ module _ {D : Type 0} (history : D → History) (store : Store D) (made : List S
       count = omega arith;
       behind = so.booked.behind;
     };
+    listed = so.listed;
   })
-  refused_kept cache faults.Device is so = absurd is
-  refused_kept cache faults.Kind is so = absurd is
-  refused_kept cache faults.Number is so = absurd is
-  refused_kept cache faults.Order is so = absurd is
-  refused_kept cache faults.Length is so = absurd is
+  refused_kept cache listed faults.Device is so = absurd is
+  refused_kept cache listed faults.Kind is so = absurd is
+  refused_kept cache listed faults.Number is so = absurd is
+  refused_kept cache listed faults.Order is so = absurd is
+  refused_kept cache listed faults.Length is so = absurd is
 
 -- ---- as the call has it
 
@@ -334,8 +336,9 @@ fresh_refused {D = D} history store made more retired book new_book old count vi
     (HasFailed (store_of history (start history store made retired book new_book count)) (store_of history (new made)))) (sym is)
     (take_failed history store made retired book new_book count fault refuses word)))
 
-pub fresh_done : {D : Type 0} (history : D → History) (store : Store D) (cache : PageCache) (made more : List Sheet) (retired : List ℕ) (book new_book : Book)
-    (old : State D) → IsKept history store cache made book
+pub fresh_done : {D : Type 0} {listed : List ℕ} (history : D → History) (store : Store D) (cache : PageCache) (made more : List Sheet) (retired : List ℕ)
+    (book new_book : Book)
+    (old : State D) → IsKept history store cache made book listed
     → record { store = store; made = made; retired = retired; book = book } ≡ old → (sheet : Sheet) → more ≡ made ++ sheet ∷ []
     → Takes (Some sheet.page) book new_book → (page : ℕ) → sheet.page ≡ page → (content : Content) → sheet.content ≡ content
     → let new : State D = record { store = store; made = more; retired = retired; book = new_book } in KeepsWord (store_of history new)
@@ -354,15 +357,16 @@ fresh_done {D = D} history store cache made more retired book new_book old so vi
     → IsMade (store_of history (new made book)) (store_of history (new (made ++ sheet ∷ []) (taken sheet.page book))) sheet.page x) content_is
     (one_made history store cache made retired book so sheet takes.0)))))
 
-pub fresh_kept : {D : Type 0} (history : D → History) (store : Store D) (cache after_cache : PageCache) (made more : List Sheet) (book new_book : Book)
-    → IsKept history store cache made book
+pub fresh_kept : {D : Type 0} {listed : List ℕ} (history : D → History) (store : Store D) (cache after_cache : PageCache) (made more : List Sheet)
+    (book new_book : Book)
+    → IsKept history store cache made book listed
     → (sheet : Sheet) → more ≡ made ++ sheet ∷ [] → Takes (Some sheet.page) book new_book → (page : ℕ) → sheet.page ≡ page → kept after_cache page ≡ None
     → ((n : ℕ) → n ≢ page → kept after_cache n ≡ kept cache n)
     → (generation : ℕ) → sheet.generation ≡ generation → generation ≡ min ((durable_root store).generation + 1) (2 ^ 64 - 1)
-    → IsKept history store after_cache more new_book
-fresh_kept history store cache after_cache made more book new_book so sheet pushed takes page page_is this others generation born is =
-    subst (λ (m : List Sheet). IsKept history store after_cache m new_book) (sym pushed)
-    (subst (IsKept history store after_cache (made ++ sheet ∷ [])) (sym takes.1)
+    → IsKept history store after_cache more new_book listed
+fresh_kept {listed = listed} history store cache after_cache made more book new_book so sheet pushed takes page page_is this others generation born is =
+    subst (λ (m : List Sheet). IsKept history store after_cache m new_book listed) (sym pushed)
+    (subst (λ (b : Book). IsKept history store after_cache (made ++ sheet ∷ []) b listed) (sym takes.1)
     (one_kept history store cache made [] book so sheet takes.0 after_cache (ap (kept after_cache) page_is ∙ this)
     (λ n ne. others n (λ same. ne (same ∙ sym page_is))) (omega (arith, born, is)) (omega (arith, born, is)) (omega (arith, born, is))))
 
@@ -376,8 +380,9 @@ fresh_stays_refused {D = D} history store made more retired book new_book old co
     (subst (λ (s : State D). Stays (store_of history s) (store_of history (after made))) view_is
     (refused_stays history store made retired book new_book count fault refuses))
 
-pub fresh_stays : {D : Type 0} (history : D → History) (store : Store D) (cache : PageCache) (made more : List Sheet) (retired : List ℕ) (book new_book : Book)
-    (old : State D) → IsKept history store cache made book
+pub fresh_stays : {D : Type 0} {listed : List ℕ} (history : D → History) (store : Store D) (cache : PageCache) (made more : List Sheet) (retired : List ℕ)
+    (book new_book : Book)
+    (old : State D) → IsKept history store cache made book listed
     → record { store = store; made = made; retired = retired; book = book } ≡ old → (sheet : Sheet) → more ≡ made ++ sheet ∷ []
     → Takes (Some sheet.page) book new_book
     → Stays (store_of history old) (store_of history (record { store = store; made = more; retired = retired; book = new_book }))

@@ -1,5 +1,6 @@
 -- What is known of a pager whose turn began with committed entries.
-use Rattle.std.proofs.Common.{◌≡◌, ◌≢◌, ℕ, ◌+◌, ◌<◌, ◌≤◌, Bool, true, false, List, [], ◌∷◌, length, drop, map, get_or, refl, sym, ◌∙◌, ap, subst, arith, inl}
+use Rattle.std.proofs.Common.{◌≡◌, ◌≢◌, ℕ, ◌+◌, ◌<◌, ◌≤◌, Bool, true, false, List, [], ◌∷◌, ◌++◌, length, drop, map, get_or, refl, sym, ◌∙◌, ap}
+use Rattle.std.proofs.Common.{subst, arith, inl}
 use Rattle.std.proofs.Common.{inr}
 use Rattle.std.specs.Prelude.{◌&&◌, is_ok, Result, Ok}
 use Rattle.std.specs.List.{AllByRecursion}
@@ -15,25 +16,28 @@ use Rattle.btree.specs.Keys.{Each, Entry, times}
 use Rattle.btree.specs.Store.{Stays, Store, flag}
 use Rattle.btree.proofs.ReachLemmas.{Moves, map_moved}
 use Rattle.freelist.specs.Book.{Book, CanRewind, is_in_use, rewind}
+use Rattle.freelist.specs.FreeList.{Part, pages_of}
 use Rattle.freelist.specs.Coding.{number_state, number_state-state_number, state_number}
 use Rattle.freelist.specs.declared.states.PageState.{PageState}
 use Rattle.freelist.specs.declared.states.PageState.TheVariants as states
 use Rattle.freelist.specs.declared.turns.Change.{Change}
 use Rattle.freelist.proofs.Rewinding.{below, used_is}
 use Rattle.roots.specs.declared.root.Root.{Root}
-use Rattle.roots.specs.Image.{HoldsMap, OpensAs, content_in, sheet_at, store_of as image_store}
+use Rattle.roots.specs.Image.{HoldsMap, OpensAs, content_in, reached_by, sheet_at, store_of as image_store}
 use Rattle.roots.specs.Store.{IsCommitted, durable_root, is_stopped}
 use Rattle.roots.specs.Turn.{IsTurn as IsRootsTurn, LieBehind, made_or, next_root, numbers_of}
+use Rattle.roots.proofs.HeldFileLemmas.{empty_list}
 use Rattle.roots.proofs.KeptPages.{kept_there}
 use Rattle.pager.specs.Commit.{IsTurn}
-use Rattle.pager.specs.Kept.{IsBookFor, takes_of}
+use Rattle.pager.specs.Kept.{AreListed, IsBookFor, takes_of}
 use Rattle.pager.specs.State.{State}
-use Rattle.pager.specs.Turn.{IsBegun}
+use Rattle.pager.specs.Turn.{AreInUse, IsBegun}
 use Rattle.pager.specs.View.{base_of, pager_history, sheets_of, store_of}
 use Rattle.pager.specs.Writing.{retired_all, written_of}
 use Rattle.pager.proofs.BookLemmas.{kept_use, one_time, taken_use}
 use Rattle.pager.proofs.ListLemmas.{all_weaker, made_none}
-use Rattle.pager.proofs.MemberLemmas.{all_filter, each_counted, member, more_times, times_reverse}
+use Rattle.pager.proofs.MemberLemmas.{all_filter, each_counted, member, more_times, times_append, times_reverse}
+use Rattle.pager.proofs.ReadLemmas.{HasListIn, of_same}
 use Rattle.pager.proofs.TreeLemmas.{IsOfTree, map_pages}
 
 -- ---- numbers that stand for states
@@ -88,6 +92,18 @@ module _ {D : Type 0} (history : D → History) (p start : State D) (stays : Sta
   root_same : durable_root p.store ≡ durable_root start.store
   root_same = same_root p start stays.base
 
+  -- a list beside the tree was its list when the turn began
+  listed_then : (parts : List Part) → HasListIn live parts (now (pager_history history p)) (durable_root p.store)
+      → HasListIn live parts (now (pager_history history start)) (durable_root start.store)
+  listed_then parts has =
+      of_same (HasListIn live parts) (now (pager_history history p)) (now (pager_history history start)) (durable_root p.store) (durable_root start.store)
+      sectors_same root_same has
+
+  -- in the book just the pages that the root reaches were in use
+  pub in_use_then : (parts : List Part) → HasListIn live parts (now (pager_history history p)) (durable_root p.store)
+      → AreInUse (reached_by live parts) start.book
+  in_use_then parts has = begun.in_use word_then parts (listed_then parts has)
+
   -- the entries that the turn began with are committed still
   pub committed_still : IsCommitted history p.store live before
   committed_still =
@@ -100,7 +116,8 @@ module _ {D : Type 0} (history : D → History) (p start : State D) (stays : Sta
           holds = λ k. subst (λ (s : ℕ → Sector). HoldsMap (sheet_at (reads s) (durable_root p.store)) (durable_root p.store) live before) (sym sectors_same)
               (subst (λ (r : Root). HoldsMap (sheet_at (reads (now (pager_history history start))) r) r live before) (sym root_same)
               (then_committed.keeps.holds word_then));
-          durable = λ k j kept. subst (λ (s : ℕ → Sector). IsDurable (s j)) (sym sectors_same) (then_committed.keeps.durable word_then j kept);
+          durable = λ k parts has j kept. subst (λ (s : ℕ → Sector). IsDurable (s j)) (sym sectors_same)
+              (then_committed.keeps.durable word_then parts (listed_then parts has) j kept);
         };
       }
 
@@ -120,10 +137,11 @@ module _ {D : Type 0} (history : D → History) (p start : State D) (stays : Sta
   can : CanRewind (takes_of p.made) p.book.states
   can = subst (λ (turn : List Change). CanRewind turn p.book.states) booked.turn booked.sound.undoable
 
-  pub used_now : (n : ℕ) → n < length p.book.states → times n live + times n (numbers_of p.made) ≡ flag (is_in_use p.book.states n)
-  used_now n within =
-      let then_used : times n live ≡ flag (is_in_use start.book.states n) =
-      (begun.in_use (stays.reads.on.kept word)).used n (omega (arith, within, length_then)) in
+  used_with : (parts : List Part) → HasListIn live parts (now (pager_history history p)) (durable_root p.store)
+      → (n : ℕ) → n < length p.book.states → times n (reached_by live parts) + times n (numbers_of p.made) ≡ flag (is_in_use p.book.states n)
+  used_with parts has n within =
+      let then_used : times n (reached_by live parts) ≡ flag (is_in_use start.book.states n) =
+      (in_use_then history p start stays word live before begun parts has).used n (omega (arith, within, length_then)) in
       let same : flag (is_in_use (rewind (takes_of p.made) p.book.states) n) ≡ flag (is_in_use start.book.states n) =
       ap (λ (pages : List PageState). flag (is_in_use pages n)) states_then in
       omega (arith, then_used, same, taken_use p.made p.book.states can n)
@@ -133,24 +151,38 @@ module _ {D : Type 0} (history : D → History) (p start : State D) (stays : Sta
       let used : is_in_use p.book.states n ≡ true = flag_some (is_in_use p.book.states n) (omega (arith, some, taken_use p.made p.book.states can n)) in
       below p.book.states n states.InUse (used_is (get_or p.book.states n states.Retired) used) (λ e. cc)
 
-  made_apart : AllByRecursion (λ (m : Sheet). times m.page live ≡ 0) p.made
-  made_apart = all_weaker (λ (m : Sheet). 1 ≤ times m.page (numbers_of p.made)) (λ (m : Sheet). times m.page live ≡ 0)
-      (λ m some. omega (arith, some, used_now m.page (made_within m.page some), flag_most (is_in_use p.book.states m.page))) p.made (each_counted p.made)
+  made_apart : (parts : List Part) → HasListIn live parts (now (pager_history history p)) (durable_root p.store)
+      → AllByRecursion (λ (m : Sheet). times m.page (reached_by live parts) ≡ 0) p.made
+  made_apart parts has = all_weaker (λ (m : Sheet). 1 ≤ times m.page (numbers_of p.made)) (λ (m : Sheet). times m.page (reached_by live parts) ≡ 0)
+      (λ m some. omega (arith, some, used_with parts has m.page (made_within m.page some), flag_most (is_in_use p.book.states m.page))) p.made
+      (each_counted p.made)
 
-  pub times_once : KeepsWord (pager_history history p) → (n : ℕ) → times n live + times n (numbers_of p.made) ≤ 1
-  times_once k n = elim (cases_lt n (length p.book.states)) [
-    | inl within ↦ omega (arith, used_now n within, flag_most (is_in_use p.book.states n))
-    | inr past ↦ elim (cases_lt 0 (times n (numbers_of p.made))) [
-      | inl some ↦ absurd (omega (arith, past, made_within n (omega (arith, some))))
-      | inr none ↦ omega (arith, none, ((committed_still history p start stays word live before begun).keeps.holds k).once n)
+  -- ---- with the own pages of the list that the root names
+
+  module _ (listed : List ℕ) (are : AreListed history p.store listed) where
+    pub used_now : (n : ℕ) → n < length p.book.states
+        → times n live + times n listed + times n (numbers_of p.made) ≡ flag (is_in_use p.book.states n)
+    used_now n within =
+        let still = committed_still history p start stays word live before begun in
+        let parts : List Part = (still.keeps.holds word).listed.0 in
+        let has = (still.keeps.holds word).listed.1 in
+        omega (arith, used_with parts has n within, times_append n live (pages_of parts), ap (times n) (are still.running word parts has.list))
+
+    pub times_once : (n : ℕ) → times n live + times n (numbers_of p.made) ≤ 1
+    times_once n = elim (cases_lt n (length p.book.states)) [
+      | inl within ↦ omega (arith, used_now n within, flag_most (is_in_use p.book.states n))
+      | inr past ↦ elim (cases_lt 0 (times n (numbers_of p.made))) [
+        | inl some ↦ absurd (omega (arith, past, made_within n (omega (arith, some))))
+        | inr none ↦ omega (arith, none, ((committed_still history p start stays word live before begun).keeps.holds word).once n)
+      ]
     ]
-  ]
 
   -- ---- the turn as its store sees it
 
-  module _ (root : ℕ) (pages : List ℕ) (after : List Entry) (turn : IsTurn history start p root live pages after) (version : ℕ) where
+  module _ (listed : List ℕ) (are : AreListed history p.store listed) (root : ℕ) (pages : List ℕ) (after : List Entry)
+      (turn : IsTurn history start p root live pages after) (version : ℕ) where
     abbrev planned : Book
-    planned = retired_all version p.retired p.book
+    planned = retired_all version (p.retired ++ listed) p.book
 
     abbrev written : List Sheet
     written = written_of planned p.made
@@ -159,7 +191,7 @@ module _ {D : Type 0} (history : D → History) (p start : State D) (stays : Sta
     test sheet = is_of_tree sheet.content && is_in_use planned.states sheet.page
 
     abbrev next : Root
-    next = next_root (durable_root p.store) written root
+    next = next_root (durable_root p.store) written root 0 0
 
     abbrev image : ℕ → List ℕ
     image = reads (now (pager_history history p))
@@ -174,45 +206,49 @@ module _ {D : Type 0} (history : D → History) (p start : State D) (stays : Sta
     live_part true b is = refl
     live_part false b is = absurd cc
 
-    moved_page : KeepsWord (pager_history history p) → (n : ℕ) → 1 ≤ times n pages → IsOfTree (store_of history p) n → Moves (store_of history p) after_store n
-    moved_page k n reached whole content at =
+    moved_page : (n : ℕ) → 1 ≤ times n pages → IsOfTree (store_of history p) n → Moves (store_of history p) after_store n
+    moved_page n reached whole content at =
         let there : is_ok (sheets_of history p n) ≡ true = live_part (is_ok (sheets_of history p n)) _ at.live in
         elim (member p.made n) [
           | inl none ↦
               let other : sheets_of history p n ≡ sheet_at image (durable_root p.store) n = made_none p.made n (sheet_at image (durable_root p.store) n) none in
-              kept_there image (durable_root p.store) written root n content (all_filter (λ (m : Sheet). m.page ≢ n) test p.made none)
+              kept_there image (durable_root p.store) written root 0 0 n content (all_filter (λ (m : Sheet). m.page ≢ n) test p.made none)
               (record { number = at.number; live = ap is_ok (sym other) ∙ there; holds = ap content_in (sym other) ∙ at.holds })
           | inr r ↦
               let is : sheets_of history p n ≡ Ok r.sheet = r.there (sheet_at image (durable_root p.store) n) in
               let within = made_within n r.count in
-              let none : times n p.retired ≡ 0 = omega (arith, reached, account n, times_once k n) in
-              let used : is_in_use p.book.states n ≡ true = flag_some (is_in_use p.book.states n) (omega (arith, used_now n within, r.count)) in
-              let stays : is_in_use planned.states r.sheet.page ≡ true = ap (is_in_use planned.states) r.is ∙ kept_use version p.retired n p.book none ∙ used in
+              let now_used = used_now listed are n within in
+              let none : times n (p.retired ++ listed) ≡ 0 =
+              omega (arith, reached, account n, now_used, r.count, flag_most (is_in_use p.book.states n), times_append n p.retired listed) in
+              let used : is_in_use p.book.states n ≡ true = flag_some (is_in_use p.book.states n) (omega (arith, now_used, r.count)) in
+              let stays : is_in_use planned.states r.sheet.page ≡ true =
+              ap (is_in_use planned.states) r.is ∙ kept_use version (p.retired ++ listed) n p.book none ∙ used in
               let fits : is_of_tree r.sheet.content ≡ true = ap (λ (found : Result Sheet PageFault). is_of_tree (content_in found)) (sym is) ∙ whole in
               let passes : test r.sheet ≡ true = (λ i. fits i && stays i) in
               let found : made_or written n (sheet_at image next n) ≡ Ok r.sheet = r.passed test passes (sheet_at image next n) in
               record { number = at.number; live = ap is_ok found; holds = ap content_in found ∙ ap content_in (sym is) ∙ at.holds }
         ]
 
-    moved_pages : KeepsWord (pager_history history p) → (some : List ℕ) → Each (IsOfTree (store_of history p)) some → ((n : ℕ) → times n some ≤ times n pages)
+    moved_pages : (some : List ℕ) → Each (IsOfTree (store_of history p)) some → ((n : ℕ) → times n some ≤ times n pages)
         → Each (Moves (store_of history p) after_store) some
-    moved_pages k [] whole less = tt
-    moved_pages k (n ∷ rest) whole less = (
-      moved_page k n (omega (arith, less n, one_time n n rest refl)) whole.0,
-      moved_pages k rest whole.1 (λ m. omega (arith, less m, more_times m n rest)),
+    moved_pages [] whole less = tt
+    moved_pages (n ∷ rest) whole less = (
+      moved_page n (omega (arith, less n, one_time n n rest refl)) whole.0,
+      moved_pages rest whole.1 (λ m. omega (arith, less m, more_times m n rest)),
     )
 
     pub roots_turn : LieBehind 0 written → AllByRecursion (λ (m : Sheet). m.page < 1048576) written
-        → AllByRecursion (IsSheet ((durable_root p.store).generation + 1)) written → KeepsWord (pager_history history p)
-        → IsRootsTurn (pager_history history p) (durable_root p.store) live written root pages after
-    roots_turn lie inside sheets k = record {
+        → AllByRecursion (IsSheet ((durable_root p.store).generation + 1)) written
+        → IsRootsTurn (pager_history history p) (durable_root p.store) live written next pages after
+    roots_turn lie inside sheets = record {
       ascending = lie;
       inside = inside;
       sheets = sheets;
-      free = all_filter (λ (m : Sheet). times m.page live ≡ 0) test p.made made_apart;
+      free = λ _ parts has. all_filter (λ (m : Sheet). times m.page (reached_by live parts) ≡ 0) test p.made (made_apart parts has);
       holds = λ _. record {
         map = map_moved (store_of history p) after_store root pages after
-            (moved_pages k pages (map_pages (store_of history p) root pages after turn.holds) (λ n. omega arith)) turn.holds;
-        once = λ n. omega (arith, account n, times_once k n);
+            (moved_pages pages (map_pages (store_of history p) root pages after turn.holds) (λ n. omega arith)) turn.holds;
+        once = λ n. omega (arith, account n, times_once listed are n);
+        listed = ([], empty_list (λ j. made_or written j (sheet_at image next j)) next pages (refl, refl));
       };
     }

@@ -25,7 +25,7 @@ use Rattle.pager.specs.View.{store_of}
 use Rattle.pager.specs.Writing.{IsAmong}
 use Rattle.pager.proofs.BookLemmas.{others_of}
 use Rattle.pager.proofs.ListLemmas.{all_take, lie_take}
-use Rattle.pager.proofs.TurnLemmas.{committed_still, states_then}
+use Rattle.pager.proofs.TurnLemmas.{committed_still, in_use_then, states_then}
 
 pub take_takes : (n : ℕ) (made : List Sheet) → take n (takes_of made) ≡ takes_of (take n made)
 take_takes zero made = refl
@@ -76,8 +76,8 @@ before_rest last zero made x lie among = tt
 before_rest last (suc n) [] x lie among = tt
 before_rest last (suc n) (m ∷ ms) x lie among = (behind_among m.page ms x lie.1 (dropped_among n ms x among), before_rest m.page n ms x lie.1 among)
 
-module _ {D : Type 0} (history : D → History) (store : Store D) (cache : PageCache) (made : List Sheet) (book : Book)
-    (so : IsKept history store cache made book) (n : ℕ) where
+module _ {D : Type 0} {listed : List ℕ} (history : D → History) (store : Store D) (cache : PageCache) (made : List Sheet) (book : Book)
+    (so : IsKept history store cache made book listed) (n : ℕ) where
   later_is : drop n book.turn ≡ takes_of (drop n made)
   later_is = ap (drop n) so.booked.turn ∙ drop_takes n made
 
@@ -90,7 +90,7 @@ module _ {D : Type 0} (history : D → History) (store : Store D) (cache : PageC
     | inr r ↦ subst (λ (j : ℕ). AllByRecursion (λ (m : Sheet). m.page < j) (take n made)) r.is (before_rest 0 n made r.sheet so.ascending r.among)
   ]
 
-  pub kept_undone : IsKept history store cache (take n made) (undone n book)
+  pub kept_undone : IsKept history store cache (take n made) (undone n book) listed
   kept_undone = record {
     cached = so.cached;
     ascending = lie_take 0 n made so.ascending;
@@ -104,11 +104,13 @@ module _ {D : Type 0} (history : D → History) (store : Store D) (cache : PageC
       count = so.booked.count;
       behind = behind_still;
     };
+    listed = so.listed;
   }
 
 -- back to where the turn began
-pub begun_again : {D : Type 0} (history : D → History) (store : Store D) (cache : PageCache) (made : List Sheet) (retired : List ℕ) (book : Book)
-    (so : IsKept history store cache made book)
+pub begun_again : {D : Type 0} {listed : List ℕ} (history : D → History) (store : Store D) (cache : PageCache) (made : List Sheet) (retired : List ℕ)
+    (book : Book)
+    (so : IsKept history store cache made book listed)
     (start : State D) (live : List ℕ) (entries : List Entry) → IsBegun history start live entries
     → let p : State D = record { store = store; made = made; retired = retired; book = book } in
     Grows (store_of history start) (store_of history p) → IsBegun history (undone_to 0 0 p) live entries
@@ -119,18 +121,19 @@ begun_again {D = D} history store cache made retired book so start live entries 
       retired = refl;
       turn = refl;
       committed = λ k. committed_still history p start grows.stays k live entries begun;
-      in_use = λ k. record {
+      in_use = λ k parts has. record {
         used = λ n within.
             let same : (undone 0 book).states ≡ start.book.states =
             ap (λ (turn : List Change). rewind turn book.states) so.booked.turn ∙ states_then history p start grows.stays k live entries begun so.booked in
-            (begun.in_use (grows.stays.reads.on.kept k)).used n (omega (arith, within, ap length same))
+            (in_use_then history p start grows.stays k live entries begun parts has).used n (omega (arith, within, ap length same))
             ∙ ap (λ (pages : List PageState). flag (is_in_use pages n)) (sym same);
         others = others_of [] (undone 0 book) (kept_undone history store cache made book so 0).booked;
       };
     }
 
-pub leads_back : {D : Type 0} (history : D → History) (store : Store D) (cache : PageCache) (made : List Sheet) (retired : List ℕ) (book : Book)
-    → IsKept history store cache made book → (some few : ℕ)
+pub leads_back : {D : Type 0} {listed : List ℕ} (history : D → History) (store : Store D) (cache : PageCache) (made : List Sheet) (retired : List ℕ)
+    (book : Book)
+    → IsKept history store cache made book listed → (some few : ℕ)
     → let p : State D = record { store = store; made = made; retired = retired; book = book } in LeadsBack history some few p (undone_to some few p)
 leads_back {D = D} history store cache made retired book so some few start live entries begun grows none empty =
     let p : State D = record { store = store; made = made; retired = retired; book = book } in

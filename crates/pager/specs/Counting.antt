@@ -15,9 +15,9 @@ use Rattle.pager.specs.State.{State}
 use Rattle.pager.specs.Turn.{IsBegun}
 use Rattle.pager.specs.View.{pager_history, store_of}
 
--- The disk was read, and the turn goes on. The committed root has a tree there, of which these are
--- the counts; where a turn began with committed entries, they are those of its tree, and the fault
--- isn't one of the pages.
+-- The disk was read, and the turn goes on. The committed root has a tree there, and a list that
+-- fits it, if it names one, of which these are the counts; where a turn began with committed
+-- entries, they are those of its tree and list, and the fault isn't one of the pages.
 pub record CountsPages {D : Type 0} (history : D → History) (result : Result PageCounts OpenFault)
     (old new : State D) : Type 0 where
   pub grows : Grows (store_of history old) (store_of history new)

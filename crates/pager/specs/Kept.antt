@@ -7,13 +7,13 @@ use Rattle.page.specs.Format.{Sheet}
 use Rattle.page.specs.History.{History, KeepsWord, now, reads}
 use Rattle.page.specs.declared.page_cache.PageCache.{PageCache}
 use Rattle.freelist.specs.Book.{Book, is_free}
+use Rattle.freelist.specs.FreeList.{IsFreeList, Part, pages_of}
 use Rattle.freelist.specs.Sound.{IsSound}
 use Rattle.freelist.specs.declared.turns.Change.{Change}
 use Rattle.freelist.specs.declared.turns.Change.TheVariants as changes
 use Rattle.roots.specs.declared.store.Store.{Store}
-use Rattle.freelist.specs.FreeList.{IsFreeList, Part, pages_of}
 use Rattle.roots.specs.Image.{list_in, sheet_at}
-use Rattle.roots.specs.Store.{disk_history, durable_root}
+use Rattle.roots.specs.Store.{IsRunning, disk_history, durable_root}
 use Rattle.roots.specs.Turn.{LieBehind}
 
 -- while the disk keeps its word, each page in the cache is the one on the disk
@@ -46,19 +46,20 @@ pub record IsBookFor (made : List Sheet) (book : Book) : Type 0 where
   pub behind : (n : ℕ) → is_free book.states n ≡ true
       → AllByRecursion (λ (sheet : Sheet). sheet.page < n) made
 
--- these are the own pages of the list that the committed root names, if it names one
+-- These are the own pages of the list that the committed root names, if it names one. A stopped
+-- store may have written over them.
 abbrev pub AreListed : {D : Type 0} → (D → History) → Store D → List ℕ → Type 0
 AreListed history store listed =
-    KeepsWord (disk_history history store) → let root = durable_root store in
+    IsRunning store → KeepsWord (disk_history history store) → let root = durable_root store in
     let sheets = sheet_at (reads (now (disk_history history store))) root in
     (parts : List Part)
     → IsFreeList (list_in sheets) root.pages root.free_list root.free_count parts
     → listed ≡ pages_of parts
 
 pub record IsKept {D : Type 0} (history : D → History) (store : Store D) (cache : PageCache)
-    (made : List Sheet) (book : Book) (listed : List ℕ) : Type 0 where
+    (made : List Sheet) (book : Book) (list_pages : List ℕ) : Type 0 where
   pub cached : Agrees history store cache
   pub ascending : LieBehind 0 made
   pub each : AllByRecursion (IsNew (durable_root store).generation cache) made
   pub booked : IsBookFor made book
-  pub listed : AreListed history store listed
+  pub listed : AreListed history store list_pages

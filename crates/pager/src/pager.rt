@@ -23,6 +23,8 @@ pub struct Pager<D: Disk> {
     book: FreePages,
     made: Vec<SharedPage>,
     retired: Vec<u32>,
+    /// The own pages of the list of free pages that the committed root names, if it names one.
+    listed: Vec<u32>,
 }
 
 impl<D: Disk> Model for Pager<D> {
@@ -39,7 +41,8 @@ impl<D: Disk> Model for Pager<D> {
       book = a.book;
     } };
 
-    ghost invariant = { λ a. IsKept D.history a.store a.cache a.made.items a.book };
+    ghost invariant = { λ a. IsKept D.history a.store a.cache a.made.items a.book
+        a.listed.items };
 }
 
 impl<D: Disk> Pager<D> {
@@ -54,7 +57,7 @@ impl<D: Disk> Pager<D> {
     ghost use Rattle.pager.specs.View.{pager_history};
 
     /// Opens a disk that a crash may have left, as a file of at most so many pages, or those that it has. It reads each page of
-    /// the tree once. An `Err` hands the disk back.
+    /// the tree once, and of the list of free pages, if the root names one. An `Err` hands the disk back.
     pub fn open(alloc: Global, disk: D, limit: u32) -> Result<Pager<D>, (D, OpenFault)>
         ensures opened { IfOk result (IsOpened D.history disk) }
         ensures limit { IfOk result (HasLimit limit) }
@@ -67,8 +70,8 @@ impl<D: Disk> Pager<D> {
         let Ok(cache) = PageCache::new(alloc) else {
             return Err((store.into_disk(), OpenFault::Memory));
         };
-        let book = match store.free_pages(alloc, limit.min(MAX_PAGES)) {
-            Ok(book) => book,
+        let (book, listed) = match store.free_pages(alloc, limit.min(MAX_PAGES)) {
+            Ok(found) => found,
             Err(fault) => return Err((store.into_disk(), fault)),
         };
         Ok(Pager {
@@ -78,6 +81,7 @@ impl<D: Disk> Pager<D> {
             book,
             made: Vec::new(alloc),
             retired: Vec::new(alloc),
+            listed,
         })
     }
 
@@ -117,7 +121,8 @@ impl<D: Disk> Pager<D> {
     }
 
     /// How many pages the file has by the last commit, and how many of them nothing reaches. It reads each page of the committed
-    /// tree from the disk, not from the cache. Damaged where these pages are no tree.
+    /// tree, and of the list that the root names, from the disk, not from the cache. Damaged where these pages are no tree, or no
+    /// list that fits it.
     pub fn count_pages(&mut self) -> Result<PageCounts, OpenFault>
         ensures { CountsPages D.history result self.old self.new }
     {
@@ -156,7 +161,8 @@ impl<D: Disk> Pager<D> {
     }
 
     /// Makes the tree below this page the committed one: the pages that the turn made and didn't retire are written, then the
-    /// root. What it retired is free from then on. An `Err` leaves the turn, to be undone. It reads nothing.
+    /// root, which names no list of free pages. What it retired is free from then on, and so are the pages of the list that the
+    /// last root named. An `Err` leaves the turn, to be undone. It reads nothing.
     pub fn commit(&mut self, root: u32) -> Result<(), CommitFault>
         ensures commits { Commits D.history root result self.old self.new }
         ensures takes { CountsTakes result self.old self.new }
@@ -169,11 +175,12 @@ impl<D: Disk> Pager<D> {
             &mut self.book,
             &self.made,
             &self.retired,
+            &self.listed,
             version,
         ) else {
             return Err(CommitFault::Memory);
         };
-        if let Err(fault) = self.store.commit(&written, root) {
+        if let Err(fault) = self.store.commit(&written, root, 0, 0) {
             self.book.undo_to(mark);
             return Err(fault);
         }
@@ -181,6 +188,7 @@ impl<D: Disk> Pager<D> {
         keep_all(&mut self.cache, &written);
         self.made.clear();
         self.retired.clear();
+        self.listed.clear();
         Ok(())
     }
 }

@@ -1,5 +1,5 @@
 //! What a commit writes, and what becomes of the book and the cache.
-ghost use Rattle.std.specs.Prelude.{◌≡◌, IfOk, OnOk, OnErr, length};
+ghost use Rattle.std.specs.Prelude.{◌≡◌, ◌≤◌, ◌++◌, IfOk, OnOk, OnErr, length};
 ghost use Rattle.std.specs.List.{AllByRecursion};
 ghost use Rattle.freelist.specs.Book.{undone};
 ghost use Rattle.page.specs.Content.{IsContent};
@@ -17,6 +17,7 @@ pub(crate) fn retire_all(book: &mut FreePages, pages: &[u32], version: u64) -> R
 
     // What was retired can be taken back.
     ensures back { undone (length book.old.turn) book.new ≡ book.old }
+    ensures longer { length book.old.turn ≤ length book.new.turn }
 {
     for page in pages {
         book.retire(*page, version)?;
@@ -44,22 +45,25 @@ pub(crate) fn pages_to_write(
     Ok(written)
 }
 
-/// Retires what a turn retired in the book, and gives the pages that its commit writes. Without memory nothing changes.
+/// Retires what a turn retired in the book, and the pages of the list that the last root names, and gives the pages that its
+/// commit writes. Without memory nothing changes.
 pub(crate) fn plan_commit(
     alloc: Global,
     book: &mut FreePages,
     made: &[SharedPage],
     retired: &[u32],
+    listed: &[u32],
     version: u64,
 ) -> Result<Vec<SharedPage>, AllocError>
-    ensures retired { OnOk result (book.new ≡ retired_all version retired.now book.old) }
+    ensures retired { OnOk result
+        (book.new ≡ retired_all version (retired.now ++ listed.now) book.old) }
     ensures written { IfOk result (λ v. v.items ≡ written_of book.new made.now) }
     ensures content { IfOk result (λ v.
         AllByRecursion (λ (sheet : Sheet). IsContent sheet.content) v.items) }
     ensures err { OnErr result (book.new ≡ book.old) }
 {
     let mark = book.mark();
-    if retire_all(book, retired, version).is_err() {
+    if retire_all(book, retired, version).is_err() || retire_all(book, listed, version).is_err() {
         book.undo_to(mark);
         return Err(AllocError);
     }

@@ -2,6 +2,7 @@
 use Rattle.std.proofs.Common.{◌≡◌, ◌≢◌, ◌⊎◌, ℕ, ◌+◌, ◌<◌, ◌≤◌, max, Bool, true, false, List, [], ◌∷◌, ◌++◌, append-nil, length, sym, ◌∙◌, ap, subst}
 use Rattle.std.proofs.Common.{arith, inl, inr}
 use Rattle.std.specs.Prelude.{◌&&◌, ◌==◌, nat_lt, if◌then◌else◌, is_ok, Result, Err, IfOk, MatchResult, Ok}
+use Rattle.std.specs.List.{AllByRecursion}
 use Rattle.std.proofs.lemmas.Bool.{cases_eq, cases_lt}
 use Rattle.std.proofs.lemmas.Bool.Decides.{nat_tests}
 use Rattle.page.specs.Format.{Sheet, sheet_in}
@@ -13,22 +14,21 @@ use Rattle.btree.specs.Keys.{Each, Entry, times}
 use Rattle.btree.specs.Reach.{AreOnce}
 use Rattle.btree.proofs.CapacityLemmas.{pages_are_few}
 use Rattle.btree.proofs.OnceLemmas.{map_live}
-use Rattle.freelist.specs.FreeList.{Part, pages_of, room_for}
+use Rattle.freelist.specs.FreeList.{Part, first_page, named_by, pages_of, room_for}
 use Rattle.freelist.proofs.ListedBooks.{room_is}
+use Rattle.freelist.proofs.Marking.{times_in-append}
 use Rattle.roots.specs.Counting.{AreCounts, CountsPages, CountsTree}
 use Rattle.roots.specs.HeldFile.{HoldsNoFile, Reaches}
-use Rattle.roots.specs.Image.{HoldsMap, sheet_at, store_of}
+use Rattle.roots.specs.Image.{HasList, HoldsMap, reached_by, sheet_at, store_of}
 use Rattle.roots.specs.Listed.{OnlyReads}
-use Rattle.roots.specs.Root.{IsKnown}
 use Rattle.roots.specs.declared.counting.PageCounts.{PageCounts}
 use Rattle.roots.specs.declared.opening.OpenFault.{OpenFault}
 use Rattle.roots.specs.declared.opening.OpenFault.TheVariants as faults
 use Rattle.roots.specs.declared.root.Root.{Root}
 use Rattle.roots.specs.declared.store.Store.{Store}
 use Rattle.roots.proofs.FreeLemmas.{committed_still}
-use Rattle.roots.proofs.HeldFileLemmas.{committed_live, names_the_rest, no_list_is_tree, no_parts}
-use Rattle.roots.proofs.ListingLemmas.{has_room}
-use Rattle.roots.proofs.OpeningRules.{known}
+use Rattle.roots.proofs.HeldFileLemmas.{committed_file, names_the_rest, no_parts, times_same}
+use Rattle.roots.proofs.ListingLemmas.{all_pages, has_room}
 
 abbrev one_if : Bool → ℕ
 one_if b = if b then 1 else 0
@@ -68,7 +68,7 @@ each_there P (x ∷ xs) there =
     let test : (x == x) ≡ true = grind (arith, nat_tests) in
     (there x (omega (arith, ap one_if test)), each_there P xs (λ n some. there n (omega (arith, some))))
 
-room_most : (most n : ℕ) → room_for most n ≤ 1
+pub room_most : (most n : ℕ) → room_for most n ≤ 1
 room_most most n = most_one (nat_lt 0 n && nat_lt n most)
   where
     most_one : (b : Bool) → one_if b ≤ 1
@@ -79,7 +79,7 @@ room_there : (most n : ℕ) → IsInside most n → room_for most n ≡ 1
 room_there most n inside = room_is most n inside.0 inside.1
 
 -- what a root reaches are pages of the file behind page 0, none of them twice
-reached_once : (image : ℕ → List ℕ) (root : Root) (live : List ℕ) → Reaches (sheet_at image root) root live → (n : ℕ)
+pub reached_once : (image : ℕ → List ℕ) (root : Root) (live : List ℕ) → Reaches (sheet_at image root) root live → (n : ℕ)
     → times n live ≤ room_for root.pages n
 reached_once image root live found n = subst (λ (l : List ℕ). times n l ≤ room_for root.pages n) (sym found.are) (elim (cases_eq root.free_list 0) [
   | inl none ↦
@@ -100,20 +100,36 @@ reached_once image root live found n = subst (λ (l : List ℕ). times n l ≤ r
       | inr none ↦ omega (arith, none)
     ]
 
+-- numbers of pages of the file behind page 0, none of them twice, are fewer than the file's pages
+pub once_fits : (count most : ℕ) (pages : List ℕ) → 0 < most → count ≤ most → ((n : ℕ) → times n pages ≤ room_for count n) → length pages < most
+once_fits count most pages some le once =
+    let below : Each (λ n. n < most) pages = each_there (λ n. n < most) pages
+    (λ n there. let inside = has_room count n (omega (arith, there, once n)) in omega (arith, inside.1, le)) in
+    omega (arith, pages_are_few most (0 ∷ pages) with_zero (some, below))
+  where
+    with_zero : AreOnce (0 ∷ pages)
+    with_zero n = elim (cases_eq n 0) [
+      | inl is ↦ subst (λ (m : ℕ). times m (0 ∷ pages) ≤ 1) (sym is) (omega (arith, once 0))
+      | inr ne ↦ let test : (n == 0) ≡ false = grind (arith, nat_tests) in omega (arith, ap one_if test, once n, room_most count n)
+    ]
+
 pub reached_fits : (image : ℕ → List ℕ) (root : Root) (live : List ℕ) → Reaches (sheet_at image root) root live → length live < max root.pages 1
 reached_fits image root live found =
-    let most = max root.pages 1 in
-    let below : Each (λ n. n < max root.pages 1) live =
-    each_there (λ n. n < max root.pages 1) live
-    (λ n some. let inside = has_room root.pages n (omega (arith, some, reached_once image root live found n)) in omega (arith, inside.1)) in
-    omega (arith, pages_are_few (max root.pages 1) (0 ∷ live) with_zero (omega arith, below))
+    once_fits root.pages (max root.pages 1) live (omega arith) (omega arith) (reached_once image root live found)
+
+-- the list that a root names begins in the file, and names fewer pages than it has
+pub list_below : (sheets : ℕ → Result Sheet PageFault) (root : Root) (pages : List ℕ) (parts : List Part) → 0 < root.pages
+    → HasList sheets root pages parts → (root.free_list < root.pages) × (root.free_count < root.pages)
+list_below sheets root pages parts some has = (
+  subst (λ (n : ℕ). n < root.pages) has.list.begins (first_below parts (all_pages root.pages (pages_of parts ++ named_by parts) has.list.once)),
+  subst (λ (n : ℕ). n < root.pages) has.list.counted (once_fits root.pages root.pages (named_by parts) some (omega arith) (λ n.
+      omega (arith, has.list.once n, times_in-append n (pages_of parts) (named_by parts), times_same n (named_by parts)))),
+)
   where
-    with_zero : AreOnce (0 ∷ live)
-    with_zero n = elim (cases_eq n 0) [
-      | inl is ↦ subst (λ (m : ℕ). times m (0 ∷ live) ≤ 1) (sym is) (omega (arith, reached_once image root live found 0))
-      | inr ne ↦ let test : (n == 0) ≡ false = grind (arith, nat_tests) in
-          omega (arith, ap one_if test, reached_once image root live found n, room_most root.pages n)
-    ]
+    first_below : (those : List Part) → AllByRecursion (λ (n : ℕ). (0 < n) × (n < root.pages)) (pages_of those ++ named_by those)
+        → first_page those < root.pages
+    first_below [] all = some
+    first_below (part ∷ rest) all = all.0.1
 
 -- what is counted by the number of pages that were reached
 pub counts_are : (image : ℕ → List ℕ) (root : Root) (live : List ℕ) (counts : PageCounts) (reached : ℕ) → Reaches (sheet_at image root) root live
@@ -124,15 +140,14 @@ counts_are image root live counts reached found is pages all = record {
   all = omega (arith, is, all (omega (arith, is, reached_fits image root live found)));
 }
 
-counted_by : (image : ℕ → List ℕ) (root : Root) (result : Result PageCounts OpenFault) (live : List ℕ) (entries : List Entry) → IsKnown root
-    → HoldsMap (sheet_at image root) root live entries
+counted_by : (image : ℕ → List ℕ) (root : Root) (result : Result PageCounts OpenFault) (live : List ℕ) (parts : List Part) (entries : List Entry)
+    → HasList (sheet_at image root) root live parts → HoldsMap (sheet_at image root) root live entries
     → MatchResult result (CountsTree image root) (λ fault. fault ≡ faults.Damaged → HoldsNoFile (sheet_at image root) root)
-    → MatchResult result (AreCounts root live) (λ fault. fault ≢ faults.Damaged)
-counted_by image root (Ok counts) live entries inside holds found =
+    → MatchResult result (AreCounts root (reached_by live parts)) (λ fault. fault ≢ faults.Damaged)
+counted_by image root (Ok counts) live parts entries list holds found =
     subst (λ (l : List ℕ). AreCounts root l counts)
-    (committed_live (sheet_at image root) root live found.live entries inside.unlisted holds found.reaches) found.are
-counted_by image root (Err fault) live entries inside holds found = λ is.
-    found is live [] entries (no_list_is_tree (sheet_at image root) root inside.unlisted live entries holds).0
+    (committed_file (sheet_at image root) root live found.live parts entries list holds found.reaches).0 found.are
+counted_by image root (Err fault) live parts entries list holds found = λ is. found is live parts entries (record { tree = holds; list = list })
 
 counts_there : (image : ℕ → List ℕ) (root : Root) (result : Result PageCounts OpenFault)
     → MatchResult result (CountsTree image root) (λ fault. fault ≡ faults.Damaged → HoldsNoFile (sheet_at image root) root)
@@ -149,8 +164,6 @@ counts_so history result old new only found = record {
   stopped = only.stopped;
   committed = committed_still history old new only;
   stands = λ k. counts_there (reads (now (history old.disk))) old.root result (found k);
-  counts = λ k live entries committed.
-      let image = reads (now (history old.disk)) in
-      let inside = known (image 0) (image 1) old.root (committed.keeps.opens (only.disk.on.kept k)) in
-      counted_by image old.root result live entries inside (committed.keeps.holds (only.disk.on.kept k)) (found k);
+  counts = λ k live entries committed parts list.
+      counted_by (reads (now (history old.disk))) old.root result live parts entries list (committed.keeps.holds (only.disk.on.kept k)) (found k);
 }

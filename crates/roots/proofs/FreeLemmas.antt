@@ -1,9 +1,11 @@
 -- What a walk from the root finds, and the book that is opened with it.
 use Rattle.std.proofs.Common.{◌≡◌, ◌≢◌, ℕ, ◌-◌, ◌≤◌, max, inl, inr, List, [], ◌∷◌, ◌++◌, refl, sym, ◌∙◌, ap, subst, arith}
+use Rattle.std.specs.Global.{Vec}
 use Rattle.std.specs.Prelude.{None, Result, Ok, Err, IfOk, MatchResult}
 use Rattle.page.specs.History.{History, Sector, KeepsWord, now, reads}
 use Rattle.page.specs.Crash.{ReadsOnly, IsDurable}
 use Rattle.page.specs.Format.{Sheet}
+use Rattle.page.specs.declared.page_fault.PageFault.{PageFault}
 use Rattle.page.specs.ImageView.{sheet_of}
 use Rattle.page.specs.declared.page_image.PageImage.{PageImage}
 use Rattle.btree.specs.Calls.{IsPart}
@@ -12,6 +14,7 @@ use Rattle.btree.specs.Tree.{Body, entries_of, pages_of}
 use Rattle.btree.proofs.GetLemmas.{root_part}
 use Rattle.btree.specs.Reach.{AreOnce}
 use Rattle.freelist.specs.Book.{Book, opened}
+use Rattle.freelist.specs.FreeList.{Part, pages_of as list_pages_of}
 use Rattle.roots.specs.declared.opening.OpenFault.{OpenFault}
 use Rattle.roots.specs.declared.opening.OpenFault.TheVariants as faults
 use Rattle.roots.specs.declared.root.Root.{Root}
@@ -19,12 +22,12 @@ use Rattle.roots.specs.declared.store.Store.{Store}
 use Rattle.roots.specs.declared.walk.Reached.{Reached}
 use Rattle.roots.specs.Found.{HasFoundPart, ReachesDepth}
 use Rattle.roots.specs.HeldFile.{HoldsNoFile, IsFileBook}
-use Rattle.roots.specs.Image.{HoldsMap, OpensAs, sheet_at}
+use Rattle.roots.specs.Image.{HasList, HoldsMap, HoldsTree, OpensAs, reached_by, sheet_at}
 use Rattle.roots.specs.Listed.{OnlyReads}
 use Rattle.roots.specs.Root.{IsKnown}
 use Rattle.roots.specs.Store.{IsCommitted, Keeps}
 use Rattle.roots.specs.Walk.{CanReach, FindsFree, IsBookOf, HasMapThere, IsMarked, Reaches, ReadsSheet, pages_in, pages_so_far}
-use Rattle.roots.proofs.HeldFileLemmas.{committed_live, no_list_is_tree}
+use Rattle.roots.proofs.HeldFileLemmas.{committed_file}
 use Rattle.roots.proofs.OpeningRules.{known}
 
 -- from the root on
@@ -32,7 +35,7 @@ pub reached_all : (h : History) (root : Root) (old new : Reached) (result : Resu
     → ((d : ℕ) (body : Body d) → IsPart (pages_in h root) root.tree 0 d [] None body → CanReach root.pages old (root.tree ∷ pages_of d body)
     → ReachesDepth d (root.tree ∷ pages_of d body) (pages_so_far old) (pages_so_far new) result)
     → IsMarked root.pages old → pages_so_far old ≡ [] → root.tree ≢ 0 → (pages : List ℕ) (entries : List Entry)
-    → HoldsMap (sheet_at (reads (now h)) root) root pages entries → Reaches pages old new result
+    → HoldsTree (sheet_at (reads (now h)) root) root pages entries → Reaches pages old new result
 reached_all h root old new result walks marked none some pages entries holds = elim holds.map [
   | inl (zero_is, _) ↦ absurd (some zero_is)
   | inr has ↦
@@ -51,7 +54,7 @@ reached_all h root old new result walks marked none some pages entries holds = e
 -- and what was found is the root's tree
 pub found_all : (h : History) (root : Root) (d : ℕ) (pages before : List ℕ) → before ≡ [] → d ≤ 31 - 0 → AreOnce pages
     → HasFoundPart (pages_in h root) root.tree d [] None before pages
-    → (entries : List Entry) × HoldsMap (sheet_at (reads (now h)) root) root pages entries
+    → (entries : List Entry) × HoldsTree (sheet_at (reads (now h)) root) root pages entries
 found_all h root d pages before none depth once f = (
   entries_of d f.body,
   record {
@@ -67,14 +70,14 @@ found_all h root d pages before none depth once f = (
 )
 
 pub none_found : (root : Root) (pages : List ℕ) (image : ℕ → List ℕ) → root.tree ≡ 0 → pages ≡ []
-    → (entries : List Entry) × HoldsMap (sheet_at image root) root pages entries
+    → (entries : List Entry) × HoldsTree (sheet_at image root) root pages entries
 none_found root pages image none is = ([], record { map = inl (none, (is, refl)); once = λ n. omega (arith, ap (times n) is) })
 
 pub reached_from_none : (old new : Reached) (pages : List ℕ) → pages_so_far old ≡ [] → pages_so_far new ≡ pages_so_far old ++ pages → pages_so_far new ≡ pages
 reached_from_none old new pages none is = is ∙ ap (λ (l : List ℕ). l ++ pages) none
 
 pub no_pages : (root : Root) (found pages : List ℕ) (entries : List Entry) (image : ℕ → List ℕ) → root.tree ≡ 0 → found ≡ []
-    → HoldsMap (sheet_at image root) root pages entries → found ≡ pages
+    → HoldsTree (sheet_at image root) root pages entries → found ≡ pages
 no_pages root found pages entries image none is holds = elim holds.map [
   | inl (_, (empty, _)) ↦ is ∙ sym empty
   | inr has ↦ absurd (omega (arith, none, has.tree.at.number))
@@ -97,26 +100,44 @@ pub still_kept : (h0 h1 : History) (root : Root) (live : List ℕ) (entries : Li
 still_kept h0 h1 root live entries only keeps = record {
   opens = λ k. subst (λ (s : ℕ → Sector). OpensAs (reads s) root) (sym (only.same k)) (keeps.opens (only.on.kept k));
   holds = λ k. subst (λ (s : ℕ → Sector). HoldsMap (sheet_at (reads s) root) root live entries) (sym (only.same k)) (keeps.holds (only.on.kept k));
-  durable = λ k j kept. subst (λ (s : ℕ → Sector). IsDurable (s j)) (sym (only.same k)) (keeps.durable (only.on.kept k) j kept);
+  durable = λ k parts has j kept.
+      let had = subst (λ (s : ℕ → Sector). HasList (sheet_at (reads s) root) root live parts) (only.same k) has in
+      subst (λ (s : ℕ → Sector). IsDurable (s j)) (sym (only.same k)) (keeps.durable (only.on.kept k) parts had j kept);
 }
 
--- what is found under a root that names no list is the committed tree's
-module _ (image : ℕ → List ℕ) (root : Root) (limit : ℕ) where
-  there_by : (result : Result Book OpenFault)
-      → MatchResult result (IsFileBook (sheet_at image root) root limit) (λ fault. fault ≡ faults.Damaged → HoldsNoFile (sheet_at image root) root)
-      → IfOk result (λ book. HasMapThere image root)
-  there_by (Ok book) file = (file.reaches.pages, (file.reaches.entries, file.reaches.holds.tree))
-  there_by (Err fault) file = tt
+-- a book with what the root reaches in use, and the own pages of the root's list
+pub record IsBookFound (sheets : ℕ → Result Sheet PageFault) (root : Root) (limit : ℕ) (found : Book × Vec ℕ) : Type 0 where
+  pub file : IsFileBook sheets root limit found.0
+  pub listed : found.1.items ≡ list_pages_of file.reaches.parts
 
-  book_by : (result : Result Book OpenFault) → (live : List ℕ) (entries : List Entry) → IsKnown root → HoldsMap (sheet_at image root) root live entries
-      → MatchResult result (IsFileBook (sheet_at image root) root limit) (λ fault. fault ≡ faults.Damaged → HoldsNoFile (sheet_at image root) root)
-      → MatchResult result (λ book. book ≡ opened live (max limit root.pages) root.generation) (λ fault. fault ≢ faults.Damaged)
-  book_by (Ok book) live entries inside holds file =
-      let same : file.live ≡ live = committed_live (sheet_at image root) root live file.live entries inside.unlisted holds file.reaches in
+-- what is found is what is committed
+module _ (image : ℕ → List ℕ) (root : Root) (limit : ℕ) where
+  abbrev Finds : Result (Book × Vec ℕ) OpenFault → Type 0
+  Finds result =
+      MatchResult result (IsBookFound (sheet_at image root) root limit) (λ fault. fault ≡ faults.Damaged → HoldsNoFile (sheet_at image root) root)
+
+  there_by : (result : Result (Book × Vec ℕ) OpenFault) → Finds result → IfOk result (λ found. HasMapThere image root)
+  there_by (Ok found) there = (there.file.reaches.pages, (there.file.reaches.entries, there.file.reaches.holds.tree))
+  there_by (Err fault) none = tt
+
+  file_by : (result : Result (Book × Vec ℕ) OpenFault) → Finds result
+      → MatchResult result (λ found. IsFileBook (sheet_at image root) root limit found.0)
+      (λ fault. fault ≡ faults.Damaged → HoldsNoFile (sheet_at image root) root)
+  file_by (Ok found) there = there.file
+  file_by (Err fault) none = none
+
+  book_by : (result : Result (Book × Vec ℕ) OpenFault) (live : List ℕ) (entries : List Entry) → IsKnown root → HoldsMap (sheet_at image root) root live entries
+      → Finds result
+      → MatchResult result
+      (λ found. (parts : List Part) → HasList (sheet_at image root) root live parts
+      → (found.0 ≡ opened (reached_by live parts) (max limit root.pages) root.generation) × (found.1.items ≡ list_pages_of parts))
+      (λ fault. fault ≢ faults.Damaged)
+  book_by (Ok found) live entries inside holds there = λ parts list.
+      let same = committed_file (sheet_at image root) root live there.file.live parts entries list holds there.file.reaches in
       let count : max (max limit root.pages) 1 ≡ max limit root.pages = omega (arith, inside.tree) in
-      file.is ∙ (λ i. opened (same i) (count i) root.generation)
-  book_by (Err fault) live entries inside holds file = λ is.
-      file is live [] entries (no_list_is_tree (sheet_at image root) root inside.unlisted live entries holds).0
+      (there.file.is ∙ (λ i. opened (same.0 i) (count i) root.generation), there.listed ∙ ap list_pages_of same.1)
+  book_by (Err fault) live entries inside holds none = λ is.
+      none is live holds.listed.0 entries (record { tree = holds; list = holds.listed.1 })
 
 -- what only read leaves what is committed
 pub committed_still : {D : Type 0} (history : D → History) (old new : Store D) → OnlyReads history old new → (live : List ℕ) (entries : List Entry)
@@ -127,9 +148,9 @@ committed_still history old new only live entries committed = record {
       (still_kept (history old.disk) (history new.disk) old.root live entries only.disk committed.keeps);
 }
 
-pub finds : {D : Type 0} (history : D → History) (limit : ℕ) (result : Result Book OpenFault) (old new : Store D) → OnlyReads history old new
-    → IfOk result (IsBookOf limit old.root)
-    → (KeepsWord (history new.disk) → MatchResult result (IsFileBook (sheet_at (reads (now (history old.disk))) old.root) old.root limit)
+pub finds : {D : Type 0} (history : D → History) (limit : ℕ) (result : Result (Book × Vec ℕ) OpenFault) (old new : Store D) → OnlyReads history old new
+    → IfOk result (λ found. IsBookOf limit old.root found.0)
+    → (KeepsWord (history new.disk) → MatchResult result (IsBookFound (sheet_at (reads (now (history old.disk))) old.root) old.root limit)
     (λ fault. fault ≡ faults.Damaged → HoldsNoFile (sheet_at (reads (now (history old.disk))) old.root) old.root))
     → FindsFree history limit result old new
 finds history limit result old new only some file = record {
@@ -138,7 +159,7 @@ finds history limit result old new only some file = record {
   committed = committed_still history old new only;
   some = some;
   stands = λ k. there_by (reads (now (history old.disk))) old.root limit result (file k);
-  file = file;
+  file = λ k. file_by (reads (now (history old.disk))) old.root limit result (file k);
   book = λ k live entries committed.
       let image = reads (now (history old.disk)) in
       let inside = known (image 0) (image 1) old.root (committed.keeps.opens (only.disk.on.kept k)) in

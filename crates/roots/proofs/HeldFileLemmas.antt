@@ -1,5 +1,6 @@
 -- What a file holds whose root may name a list, and what is found there.
-use Rattle.std.proofs.Common.{◌≡◌, ◌≢◌, ℕ, ◌+◌, ◌≤◌, Bool, true, false, List, [], ◌∷◌, ◌++◌, append-nil, refl, sym, ◌∙◌, ap, subst, arith, inl, inr}
+use Rattle.std.proofs.Common.{◌≡◌, ◌≢◌, ℕ, ◌+◌, ◌≤◌, Bool, true, false, List, [], ◌∷◌, ◌++◌, refl, sym, ◌∙◌, ap, subst, arith}
+use Rattle.std.specs.Global.{Vec}
 use Rattle.std.specs.Prelude.{◌==◌, if◌then◌else◌, Result, Ok, Err}
 use Rattle.std.proofs.lemmas.Bool.Decides.{nat_tests}
 use Rattle.page.specs.Format.{Sheet}
@@ -7,7 +8,7 @@ use Rattle.page.specs.History.{History}
 use Rattle.page.specs.declared.page_fault.PageFault.{PageFault}
 use Rattle.btree.specs.Keys.{Entry, times}
 use Rattle.freelist.specs.Book.{opened}
-use Rattle.freelist.specs.FreeList.{Holds, Part, named_by, opened_by, pages_of, room_for, times_in}
+use Rattle.freelist.specs.FreeList.{Part, named_by, opened_by, pages_of, room_for, times_in}
 use Rattle.freelist.specs.ListReading.{AreAllBelow, IsListOn, ReadsList}
 use Rattle.freelist.specs.declared.list.FreeList.{FreeList}
 use Rattle.freelist.specs.declared.list_fault.ListFault.{ListFault}
@@ -15,21 +16,21 @@ use Rattle.freelist.specs.declared.list_fault.ListFault.TheVariants as lists
 use Rattle.freelist.proofs.ListedBooks.{book_of_partition}
 use Rattle.freelist.proofs.Marking.{times_in-append}
 use Rattle.freelist.proofs.WrittenLists.{reading_is_exact}
-use Rattle.roots.specs.HeldFile.{ChecksList, FitsTree, HasList, HoldsFile, HoldsNoFile, Reaches, list_in, reached_by}
-use Rattle.roots.specs.Image.{HoldsMap, IsOnPages, sheet_at, store_of}
-use Rattle.roots.specs.Listed.{HasFailed, listed_sheet, read_fault}
+use Rattle.roots.specs.HeldFile.{ChecksList, FitsTree, HoldsFile, HoldsNoFile, Reaches}
+use Rattle.roots.specs.Image.{HasList, HoldsMap, HoldsTree, IsOnPages, list_in, reached_by, sheet_at, store_of}
+use Rattle.roots.specs.Listed.{HasFailed, read_fault}
 use Rattle.roots.specs.Root.{IsUnlisted}
 use Rattle.roots.specs.Store.{disk_history}
-use Rattle.roots.specs.Walk.{HasCause}
+use Rattle.roots.specs.Walk.{HasCause, HasReached}
 use Rattle.roots.specs.declared.opening.OpenFault.{OpenFault}
 use Rattle.roots.specs.declared.opening.OpenFault.TheVariants as faults
 use Rattle.roots.specs.declared.root.Root.{Root}
 use Rattle.roots.specs.declared.store.Store.{Store}
-use Rattle.roots.proofs.ImageLemmas.{holds_same, sheet_same}
+use Rattle.roots.proofs.ImageLemmas.{holds_same, list_same, one_list, only_tree}
 use Rattle.roots.proofs.OneMap.{one_map}
 
 -- both crates count the same
-times_same : (n : ℕ) (xs : List ℕ) → times n xs ≡ times_in n xs
+pub times_same : (n : ℕ) (xs : List ℕ) → times n xs ≡ times_in n xs
 times_same n [] = refl
 times_same n (x ∷ xs) = ap (λ (k : ℕ). (if n == x then 1 else 0) + k) (times_same n xs)
 
@@ -68,9 +69,7 @@ pub holds_one_file : (sheets : ℕ → Result Sheet PageFault) (root : Root) (pa
     → HoldsFile sheets root pages parts entries → HoldsFile sheets root others rest more → (pages ≡ others) × ((parts ≡ rest) × (entries ≡ more))
 holds_one_file sheets root pages others parts rest entries more one two =
     let same = one_map (store_of sheets) root.tree pages others entries more one.tree.map two.tree.map in
-    let list : parts ≡ rest =
-    reading_is_exact (list_in sheets) root.pages root.free_list root.free_count root.free_count parts rest one.list.list two.list.list in
-    (same.pages_are, (list, same.entries_are))
+    (same.pages_are, (one_list sheets root pages others parts rest one.list two.list, same.entries_are))
 
 pub names_the_rest : (sheets : ℕ → Result Sheet PageFault) (root : Root) (pages : List ℕ) (parts : List Part) (entries : List Entry)
     → HoldsFile sheets root pages parts entries → root.free_list ≢ 0 → (page : ℕ)
@@ -93,37 +92,12 @@ list_tells_book sheets root pages parts entries holds some limit version large =
 
 -- ---- what the pages hold
 
-on_front : (k : ℕ) (xs ys : List ℕ) → IsOnPages xs k → IsOnPages (xs ++ ys) k
-on_front k [] ys on = absurd on
-on_front k (x ∷ xs) ys (inl is) = inl is
-on_front k (x ∷ xs) ys (inr on) = inr (on_front k xs ys on)
-
-on_back : (k : ℕ) (xs ys : List ℕ) → IsOnPages ys k → IsOnPages (xs ++ ys) k
-on_back k [] ys on = on
-on_back k (x ∷ xs) ys on = inr (on_back k xs ys on)
-
-list_same : (image other : ℕ → List ℕ) (root : Root) (parts : List Part) → ((k : ℕ) → IsOnPages (pages_of parts) k → other k ≡ image k)
-    → Holds (list_in (sheet_at image root)) parts → Holds (list_in (sheet_at other root)) parts
-list_same image other root [] same holds = tt
-list_same image other root (part ∷ rest) same holds = (
-  ap listed_sheet (sheet_same image other root part.page (λ k is. same k (inl is))) ∙ holds.0,
-  list_same image other root rest (λ k on. same k (inr on)) holds.1,
-)
-
 pub reached_decides : (image other : ℕ → List ℕ) (root : Root) (pages : List ℕ) (parts : List Part) (entries : List Entry)
     → HoldsFile (sheet_at image root) root pages parts entries → ((k : ℕ) → IsOnPages (reached_by pages parts) k → other k ≡ image k)
     → HoldsFile (sheet_at other root) root pages parts entries
 reached_decides image other root pages parts entries holds same = record {
-  tree = holds_same image other root pages entries (λ k on. same k (on_front k pages (pages_of parts) on)) holds.tree;
-  list = record {
-    list = record {
-      begins = holds.list.list.begins;
-      holds = list_same image other root parts (λ k on. same k (on_back k pages (pages_of parts) on)) holds.list.list.holds;
-      counted = holds.list.list.counted;
-      once = holds.list.list.once;
-    };
-    all = holds.list.all;
-  };
+  tree = holds_same image other root pages parts entries holds.list same holds.tree;
+  list = list_same image other root pages parts same holds.list;
 }
 
 -- ---- the list that is read
@@ -172,30 +146,35 @@ module _ (sheets : ℕ → Result Sheet PageFault) (root : Root) (tree : List �
 -- ---- the pages that are reached
 
 module _ (sheets : ℕ → Result Sheet PageFault) (root : Root) where
-  pub no_tree : (e : OpenFault) → ((pages : List ℕ) (entries : List Entry) → HoldsMap sheets root pages entries → e ≢ faults.Damaged)
+  pub no_tree : (e : OpenFault) → ((pages : List ℕ) (entries : List Entry) → HoldsTree sheets root pages entries → e ≢ faults.Damaged)
       → e ≡ faults.Damaged → HoldsNoFile sheets root
-  no_tree e walked is pages parts entries holds = walked pages entries holds.tree is
+  no_tree e walked is pages parts entries holds = walked pages entries (only_tree sheets root pages entries holds.tree) is
 
-  pub no_list : (tree : List ℕ) (e : OpenFault) → ((pages : List ℕ) (entries : List Entry) → HoldsMap sheets root pages entries → tree ≡ pages)
+  pub no_list : (tree : List ℕ) (e : OpenFault) → ((pages : List ℕ) (entries : List Entry) → HoldsTree sheets root pages entries → tree ≡ pages)
       → ChecksList sheets root tree (Err e) → e ≡ faults.Damaged → HoldsNoFile sheets root
   no_list tree e walked checks is pages parts entries holds =
-      checks is parts (subst (λ (p : List ℕ). HasList sheets root p parts) (sym (walked pages entries holds.tree)) holds.list)
+      checks is parts (subst (λ (p : List ℕ). HasList sheets root p parts) (sym (walked pages entries (only_tree sheets root pages entries holds.tree)))
+      holds.list)
 
-  pub all_reached : (tree live : List ℕ) (list : FreeList) → (entries : List Entry) × HoldsMap sheets root tree entries
-      → ChecksList sheets root tree (Ok list) → live ≡ tree ++ list.pages.items → Reaches sheets root live
-  all_reached tree live list map checks is = record {
-    pages = tree;
-    parts = checks.parts;
-    entries = map.0;
-    holds = record { tree = map.1; list = checks.has };
-    are = is ∙ ap (λ (more : List ℕ). tree ++ more) checks.pages_are;
+  pub all_reached : (tree : List ℕ) (live own : Vec ℕ) (list : FreeList) → (entries : List Entry) × HoldsTree sheets root tree entries
+      → ChecksList sheets root tree (Ok list) → live.items ≡ tree ++ list.pages.items → own.items ≡ list.pages.items
+      → HasReached sheets root (live, own)
+  all_reached tree live own list found checks is own_is = record {
+    reaches = record {
+      pages = tree;
+      parts = checks.parts;
+      entries = found.0;
+      holds = record { tree = record { map = found.1.map; once = found.1.once; listed = (checks.parts, checks.has) }; list = checks.has };
+      are = is ∙ ap (λ (more : List ℕ). tree ++ more) checks.pages_are;
+    };
+    listed = own_is ∙ checks.pages_are;
   }
 
--- ---- the book of a file without a list
+-- ---- what is found of a committed file
 
-pub committed_live : (sheets : ℕ → Result Sheet PageFault) (root : Root) (live reached : List ℕ) (entries : List Entry) → IsUnlisted root
-    → HoldsMap sheets root live entries → Reaches sheets root reached → reached ≡ live
-committed_live sheets root live reached entries none map found =
-    let whole = (no_list_is_tree sheets root none live entries map).0 in
-    let same = holds_one_file sheets root found.pages live found.parts [] found.entries entries found.holds whole in
-    found.are ∙ (λ i. same.0 i ++ pages_of (same.1.0 i)) ∙ append-nil live
+pub committed_file : (sheets : ℕ → Result Sheet PageFault) (root : Root) (live reached : List ℕ) (parts : List Part) (entries : List Entry)
+    → HasList sheets root live parts → HoldsMap sheets root live entries → (found : Reaches sheets root reached)
+    → (reached ≡ reached_by live parts) × (found.parts ≡ parts)
+committed_file sheets root live reached parts entries list map found =
+    let same = holds_one_file sheets root found.pages live found.parts parts found.entries entries found.holds (record { tree = map; list = list }) in
+    (found.are ∙ (λ i. reached_by (same.0 i) (same.1.0 i)), same.1.0)

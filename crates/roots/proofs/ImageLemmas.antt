@@ -1,17 +1,21 @@
--- What a root's tree reaches decides what an image stands for.
-use Rattle.std.proofs.Common.{◌≡◌, ℕ, ◌*◌, ◌<◌, inl, inr, Bool, true, false, List, [], ◌∷◌, refl, ◌∙◌, ap, arith}
-use Rattle.std.specs.Prelude.{◌&&◌, nat_lt, if◌then◌else◌, is_ok, Err}
+-- What a root reaches decides what an image stands for.
+use Rattle.std.proofs.Common.{◌≡◌, ℕ, ◌*◌, ◌<◌, inl, inr, Bool, true, false, List, [], ◌∷◌, ◌++◌, refl, ◌∙◌, ap, arith}
+use Rattle.std.specs.Prelude.{◌&&◌, nat_lt, if◌then◌else◌, is_ok, Result, Err}
 use Rattle.page.specs.History.{Sector, reads}
 use Rattle.page.specs.Crash.{IsDurable, Secures}
-use Rattle.page.specs.Format.{sheet_in}
+use Rattle.page.specs.Format.{Sheet, sheet_in}
 use Rattle.page.specs.Page.{IsSectorOf, page_at}
 use Rattle.std.proofs.lemmas.Bool.Decides.{nat_tests}
+use Rattle.page.specs.declared.page_fault.PageFault.{PageFault}
 use Rattle.page.specs.declared.page_fault.PageFault.TheVariants as faults
 use Rattle.page.proofs.PageSteps.{bytes_from_same}
 use Rattle.btree.specs.Keys.{Each, Entry}
 use Rattle.btree.proofs.ReachLemmas.{Moves, map_moved}
+use Rattle.freelist.specs.FreeList.{Holds, Part, pages_of}
+use Rattle.freelist.proofs.WrittenLists.{reading_is_exact}
 use Rattle.roots.specs.Root.{root_of}
-use Rattle.roots.specs.Image.{sheet_at, content_in, store_of, HoldsMap, OpensAs, StandsFor, IsOnPages, IsKept}
+use Rattle.roots.specs.Image.{sheet_at, content_in, store_of, HasList, HoldsMap, HoldsTree, OpensAs, StandsFor, IsOnPages, IsKept}
+use Rattle.roots.specs.Image.{list_in, listed_sheet, reached_by}
 use Rattle.roots.specs.declared.root.Root.{Root}
 
 -- a page lies in its sectors alone,
@@ -29,33 +33,78 @@ moves_by a b root (page ∷ pages) same =
       moves_by a b root pages (λ k is. same k (inr is)),
     )
 
--- and so does a tree.
-pub holds_same : (a b : ℕ → List ℕ) (root : Root) (pages : List ℕ) (entries : List Entry) → ((k : ℕ) → IsOnPages pages k → b k ≡ a k)
+-- what is a file's is its tree's
+pub only_tree : (sheets : ℕ → Result Sheet PageFault) (root : Root) (pages : List ℕ) (entries : List Entry) → HoldsMap sheets root pages entries
+    → HoldsTree sheets root pages entries
+only_tree sheets root pages entries holds = record { map = holds.map; once = holds.once }
+
+pub on_front : (k : ℕ) (xs ys : List ℕ) → IsOnPages xs k → IsOnPages (xs ++ ys) k
+on_front k [] ys on = absurd on
+on_front k (x ∷ xs) ys (inl is) = inl is
+on_front k (x ∷ xs) ys (inr on) = inr (on_front k xs ys on)
+
+pub on_back : (k : ℕ) (xs ys : List ℕ) → IsOnPages ys k → IsOnPages (xs ++ ys) k
+on_back k [] ys on = on
+on_back k (x ∷ xs) ys on = inr (on_back k xs ys on)
+
+parts_same : (a b : ℕ → List ℕ) (root : Root) (parts : List Part) → ((k : ℕ) → IsOnPages (pages_of parts) k → b k ≡ a k)
+    → Holds (list_in (sheet_at a root)) parts → Holds (list_in (sheet_at b root)) parts
+parts_same a b root [] same holds = tt
+parts_same a b root (part ∷ rest) same holds = (
+  ap listed_sheet (sheet_same a b root part.page (λ k is. same k (inl is))) ∙ holds.0,
+  parts_same a b root rest (λ k on. same k (inr on)) holds.1,
+)
+
+-- a list lies in its own pages alone,
+pub list_same : (a b : ℕ → List ℕ) (root : Root) (pages : List ℕ) (parts : List Part) → ((k : ℕ) → IsOnPages (reached_by pages parts) k → b k ≡ a k)
+    → HasList (sheet_at a root) root pages parts → HasList (sheet_at b root) root pages parts
+list_same a b root pages parts same has = record {
+  list = record {
+    begins = has.list.begins;
+    holds = parts_same a b root parts (λ k on. same k (on_back k pages (pages_of parts) on)) has.list.holds;
+    counted = has.list.counted;
+    once = has.list.once;
+  };
+  all = has.all;
+}
+
+-- a root has one at most,
+pub one_list : (sheets : ℕ → Result Sheet PageFault) (root : Root) (pages others : List ℕ) (parts rest : List Part) → HasList sheets root pages parts
+    → HasList sheets root others rest → parts ≡ rest
+one_list sheets root pages others parts rest one two =
+    reading_is_exact (list_in sheets) root.pages root.free_list root.free_count root.free_count parts rest one.list two.list
+
+-- and so does a tree with its list.
+pub holds_same : (a b : ℕ → List ℕ) (root : Root) (pages : List ℕ) (parts : List Part) (entries : List Entry)
+    → HasList (sheet_at a root) root pages parts → ((k : ℕ) → IsOnPages (reached_by pages parts) k → b k ≡ a k)
     → HoldsMap (sheet_at a root) root pages entries → HoldsMap (sheet_at b root) root pages entries
-holds_same a b root pages entries same holds = record {
-  map = map_moved (store_of (sheet_at a root)) (store_of (sheet_at b root)) root.tree pages entries (moves_by a b root pages same) holds.map;
+holds_same a b root pages parts entries list same holds = record {
+  map = map_moved (store_of (sheet_at a root)) (store_of (sheet_at b root)) root.tree pages entries
+      (moves_by a b root pages (λ k on. same k (on_front k pages (pages_of parts) on))) holds.map;
   once = holds.once;
+  listed = (parts, list_same a b root pages parts same list);
 }
 
 pub opens_same : (a b : ℕ → List ℕ) (root : Root) → b 0 ≡ a 0 → b 1 ≡ a 1 → OpensAs a root → OpensAs b root
 opens_same a b root even odd opens = (λ i. root_of (even i) (odd i)) ∙ opens
 
-pub stands_by_kept : (a image : ℕ → List ℕ) (root : Root) (pages : List ℕ) (entries : List Entry) → OpensAs a root
-    → HoldsMap (sheet_at a root) root pages entries
-    → ((k : ℕ) → IsKept pages k → image k ≡ a k) → StandsFor image entries
-stands_by_kept a image root pages entries opens holds same = record {
+pub stands_by_kept : (a image : ℕ → List ℕ) (root : Root) (pages : List ℕ) (parts : List Part) (entries : List Entry) → OpensAs a root
+    → HasList (sheet_at a root) root pages parts → HoldsMap (sheet_at a root) root pages entries
+    → ((k : ℕ) → IsKept (reached_by pages parts) k → image k ≡ a k) → StandsFor image entries
+stands_by_kept a image root pages parts entries opens list holds same = record {
   root = root;
   pages = pages;
   opens = opens_same a image root (same 0 (inl (omega arith))) (same 1 (inl (omega arith))) opens;
-  holds = holds_same a image root pages entries (λ k on. same k (inr on)) holds;
+  holds = holds_same a image root pages parts entries list (λ k on. same k (inr on)) holds;
 }
 
-pub secures : (sectors : ℕ → Sector) (root : Root) (pages : List ℕ) (entries : List Entry) → OpensAs (reads sectors) root
-    → HoldsMap (sheet_at (reads sectors) root) root pages entries
-    → ((k : ℕ) → IsKept pages k → IsDurable (sectors k)) → Secures sectors (IsKept pages) (λ image. StandsFor image entries)
-secures sectors root pages entries opens holds durable = record {
+pub secures : (sectors : ℕ → Sector) (root : Root) (pages : List ℕ) (parts : List Part) (entries : List Entry) → OpensAs (reads sectors) root
+    → HasList (sheet_at (reads sectors) root) root pages parts → HoldsMap (sheet_at (reads sectors) root) root pages entries
+    → ((k : ℕ) → IsKept (reached_by pages parts) k → IsDurable (sectors k))
+    → Secures sectors (IsKept (reached_by pages parts)) (λ image. StandsFor image entries)
+secures sectors root pages parts entries opens list holds durable = record {
   durable = durable;
-  decides = λ image same. stands_by_kept (reads sectors) image root pages entries opens holds same;
+  decides = λ image same. stands_by_kept (reads sectors) image root pages parts entries opens list holds same;
 }
 
 -- a page that is there lies in the file

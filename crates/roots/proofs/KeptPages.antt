@@ -1,6 +1,6 @@
 -- Where a caller has the premises of a commit from: pages that stay are read under the next root as before, and pages that were made are there.
-use Rattle.std.proofs.Common.{◌≡◌, ◌≢◌, ℕ, ◌<◌, ◌≤◌, Bool, true, false, List, [], ◌∷◌, drop, refl, ◌∙◌, ap, arith}
-use Rattle.std.specs.Prelude.{◌&&◌, ◌||◌, ◌==◌, not, nat_lt, if◌then◌else◌, slice_index, is_ok, Result, Ok, Err}
+use Rattle.std.proofs.Common.{◌≡◌, ◌≢◌, ℕ, ◌<◌, ◌≤◌, Bool, true, false, List, [], ◌∷◌, ◌++◌, drop, refl, ◌∙◌, ap, subst, arith}
+use Rattle.std.specs.Prelude.{◌&&◌, ◌||◌, ◌==◌, not, nat_lt, if◌then◌else◌, slice_index, is_ok, Some, Result, Ok, Err}
 use Rattle.std.specs.List.{AllByRecursion}
 use Rattle.std.proofs.lemmas.Bool.Decides.{nat_tests}
 use Rattle.byteorder.specs.Endian.{little_number}
@@ -14,10 +14,12 @@ use Rattle.page.specs.History.{History, now, reads}
 use Rattle.btree.specs.Keys.{Each, Entry}
 use Rattle.btree.specs.Store.{IsAt}
 use Rattle.btree.proofs.ReachLemmas.{Moves, map_moved}
+use Rattle.freelist.specs.FreeList.{AreOnceBelow, Holds, IsPartition, ListContent, Part, named_by, pages_of}
 use Rattle.roots.specs.declared.root.Root.{Root}
-use Rattle.roots.specs.Image.{sheet_at, store_of, content_in as content_of}
+use Rattle.roots.specs.Image.{HasList, list_in, listed_sheet, sheet_at, store_of, content_in as content_of}
 use Rattle.roots.specs.Store.{Keeps}
 use Rattle.roots.specs.Turn.{IsTurn, LieBehind, made_or, next_root}
+use Rattle.roots.proofs.OpeningRules.{known}
 use Rattle.roots.proofs.WalkLemmas.{IsFound, found_at}
 
 -- ---- a page under a later root
@@ -74,14 +76,14 @@ made_other (m ∷ ms) n other ne =
     ap (λ (b : Bool). if b then Ok m else made_or ms n other) test ∙ made_other ms n other ne.1
 
 -- a page that isn't made stays,
-pub kept_there : (image : ℕ → List ℕ) (old : Root) (made : List Sheet) (tree n : ℕ) (content : Content) → AllByRecursion (λ (m : Sheet). m.page ≢ n) made
-    → IsAt (store_of (sheet_at image old)) n content
-    → IsAt (store_of (λ k. made_or made k (sheet_at image (next_root old made tree) k))) n content
-kept_there image old made tree n content ne at =
+pub kept_there : (image : ℕ → List ℕ) (old : Root) (made : List Sheet) (tree free_list free_count n : ℕ) (content : Content)
+    → AllByRecursion (λ (m : Sheet). m.page ≢ n) made → IsAt (store_of (sheet_at image old)) n content
+    → IsAt (store_of (λ k. made_or made k (sheet_at image (next_root old made tree free_list free_count) k))) n content
+kept_there image old made tree free_list free_count n content ne at =
+    let next : Root = next_root old made tree free_list free_count in
     let found : IsFound (sheet_at image old n) content = found_at (sheet_at image old) n content at.live at.holds in
-    let there : made_or made n (sheet_at image (next_root old made tree) n) ≡ Ok found.sheet =
-    made_other made n (sheet_at image (next_root old made tree) n) ne
-    ∙ still_read image old (next_root old made tree) n found.sheet (omega arith) (omega arith) found.is in
+    let there : made_or made n (sheet_at image next n) ≡ Ok found.sheet =
+    made_other made n (sheet_at image next n) ne ∙ still_read image old next n found.sheet (omega arith) (omega arith) found.is in
     record { number = at.number; live = ap is_ok there; holds = ap content_of there ∙ found.holds }
 
 all_behind : (last : ℕ) (made : List Sheet) → LieBehind last made → AllByRecursion (λ (m : Sheet). last < m.page) made
@@ -113,21 +115,58 @@ made_there others last (m ∷ ms) lie =
 
 -- ---- the premises can be met: what is committed may be committed again
 
-all_kept : (image : ℕ → List ℕ) (root : Root) (pages : List ℕ)
-    → Each (Moves (store_of (sheet_at image root)) (store_of (λ k. made_or [] k (sheet_at image (next_root root [] root.tree) k)))) pages
-all_kept image root [] = tt
-all_kept image root (page ∷ pages) = ((λ content at. kept_there image root [] root.tree page content tt at), all_kept image root pages)
+abbrev pub same_root : Root → Root
+same_root root = next_root root [] root.tree root.free_list root.free_count
 
-pub same_turn : (h : History) (root : Root) (live : List ℕ) (entries : List Entry) → Keeps h root live entries → IsTurn h root live [] root.tree live entries
+all_kept : (image : ℕ → List ℕ) (root : Root) (pages : List ℕ)
+    → Each (Moves (store_of (sheet_at image root)) (store_of (λ k. made_or [] k (sheet_at image (same_root root) k)))) pages
+all_kept image root [] = tt
+all_kept image root (page ∷ pages) =
+    ((λ content at. kept_there image root [] root.tree root.free_list root.free_count page content tt at), all_kept image root pages)
+
+parts_kept : (image : ℕ → List ℕ) (root : Root) (parts : List Part) → Holds (list_in (sheet_at image root)) parts
+    → Holds (list_in (sheet_at image (same_root root))) parts
+parts_kept image root [] holds = tt
+parts_kept image root (part ∷ rest) holds = (
+  kept_part (sheet_at image root part.page) (sheet_at image (same_root root) part.page)
+      (λ sheet is. still_read image root (same_root root) part.page sheet (omega arith) (omega arith) is) _ holds.0,
+  parts_kept image root rest holds.1,
+)
+  where
+    kept_part : (old new : Result Sheet PageFault) → ((sheet : Sheet) → old ≡ Ok sheet → new ≡ Ok sheet) → (content : ListContent)
+        → listed_sheet old ≡ Some content → listed_sheet new ≡ Some content
+    kept_part (Ok sheet) new still content is = ap listed_sheet (still sheet refl) ∙ is
+    kept_part (Err fault) new still content is = absurd cc
+
+list_kept : (image : ℕ → List ℕ) (root : Root) (live : List ℕ) (parts : List Part) → 0 < root.pages → HasList (sheet_at image root) root live parts
+    → HasList (sheet_at image (same_root root)) (same_root root) live parts
+list_kept image root live parts some has =
+    let count : root.pages ≡ (same_root root).pages = omega (arith, some) in
+    record {
+      list = record {
+        begins = has.list.begins;
+        holds = parts_kept image root parts has.list.holds;
+        counted = has.list.counted;
+        once = subst (λ (n : ℕ). AreOnceBelow n (pages_of parts ++ named_by parts)) count has.list.once;
+      };
+      all = λ named. subst (λ (n : ℕ). IsPartition n live parts) count (has.all named);
+    }
+
+pub same_turn : (h : History) (root : Root) (live : List ℕ) (entries : List Entry) → Keeps h root live entries
+    → IsTurn h root live [] (same_root root) live entries
 same_turn h root live entries keeps = record {
   ascending = tt;
   inside = tt;
   sheets = tt;
-  free = tt;
-  holds = λ k. record {
-    map = map_moved (store_of (sheet_at (reads (now h)) root))
-        (store_of (λ n. made_or [] n (sheet_at (reads (now h)) (next_root root [] root.tree) n))) root.tree live entries
-        (all_kept (reads (now h)) root live) (keeps.holds k).map;
-    once = (keeps.holds k).once;
-  };
+  free = λ k parts has. tt;
+  holds = λ k.
+      let image = reads (now h) in
+      let inside = known (image 0) (image 1) root (keeps.opens k) in
+      let holds = keeps.holds k in
+      record {
+        map = map_moved (store_of (sheet_at image root)) (store_of (λ n. made_or [] n (sheet_at image (same_root root) n))) root.tree live entries
+            (all_kept image root live) holds.map;
+        once = holds.once;
+        listed = (holds.listed.0, list_kept image root live holds.listed.0 (omega (arith, inside.tree)) holds.listed.1);
+      };
 }

@@ -24,8 +24,8 @@ use Rattle.page.specs.Format.{Sheet, sheet_in}
 use Rattle.page.specs.History.{History}
 use Rattle.page.specs.PageLaws.{IsSheet}
 use Rattle.page.specs.declared.page_fault.PageFault.{PageFault}
-use Rattle.roots.specs.Image.{sheet_at}
-use Rattle.roots.specs.Listed.{list_sheets, listed_fault, listed_in, listed_sheet}
+use Rattle.roots.specs.Image.{listed_sheet, sheet_at}
+use Rattle.roots.specs.Listed.{list_sheets, listed_fault, listed_in}
 use Rattle.roots.specs.Turn.{AreWritten}
 use Rattle.roots.specs.Walk.{HasCause}
 use Rattle.roots.specs.declared.opening.OpenFault.{OpenFault}

@@ -31,7 +31,7 @@ opened history before disk root h1 ok only opens tick syncs known =
         keeps = record {
           opens = λ k. subst (λ (f : ℕ → List ℕ). OpensAs f root) (sym (same k)) (opens (tick.kept k));
           holds = λ k. subst (λ (f : ℕ → List ℕ). HoldsMap (sheet_at f root) root live entries) (sym (same k)) (holds k);
-          durable = λ k j _. all k j;
+          durable = λ k _ _ j _. all k j;
         };
       };
       alone = λ entries stands k image is. subst (λ (f : ℕ → List ℕ). StandsFor f entries) (sym (synced k image is)) stands;

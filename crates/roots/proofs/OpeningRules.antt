@@ -82,12 +82,14 @@ possible_known : (root : Root) → is_possible root ≡ true → IsKnown root
 possible_known root is = record {
   tree = grind (arith, nat_tests, is);
   pages = grind (arith, nat_tests, is);
-  unlisted = (grind (arith, nat_tests, is), grind (arith, nat_tests, is));
+  free_list = grind (arith, nat_tests, is);
+  free_count = grind (arith, nat_tests, is);
 }
 
 read_known : (bytes : List ℕ) (root : Root) → root_in bytes ≡ Ok root → IsKnown root
 read_known bytes root is = elim (known_by (are_zeros bytes) (begins_right bytes) (nat_lt 1 (little_number 4 (drop 8 bytes))) (is_sound bytes) bytes root is) [
-  | inl none ↦ subst IsKnown (sym none) (record { tree = omega arith; pages = omega arith; unlisted = (refl, refl) })
+  | inl none ↦ subst IsKnown (sym none)
+      (record { tree = omega arith; pages = omega arith; free_list = omega arith; free_count = omega arith })
   | inr (sound, at) ↦ subst IsKnown (sym at) (possible_known (fields_in bytes) (sound_possible bytes sound))
 ]
 
@@ -104,9 +106,9 @@ fields_back root possible =
     let t : little_number 4 (drop 24 bs) ≡ root.tree = little_number-reads_back 4 root.tree (drop 28 bs) (omega (arith, possible.tree, possible.pages)) in
     let p : little_number 4 (drop 28 bs) ≡ root.pages = little_number-reads_back 4 root.pages (drop 32 bs) (omega (arith, possible.pages)) in
     let list : little_number 4 (drop 32 bs) ≡ root.free_list =
-    little_number-reads_back 4 root.free_list (drop 36 bs) (omega (arith, possible.unlisted.0)) in
+    little_number-reads_back 4 root.free_list (drop 36 bs) (omega (arith, possible.free_list, possible.pages)) in
     let count : little_number 4 (drop 36 bs) ≡ root.free_count =
-    little_number-reads_back 4 root.free_count (drop 40 bs) (omega (arith, possible.unlisted.1)) in
+    little_number-reads_back 4 root.free_count (drop 40 bs) (omega (arith, possible.free_count, possible.pages)) in
     (λ i. record { generation = g i; tree = t i; pages = p i; free_list = list i; free_count = count i })
 
 right_back : (root : Root) → begins_right (root_bytes root) ≡ true
@@ -118,9 +120,9 @@ possible_back root possible =
     let some : nat_lt 0 root.generation ≡ true = grind (arith, nat_tests, possible.committed) in
     let inside : nat_lt root.tree root.pages ≡ true = grind (arith, nat_tests, possible.tree) in
     let few : nat_lt 1048576 root.pages ≡ false = grind (arith, nat_tests, possible.pages) in
-    let no_list : (root.free_list == 0) ≡ true = grind (arith, nat_tests, possible.unlisted.0) in
-    let no_count : (root.free_count == 0) ≡ true = grind (arith, nat_tests, possible.unlisted.1) in
-    rw (some, inside, few, no_list, no_count) refl
+    let list : nat_lt root.free_list root.pages ≡ true = grind (arith, nat_tests, possible.free_list) in
+    let count : nat_lt root.free_count root.pages ≡ true = grind (arith, nat_tests, possible.free_count) in
+    rw (some, inside, few, list, count) refl
 
 sound_back : (root : Root) → IsPossible root → is_sound (root_bytes root) ≡ true
 unfolding is_sound

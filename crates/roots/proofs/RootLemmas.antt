@@ -6,9 +6,10 @@ use Rattle.page.specs.History.{Sector, reads}
 use Rattle.page.specs.Crash.{IsDurable, put}
 use Rattle.page.proofs.TwoFacts.{secured, put_same, put_other}
 use Rattle.btree.specs.Keys.{Entry}
+use Rattle.freelist.specs.FreeList.{Part}
 use Rattle.roots.specs.Root.{root_in, both, newer_root, root_bytes, IsPossible}
 use Rattle.roots.specs.Replace.{IsOldOrPut}
-use Rattle.roots.specs.Image.{sheet_at, HoldsMap, OpensAs, StandsFor, IsKept}
+use Rattle.roots.specs.Image.{sheet_at, HasList, HoldsMap, OpensAs, StandsFor, IsKept, reached_by}
 use Rattle.roots.specs.declared.root.Root.{Root}
 use Rattle.roots.proofs.OpeningRules.{both_gives, read_back}
 use Rattle.roots.proofs.ImageLemmas.{sheet_same, secures}
@@ -74,9 +75,9 @@ module _ (image : ℕ → List ℕ) (old new : Root) (opens : OpensAs image old)
   pub put_stands : (pages : List ℕ) (entries : List Entry) → HoldsMap (sheet_at image new) new pages entries → StandsFor with_root entries
   put_stands pages entries holds = record { root = new; pages = pages; opens = put_opens; holds = put_holds pages entries holds }
 
-module _ (sectors : ℕ → Sector) (old new : Root) (live pages : List ℕ) (before after : List Entry) (opens : OpensAs (reads sectors) old)
-    (had : HoldsMap (sheet_at (reads sectors) old) old live before)
-    (durable : (k : ℕ) → IsKept live k → IsDurable (sectors k)) (possible : IsPossible new) (next : new.generation ≡ old.generation + 1)
+module _ (sectors : ℕ → Sector) (old new : Root) (live pages : List ℕ) (parts : List Part) (before after : List Entry) (opens : OpensAs (reads sectors) old)
+    (list : HasList (sheet_at (reads sectors) old) old live parts) (had : HoldsMap (sheet_at (reads sectors) old) old live before)
+    (durable : (k : ℕ) → IsKept (reached_by live parts) k → IsDurable (sectors k)) (possible : IsPossible new) (next : new.generation ≡ old.generation + 1)
     (has : HoldsMap (sheet_at (reads sectors) new) new pages after) where
   image_stands : StandsFor (reads sectors) before
   image_stands = record { root = old; pages = live; opens = opens; holds = had }
@@ -84,7 +85,8 @@ module _ (sectors : ℕ → Sector) (old new : Root) (live pages : List ℕ) (be
   -- an image while the root is written
   pub stands_during : (image : ℕ → List ℕ) → IsOldOrPut sectors (new.generation % 2) (root_bytes new) image → StandsFor image before ⊎ StandsFor image after
   stands_during image (inl is) =
-      inl (secured sectors (IsKept live) (λ image. StandsFor image before) (secures sectors old live before opens had durable) image is)
+      inl (secured sectors (IsKept (reached_by live parts)) (λ image. StandsFor image before)
+      (secures sectors old live parts before opens list had durable) image is)
   stands_during image (inr (inl same)) = inl (subst (λ (f : ℕ → List ℕ). StandsFor f before) (sym same) image_stands)
   stands_during image (inr (inr other)) =
       inr (subst (λ (f : ℕ → List ℕ). StandsFor f after) (sym other) (put_stands (reads sectors) old new opens possible next pages after has))

@@ -35,7 +35,8 @@ pub record CommitsRoot {D : Type 0} (history : D → History) (root_page : ℕ)
 -- What reads give after it: the pages that were handed in, where it is done, and in each other page
 -- what was there.
 pub record LeavesPages {D : Type 0} (history : D → History) (made : List Sheet)
-    (tree free_list free_count : ℕ) (result : Result (Unit {0}) CommitFault) (old new : Store D) : Type 0 where
+    (tree free_list free_count : ℕ) (result : Result (Unit {0}) CommitFault)
+    (old new : Store D) : Type 0 where
   pub others : KeepsWord (disk_history history new) → (k : ℕ) → 2 ≤ k
       → (IsOnPages (numbers_of made) k → ⊥)
       → reads (now (disk_history history new)) k ≡ reads (now (disk_history history old)) k

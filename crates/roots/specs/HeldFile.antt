@@ -1,12 +1,12 @@
 -- What a file holds whose root may name a list of free pages beside its tree.
 use Rattle.std.specs.Prelude.{◌≡◌, ◌≢◌, ℕ, ◌+◌, ◌≤◌, max, Bool, true, false, List, [], ◌++◌}
-use Rattle.std.specs.Prelude.{Option, Result, MatchResult}
+use Rattle.std.specs.Prelude.{Result, MatchResult}
 use Rattle.page.specs.Format.{Sheet}
 use Rattle.page.specs.History.{History, KeepsWord, now, reads}
 use Rattle.page.specs.declared.page_fault.PageFault.{PageFault}
 use Rattle.btree.specs.Keys.{Entry, times}
 use Rattle.freelist.specs.Book.{Book, opened}
-use Rattle.freelist.specs.FreeList.{IsFreeList, IsPartition, ListContent, Part, named_by, opened_by}
+use Rattle.freelist.specs.FreeList.{Part, named_by, opened_by}
 use Rattle.freelist.specs.FreeList.{pages_of, room_for, times_in}
 use Rattle.freelist.specs.ListReading.{AreAllBelow}
 use Rattle.freelist.specs.declared.list.FreeList.{FreeList}

@@ -68,7 +68,12 @@ reached_by pages parts = pages ++ pages_of parts
 -- ---- a file
 
 -- The root's tree in these pages reaches these, each once, and has these entries. Tree 0 is empty.
--- The list of free pages that the root names, if it names one, fits the tree.
+pub record HoldsTree (sheets : ℕ → Result Sheet PageFault) (root : Root) (pages : List ℕ)
+    (entries : List Entry) : Type 0 where
+  pub map : HasMap (store_of sheets) root.tree pages entries
+  pub once : AreOnce pages
+
+-- The same, and the list of free pages that the root names, if it names one, fits the tree.
 pub record HoldsMap (sheets : ℕ → Result Sheet PageFault) (root : Root) (pages : List ℕ)
     (entries : List Entry) : Type 0 where
   pub map : HasMap (store_of sheets) root.tree pages entries

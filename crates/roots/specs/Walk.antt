@@ -7,6 +7,7 @@ use Rattle.page.specs.History.{History, KeepsWord, now, reads}
 use Rattle.page.specs.Crash.{ReadsOnly}
 use Rattle.page.specs.Format.{Sheet}
 use Rattle.page.specs.ImageView.{sheet_of}
+use Rattle.page.specs.declared.page_fault.PageFault.{PageFault}
 use Rattle.page.specs.declared.page_image.PageImage.{PageImage}
 use Rattle.btree.specs.Keys.{Entry, times}
 use Rattle.btree.specs.Store.{Store as Pages}
@@ -88,14 +89,20 @@ abbrev pub HasMapThere : (ℕ → List ℕ) → Root → Type 0
 HasMapThere image root =
     (pages : List ℕ) × ((entries : List Entry) × HoldsMap (sheet_at image root) root pages entries)
 
+-- The first are the pages that the root reaches, its list's own too; the second are these alone.
+pub record HasReached (sheets : ℕ → Result Sheet PageFault) (root : Root)
+    (found : Vec ℕ × Vec ℕ) : Type 0 where
+  pub reaches : ReachesFile sheets root found.0.items
+  pub listed : found.1.items ≡ pages_of reaches.parts
+
 -- The pages that the root reaches were found, its list's own too. Damaged comes only where it has
 -- no tree there, or names a list that is none or doesn't fit the tree.
-abbrev pub FindsFile : {D : Type 0} → (D → History) → Result (Vec ℕ) OpenFault
+abbrev pub FindsFile : {D : Type 0} → (D → History) → Result (Vec ℕ × Vec ℕ) OpenFault
     → Store D → Store D → Type 0
 FindsFile history result old new =
     KeepsWord (disk_history history new) → let root = durable_root old in
     let sheets = sheet_at (reads (now (disk_history history old))) root in
-    MatchResult result (λ live. ReachesFile sheets root live.items)
+    MatchResult result (HasReached sheets root)
     (λ fault. fault ≡ faults.Damaged → HoldsNoFile sheets root)
 
 -- Nothing of the store has changed, and the root has a tree; where one is committed, the pages that
@@ -114,7 +121,8 @@ pub record FindsFree {D : Type 0} (history : D → History) (limit : ℕ)
   -- and a list, if it names one, that fits the tree: the list's own pages are in use too
   pub file : let root = durable_root old in
       let sheets = sheet_at (reads (now (disk_history history old))) root in
-      KeepsWord (disk_history history new) → MatchResult result (λ found. IsFileBook sheets root limit found.0)
+      KeepsWord (disk_history history new) → MatchResult result
+      (λ found. IsFileBook sheets root limit found.0)
       (λ fault. fault ≡ faults.Damaged → HoldsNoFile sheets root)
   pub book : KeepsWord (disk_history history new) → (live : List ℕ) (entries : List Entry)
       → IsCommitted history old live entries → let root = durable_root old in

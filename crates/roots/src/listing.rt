@@ -8,7 +8,8 @@ ghost use Rattle.freelist.specs.ListReading.{ReadsList};
 ghost use Rattle.freelist.specs.declared.list_fault.ListFault.TheVariants as lists;
 ghost use Rattle.page.specs.History.{KeepsWord};
 ghost use Rattle.roots.specs.HeldFile.{ChecksStore, FitsTree};
-ghost use Rattle.roots.specs.Listed.{HasFailed, OnlyReads, list_sheets, listed, listed_by, listed_fault, read_fault};
+ghost use Rattle.roots.specs.Image.{listed};
+ghost use Rattle.roots.specs.Listed.{HasFailed, OnlyReads, list_sheets, listed_by, listed_fault, read_fault};
 ghost use Rattle.roots.specs.Store.{disk_history, durable_root};
 ghost use Rattle.roots.specs.Walk.{HasCause};
 

@@ -16,7 +16,7 @@ const PAGE_SIZE: u32 = 4096;
 pub const MAX_PAGES: u32 = 1_048_576;
 
 /// What a commit makes durable: its number, the root page of its tree (0 where there are no entries), how many pages the file has,
-/// with page 0, and the first page of the list of free pages and how many that names. No file has a list yet: these two are 0.
+/// with page 0, and the first page of the list of free pages and how many that names. Both are 0 where it names no list.
 #[derive(Clone, Copy, Debug, PartialEq, Eq)]
 pub struct Root {
     pub generation: u64,
@@ -88,8 +88,8 @@ impl Root {
         0 < self.generation
             && self.tree < self.pages
             && self.pages <= MAX_PAGES
-            && self.free_list == 0
-            && self.free_count == 0
+            && self.free_list < self.pages
+            && self.free_count < self.pages
     }
 
     #[tactic(auto, unfolding(crate::specs::Root::is_sound))]

@@ -210,9 +210,10 @@ impl<D: Disk> Store<D> {
         read_sheet(alloc, &mut self.disk, self.root, page)
     }
 
-    /// The pages that the committed root reaches: those of its tree, then those of its list of free pages, if it names one. Damaged
-    /// where they are no tree, or where the list isn't one or doesn't fit the tree. It reads each of them once.
-    fn live_pages(&mut self, alloc: Global) -> Result<Vec<u32>, OpenFault>
+    /// The pages that the committed root reaches: those of its tree, then those of its list of free pages, if it names one; and the
+    /// list's own once more. Damaged where they are no tree, or where the list isn't one or doesn't fit the tree. It reads each of
+    /// them once.
+    fn live_pages(&mut self, alloc: Global) -> Result<(Vec<u32>, Vec<u32>), OpenFault>
         ensures looks { Looks result (disk_history D.history self.old)
             (disk_history D.history self.new) }
         ensures same { OnlyReads D.history self.old self.new }
@@ -221,19 +222,25 @@ impl<D: Disk> Store<D> {
         let mut live = reached_pages(alloc, &mut self.disk, self.root)?;
         let list = checked_list(alloc, self, &live)?;
         live.extend_from_slice(&list.pages)?;
-        Ok(live)
+        Ok((live, list.pages))
     }
 
     /// The book of the file's pages, in which those that the committed root reaches are in use. The others below the limit, or
-    /// below the number of pages that the file has, are free. It reads each page of the tree and of the list once.
-    pub fn free_pages(&mut self, alloc: Global, limit: u32) -> Result<FreePages, OpenFault>
+    /// below the number of pages that the file has, are free. Beside it the own pages of the root's list, if it names one. It reads
+    /// each page of the tree and of the list once.
+    pub fn free_pages(
+        &mut self,
+        alloc: Global,
+        limit: u32,
+    ) -> Result<(FreePages, Vec<u32>), OpenFault>
         ensures looks { Looks result (disk_history D.history self.old)
             (disk_history D.history self.new) }
         ensures finds { FindsFree D.history limit result self.old self.new }
     {
-        let in_use = self.live_pages(alloc)?;
+        let (in_use, listed) = self.live_pages(alloc)?;
         let limit = greater(limit, self.root.pages);
-        Ok(FreePages::open(alloc, &in_use, limit, self.root.generation)?)
+        let book = FreePages::open(alloc, &in_use, limit, self.root.generation)?;
+        Ok((book, listed))
     }
 
     /// How many pages the file has, and how many of them nothing reaches: neither page 0 nor one that the committed root reaches
@@ -243,16 +250,25 @@ impl<D: Disk> Store<D> {
             (disk_history D.history self.new) }
         ensures counts { CountsPages D.history result self.old self.new }
     {
-        let live = self.live_pages(alloc)?;
+        let (live, _) = self.live_pages(alloc)?;
         Ok(counts_of(self.root, live.len()))
     }
 
-    /// Makes the tree below this page the committed one. The pages that the turn made ascend; they are written, then the next
-    /// root. It reads nothing and takes no memory.
-    pub fn commit(&mut self, made: &[SharedPage], tree: u32) -> Result<(), CommitFault>
+    /// Makes the tree below this page the committed one, with the list of free pages that begins with this page and names so many
+    /// (0 and 0 for none). The pages that the turn made, the list's among them, ascend; they are written, then the next root. It
+    /// reads nothing and takes no memory.
+    pub fn commit(
+        &mut self,
+        made: &[SharedPage],
+        tree: u32,
+        free_list: u32,
+        free_count: u32,
+    ) -> Result<(), CommitFault>
         ensures commits { CommitsRoot D.history tree result self.old self.new }
-        ensures moves { MovesMaps D.history made.now tree result self.old self.new }
-        ensures pages { LeavesPages D.history made.now tree result self.old self.new }
+        ensures moves { MovesMaps D.history made.now tree free_list free_count result
+            self.old self.new }
+        ensures pages { LeavesPages D.history made.now tree free_list free_count result
+            self.old self.new }
     {
         if self.stopped {
             return Err(CommitFault::Device);
@@ -265,8 +281,8 @@ impl<D: Disk> Store<D> {
             generation: self.root.generation + 1,
             tree,
             pages: greater(self.root.pages, end_of(made)),
-            free_list: 0,
-            free_count: 0,
+            free_list,
+            free_count,
         };
         match write_commit(&mut self.disk, made, root) {
             Ok(()) => {

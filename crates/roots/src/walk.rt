@@ -11,7 +11,7 @@ ghost use Rattle.btree.specs.Keys.{Each, Entry, IsBetween, Pair};
 ghost use Rattle.btree.specs.Tree.{Body, HasChain, HasLinks, Shows, item_of, next_of, pair_keys, place_of, pages_of};
 ghost use Rattle.btree.specs.Reach.{AreOnce};
 ghost use Rattle.roots.specs.Found.{HasFoundChain, HasFoundPairs, HasFoundPart, HasFoundValue, ReachesDepth};
-ghost use Rattle.roots.specs.Image.{HoldsMap, sheet_at};
+ghost use Rattle.roots.specs.Image.{HoldsTree, sheet_at};
 ghost use Rattle.roots.specs.Walk.{CanReach, KeepsMarks, Looks, Reaches, pages_in, pages_so_far};
 
 use crate::opening::OpenFault;
@@ -239,12 +239,12 @@ pub(crate) fn reached_pages<D: Disk>(
     ensures looks { Looks result (D.history disk.old) (D.history disk.new) }
     ensures pages { let sheets = sheet_at (reads (now (D.history disk.old))) root in
         KeepsWord (D.history disk.new) → (pages : List ℕ) (entries : List Entry)
-        → HoldsMap sheets root pages entries
+        → HoldsTree sheets root pages entries
         → MatchResult result (λ v. v.items ≡ pages) (λ fault. fault ≢ OpenFault.Damaged) }
     ensures once { IfOk result (λ v. AreOnce v.items) }
     ensures found { let sheets = sheet_at (reads (now (D.history disk.old))) root in
         KeepsWord (D.history disk.new)
-        → IfOk result (λ v. (entries : List Entry) × HoldsMap sheets root v.items entries) }
+        → IfOk result (λ v. (entries : List Entry) × HoldsTree sheets root v.items entries) }
 {
     if root.tree == 0 {
         return Ok(Vec::new(alloc));

@@ -8,16 +8,16 @@ pub returns-in_err-write_made-clause-moves : goal.returns-in_err-write_made-clau
 returns-in_err-write_made-clause-moves g c root before live keeps after pages turn is few =
     let e = c.write_made.ensures in
     cut (g.D.Disk.history c.args.disk.now)
-    (g.D.Disk.history c.write_made.new.disk) root live pages c.args.made.now c.args.root.tree before after keeps turn e.on e.others e.any_moment
-    c.args.root c.from_residual.result (search rules)
+    (g.D.Disk.history c.write_made.new.disk) root c.args.root live pages c.args.made.now before after keeps turn e.on e.others e.any_moment
+    c.from_residual.result (search rules)
 
 pub returns-clause-moves : goal.returns-clause-moves
 returns-clause-moves g c root before live keeps after pages turn is few =
     let e = c.write_made.ensures in
     let r = c.replace.ensures in
     moved (g.D.Disk.history c.args.disk.now)
-    (g.D.Disk.history c.write_made.new.disk) root live pages c.args.made.now c.args.root.tree before after keeps turn e.on e.others e.any_moment
-    (g.D.Disk.history c.replace.new.disk) c.args.root is few (λ k. c.in_ok-write_made.ensures.written k turn.ascending)
+    (g.D.Disk.history c.write_made.new.disk) root c.args.root live pages c.args.made.now before after keeps turn e.on e.others e.any_moment
+    (g.D.Disk.history c.replace.new.disk) is few (λ k. c.in_ok-write_made.ensures.written k turn.ascending)
     c.sector.result c.sector.ensures r.on r.any_moment c.replace.result r.synced r.reads
 
 pub returns-clause-written : goal.returns-clause-written

@@ -11,7 +11,7 @@ invariant_of-self g c =
     let counts = c.count_pages.ensures.counts in
     let only : OnlyRead g.D.Disk.history i.store c.count_pages.new.self = record
     { root = counts.root; stopped = counts.stopped; reads = c.count_pages.ensures.looks.reads } in
-    kept_read g.D.Disk.history i.store c.count_pages.new.self only i.made.items i.book i.cache c.self.invariant
+    kept_read g.D.Disk.history i.store c.count_pages.new.self only i.made.items i.book i.cache i.listed.items c.self.invariant
 
 pub returns : goal.returns
 returns g c =

@@ -12,8 +12,8 @@ pub invariant_of-self : goal.invariant_of-self
 invariant_of-self g c =
     let i = c.self.inside in
     let book : c.undo_to.new.self ≡ undone c.args.mark.made i.book = c.undo_to.ensures ∙ ap (λ (n : ℕ). undone n i.book) c.args.mark.same in
-    subst (λ (m : List Sheet). IsKept g.D.Disk.history i.store i.cache m c.undo_to.new.self) (sym c.truncate.ensures.items)
-    (subst (λ (b : Book). IsKept g.D.Disk.history i.store i.cache (take c.args.mark.made i.made.items) b) (sym book)
+    subst (λ (m : List Sheet). IsKept g.D.Disk.history i.store i.cache m c.undo_to.new.self i.listed.items) (sym c.truncate.ensures.items)
+    (subst (λ (b : Book). IsKept g.D.Disk.history i.store i.cache (take c.args.mark.made i.made.items) b i.listed.items) (sym book)
     (kept_undone g.D.Disk.history i.store i.cache i.made.items i.book c.self.invariant c.args.mark.made))
 
 pub returns-clause-begun : goal.returns-clause-begun

@@ -18,7 +18,7 @@ returns-clause-counts g c =
     let many : c.len.result ≡ length live = omega (arith, c.len.ensures, c.in_ok-live.live.ok.0) in
     let pages : c.live_pages.new.self.root.pages ≡ c.args.self.now.root.pages = ap (λ (r : Root). r.pages) c.live_pages.ensures.same.root in
     counts_so g.D.Disk.history _ c.args.self.now c.live_pages.new.self c.live_pages.ensures.same
-    (λ k. let there = c.in_ok-live.ensures.finds k in record {
+    (λ k. let there = (c.in_ok-live.ensures.finds k).reaches in record {
       live = live;
       reaches = there;
       are = counts_are image c.args.self.now.root live counts c.len.result there many (c.counts_of.ensures.pages ∙ ap (λ (n : ℕ). max n 1) pages)

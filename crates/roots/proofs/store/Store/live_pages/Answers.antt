@@ -1,9 +1,9 @@
-use Rattle.std.proofs.Common.{rules, List, ℕ, Err, subst}
+use Rattle.std.proofs.Common.{rules, List, ◌++◌, ◌≡◌, ℕ, Ok, Err, subst}
 use Rattle.page.specs.History.{Sector, now, reads}
 use Rattle.roots.specs.HeldFile.{ChecksList}
 use Rattle.roots.specs.Image.{sheet_at}
 use Rattle.roots.proofs.FreeLemmas.{file_failed}
-use Rattle.roots.proofs.HeldFileLemmas.{no_list, no_tree}
+use Rattle.roots.proofs.HeldFileLemmas.{all_reached, no_list, no_tree}
 use Rattle.roots.proofs.store.Store.live_pages.Goals as goal
 
 pub returns-in_err-live-clause-finds : goal.returns-in_err-live-clause-finds
@@ -28,3 +28,18 @@ returns-in_err-list-clause-finds g c =
     (c.in_err-list.ensures.list k)) in
     file_failed _ _ c.from_residual-in_err-list.result e (search rules)
     (no_list sheets root live e (λ pages entries holds. c.in_ok-live.ensures.pages mid pages entries holds) there)
+
+pub returns-clause-finds : goal.returns-clause-finds
+returns-clause-finds g c =
+    let root = c.args.self.now.root in
+    let live = c.in_ok-live.live.items in
+    let list = c.in_ok-list.list in
+    let history = g.D.Disk.history in
+    let sheets = sheet_at (reads (now (history c.args.self.now.disk))) root in
+    λ k. let mid = c.in_ok-list.ensures.reads.disk.on.kept k in
+    let there : ChecksList sheets root live (Ok list) =
+    subst (λ (s : ℕ → Sector). ChecksList (sheet_at (reads s) root) root live (Ok list)) (c.reached_pages.ensures.looks.reads.same mid)
+    (subst (λ (t : List ℕ). ChecksList (sheet_at (reads (now (history c.reached_pages.new.disk))) root) root t (Ok list)) c.deref.ensures.value
+    (c.in_ok-list.ensures.list k)) in
+    let all : c.extend_from_slice.new.self.items ≡ live ++ list.pages.items = search rules in
+    all_reached sheets root live c.extend_from_slice.new.self _ list (c.in_ok-live.ensures.found mid) there all (search rules)
