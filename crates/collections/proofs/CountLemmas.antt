@@ -51,7 +51,7 @@ module _ {D : Type 0} (history : D → History) (old : State D) (pager : PagerSt
     committed : IsCommitted history old.pager.store t.live t.before
     committed = committed_still history old.pager t.began t.turn.grows.stays (counts.grows.frame k).word t.live t.before t.begun
 
-    stands : StandsFor (reads (now (disk_history history old))) t.before
+    abbrev stands : StandsFor (reads (now (disk_history history old))) t.before
     stands = record {
       root = durable_root old.pager.store;
       pages = t.live;

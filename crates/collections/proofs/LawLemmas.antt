@@ -7,8 +7,9 @@ use Rattle.btree.specs.Reach.{HasMap}
 use Rattle.btree.proofs.OnceLemmas.{old_trees_stay}
 use Rattle.btree.proofs.StoreLemmas.{grows_itself, grows_trans}
 use Rattle.roots.specs.Root.{no_root, root_of}
-use Rattle.roots.specs.Image.{StandsFor}
+use Rattle.roots.specs.Image.{StandsFor, sheet_at}
 use Rattle.roots.specs.Store.{IsCommitted, durable_root}
+use Rattle.roots.proofs.HeldFileLemmas.{empty_list}
 use Rattle.roots.proofs.OneMap.{one_map, one_state}
 use Rattle.roots.proofs.TurnLemmas.{stands_now}
 use Rattle.pager.specs.View.{store_of}
@@ -86,7 +87,11 @@ zeros_hold_nothing image even odd = record {
     root = no_root;
     pages = [];
     opens = (λ i. root_of (even i) (odd i)) ∙ zero_roots;
-    holds = record { map = inl (refl, (refl, refl)); once = λ n. omega arith };
+    holds = record {
+      map = inl (refl, (refl, refl));
+      once = λ n. omega arith;
+      listed = ([], empty_list (sheet_at image no_root) no_root [] (refl, refl));
+    };
   };
   spells = record { rises = search rules; same = λ entry. (λ x. x, λ x. x) };
   state = none_lawful;
