@@ -102,8 +102,8 @@ module _ {D : Type 0} (history : D → History) (old new : Engine D) (h : IsSoun
 
     pub room_cause : files.FindsNoRoom history old.file mid → (generation old ≡ 2 ^ 64 - 1) ⊎ FoundNoPage history old new
     room_cause (inl (most, same)) = inl most
-    room_cause (inr found) = inr (no_page_then (views.pages_of history old.file) (views.pages_of history mid) (views.pages_of history new.file) found.counted
-    undoes.takes)
+    room_cause (inr found) =
+        inr (no_page_then (views.pages_of history old.file) (views.pages_of history mid) (views.pages_of history new.file) found.counted undoes.takes)
 
   -- the collections are as they were at the beginning of the turn
   module _ (rests : has_changes new ≡ false) (back : world new ≡ after_undo (turn_start old) (world old)) (ended : turn_start new ≡ (world new).collections)
