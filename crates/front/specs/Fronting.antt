@@ -1,6 +1,6 @@
 -- What a front hands out, of which sockets.
 use Rattle.std.specs.Prelude.{◌≡◌, ℕ, ◌+◌, Bool, if◌then◌else◌, List, [], ◌∷◌, ◌++◌, map, slice_set}
-use Rattle.std.specs.Prelude.{slice_index_or, length, ◌<◌, Option, Some, None, Vec}
+use Rattle.std.specs.Prelude.{slice_index_or, length, max, ◌<◌, ◌≤◌, Option, Some, None, Vec}
 use Rattle.front.specs.declared.socket.Socket.{Socket}
 use Rattle.front.specs.Serving.{fed, fresh, HaveGrown}
 
@@ -34,11 +34,13 @@ pub record HandsOut (replies : List (ℕ × List ℕ)) (closed : List ℕ)
   pub given : new ≡ map answered ready
   pub over : closed ≡ closed_from 0 new
 
--- Bytes came on the socket of this number, which was there or is now.
+-- Bytes came on the socket of this number, which was there or is now: there are as many sockets as
+-- there were, or as its number needs.
 pub record IsFed (old : List Socket) (i : ℕ) (bytes : List ℕ) (new : List Socket) : Type 0 where
   pub there : List Socket
   pub grown : HaveGrown old there
   pub within : i < length there
+  pub most : length there ≤ max (length old) (i + 1)
   pub fed : (any : Socket) → new ≡ slice_set there i (fed (slice_index_or there i any) bytes)
 
 -- The socket of this number has ended: nothing of it is left.

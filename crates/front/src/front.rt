@@ -1,7 +1,7 @@
 //! Sockets of drivers before a server.
 
 ghost use Rattle.server.specs.Durable.{IsSound};
-ghost use Rattle.std.specs.Prelude.{◌≡◌, ◌<◌, OnOk, true, false, None, Some, length, map};
+ghost use Rattle.std.specs.Prelude.{◌≡◌, ◌+◌, ◌<◌, ◌≤◌, OnOk, true, false, None, Some, length, map, max};
 ghost use Rattle.sockets.specs.Handing.{Hands, Closes};
 ghost use Rattle.front.specs.Tying.{AreTied};
 ghost use Rattle.front.specs.Alone.{IsNobodyAlone, NobodyBetween, StandsAlone};
@@ -315,6 +315,7 @@ impl<C: Clock + Drop, D: Disk + Drop> Service for Front<C, D> {
 fn grow(alloc: Global, sockets: &mut Vec<Socket>, number: usize) -> Result<(), NoMemory>
     requires { number < 1024 }
     ensures grown { HaveGrown sockets.old.items sockets.new.items }
+    ensures most { length sockets.new.items ≤ max (length sockets.old.items) (number + 1) }
     ensures there { OnOk result (number < length sockets.new.items) }
 {
     'numbers: for _ in sockets.len()..number + 1 {

@@ -7,7 +7,8 @@ use Rattle.front.proofs.front.grow.Goals as goal
 pub numbers-preserved : goal.numbers-preserved
 numbers-preserved c =
     let before = c.numbers.sockets.items in
-    let more = grown_one c.args.sockets.now.items before c.new.result c.new.ensures c.numbers.invariant.1 in (
-      omega (arith, ap length c.in_ok-push.ensures.items, length-append before (c.new.result ∷ []), c.numbers.invariant.0),
-      subst (HaveGrown c.args.sockets.now.items) (sym c.in_ok-push.ensures.items) more,
+    let more = grown_one c.args.sockets.now.items before c.new.result c.new.ensures c.numbers.invariant.1.0 in
+    let one = ap length c.in_ok-push.ensures.items ∙ length-append before (c.new.result ∷ []) in (
+      omega (arith, one, c.numbers.invariant.0),
+      (subst (HaveGrown c.args.sockets.now.items) (sym c.in_ok-push.ensures.items) more, omega (arith, one, c.numbers.invariant.0, c.numbers-test.true)),
     )
