@@ -21,7 +21,7 @@ use Rattle.replies.proofs.CursorSteps.{rested_untouched, untouched_untouched}
 use Rattle.std.proofs.lemmas.List.Elements.{All-filter, All-map}
 use Rattle.database_model.specs.Lawful.{IsWithin, IsLawfulState, AreLawfulCursors}
 use Rattle.engine.specs.View.{world_of, world, turn_start}
-use Rattle.engine.specs.Durable.{disk_history, file_of, full_takes_of, generation, has_changes, is_stopped, IsRunning, IsSound}
+use Rattle.engine.specs.Durable.{disk_history, full_takes_of, generation, has_changes, is_stopped, IsRunning, IsSound}
 use Rattle.opening.specs.Holding.{Holds}
 use Rattle.engine.specs.Committing.{Commits, FoundNoPage}
 use Rattle.engine.specs.declared.engine.Engine.{Engine}
