@@ -3,8 +3,13 @@ use Rattle.std.specs.List.{position}
 use Rattle.std.proofs.lemmas.Result.{err_from_is_err_and}
 use Rattle.commands.specs.View.{dropped_of}
 use Rattle.database_model.specs.DropIndexes.{is_dropped}
-use Rattle.engine.proofs.DroppingIndexes.{drops_all, drops_on, drops_refused}
+use Rattle.engine.proofs.DroppingIndexes.{drops_all, drops_none, drops_on, drops_refused}
 use Rattle.engine.proofs.engine.Engine.note_dropped.Goals as goal
+
+pub indexes-init : goal.indexes-init
+indexes-init g c =
+    drops_none g.D.Disk.history c.args.namespace.now (dropped_of c.args.dropped.now) c.args.home.now c.args.edits.now c.args.self.now
+    c.requires.sound c.requires.limits
 
 pub indexes-preserved : goal.indexes-preserved
 indexes-preserved g c =
