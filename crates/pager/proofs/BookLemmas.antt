@@ -39,6 +39,14 @@ no_time n p rest ne =
     let none : ℕ = 0 in
     ap (λ (b : Bool). (if b then one else none) + times n rest) test ∙ omega arith
 
+pub flag_some : (b : Bool) → 1 ≤ flag b → b ≡ true
+flag_some true some = refl
+flag_some false some = absurd (omega (arith, some))
+
+pub flag_most : (b : Bool) → flag b ≤ 1
+flag_most true = omega arith
+flag_most false = omega arith
+
 -- ---- retirements
 
 retired_after : (v : ℕ) (pages : List ℕ) (b : Book) → retired_all v pages b ≡ after (map (λ p. retire p v) pages) b

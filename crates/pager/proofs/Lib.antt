@@ -7,8 +7,10 @@ pub mod CountLemmas
 pub mod EndLemmas
 pub mod FindLemmas
 pub mod ListLemmas
+pub mod ListedLemmas
 pub mod MemberLemmas
 pub mod OpenLemmas
+pub mod PlanLemmas
 pub mod ReadLemmas
 pub mod RefusalLemmas
 pub mod ReturnLemmas

@@ -229,6 +229,7 @@ module _ {D : Type 0} {listed : List ℕ} (history : D → History) (store : Sto
         behind = behind_still;
       };
       listed = kept_so.listed;
+      wide = omega (arith, length-set book.states sheet.page states.InUse, kept_so.wide);
     }
 
 -- ---- no page more
@@ -307,6 +308,7 @@ module _ {D : Type 0} (history : D → History) (store : Store D) (made : List S
       behind = so.booked.behind;
     };
     listed = so.listed;
+    wide = so.wide;
   })
   refused_kept cache listed faults.Device is so = absurd is
   refused_kept cache listed faults.Kind is so = absurd is

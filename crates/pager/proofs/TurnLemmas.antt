@@ -34,7 +34,7 @@ use Rattle.pager.specs.State.{State}
 use Rattle.pager.specs.Turn.{AreInUse, IsBegun}
 use Rattle.pager.specs.View.{base_of, pager_history, sheets_of, store_of}
 use Rattle.pager.specs.Writing.{retired_all, written_of}
-use Rattle.pager.proofs.BookLemmas.{kept_use, one_time, taken_use}
+use Rattle.pager.proofs.BookLemmas.{flag_most, flag_some, kept_use, one_time, taken_use}
 use Rattle.pager.proofs.ListLemmas.{all_weaker, made_none}
 use Rattle.pager.proofs.MemberLemmas.{all_filter, each_counted, member, more_times, times_append, times_reverse}
 use Rattle.pager.proofs.ReadLemmas.{HasListIn, of_same}
@@ -52,14 +52,6 @@ same_states one other same = sym (states_back one) ∙ ap (map number_state) sam
 length_rewind : (made : List Sheet) (pages : List PageState) → length (rewind (takes_of made) pages) ≡ length pages
 length_rewind [] pages = refl
 length_rewind (m ∷ made) pages = length-set (rewind (takes_of made) pages) m.page states.Free ∙ length_rewind made pages
-
-pub flag_some : (b : Bool) → 1 ≤ flag b → b ≡ true
-flag_some true some = refl
-flag_some false some = absurd (omega (arith, some))
-
-pub flag_most : (b : Bool) → flag b ≤ 1
-flag_most true = omega arith
-flag_most false = omega arith
 
 -- a flag that is one number, by whether the store has stopped
 running_by : (one other : Bool) → flag one ≡ flag other → other ≡ false → one ≡ false
