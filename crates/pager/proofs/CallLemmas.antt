@@ -24,7 +24,7 @@ use Rattle.pager.specs.View.{root_numbers, sheets_of, store_of}
 use Rattle.pager.proofs.ListLemmas.{all_both, made_none}
 use Rattle.pager.proofs.ReadLemmas.{sheet_in, still_listed}
 
-no_longer : {X : Type 0} (a b : Option X) → b ≡ None → ((x : X) → a ≡ Some x → b ≡ Some x) → a ≡ None
+pub no_longer : {X : Type 0} (a b : Option X) → b ≡ None → ((x : X) → a ≡ Some x → b ≡ Some x) → a ≡ None
 no_longer None b none less = refl
 no_longer {X = X} (Some x) b none less = let never : Some x ≡ None = sym (less x refl) ∙ none in absurd cc
 

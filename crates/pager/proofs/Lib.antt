@@ -18,3 +18,4 @@ pub mod TakeLemmas
 pub mod TreeLemmas
 pub mod TurnLemmas
 pub mod UndoLemmas
+pub mod WrittenLemmas

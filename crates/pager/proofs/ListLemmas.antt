@@ -1,7 +1,7 @@
 -- Lists of pages in ascending order.
 use Rattle.std.proofs.Common.{◌≡◌, ◌≢◌, ℕ, zero, suc, ◌+◌, ◌<◌, Bool, true, false, List, [], ◌∷◌, ◌++◌, length, take, drop, get_or, refl, sym, ◌∙◌, ap, subst}
 use Rattle.std.proofs.Common.{arith}
-use Rattle.std.specs.Prelude.{◌==◌, if◌then◌else◌, Result, Ok, Err, OnOk, is_ok, is_err}
+use Rattle.std.specs.Prelude.{◌==◌, if◌then◌else◌, Result, Ok, is_ok}
 use Rattle.std.specs.List.{AllByRecursion}
 use Rattle.std.proofs.lemmas.Bool.Decides.{nat_tests}
 use Rattle.std.proofs.lemmas.List.{drop_more, take_more}
@@ -114,8 +114,3 @@ pub pushed_on : {X V E : Type 0} (items xs made : List X) (x : X) (result : Resu
     → result ≡ Ok v → xs ≡ made → items ≡ made ++ x ∷ []
 pushed_on {X = X} {V = V} {E = E} items xs made x result v is ok same =
     is ∙ ap (λ (r : Result V E). if is_ok r then xs ++ x ∷ [] else xs) ok ∙ ap (λ (l : List X). l ++ x ∷ []) same
-
--- what holds of a call that was done, where it says that it is no error
-pub of_done : {X E : Type 0} (result : Result X E) (P : Type 0) {failed : Bool} → failed ≡ false → failed ≡ is_err result → OnOk result P → P
-of_done (Ok x) P none is holds = holds
-of_done (Err e) P none is holds = absurd cc

@@ -1,5 +1,5 @@
 -- What a commit writes: the pages of the turn that are in use, and behind them those of a list of what is free then.
-use Rattle.std.proofs.Common.{◌≡◌, ℕ, ◌+◌, ◌<◌, ◌≤◌, max, List, [], ◌++◌, length, get_or, refl, sym, ◌∙◌, ap, subst, arith, None}
+use Rattle.std.proofs.Common.{◌≡◌, ℕ, ◌+◌, ◌<◌, ◌≤◌, max, List, [], ◌++◌, length, refl, ◌∙◌, ap, arith, None}
 use Rattle.std.specs.Prelude.{Bool, true, ◌&&◌}
 use Rattle.std.specs.List.{AllByRecursion}
 use Rattle.page.specs.Cache.{kept}
@@ -9,16 +9,12 @@ use Rattle.page.specs.History.{History}
 use Rattle.page.specs.PageLaws.{IsSheet}
 use Rattle.page.specs.declared.page_cache.PageCache.{PageCache}
 use Rattle.btree.specs.Keys.{times}
-use Rattle.btree.specs.Store.{flag}
-use Rattle.freelist.specs.Book.{Book, CanRewind, committed, is_free, is_in_use}
+use Rattle.freelist.specs.Book.{Book, committed, is_free, is_in_use}
 use Rattle.freelist.specs.FreeList.{AreOnceBelow, written}
 use Rattle.freelist.specs.ListWriting.{IsMade, count_with}
 use Rattle.freelist.specs.Sound.{IsSound}
-use Rattle.freelist.specs.declared.states.PageState.TheVariants as states
-use Rattle.freelist.specs.declared.turns.Change.{Change}
 use Rattle.freelist.proofs.MadeLists.{once, stays_sound_taking}
 use Rattle.freelist.proofs.Marking.{times_in-append}
-use Rattle.freelist.proofs.Rewinding.{below, used_is}
 use Rattle.freelist.proofs.SoundBooks.{stays_sound}
 use Rattle.roots.specs.declared.root.Root.{Root}
 use Rattle.roots.specs.declared.store.Store.{Store}
@@ -26,20 +22,13 @@ use Rattle.roots.specs.Listed.{list_sheets}
 use Rattle.roots.specs.Store.{durable_root}
 use Rattle.roots.specs.Turn.{LieBehind, numbers_of}
 use Rattle.roots.proofs.ListingLemmas.{all_pages, list_is_written}
-use Rattle.pager.specs.Kept.{IsBookFor, IsKept, IsNew, takes_of}
+use Rattle.pager.specs.Kept.{IsBookFor, IsKept, IsNew}
 use Rattle.pager.specs.Planning.{next_generation, pages_with}
 use Rattle.pager.specs.Writing.{retired_all, written_of}
-use Rattle.pager.proofs.BookLemmas.{all_full, all_length, all_pins, all_sound, all_waiting, committed_length, committed_waiting, flag_some, taken_use}
+use Rattle.pager.proofs.BookLemmas.{all_full, all_length, all_pins, all_sound, all_waiting, committed_length, committed_waiting, made_below}
 use Rattle.pager.proofs.ListLemmas.{all_both, all_joined, all_weaker, lie_joined}
 use Rattle.pager.proofs.ListedLemmas.{IsAsWide, all_free, as_wide, count_all, count_within, end_within, few_unused, free_before, free_inside, list_rises, sheets_of}
 use Rattle.pager.proofs.MemberLemmas.{all_filter, each_counted, lie_filter}
-
--- a page that the turn made is one of the book's
-pub made_below : (made : List Sheet) (book : Book) → IsBookFor made book → (n : ℕ) → 1 ≤ times n (numbers_of made) → n < length book.states
-made_below made book booked n some =
-    let can : CanRewind (takes_of made) book.states = subst (λ (turn : List Change). CanRewind turn book.states) booked.turn booked.sound.undoable in
-    let used : is_in_use book.states n ≡ true = flag_some (is_in_use book.states n) (omega (arith, some, taken_use made book.states can n)) in
-    below book.states n states.InUse (used_is (get_or book.states n states.Retired) used) (λ e. cc)
 
 module _ {D : Type 0} {listed : List ℕ} (history : D → History) (store : Store D) (cache : PageCache) (made : List Sheet) (retired : List ℕ) (book : Book)
     (so : IsKept history store cache made book listed) where
