@@ -3,6 +3,7 @@ pub mod BeginLemmas
 pub mod BookLemmas
 pub mod CallLemmas
 pub mod CapacityLemmas
+pub mod CommitLemmas
 pub mod CountLemmas
 pub mod EndLemmas
 pub mod FindLemmas
