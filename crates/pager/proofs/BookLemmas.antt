@@ -1,7 +1,7 @@
 -- What a turn makes of the book: pages in use, before and after its commit.
-use Rattle.std.proofs.Common.{◌≡◌, ◌≢◌, ℕ, zero, suc, ◌+◌, ◌<◌, ◌≤◌, Bool, true, false, List, [], ◌∷◌, ◌++◌, length, take, map, set, get_or, refl, sym, ◌∙◌, ap}
+use Rattle.std.proofs.Common.{◌≡◌, ◌≢◌, ℕ, zero, suc, ◌+◌, ◌<◌, ◌≤◌, Bool, true, false, List, [], ◌∷◌, ◌++◌, length, take, map, set, get_or, refl, sym, ◌∙◌, ap, subst}
 use Rattle.std.proofs.Common.{arith, inl, inr, length-append}
-use Rattle.std.specs.Prelude.{◌==◌, ◌&&◌, not, nat_lt, if◌then◌else◌}
+use Rattle.std.specs.Prelude.{◌==◌, ◌&&◌, not, nat_lt, if◌then◌else◌, Result, Ok, Err, OnOk}
 use Rattle.std.proofs.lemmas.Bool.{cases_Bool, cases_eq}
 use Rattle.std.proofs.lemmas.Bool.Decides.{nat_tests}
 use Rattle.std.proofs.lemmas.List.{get_or-set_other, get_or-set_same, get_or_default, length-set, take_more}
@@ -38,6 +38,14 @@ no_time n p rest ne =
     let one : ℕ = 1 in
     let none : ℕ = 0 in
     ap (λ (b : Bool). (if b then one else none) + times n rest) test ∙ omega arith
+
+pub flag_some : (b : Bool) → 1 ≤ flag b → b ≡ true
+flag_some true some = refl
+flag_some false some = absurd (omega (arith, some))
+
+pub flag_most : (b : Bool) → flag b ≤ 1
+flag_most true = omega arith
+flag_most false = omega arith
 
 -- ---- retirements
 
@@ -95,9 +103,14 @@ all_longer v [] b = omega arith
 all_longer v (p ∷ pages) b = omega (arith, longer p v b, all_longer v pages (retired p v b))
 
 -- two lists of pages, one after the other
-pub all_joined : (v : ℕ) (pages more : List ℕ) (b : Book) → retired_all v (pages ++ more) b ≡ retired_all v more (retired_all v pages b)
+all_joined : (v : ℕ) (pages more : List ℕ) (b : Book) → retired_all v (pages ++ more) b ≡ retired_all v more (retired_all v pages b)
 all_joined v [] more b = refl
 all_joined v (p ∷ pages) more b = all_joined v pages more (retired p v b)
+
+pub both_retired : {E : Type 0} (v : ℕ) (pages more : List ℕ) (old mid last : Book) (result : Result (Unit {0}) E) → mid ≡ retired_all v pages old
+    → OnOk result (last ≡ retired_all v more mid) → OnOk result (last ≡ retired_all v (pages ++ more) old)
+both_retired v pages more old mid last (Ok x) first second = second ∙ ap (retired_all v more) first ∙ sym (all_joined v pages more old)
+both_retired v pages more old mid last (Err e) first second = tt
 
 -- what leads back to the first leads back to where that leads
 pub back_both : (old mid last : Book) → length old.turn ≤ length mid.turn → length mid.turn ≤ length last.turn → undone (length mid.turn) last ≡ mid
@@ -238,3 +251,10 @@ taken_use (m ∷ made) pages can n =
           ap (λ (s : PageState). flag (is_used_state s)) (get_or-set_other later m.page n states.Free states.Retired ne) in
           omega (arith, taken_use made pages can.1 n, same, no_time n m.page (numbers_of made) ne)
     ]
+
+-- a page that the turn made is one of the book's
+pub made_below : (made : List Sheet) (book : Book) → IsBookFor made book → (n : ℕ) → 1 ≤ times n (numbers_of made) → n < length book.states
+made_below made book booked n some =
+    let can : CanRewind (takes_of made) book.states = subst (λ (turn : List Change). CanRewind turn book.states) booked.turn booked.sound.undoable in
+    let used : is_in_use book.states n ≡ true = flag_some (is_in_use book.states n) (omega (arith, some, taken_use made book.states can n)) in
+    below book.states n states.InUse (used_is (get_or book.states n states.Retired) used) (λ e. cc)

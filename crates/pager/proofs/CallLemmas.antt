@@ -1,5 +1,5 @@
 -- What a read of a pager gives, and what it leaves.
-use Rattle.std.proofs.Common.{◌≡◌, ◌≢◌, ℕ, ◌+◌, ◌<◌, ◌≤◌, Bool, true, false, List, ◌∷◌, ◌++◌, map, refl, sym, ◌∙◌, ap, subst, Option, Some, None}
+use Rattle.std.proofs.Common.{◌≡◌, ◌≢◌, ℕ, ◌+◌, ◌<◌, ◌≤◌, max, Bool, true, false, List, ◌∷◌, ◌++◌, length, map, refl, sym, ◌∙◌, ap, subst, Option, Some, None}
 use Rattle.std.specs.Prelude.{◌&&◌, is_ok, not, Result, Ok, Err, IfOk, IfErr}
 use Rattle.std.specs.List.{AllByRecursion}
 use Rattle.page.specs.Cache.{kept}
@@ -24,7 +24,7 @@ use Rattle.pager.specs.View.{root_numbers, sheets_of, store_of}
 use Rattle.pager.proofs.ListLemmas.{all_both, made_none}
 use Rattle.pager.proofs.ReadLemmas.{sheet_in, still_listed}
 
-no_longer : {X : Type 0} (a b : Option X) → b ≡ None → ((x : X) → a ≡ Some x → b ≡ Some x) → a ≡ None
+pub no_longer : {X : Type 0} (a b : Option X) → b ≡ None → ((x : X) → a ≡ Some x → b ≡ Some x) → a ≡ None
 no_longer None b none less = refl
 no_longer {X = X} (Some x) b none less = let never : Some x ≡ None = sym (less x refl) ∙ none in absurd cc
 
@@ -45,6 +45,7 @@ read_kept {listed = listed} history store new cache after made book page result 
       }) made so.each ne;
   booked = so.booked;
   listed = still_listed history store new read.only listed so.listed;
+  wide = subst (λ (root : Root). max root.pages 1 ≤ length book.states) (sym read.only.root) so.wide;
 }
 
 pub read_value : {D : Type 0} {listed : List ℕ} (history : D → History) (store new : Store D) (cache after : PageCache) (made : List Sheet)

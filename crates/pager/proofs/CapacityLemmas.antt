@@ -39,7 +39,7 @@ use Rattle.pager.proofs.MemberLemmas.{more_times, times_reverse}
 
 -- ---- members of a list
 
-has_times : (P : ℕ → Type 0) (n : ℕ) (xs : List ℕ) → Each P xs → 1 ≤ times n xs → P n
+pub has_times : (P : ℕ → Type 0) (n : ℕ) (xs : List ℕ) → Each P xs → 1 ≤ times n xs → P n
 has_times P n [] all some = absurd (omega (arith, some))
 has_times P n (x ∷ xs) all some = elim (cases_eq n x) [
   | inl is ↦ subst P (sym is) all.0

@@ -1,5 +1,5 @@
 -- The pages of a file are counted by reads of its disk alone.
-use Rattle.std.proofs.Common.{◌≡◌, ℕ, List, ◌∷◌, ◌++◌, map, refl, sym, ap, subst, arith}
+use Rattle.std.proofs.Common.{◌≡◌, ℕ, ◌≤◌, max, List, ◌∷◌, ◌++◌, length, map, refl, sym, ap, subst, arith}
 use Rattle.std.specs.Prelude.{◌&&◌, is_ok, not, Result}
 use Rattle.std.specs.List.{AllByRecursion}
 use Rattle.page.specs.Format.{Sheet}
@@ -34,6 +34,7 @@ module _ {D : Type 0} (history : D → History) (store new : Store D) (only : On
     each = subst (λ (root : Root). AllByRecursion (IsNew root.generation cache) made) (sym only.root) so.each;
     booked = so.booked;
     listed = still_listed history store new only listed so.listed;
+    wide = subst (λ (root : Root). max root.pages 1 ≤ length book.states) (sym only.root) so.wide;
   }
 
   module _ (retired : List ℕ) where

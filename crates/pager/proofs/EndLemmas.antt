@@ -1,136 +1,142 @@
 -- How a commit ends.
-use Rattle.std.proofs.Common.{◌≡◌, ℕ, ◌<◌, List, [], ◌++◌, length, append-nil, refl, sym, ◌∙◌, ap, subst, arith, inl, inr}
+use Rattle.std.proofs.Common.{◌≡◌, ℕ, ◌<◌, true, false, List, [], ◌++◌, length, refl, sym, ◌∙◌, ap, subst, arith, inl, inr}
 use Rattle.std.specs.Prelude.{◌⊎◌, Result, Ok, Err}
 use Rattle.std.specs.List.{AllByRecursion}
-use Rattle.std.proofs.lemmas.Bool.{cases_lt}
 use Rattle.page.specs.Content.{IsContent}
 use Rattle.page.specs.Format.{Sheet}
 use Rattle.page.specs.History.{History, KeepsWord, now, reads}
 use Rattle.page.specs.declared.page_cache.PageCache.{PageCache}
-use Rattle.page.proofs.Moments.{started}
+use Rattle.page.proofs.Moments.{reads_nothing, started}
 use Rattle.btree.specs.Keys.{Entry, times}
 use Rattle.btree.specs.Store.{flag}
 use Rattle.freelist.specs.Book.{Book, committed, is_in_use}
-use Rattle.freelist.specs.FreeList.{Part}
-use Rattle.roots.specs.declared.root.Root.{Root}
+use Rattle.freelist.specs.FreeList.{Part, first_page, pages_of, written}
+use Rattle.freelist.specs.ListWriting.{IsMade}
+use Rattle.freelist.proofs.WrittenLists.{reading_is_exact, written_pages}
 use Rattle.roots.specs.declared.store.CommitFault.{CommitFault}
 use Rattle.roots.specs.declared.store.CommitFault.TheVariants as faults
 use Rattle.roots.specs.declared.store.Store.{Store}
-use Rattle.roots.specs.Commit.{CommitsRoot, LeavesPages, MovesMap, MovesMaps}
-use Rattle.roots.specs.Image.{StandsFor, reached_by, sheet_at}
-use Rattle.roots.specs.Store.{disk_history, durable_root}
+use Rattle.roots.specs.Commit.{CommitsRoot, MovesMap, MovesMaps}
+use Rattle.roots.specs.Image.{StandsFor, list_in, reached_by, sheet_at}
+use Rattle.roots.specs.Store.{disk_history, durable_root, is_stopped}
 use Rattle.roots.specs.Turn.{next_root}
-use Rattle.roots.proofs.HeldFileLemmas.{no_parts}
 use Rattle.roots.proofs.TurnLemmas.{stands_now}
-use Rattle.pager.specs.Commit.{Commits, IsTurn, MovesTurns}
+use Rattle.pager.specs.Commit.{Commits, CountsTakes, IsTurn, MovesTurns}
 use Rattle.pager.specs.Kept.{IsKept}
+use Rattle.pager.specs.Planning.{PlanFails, pages_with}
 use Rattle.pager.specs.State.{State}
 use Rattle.pager.specs.Turn.{AreInUse, IsBegun}
-use Rattle.pager.specs.Writing.{retired_all, written_of}
-use Rattle.pager.proofs.AfterLemmas.{booked_after, written_inside, written_lie, written_sheets}
-use Rattle.pager.proofs.BookLemmas.{all_length, all_pins, all_sound, all_waiting, committed_length, committed_use, kept_use, lost_use, others_of}
+use Rattle.pager.proofs.BookLemmas.{committed_length, committed_use, others_of}
+use Rattle.pager.proofs.ListedLemmas.{used_by_takes}
 use Rattle.pager.proofs.MemberLemmas.{times_append}
-use Rattle.pager.proofs.ReadLemmas.{HasListIn}
-use Rattle.pager.proofs.TurnLemmas.{account, committed_still, flag_most, roots_turn, used_now}
+use Rattle.pager.proofs.PlanLemmas.{all, booked_after, final_sound, planned, planned_long, planned_pins, planned_waiting, tree, wide}
+use Rattle.pager.proofs.ReadLemmas.{HasListIn, IsListIn}
+use Rattle.pager.proofs.TakeLemmas.{refused_kept}
+use Rattle.pager.proofs.TurnLemmas.{committed_still}
+use Rattle.pager.proofs.WrittenLemmas.{roots_turn, tree_use}
 
 module _ {D : Type 0} {listed : List ℕ} (history : D → History) (store : Store D) (cache : PageCache) (made : List Sheet) (retired : List ℕ) (book : Book)
-    (so : IsKept history store cache made book listed) (version : ℕ) where
+    (so : IsKept history store cache made book listed) where
   abbrev p : State D
   p = record { store = store; made = made; retired = retired; book = book }
 
-  abbrev planned : Book
-  planned = retired_all version (retired ++ listed) book
+  abbrev mid : Book
+  mid = planned history store cache made (retired ++ listed) book so
 
-  abbrev written : List Sheet
-  written = written_of planned made
+  abbrev those : List Sheet
+  those = tree history store cache made (retired ++ listed) book so
 
-  module _ (root : ℕ) (start : State D) (live : List ℕ) (before : List Entry) (begun : IsBegun history start live before) (pages : List ℕ) (after : List Entry)
-      (turn : IsTurn history start p root live pages after) (k : KeepsWord (disk_history history store)) where
-    -- in the book the pages of the new tree are in use
-    tree_in_use : (last : ℕ) → AreInUse pages (committed last planned)
-    tree_in_use last =
-        let sound = all_sound version (retired ++ listed) book so.booked.sound in
-        let pins = all_pins version (retired ++ listed) book ∙ so.booked.no_pins in
-        let waiting = all_waiting version (retired ++ listed) book ∙ so.booked.none_waits in
+  module _ (pages named : List ℕ) (final : Book) (list : IsMade (pages_with (durable_root store) those) pages named mid final) where
+    abbrev written_all : List Sheet
+    written_all = all history store cache made (retired ++ listed) book so pages named final list
+
+    -- in the book the pages that the new root reaches are in use
+    module _ (root : ℕ) (start : State D) (live : List ℕ) (before : List Entry) (begun : IsBegun history start live before) (reached : List ℕ)
+        (after : List Entry) (turn : IsTurn history start p root live reached after) (k : KeepsWord (disk_history history store)) (last : ℕ) where
+      use_after : (n : ℕ) → n < length (committed last final).states
+          → times n (reached ++ pages) ≡ flag (is_in_use (committed last final).states n)
+      use_after n within =
+          let sound = final_sound history store cache made (retired ++ listed) book so pages named final list in
+          let more = wide history store cache made (retired ++ listed) book so pages named final list in
+          let pins = more.pins ∙ planned_pins history store cache made (retired ++ listed) book so in
+          let waiting = more.waiting ∙ planned_waiting history store cache made (retired ++ listed) book so in
+          let long = planned_long history store cache made (retired ++ listed) book so in
+          let low : n < length book.states = omega (arith, within, committed_length last final sound pins waiting, more.long, long) in
+          omega (
+            arith,
+            times_append n reached pages,
+            tree_use history p start turn.grows.stays k live before begun cache so root reached after turn n low,
+            used_by_takes pages mid final list.takes n,
+            ap flag (committed_use last final sound pins waiting n),
+          )
+
+      in_use_after : (new : Store D) → IsListIn (written pages named) (now (disk_history history new)) (durable_root new) → (parts : List Part)
+          → HasListIn reached parts (now (disk_history history new)) (durable_root new) → AreInUse (reached_by reached parts) (committed last final)
+      in_use_after new there parts has =
+          let r = durable_root new in
+          let contents = list_in (sheet_at (reads (now (disk_history history new))) r) in
+          let same : pages_of parts ≡ pages =
+          ap pages_of (reading_is_exact contents r.pages r.free_list r.free_count r.free_count parts (written pages named) has.list there)
+          ∙ written_pages pages named in
+          subst (λ (own : List ℕ). AreInUse (reached ++ own) (committed last final)) (sym same) (record {
+            used = use_after;
+            others = others_of [] (committed last final)
+                (booked_after history store cache made (retired ++ listed) book so pages named final list last);
+          })
+
+    module _ (root : ℕ) (result : Result (Unit {0}) CommitFault) (new : Store D) (commits : CommitsRoot history root result store new)
+        (moves : MovesMaps history written_all root (first_page (written pages named)) (length named) result store new)
+        (content : AllByRecursion (λ (m : Sheet). IsContent m.content) those) where
+      moved : (start : State D) (live : List ℕ) (before : List Entry) → IsBegun history start live before → (reached : List ℕ) (after : List Entry)
+          → (KeepsWord (disk_history history store) → IsTurn history start p root live reached after)
+          → KeepsWord (disk_history history new)
+          → MovesMap history (next_root (durable_root store) written_all root (first_page (written pages named)) (length named)) reached before after result store
+          new
+      moved start live before begun reached after turn k2 =
+          let k = commits.on.kept k2 in
+          moves before live (committed_still history p start (turn k).grows.stays k live before begun) after reached
+          (roots_turn history p start (turn k).grows.stays k live before begun cache so root reached after (turn k) pages named final list content)
+
+    pub moves_done : (root : ℕ) (new : Store D) → CommitsRoot history root (Ok tt) store new
+        → MovesMaps history written_all root (first_page (written pages named)) (length named) (Ok tt) store new
+        → AllByRecursion (λ (m : Sheet). IsContent m.content) those
+        → (KeepsWord (disk_history history new) → IsListIn (written pages named) (now (disk_history history new)) (durable_root new)) → (last : ℕ)
+        → MovesTurns history root (Ok tt) p (record { store = new; made = []; retired = []; book = committed last final })
+    moves_done root new commits moves content there last start live before begun reached after turn =
+        let all_moves = moved root (Ok tt) new commits moves content start live before begun reached after turn in
         record {
-          used = λ n within.
-              let low : n < length book.states =
-              omega (arith, within, committed_length last planned sound pins waiting, all_length version (retired ++ listed) book) in
-              let count = account history p start turn.grows.stays k live before begun so.booked listed so.listed root pages after turn version n in
-              let now_used = used_now history p start turn.grows.stays k live before begun so.booked listed so.listed n low in
-              let both = times_append n retired listed in
-              let same : flag (is_in_use (committed last planned).states n) ≡ flag (is_in_use planned.states n) =
-              ap flag (committed_use last planned sound pins waiting n) in
-              elim (cases_lt 0 (times n (retired ++ listed))) [
-                | inl some ↦ omega (
-                  arith,
-                  some,
-                  both,
-                  count,
-                  now_used,
-                  flag_most (is_in_use book.states n),
-                  same,
-                  ap flag (lost_use version (retired ++ listed) n book some),
-                )
-                | inr none ↦ omega (arith, none, both, count, now_used, same, ap flag (kept_use version (retired ++ listed) n book (omega (arith, none))))
-              ];
-          others = others_of [] (committed last planned) (booked_after history store cache made (retired ++ listed) book so version last);
+          any_moment = λ k2 image left. (all_moves k2).any_moment k2 image left;
+          acknowledged = λ k2 image is. (all_moves k2).acknowledged k2 image is;
+          begun = record {
+            made = refl;
+            retired = refl;
+            turn = refl;
+            committed = λ k2. (all_moves k2).committed;
+            in_use = λ k2.
+                in_use_after root start live before begun reached after (turn (commits.on.kept k2)) (commits.on.kept k2) last new (there k2);
+          };
         }
 
-    -- and so are those that the new root reaches, which names no list
-    in_use_after : (last : ℕ) (new : Store D) → durable_root new ≡ next_root (durable_root store) written root 0 0 → (parts : List Part)
-        → HasListIn pages parts (now (disk_history history new)) (durable_root new)
-        → AreInUse (reached_by pages parts) (committed last planned)
-    in_use_after last new is parts has =
-        let none : parts ≡ [] =
-        no_parts (sheet_at (reads (now (disk_history history new))) (durable_root new)) (durable_root new) pages parts
-        (ap (λ (r : Root). r.free_list) is) has in
-        subst (λ (reached : List ℕ). AreInUse reached (committed last planned)) (sym (ap (reached_by pages) none ∙ append-nil pages)) (tree_in_use last)
+    pub moves_failed : (root : ℕ) (fault : CommitFault) (new : Store D) → CommitsRoot history root (Err fault) store new
+        → MovesMaps history written_all root (first_page (written pages named)) (length named) (Err fault) store new
+        → AllByRecursion (λ (m : Sheet). IsContent m.content) those
+        → MovesTurns history root (Err fault) p (record { store = new; made = made; retired = retired; book = book })
+    moves_failed root fault new commits moves content start live before begun reached after turn =
+        let all_moves = moved root (Err fault) new commits moves content start live before begun reached after turn in
+        record {
+          any_moment = λ k2 image left. (all_moves k2).any_moment k2 image left;
+          acknowledged = tt;
+          begun = tt;
+        }
 
-  module _ (root : ℕ) (result : Result (Unit {0}) CommitFault) (new : Store D) (commits : CommitsRoot history root result store new)
-      (moves : MovesMaps history written root 0 0 result store new)
-      (content : AllByRecursion (λ (m : Sheet). IsContent m.content) written) where
-    moved : (start : State D) (live : List ℕ) (before : List Entry) → IsBegun history start live before → (pages : List ℕ) (after : List Entry)
-        → (KeepsWord (disk_history history store) → IsTurn history start p root live pages after)
-        → KeepsWord (disk_history history new) → MovesMap history (next_root (durable_root store) written root 0 0) pages before after result store new
-    moved start live before begun pages after turn k2 =
-        let k = commits.on.kept k2 in
-        moves before live (committed_still history p start (turn k).grows.stays k live before begun) after pages
-        (roots_turn history p start (turn k).grows.stays k live before begun so.booked listed so.listed root pages after (turn k) version
-        (written_lie history store cache made (retired ++ listed) book so version) (written_inside history store cache made (retired ++ listed) book so version)
-        (written_sheets history store cache made (retired ++ listed) book so version content))
+  -- ---- where nothing is written
 
-  pub moves_done : (root : ℕ) (new : Store D) → CommitsRoot history root (Ok tt) store new → MovesMaps history written root 0 0 (Ok tt) store new
-      → LeavesPages history written root 0 0 (Ok tt) store new → AllByRecursion (λ (m : Sheet). IsContent m.content) written → (last : ℕ)
-      → MovesTurns history root (Ok tt) p (record { store = new; made = []; retired = []; book = committed last planned })
-  moves_done root new commits moves leaves content last start live before begun pages after turn =
-      let all = moved root (Ok tt) new commits moves content start live before begun pages after turn in
-      record {
-        any_moment = λ k2 image left. (all k2).any_moment k2 image left;
-        acknowledged = λ k2 image is. (all k2).acknowledged k2 image is;
-        begun = record {
-          made = refl;
-          retired = refl;
-          turn = refl;
-          committed = λ k2. (all k2).committed;
-          in_use = λ k2. in_use_after root start live before begun pages after (turn (commits.on.kept k2)) (commits.on.kept k2) last new
-              (leaves.root (written_inside history store cache made (retired ++ listed) book so version));
-        };
-      }
+  -- the pager, with another book
+  abbrev with_book : Book → State D
+  with_book other = record { store = store; made = made; retired = retired; book = other }
 
-  pub moves_failed : (root : ℕ) (fault : CommitFault) (new : Store D) → CommitsRoot history root (Err fault) store new
-      → MovesMaps history written root 0 0 (Err fault) store new → AllByRecursion (λ (m : Sheet). IsContent m.content) written
-      → MovesTurns history root (Err fault) p (record { store = new; made = made; retired = retired; book = book })
-  moves_failed root fault new commits moves content start live before begun pages after turn =
-      let all = moved root (Err fault) new commits moves content start live before begun pages after turn in
-      record {
-        any_moment = λ k2 image left. (all k2).any_moment k2 image left;
-        acknowledged = tt;
-        begun = tt;
-      }
-
-  pub moves_nothing : (root : ℕ) → MovesTurns history root (Err faults.Memory) p p
-  moves_nothing root start live before begun pages after turn = record {
+  pub moves_nothing : (root : ℕ) (fault : CommitFault) (other : Book) → MovesTurns history root (Err fault) p (with_book other)
+  moves_nothing root fault other start live before begun pages after turn = record {
     any_moment = λ k image left.
         let committed_now = committed_still history p start (turn k).grows.stays k live before begun in
         started (disk_history history store) (λ i. StandsFor i before ⊎ StandsFor i after)
@@ -155,6 +161,71 @@ module _ {D : Type 0} {listed : List ℕ} (history : D → History) (store : Sto
     stops = λ is. (commits.stops is, refl);
     idle = λ is i. record { store = commits.idle is i; made = made; retired = retired; book = book };
   }
+
+  pub commits_nothing : (root : ℕ) (fault : CommitFault) (other : Book) → is_stopped store ≡ false → PlanFails fault book other
+      → Commits history root (Err fault) p (with_book other)
+  commits_nothing root faults.Memory other running is = record {
+    on = (reads_nothing (disk_history history store)).on;
+    running = tt;
+    version = tt;
+    still = refl;
+    tree = tt;
+    made = tt;
+    retired = tt;
+    memory = λ _ i. with_book (is i);
+    full = λ e. absurd cc;
+    device = λ e. absurd cc;
+    stops = λ e. absurd cc;
+    idle = λ _ i. with_book (is i);
+  }
+  commits_nothing root faults.Full other running is = record {
+    on = (reads_nothing (disk_history history store)).on;
+    running = tt;
+    version = tt;
+    still = refl;
+    tree = tt;
+    made = tt;
+    retired = tt;
+    memory = λ e. absurd cc;
+    full = λ _. inr (λ i. with_book (is i));
+    device = λ e. absurd cc;
+    stops = λ e. absurd cc;
+    idle = λ stopped. let never : true ≡ false = sym stopped ∙ running in absurd cc;
+  }
+  commits_nothing root faults.Device other running is = absurd is
+
+  -- a stopped store commits nothing
+  pub commits_stopped : (root : ℕ) → is_stopped store ≡ true → Commits history root (Err faults.Device) p p
+  commits_stopped root stopped = record {
+    on = (reads_nothing (disk_history history store)).on;
+    running = tt;
+    version = tt;
+    still = refl;
+    tree = tt;
+    made = tt;
+    retired = tt;
+    memory = λ e. absurd cc;
+    full = λ e. absurd cc;
+    device = λ _ k. inl stopped;
+    stops = λ _. (stopped, refl);
+    idle = λ _. refl;
+  }
+
+  pub counts_nothing : (fault : CommitFault) (other : Book) → PlanFails fault book other → CountsTakes (Err fault) p (with_book other)
+  counts_nothing faults.Memory other is = record {
+    grows = omega (arith, ap (λ (b : Book). b.full_takes) is);
+    same = λ _. ap (λ (b : Book). b.full_takes) is;
+  }
+  counts_nothing faults.Full other is = record {
+    grows = omega (arith, ap (λ (b : Book). b.full_takes) is, so.booked.count);
+    same = λ other_fault. absurd (other_fault refl);
+  }
+  counts_nothing faults.Device other is = absurd is
+
+  pub kept_nothing : (fault : CommitFault) (other : Book) → PlanFails fault book other → IsKept history store cache made other listed
+  kept_nothing faults.Memory other is = subst (λ (b : Book). IsKept history store cache made b listed) (sym is) so
+  kept_nothing faults.Full other is = subst (λ (b : Book). IsKept history store cache made b listed) (sym is) (refused_kept history store made book cache listed so)
+  kept_nothing faults.Device other is = absurd is
 
 -- what isn't a fault is done
 pub ok_of : {E : Type 0} (result : Result (Unit {0}) E) → ((e : E) → result ≡ Err e → ⊥) → result ≡ Ok tt

@@ -3,12 +3,15 @@ pub mod BeginLemmas
 pub mod BookLemmas
 pub mod CallLemmas
 pub mod CapacityLemmas
+pub mod CommitLemmas
 pub mod CountLemmas
 pub mod EndLemmas
 pub mod FindLemmas
 pub mod ListLemmas
+pub mod ListedLemmas
 pub mod MemberLemmas
 pub mod OpenLemmas
+pub mod PlanLemmas
 pub mod ReadLemmas
 pub mod RefusalLemmas
 pub mod ReturnLemmas
@@ -16,3 +19,4 @@ pub mod TakeLemmas
 pub mod TreeLemmas
 pub mod TurnLemmas
 pub mod UndoLemmas
+pub mod WrittenLemmas

@@ -1,7 +1,7 @@
 -- Lists of pages in ascending order.
 use Rattle.std.proofs.Common.{◌≡◌, ◌≢◌, ℕ, zero, suc, ◌+◌, ◌<◌, Bool, true, false, List, [], ◌∷◌, ◌++◌, length, take, drop, get_or, refl, sym, ◌∙◌, ap, subst}
 use Rattle.std.proofs.Common.{arith}
-use Rattle.std.specs.Prelude.{◌==◌, if◌then◌else◌, Result, Ok, Err, OnOk, is_ok, is_err}
+use Rattle.std.specs.Prelude.{◌==◌, if◌then◌else◌, Result, Ok, is_ok}
 use Rattle.std.specs.List.{AllByRecursion}
 use Rattle.std.proofs.lemmas.Bool.Decides.{nat_tests}
 use Rattle.std.proofs.lemmas.List.{drop_more, take_more}
@@ -32,6 +32,14 @@ pub all_taken_more : {X : Type 0} (P : X → Type 0) (xs : List X) (i : ℕ) (x 
     → AllByRecursion P (take (i + 1) xs)
 all_taken_more P xs i x lt is all here =
     subst (AllByRecursion P) (sym (take_more xs i x lt ∙ ap (λ y. take i xs ++ y ∷ []) (sym is))) (all_more P (take i xs) x all here)
+
+pub all_joined : {X : Type 0} (P : X → Type 0) (xs ys : List X) → AllByRecursion P xs → AllByRecursion P ys → AllByRecursion P (xs ++ ys)
+all_joined P [] ys front back = back
+all_joined P (x ∷ xs) ys front back = (front.0, all_joined P xs ys front.1 back)
+
+pub all_behind : {X : Type 0} (P : X → Type 0) (xs ys : List X) → AllByRecursion P (xs ++ ys) → AllByRecursion P ys
+all_behind P [] ys all = all
+all_behind P (x ∷ xs) ys all = all_behind P xs ys all.1
 
 -- ---- the page of a number
 
@@ -70,6 +78,10 @@ made_others [] sheet n other ne =
     ap (λ (b : Bool). if b then Ok sheet else other) test
 made_others (m ∷ ms) sheet n other ne = ap (λ (r : Result Sheet PageFault). if m.page == n then Ok m else r) (made_others ms sheet n other ne)
 
+pub made_joined : (xs ys : List Sheet) (n : ℕ) (other : Result Sheet PageFault) → made_or (xs ++ ys) n other ≡ made_or xs n (made_or ys n other)
+made_joined [] ys n other = refl
+made_joined (x ∷ xs) ys n other = ap (λ (r : Result Sheet PageFault). if x.page == n then Ok x else r) (made_joined xs ys n other)
+
 pub lie_more : (last : ℕ) (made : List Sheet) (sheet : Sheet) → LieBehind last made → last < sheet.page
     → AllByRecursion (λ (m : Sheet). m.page < sheet.page) made → LieBehind last (made ++ sheet ∷ [])
 lie_more last [] sheet lie up below = (up, tt)
@@ -79,6 +91,17 @@ pub lie_take : (last n : ℕ) (made : List Sheet) → LieBehind last made → Li
 lie_take last zero made lie = tt
 lie_take last (suc n) [] lie = tt
 lie_take last (suc n) (m ∷ ms) lie = (lie.0, lie_take m.page n ms lie.1)
+
+-- others behind them
+pub lie_joined : (last : ℕ) (xs ys : List Sheet) → LieBehind last xs → LieBehind last ys
+    → AllByRecursion (λ (y : Sheet). AllByRecursion (λ (x : Sheet). x.page < y.page) xs) ys → LieBehind last (xs ++ ys)
+lie_joined last [] ys lie later above = later
+lie_joined last (x ∷ xs) ys lie later above =
+    (lie.0, lie_joined x.page xs ys lie.1 (lie_higher last x.page ys later (all_weaker _ _ (λ y all. all.0) ys above)) (all_weaker _ _ (λ y all. all.1) ys above))
+  where
+    lie_higher : (low high : ℕ) (those : List Sheet) → LieBehind low those → AllByRecursion (λ (y : Sheet). high < y.page) those → LieBehind high those
+    lie_higher low high [] lies above = tt
+    lie_higher low high (y ∷ those) lies above = (above.0, lies.1)
 
 pub found_there : (made : List Sheet) (n i : ℕ) (x : Sheet) → x ≡ get_or made i x → i < length made → AllByRecursion (λ (m : Sheet). m.page ≢ n) (take i made)
     → x.page ≡ n → (other : Result Sheet PageFault)
@@ -91,8 +114,3 @@ pub pushed_on : {X V E : Type 0} (items xs made : List X) (x : X) (result : Resu
     → result ≡ Ok v → xs ≡ made → items ≡ made ++ x ∷ []
 pushed_on {X = X} {V = V} {E = E} items xs made x result v is ok same =
     is ∙ ap (λ (r : Result V E). if is_ok r then xs ++ x ∷ [] else xs) ok ∙ ap (λ (l : List X). l ++ x ∷ []) same
-
--- what holds of a call that was done, where it says that it is no error
-pub of_done : {X E : Type 0} (result : Result X E) (P : Type 0) {failed : Bool} → failed ≡ false → failed ≡ is_err result → OnOk result P → P
-of_done (Ok x) P none is holds = holds
-of_done (Err e) P none is holds = absurd cc

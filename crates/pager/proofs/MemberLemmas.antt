@@ -1,18 +1,19 @@
 -- Pages by their numbers, among those that were made and those of them that are written.
-use Rattle.std.proofs.Common.{◌≡◌, ◌≢◌, ℕ, zero, suc, ◌+◌, ◌<◌, ◌≤◌, Bool, true, false, List, [], ◌∷◌, ◌++◌, length, get_or, refl, sym, ◌∙◌, ap, subst, arith}
-use Rattle.std.proofs.Common.{inl, inr}
+use Rattle.std.proofs.Common.{◌≡◌, ◌≢◌, ℕ, zero, suc, ◌+◌, ◌<◌, ◌≤◌, Bool, true, false, List, [], ◌∷◌, ◌++◌, length, take, get_or, refl, sym, ◌∙◌, ap, subst, arith}
+use Rattle.std.proofs.Common.{inl, inr, Some, None}
 use Rattle.std.specs.Prelude.{◌⊎◌, ◌==◌, if◌then◌else◌, reverse, Result, Ok}
 use Rattle.std.specs.List.{AllByRecursion, filter}
 use Rattle.std.proofs.lemmas.Bool.{cases_Bool, cases_eq}
 use Rattle.std.proofs.lemmas.Bool.Decides.{nat_tests}
-use Rattle.std.proofs.lemmas.List.{reverse-append}
+use Rattle.std.proofs.lemmas.List.{reverse-append, take_more}
+use Rattle.page.specs.Cache.{kept}
 use Rattle.page.specs.Format.{Sheet}
 use Rattle.page.specs.declared.page_cache.PageCache.{PageCache}
 use Rattle.page.specs.declared.page_fault.PageFault.{PageFault}
 use Rattle.btree.specs.Keys.{times}
 use Rattle.roots.specs.Turn.{LieBehind, made_or, numbers_of}
 use Rattle.pager.specs.Calls.{Keeps}
-use Rattle.pager.specs.Writing.{IsAmong, KeepsAll}
+use Rattle.pager.specs.Writing.{Forgets, IsAmong, KeepsAll}
 use Rattle.pager.proofs.BookLemmas.{no_time, one_time}
 use Rattle.pager.proofs.ListLemmas.{all_weaker, made_here}
 
@@ -119,3 +120,17 @@ times_append n (x ∷ xs) ys = omega (arith, times_append n xs ys)
 pub times_reverse : (n : ℕ) (xs : List ℕ) → times n (reverse xs) ≡ times n xs
 times_reverse n [] = refl
 times_reverse n (x ∷ xs) = omega (arith, ap (times n) (reverse-append (x ∷ []) xs), times_append n (reverse xs) (x ∷ []), times_reverse n xs)
+
+-- ---- pages that go out of the cache
+
+pub forgets_more : (pages : List ℕ) (i d : ℕ) (before mid after : PageCache) → i < length pages → Forgets (take i pages) before mid
+    → kept after (get_or pages i d) ≡ None → ((n : ℕ) → n ≢ get_or pages i d → kept after n ≡ kept mid n) → Forgets (take (i + 1) pages) before after
+forgets_more pages i d before mid after lt so this others n found is = elim (cases_eq n (get_or pages i d)) [
+  | inl same ↦ let never : Some found ≡ None = sym is ∙ ap (kept after) same ∙ this in absurd cc
+  | inr ne ↦
+      let earlier = so n found (sym (others n ne) ∙ is) in
+      let none : times n (get_or pages i d ∷ []) ≡ 0 = no_time n (get_or pages i d) [] ne in (
+        earlier.0,
+        omega (arith, earlier.1, none, ap (times n) (take_more pages i d lt), times_append n (take i pages) (get_or pages i d ∷ [])),
+      )
+]

@@ -98,12 +98,14 @@ module _ {D : Type 0} (history : D → History) (disk : D) (mid new : Store D) (
   booked : IsBookFor [] book
   booked = subst (IsBookFor []) (sym finds.some.is) (booked_new finds.some.in_use _ (durable_root mid).generation (omega (arith, few, first.known.pages)))
 
+  long_opened : length book.states ≡ max (max limit (durable_root mid).pages) 1
+  long_opened =
+      let count = max (max limit (durable_root mid).pages) 1 in
+      ap (λ (b : Book). length b.states) finds.some.is ∙ length_used finds.some.in_use (replicate count states.Free) ∙ length-replicate count states.Free
+
   pub limit_opened : (asked : ℕ) → limit ≡ min asked 1048576 → length book.states ≡ max (min asked 1048576) (durable_root new).pages
   limit_opened asked is =
-      let count = max (max limit (durable_root mid).pages) 1 in
-      let long : length book.states ≡ count =
-      ap (λ (b : Book). length b.states) finds.some.is ∙ length_used finds.some.in_use (replicate count states.Free) ∙ length-replicate count states.Free in
-      let most : length book.states ≡ max limit (durable_root new).pages = omega (arith, long, first.known.tree, ap (λ (r : Root). r.pages) finds.root) in
+      let most : length book.states ≡ max limit (durable_root new).pages = omega (arith, long_opened, first.known.tree, ap (λ (r : Root). r.pages) finds.root) in
       most ∙ ap (λ (n : ℕ). max n (durable_root new).pages) is
 
   -- entries that the disk's root has when it is opened are committed in the store
@@ -143,6 +145,7 @@ module _ {D : Type 0} (history : D → History) (disk : D) (mid new : Store D) (
     each = tt;
     booked = booked;
     listed = listed_opened;
+    wide = omega (arith, long_opened, ap (λ (r : Root). r.pages) finds.root);
   })
 
   begins : (live : List ℕ) (entries : List Entry)

@@ -24,11 +24,11 @@ use Rattle.pager.specs.Kept.{IsBookFor, takes_of}
 use Rattle.pager.specs.State.{State}
 use Rattle.pager.specs.Turn.{IsOrderly, Returns, undone_to}
 use Rattle.pager.specs.View.{base_of, pager_history, sheets_of, store_of}
-use Rattle.pager.proofs.BookLemmas.{taken_use}
-use Rattle.pager.proofs.ListLemmas.{made_none}
+use Rattle.pager.proofs.BookLemmas.{flag_some, taken_use}
+use Rattle.pager.proofs.ListLemmas.{made_joined, made_none}
 use Rattle.pager.proofs.MemberLemmas.{IsMember, all_among, member}
 use Rattle.pager.proofs.TakeLemmas.{base_with}
-use Rattle.pager.proofs.TurnLemmas.{flag_some, same_beginning, same_root}
+use Rattle.pager.proofs.TurnLemmas.{same_beginning, same_root}
 use Rattle.pager.proofs.UndoLemmas.{behind_among, take_takes}
 
 -- ---- lists
@@ -55,10 +55,6 @@ none_made (m ∷ ms) n none = (none.0, none_made ms n none.1)
 none_too : (one other : List Sheet) (n : ℕ) → numbers_of one ≡ numbers_of other → AllByRecursion (λ (m : Sheet). m.page ≢ n) one
     → AllByRecursion (λ (m : Sheet). m.page ≢ n) other
 none_too one other n same none = none_made other n (subst (AllByRecursion (λ (k : ℕ). k ≢ n)) same (none_named one n none))
-
-made_joined : (xs ys : List Sheet) (n : ℕ) (other : Result Sheet PageFault) → made_or (xs ++ ys) n other ≡ made_or xs n (made_or ys n other)
-made_joined [] ys n other = refl
-made_joined (x ∷ xs) ys n other = ap (λ (r : Result Sheet PageFault). if x.page == n then Ok x else r) (made_joined xs ys n other)
 
 -- ---- the book
 

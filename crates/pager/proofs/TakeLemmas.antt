@@ -16,7 +16,7 @@ use Rattle.btree.specs.Keys.{times}
 use Rattle.btree.specs.Store.{HasFailed, HasNoPage, IsAt, IsMade, IsSame, KeepsWord, Stays, flag}
 use Rattle.btree.specs.declared.pages.TreeFault.{TreeFault}
 use Rattle.btree.specs.declared.pages.TreeFault.TheVariants as faults
-use Rattle.freelist.specs.Book.{Book, Takes, is_free, is_free_state, least_free, rewind, taken, undone}
+use Rattle.freelist.specs.Book.{Book, refused, Takes, is_free, is_free_state, least_free, rewind, taken, undone}
 use Rattle.freelist.specs.Coding.{state_number}
 use Rattle.freelist.specs.Undone.{after, given, take as asks}
 use Rattle.freelist.specs.declared.states.PageState.{PageState}
@@ -229,9 +229,30 @@ module _ {D : Type 0} {listed : List ℕ} (history : D → History) (store : Sto
         behind = behind_still;
       };
       listed = kept_so.listed;
+      wide = omega (arith, length-set book.states sheet.page states.InUse, kept_so.wide);
     }
 
 -- ---- no page more
+
+-- a take that found no page is counted
+pub refused_kept : {D : Type 0} (history : D → History) (store : Store D) (made : List Sheet) (book : Book) (cache : PageCache) (listed : List ℕ)
+    → IsKept history store cache made book listed → IsKept history store cache made (refused book) listed
+refused_kept history store made book cache listed so = record {
+  cached = so.cached;
+  ascending = so.ascending;
+  each = so.each;
+  booked = record {
+    sound = (stays_sound book so.booked.sound).refused;
+    no_pins = so.booked.no_pins;
+    none_waits = so.booked.none_waits;
+    turn = so.booked.turn;
+    limit = so.booked.limit;
+    count = omega arith;
+    behind = so.booked.behind;
+  };
+  listed = so.listed;
+  wide = so.wide;
+}
 
 module _ {D : Type 0} (history : D → History) (store : Store D) (made : List Sheet) (retired : List ℕ) (book new_book : Book)
     (count : book.full_takes < 2 ^ 64) where
@@ -289,30 +310,6 @@ module _ {D : Type 0} (history : D → History) (store : Store D) (made : List S
   take_failed faults.Number is word = absurd is
   take_failed faults.Order is word = absurd is
   take_failed faults.Length is word = absurd is
-
-  pub refused_kept : (cache : PageCache) (listed : List ℕ) (fault : TreeFault) → Refuses fault book new_book → IsKept history store cache made book listed
-      → IsKept history store cache made new_book listed
-  refused_kept cache listed faults.Memory is so = subst (λ (b : Book). IsKept history store cache made b listed) (sym is) so
-  refused_kept cache listed faults.Full (none, is) so = subst (λ (b : Book). IsKept history store cache made b listed) (sym is) (record {
-    cached = so.cached;
-    ascending = so.ascending;
-    each = so.each;
-    booked = record {
-      sound = (stays_sound book so.booked.sound).refused;
-      no_pins = so.booked.no_pins;
-      none_waits = so.booked.none_waits;
-      turn = so.booked.turn;
-      limit = so.booked.limit;
-      count = omega arith;
-      behind = so.booked.behind;
-    };
-    listed = so.listed;
-  })
-  refused_kept cache listed faults.Device is so = absurd is
-  refused_kept cache listed faults.Kind is so = absurd is
-  refused_kept cache listed faults.Number is so = absurd is
-  refused_kept cache listed faults.Order is so = absurd is
-  refused_kept cache listed faults.Length is so = absurd is
 
 -- ---- as the call has it
 

@@ -34,7 +34,7 @@ use Rattle.pager.specs.State.{State}
 use Rattle.pager.specs.Turn.{AreInUse, IsBegun}
 use Rattle.pager.specs.View.{base_of, pager_history, sheets_of, store_of}
 use Rattle.pager.specs.Writing.{retired_all, written_of}
-use Rattle.pager.proofs.BookLemmas.{kept_use, one_time, taken_use}
+use Rattle.pager.proofs.BookLemmas.{flag_most, made_below, taken_use}
 use Rattle.pager.proofs.ListLemmas.{all_weaker, made_none}
 use Rattle.pager.proofs.MemberLemmas.{all_filter, each_counted, member, more_times, times_append, times_reverse}
 use Rattle.pager.proofs.ReadLemmas.{HasListIn, of_same}
@@ -52,14 +52,6 @@ same_states one other same = sym (states_back one) ∙ ap (map number_state) sam
 length_rewind : (made : List Sheet) (pages : List PageState) → length (rewind (takes_of made) pages) ≡ length pages
 length_rewind [] pages = refl
 length_rewind (m ∷ made) pages = length-set (rewind (takes_of made) pages) m.page states.Free ∙ length_rewind made pages
-
-pub flag_some : (b : Bool) → 1 ≤ flag b → b ≡ true
-flag_some true some = refl
-flag_some false some = absurd (omega (arith, some))
-
-pub flag_most : (b : Bool) → flag b ≤ 1
-flag_most true = omega arith
-flag_most false = omega arith
 
 -- a flag that is one number, by whether the store has stopped
 running_by : (one other : Bool) → flag one ≡ flag other → other ≡ false → one ≡ false
@@ -137,7 +129,7 @@ module _ {D : Type 0} (history : D → History) (p start : State D) (stays : Sta
   can : CanRewind (takes_of p.made) p.book.states
   can = subst (λ (turn : List Change). CanRewind turn p.book.states) booked.turn booked.sound.undoable
 
-  used_with : (parts : List Part) → HasListIn live parts (now (pager_history history p)) (durable_root p.store)
+  pub used_with : (parts : List Part) → HasListIn live parts (now (pager_history history p)) (durable_root p.store)
       → (n : ℕ) → n < length p.book.states → times n (reached_by live parts) + times n (numbers_of p.made) ≡ flag (is_in_use p.book.states n)
   used_with parts has n within =
       let then_used : times n (reached_by live parts) ≡ flag (is_in_use start.book.states n) =
@@ -146,15 +138,10 @@ module _ {D : Type 0} (history : D → History) (p start : State D) (stays : Sta
       ap (λ (pages : List PageState). flag (is_in_use pages n)) states_then in
       omega (arith, then_used, same, taken_use p.made p.book.states can n)
 
-  made_within : (n : ℕ) → 1 ≤ times n (numbers_of p.made) → n < length p.book.states
-  made_within n some =
-      let used : is_in_use p.book.states n ≡ true = flag_some (is_in_use p.book.states n) (omega (arith, some, taken_use p.made p.book.states can n)) in
-      below p.book.states n states.InUse (used_is (get_or p.book.states n states.Retired) used) (λ e. cc)
-
-  made_apart : (parts : List Part) → HasListIn live parts (now (pager_history history p)) (durable_root p.store)
+  pub made_apart : (parts : List Part) → HasListIn live parts (now (pager_history history p)) (durable_root p.store)
       → AllByRecursion (λ (m : Sheet). times m.page (reached_by live parts) ≡ 0) p.made
   made_apart parts has = all_weaker (λ (m : Sheet). 1 ≤ times m.page (numbers_of p.made)) (λ (m : Sheet). times m.page (reached_by live parts) ≡ 0)
-      (λ m some. omega (arith, some, used_with parts has m.page (made_within m.page some), flag_most (is_in_use p.book.states m.page))) p.made
+      (λ m some. omega (arith, some, used_with parts has m.page (made_below p.made p.book booked m.page some), flag_most (is_in_use p.book.states m.page))) p.made
       (each_counted p.made)
 
   -- ---- with the own pages of the list that the root names
@@ -172,83 +159,7 @@ module _ {D : Type 0} (history : D → History) (p start : State D) (stays : Sta
     times_once n = elim (cases_lt n (length p.book.states)) [
       | inl within ↦ omega (arith, used_now n within, flag_most (is_in_use p.book.states n))
       | inr past ↦ elim (cases_lt 0 (times n (numbers_of p.made))) [
-        | inl some ↦ absurd (omega (arith, past, made_within n (omega (arith, some))))
+        | inl some ↦ absurd (omega (arith, past, made_below p.made p.book booked n (omega (arith, some))))
         | inr none ↦ omega (arith, none, ((committed_still history p start stays word live before begun).keeps.holds word).once n)
       ]
     ]
-
-  -- ---- the turn as its store sees it
-
-  module _ (listed : List ℕ) (are : AreListed history p.store listed) (root : ℕ) (pages : List ℕ) (after : List Entry)
-      (turn : IsTurn history start p root live pages after) (version : ℕ) where
-    abbrev planned : Book
-    planned = retired_all version (p.retired ++ listed) p.book
-
-    abbrev written : List Sheet
-    written = written_of planned p.made
-
-    abbrev test : Sheet → Bool
-    test sheet = is_of_tree sheet.content && is_in_use planned.states sheet.page
-
-    abbrev next : Root
-    next = next_root (durable_root p.store) written root 0 0
-
-    abbrev image : ℕ → List ℕ
-    image = reads (now (pager_history history p))
-
-    abbrev after_store : Store
-    after_store = image_store (λ j. made_or written j (sheet_at image next j))
-
-    pub account : (n : ℕ) → times n pages + times n p.retired ≡ times n live + times n (numbers_of p.made)
-    account n = omega (arith, turn.account n, times_reverse n p.retired, times_reverse n (numbers_of p.made))
-
-    live_part : (a b : Bool) → (a && b) ≡ true → a ≡ true
-    live_part true b is = refl
-    live_part false b is = absurd cc
-
-    moved_page : (n : ℕ) → 1 ≤ times n pages → IsOfTree (store_of history p) n → Moves (store_of history p) after_store n
-    moved_page n reached whole content at =
-        let there : is_ok (sheets_of history p n) ≡ true = live_part (is_ok (sheets_of history p n)) _ at.live in
-        elim (member p.made n) [
-          | inl none ↦
-              let other : sheets_of history p n ≡ sheet_at image (durable_root p.store) n = made_none p.made n (sheet_at image (durable_root p.store) n) none in
-              kept_there image (durable_root p.store) written root 0 0 n content (all_filter (λ (m : Sheet). m.page ≢ n) test p.made none)
-              (record { number = at.number; live = ap is_ok (sym other) ∙ there; holds = ap content_in (sym other) ∙ at.holds })
-          | inr r ↦
-              let is : sheets_of history p n ≡ Ok r.sheet = r.there (sheet_at image (durable_root p.store) n) in
-              let within = made_within n r.count in
-              let now_used = used_now listed are n within in
-              let none : times n (p.retired ++ listed) ≡ 0 =
-              omega (arith, reached, account n, now_used, r.count, flag_most (is_in_use p.book.states n), times_append n p.retired listed) in
-              let used : is_in_use p.book.states n ≡ true = flag_some (is_in_use p.book.states n) (omega (arith, now_used, r.count)) in
-              let stays : is_in_use planned.states r.sheet.page ≡ true =
-              ap (is_in_use planned.states) r.is ∙ kept_use version (p.retired ++ listed) n p.book none ∙ used in
-              let fits : is_of_tree r.sheet.content ≡ true = ap (λ (found : Result Sheet PageFault). is_of_tree (content_in found)) (sym is) ∙ whole in
-              let passes : test r.sheet ≡ true = (λ i. fits i && stays i) in
-              let found : made_or written n (sheet_at image next n) ≡ Ok r.sheet = r.passed test passes (sheet_at image next n) in
-              record { number = at.number; live = ap is_ok found; holds = ap content_in found ∙ ap content_in (sym is) ∙ at.holds }
-        ]
-
-    moved_pages : (some : List ℕ) → Each (IsOfTree (store_of history p)) some → ((n : ℕ) → times n some ≤ times n pages)
-        → Each (Moves (store_of history p) after_store) some
-    moved_pages [] whole less = tt
-    moved_pages (n ∷ rest) whole less = (
-      moved_page n (omega (arith, less n, one_time n n rest refl)) whole.0,
-      moved_pages rest whole.1 (λ m. omega (arith, less m, more_times m n rest)),
-    )
-
-    pub roots_turn : LieBehind 0 written → AllByRecursion (λ (m : Sheet). m.page < 1048576) written
-        → AllByRecursion (IsSheet ((durable_root p.store).generation + 1)) written
-        → IsRootsTurn (pager_history history p) (durable_root p.store) live written next pages after
-    roots_turn lie inside sheets = record {
-      ascending = lie;
-      inside = inside;
-      sheets = sheets;
-      free = λ _ parts has. all_filter (λ (m : Sheet). times m.page (reached_by live parts) ≡ 0) test p.made (made_apart parts has);
-      holds = λ _. record {
-        map = map_moved (store_of history p) after_store root pages after
-            (moved_pages pages (map_pages (store_of history p) root pages after turn.holds) (λ n. omega arith)) turn.holds;
-        once = λ n. omega (arith, account n, times_once listed are n);
-        listed = ([], empty_list (λ j. made_or written j (sheet_at image next j)) next pages (refl, refl));
-      };
-    }

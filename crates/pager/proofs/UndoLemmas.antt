@@ -105,6 +105,7 @@ module _ {D : Type 0} {listed : List ℕ} (history : D → History) (store : Sto
       behind = behind_still;
     };
     listed = so.listed;
+    wide = omega (arith, ap length states_are, length_takes (drop n made) book.states, so.wide);
   }
 
 -- back to where the turn began

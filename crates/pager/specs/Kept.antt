@@ -1,6 +1,6 @@
 -- What holds of every pager: its cache agrees with its disk, and its turn with its book.
 use Rattle.std.specs.Prelude.{◌≡◌, ℕ, ◌+◌, ◌<◌, ◌≤◌, ◌^◌, true, List, [], length, map, Some, None}
-use Rattle.std.specs.Prelude.{Ok}
+use Rattle.std.specs.Prelude.{Ok, max}
 use Rattle.std.specs.List.{AllByRecursion}
 use Rattle.page.specs.Cache.{kept}
 use Rattle.page.specs.Format.{Sheet}
@@ -63,3 +63,5 @@ pub record IsKept {D : Type 0} (history : D → History) (store : Store D) (cach
   pub each : AllByRecursion (IsNew (durable_root store).generation cache) made
   pub booked : IsBookFor made book
   pub listed : AreListed history store list_pages
+  -- the book has each page of the file
+  pub wide : max (durable_root store).pages 1 ≤ length book.states

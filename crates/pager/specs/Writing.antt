@@ -5,6 +5,7 @@ use Rattle.page.specs.Cache.{kept}
 use Rattle.page.specs.Content.{is_of_tree}
 use Rattle.page.specs.Format.{Sheet}
 use Rattle.page.specs.declared.page_cache.PageCache.{PageCache}
+use Rattle.btree.specs.Keys.{times}
 use Rattle.freelist.specs.Book.{Book, is_in_use, retired}
 
 -- the book after these pages were retired, one after the other
@@ -25,3 +26,8 @@ IsAmong sheet (other ∷ others) = (sheet ≡ other) ⊎ IsAmong sheet others
 abbrev pub KeepsAll : List Sheet → PageCache → PageCache → Type 0
 KeepsAll pages before after = (n : ℕ) (found : Sheet) → kept after n ≡ Some found
     → (kept before n ≡ Some found) ⊎ ((found.page ≡ n) × IsAmong found pages)
+
+-- what is kept was kept before, and is none of these pages
+abbrev pub Forgets : List ℕ → PageCache → PageCache → Type 0
+Forgets pages before after = (n : ℕ) (found : Sheet) → kept after n ≡ Some found
+    → (kept before n ≡ Some found) × (times n pages ≡ 0)

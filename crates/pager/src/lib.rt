@@ -5,6 +5,7 @@
 mod finding;
 mod mark;
 mod pager;
+mod planning;
 mod reading;
 mod taking;
 mod writing;

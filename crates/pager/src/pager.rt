@@ -3,9 +3,10 @@ ghost use Rattle.std.specs.Prelude.{◌≡◌};
 
 use crate::finding::find_page;
 use crate::mark::Mark;
+use crate::planning::plan_commit;
 use crate::reading::read_page;
 use crate::taking::take_page;
-use crate::writing::{keep_all, plan_commit};
+use crate::writing::{forget_all, keep_all};
 use btree::{Pages, TreeFault};
 use freelist::FreePages;
 use page::{Disk, PageCache, PageContent, SharedPage};
@@ -160,35 +161,42 @@ impl<D: Disk> Pager<D> {
         self.retired.truncate(mark.retired);
     }
 
-    /// Makes the tree below this page the committed one: the pages that the turn made and didn't retire are written, then the
-    /// root, which names no list of free pages. What it retired is free from then on, and so are the pages of the list that the
-    /// last root named. An `Err` leaves the turn, to be undone. It reads nothing.
+    /// Makes the tree below this page the committed one, with a list of the pages that are free then: the pages that the turn made
+    /// and didn't retire are written, then those of the list, then the root. What it retired is free from then on, and so are the
+    /// pages of the list that the last root named. An `Err` leaves the turn, to be undone. It reads nothing.
     pub fn commit(&mut self, root: u32) -> Result<(), CommitFault>
         ensures commits { Commits D.history root result self.old self.new }
         ensures takes { CountsTakes result self.old self.new }
         ensures moves { MovesTurns D.history root result self.old self.new }
     {
+        if self.store.is_stopped() {
+            return Err(CommitFault::Device);
+        }
         let mark = self.book.mark();
-        let version = self.store.root().generation;
-        let Ok(written) = plan_commit(
+        let plan = match plan_commit(
             self.alloc,
             &mut self.book,
             &self.made,
             &self.retired,
             &self.listed,
-            version,
-        ) else {
-            return Err(CommitFault::Memory);
+            self.store.root(),
+        ) {
+            Ok(plan) => plan,
+            Err(fault) => return Err(fault),
         };
-        if let Err(fault) = self.store.commit(&written, root, 0, 0) {
+        forget_all(&mut self.cache, &plan.listed);
+        if let Err(fault) = self
+            .store
+            .commit(&plan.written, root, plan.free_list, plan.free_count)
+        {
             self.book.undo_to(mark);
             return Err(fault);
         }
         self.book.commit(self.store.root().generation);
-        keep_all(&mut self.cache, &written);
+        keep_all(&mut self.cache, &plan.written);
         self.made.clear();
         self.retired.clear();
-        self.listed.clear();
+        self.listed = plan.listed;
         Ok(())
     }
 }

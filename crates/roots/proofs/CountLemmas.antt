@@ -34,11 +34,11 @@ abbrev one_if : Bool → ℕ
 one_if b = if b then 1 else 0
 
 -- a number from 1 to below another one
-abbrev IsInside : ℕ → ℕ → Type 0
+abbrev pub IsInside : ℕ → ℕ → Type 0
 IsInside most n = (0 < n) × (n < most)
 
 -- a page of the image is one of the file's behind page 0
-sheet_inside : (image : ℕ → List ℕ) (root : Root) (n : ℕ) → is_ok (sheet_at image root n) ≡ true → IsInside root.pages n
+pub sheet_inside : (image : ℕ → List ℕ) (root : Root) (n : ℕ) → is_ok (sheet_at image root n) ≡ true → IsInside root.pages n
 sheet_inside image root n there = elim (cases_lt 0 n) [
   | inl some ↦ elim (cases_lt n root.pages) [
     | inl below ↦ (some, below)

@@ -82,12 +82,34 @@ small_numbers page_count (n ∷ ns) few all = (omega (arith, all.0.1, few), smal
 
 -- ---- each page of the list
 
+next_small : (page_count : ℕ) (pages named : List ℕ) → page_count ≤ 1048576 → AllByRecursion (λ (n : ℕ). (0 < n) × (n < page_count)) pages
+    → first_page (written pages named) < 2 ^ 32
+next_small page_count [] named few all = omega arith
+next_small page_count (page ∷ pages) named few all = omega (arith, all.0.1, few)
+
+-- it can be written
+pub list_is_written : (bound generation page_count : ℕ) → 1 ≤ generation → generation ≤ bound → generation < 2 ^ 64 → page_count ≤ 1048576
+    → (pages named : List ℕ) → AllByRecursion (λ (n : ℕ). (0 < n) × (n < page_count)) pages
+    → ((n : ℕ) → times_in n named ≤ room_for page_count n) → AllByRecursion (IsSheet bound) (list_sheets generation (written pages named))
+list_is_written bound generation page_count some until small few [] named all room = tt
+list_is_written bound generation page_count some until small few (page ∷ pages) named all room = (
+  record {
+    page = omega (arith, all.0.1, few);
+    some = some;
+    small = small;
+    until = until;
+    content = (
+      next_small page_count pages (drop 1019 named) few all.1,
+      omega (arith, length-take 1019 named),
+      small_numbers page_count (take 1019 named) (omega (arith, few))
+          (all_pages page_count (take 1019 named) (λ n. omega (arith, room n, times_in_front n 1019 named))),
+    );
+  },
+  list_is_written bound generation page_count some until small few pages (drop 1019 named) all.1 (λ n. omega (arith, room n, times_behind n 1019 named)),
+)
+
 module _ (image : ℕ → List ℕ) (root : Root) (generation : ℕ) (some : 1 ≤ generation) (until : generation ≤ root.generation)
     (small : root.generation < 2 ^ 64) (few : root.pages ≤ 1048576) where
-  next_small : (pages named : List ℕ) → AllByRecursion (λ (n : ℕ). (0 < n) × (n < root.pages)) pages → first_page (written pages named) < 2 ^ 32
-  next_small [] named all = omega arith
-  next_small (page ∷ pages) named all = omega (arith, all.0.1, few)
-
   one_there : (sheet : Sheet) → 0 < sheet.page → sheet.page < root.pages → IsSheet root.generation sheet
       → AreWritten image (sheet ∷ []) → sheet_at image root sheet.page ≡ Ok sheet
   one_there sheet positive inside is there =
@@ -100,24 +122,9 @@ module _ (image : ℕ → List ℕ) (root : Root) (generation : ℕ) (some : 1 �
       → Holds (listed_in image root) (written pages named)
   holds_written [] named all room there = tt
   holds_written (page ∷ pages) named all room there =
-      let sheet : Sheet = record {
-        page = page;
-        generation = generation;
-        content = free_list (first_page (written pages (drop 1019 named))) (take 1019 named);
-      } in
-      let is : IsSheet root.generation sheet = record {
-        page = omega (arith, all.0.1, few);
-        some = some;
-        small = omega (arith, until, small);
-        until = until;
-        content = (
-          next_small pages (drop 1019 named) all.1,
-          omega (arith, length-take 1019 named),
-          small_numbers root.pages (take 1019 named) (omega (arith, few))
-              (all_pages root.pages (take 1019 named) (λ n. omega (arith, room n, times_in_front n 1019 named))),
-        );
-      } in (
-        ap listed_sheet (one_there sheet all.0.0 all.0.1 is (there.0, tt)),
+      let all_sheets =
+      list_is_written root.generation generation root.pages some until (omega (arith, until, small)) few (page ∷ pages) named all room in (
+        ap listed_sheet (one_there _ all.0.0 all.0.1 all_sheets.0 (there.0, tt)),
         holds_written pages (drop 1019 named) all.1 (λ n. omega (arith, room n, times_behind n 1019 named)) there.1,
       )
 

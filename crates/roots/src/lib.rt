@@ -14,4 +14,4 @@ pub use counting::PageCounts;
 pub use listing::list_sheets;
 pub use opening::OpenFault;
 pub use root::{MAX_PAGES, Root};
-pub use store::{CommitFault, Config, LEAST_LIMIT, Store};
+pub use store::{CommitFault, Config, LEAST_LIMIT, Store, end_of};

@@ -82,7 +82,7 @@ fn greater(one: u32, other: u32) -> u32
 }
 
 /// The number of pages of a file that ends behind these, with page 0.
-fn end_of(made: &[SharedPage]) -> u32
+pub fn end_of(made: &[SharedPage]) -> u32
     ensures { AllByRecursion (λ (sheet : Sheet). sheet.page < 1048576) made.now
         → result ≡ end_behind 1 made.now }
 {

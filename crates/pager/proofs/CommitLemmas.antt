@@ -1,0 +1,128 @@
+-- A commit, by what was planned for it.
+use Rattle.std.proofs.Common.{◌≡◌, ℕ, ◌+◌, ◌≤◌, List, [], ◌++◌, length, refl, sym, ◌∙◌, ap, subst, arith, None}
+use Rattle.std.specs.Prelude.{Ok, Err}
+use Rattle.std.specs.List.{AllByRecursion}
+use Rattle.page.specs.Cache.{kept}
+use Rattle.page.specs.Content.{IsContent}
+use Rattle.page.specs.Format.{Sheet}
+use Rattle.page.specs.History.{History, KeepsWord, now}
+use Rattle.page.specs.declared.page_cache.PageCache.{PageCache}
+use Rattle.btree.specs.Keys.{times}
+use Rattle.freelist.specs.Book.{Book, committed, undone}
+use Rattle.freelist.specs.FreeList.{first_page, written}
+use Rattle.freelist.specs.ListWriting.{IsMade}
+use Rattle.freelist.proofs.TakenPages.{goes_back}
+use Rattle.roots.specs.Commit.{CommitsRoot, LeavesPages, MovesMaps}
+use Rattle.roots.specs.Store.{disk_history, durable_root}
+use Rattle.roots.specs.declared.root.Root.{Root}
+use Rattle.roots.specs.declared.store.CommitFault.{CommitFault}
+use Rattle.roots.specs.declared.store.Store.{Store}
+use Rattle.pager.specs.Commit.{MovesTurns}
+use Rattle.pager.specs.Kept.{IsKept}
+use Rattle.pager.specs.Planning.{IsPlanned, pages_with}
+use Rattle.pager.specs.State.{State}
+use Rattle.pager.specs.Writing.{Forgets, KeepsAll}
+use Rattle.pager.specs.declared.planning.Plan.{Plan}
+use Rattle.pager.proofs.AfterLemmas.{gone_then, kept_after, kept_failed, kept_forgotten, list_now}
+use Rattle.pager.proofs.BookLemmas.{all_full, all_longer, back_all, back_both}
+use Rattle.pager.proofs.EndLemmas.{moves_done, moves_failed}
+use Rattle.pager.proofs.PlanLemmas.{all, named_few, planned, tree, tree_inside, wide}
+use Rattle.pager.proofs.ReadLemmas.{IsListIn}
+
+-- what was planned for the parts that a call was handed is planned for those of the pager
+pub told : {root then : Root} {one made : List Sheet} {gone retired other listed : List ℕ} (plan : Plan) (book final : Book) → root ≡ then → one ≡ made
+    → gone ≡ retired → other ≡ listed → IsPlanned root one (gone ++ other) plan book final → IsPlanned then made (retired ++ listed) plan book final
+told {root = root} {one = one} {made = made} {retired = retired} {listed = listed} plan book final root_is made_is retired_is listed_is so =
+    subst (λ (r : Root). IsPlanned r made (retired ++ listed) plan book final) root_is
+    (subst (λ (m : List Sheet). IsPlanned root m (retired ++ listed) plan book final) made_is
+    (subst (λ (pages : List ℕ). IsPlanned root one pages plan book final) (λ j. retired_is j ++ listed_is j) so))
+
+module _ {D : Type 0} {listed : List ℕ} (history : D → History) (store : Store D) (before cache : PageCache) (made : List Sheet) (retired : List ℕ)
+    (book final : Book) (so_before : IsKept history store before made book listed) (plan : Plan)
+    (is : IsPlanned (durable_root store) made (retired ++ listed) plan book final) (forgets : Forgets plan.listed.items before cache) where
+  abbrev p : State D
+  p = record { store = store; made = made; retired = retired; book = book }
+
+  so : IsKept history store cache made book listed
+  so = kept_forgotten history store before cache made book plan.listed.items so_before forgets
+
+  abbrev pages : List ℕ
+  pages = plan.listed.items
+
+  abbrev mid : Book
+  mid = planned history store cache made (retired ++ listed) book so
+
+  abbrev those : List Sheet
+  those = tree history store cache made (retired ++ listed) book so
+
+  list : IsMade (pages_with (durable_root store) those) pages is.named mid final
+  list = is.list (tree_inside history store cache made (retired ++ listed) book so)
+
+  gone : (n : ℕ) → 1 ≤ times n pages → kept cache n ≡ None
+  gone = gone_then pages before cache forgets
+
+  abbrev written_all : List Sheet
+  written_all = all history store cache made (retired ++ listed) book so pages is.named final list
+
+  abbrev first : ℕ
+  first = first_page (written pages is.named)
+
+  count_is : plan.free_count ≡ length is.named
+  count_is = omega (arith, is.count, named_few history store cache made (retired ++ listed) book so pages is.named final list)
+
+  -- what is said of the plan's pages, in the words of its parts
+  recast : (P : List Sheet → ℕ → ℕ → Type 0) → P plan.written.items plan.free_list plan.free_count → P written_all first (length is.named)
+  recast P holds =
+      subst (λ (sheets : List Sheet). P sheets first (length is.named)) is.writes
+      (subst (λ (n : ℕ). P plan.written.items n (length is.named)) is.first (subst (P plan.written.items plan.free_list) count_is holds))
+
+  -- undoing leads back
+  pub goes_back_all : undone (length book.turn) final ≡ book
+  goes_back_all =
+      back_both book mid final (all_longer (durable_root store).generation (retired ++ listed) book)
+      (wide history store cache made (retired ++ listed) book so pages is.named final list).longer (goes_back pages mid final list.takes)
+      (back_all (durable_root store).generation (retired ++ listed) book)
+
+  pub full_same : final.full_takes ≡ book.full_takes
+  full_same =
+      (wide history store cache made (retired ++ listed) book so pages is.named final list).full
+      ∙ all_full (durable_root store).generation (retired ++ listed) book
+
+  -- ---- it failed
+
+  module _ (root : ℕ) (fault : CommitFault) (new : Store D) (commits : CommitsRoot history root (Err fault) store new) where
+    pub failed_kept : LeavesPages history plan.written.items root plan.free_list plan.free_count (Err fault) store new
+        → IsKept history new cache made book listed
+    failed_kept leaves =
+        kept_failed history store cache made (retired ++ listed) book so pages is.named final list gone new root first (length is.named) fault commits
+        (recast (λ sheets free_list free_count. LeavesPages history sheets root free_list free_count (Err fault) store new) leaves)
+
+    pub failed_moves : MovesMaps history plan.written.items root plan.free_list plan.free_count (Err fault) store new
+        → MovesTurns history root (Err fault) p (record { store = new; made = made; retired = retired; book = book })
+    failed_moves moves =
+        moves_failed history store cache made retired book so pages is.named final list root fault new commits
+        (recast (λ sheets free_list free_count. MovesMaps history sheets root free_list free_count (Err fault) store new) moves) is.content
+
+  -- ---- it was done
+
+  module _ (root : ℕ) (new : Store D) (commits : CommitsRoot history root (Ok tt) store new)
+      (leaves : LeavesPages history plan.written.items root plan.free_list plan.free_count (Ok tt) store new) (after : PageCache)
+      (keeps : KeepsAll plan.written.items cache after) (last : ℕ) where
+    leaves_all : LeavesPages history written_all root first (length is.named) (Ok tt) store new
+    leaves_all = recast (λ sheets free_list free_count. LeavesPages history sheets root free_list free_count (Ok tt) store new) leaves
+
+    keeps_all : KeepsAll written_all cache after
+    keeps_all = subst (λ (sheets : List Sheet). KeepsAll sheets cache after) is.writes keeps
+
+    pub done_kept : IsKept history new after [] (committed last final) pages
+    done_kept =
+        kept_after history store cache made (retired ++ listed) book so pages is.named final list gone new after root leaves_all is.content keeps_all
+        commits.on.kept last
+
+    pub done_moves : MovesMaps history plan.written.items root plan.free_list plan.free_count (Ok tt) store new
+        → MovesTurns history root (Ok tt) p (record { store = new; made = []; retired = []; book = committed last final })
+    done_moves moves =
+        moves_done history store cache made retired book so pages is.named final list root new commits
+        (recast (λ sheets free_list free_count. MovesMaps history sheets root free_list free_count (Ok tt) store new) moves) is.content
+        (list_now history store cache made (retired ++ listed) book so pages is.named final list gone new after root leaves_all is.content keeps_all
+        commits.on.kept) last

@@ -1,0 +1,162 @@
+-- What a commit writes: the pages of the turn that are in use, and behind them those of a list of what is free then.
+use Rattle.std.proofs.Common.{◌≡◌, ℕ, ◌+◌, ◌<◌, ◌≤◌, max, List, [], ◌++◌, length, refl, ◌∙◌, ap, arith, None}
+use Rattle.std.specs.Prelude.{Bool, true, ◌&&◌}
+use Rattle.std.specs.List.{AllByRecursion}
+use Rattle.page.specs.Cache.{kept}
+use Rattle.page.specs.Content.{IsContent, is_of_tree}
+use Rattle.page.specs.Format.{Sheet}
+use Rattle.page.specs.History.{History}
+use Rattle.page.specs.PageLaws.{IsSheet}
+use Rattle.page.specs.declared.page_cache.PageCache.{PageCache}
+use Rattle.btree.specs.Keys.{times}
+use Rattle.freelist.specs.Book.{Book, committed, is_free, is_in_use}
+use Rattle.freelist.specs.FreeList.{AreOnceBelow, written}
+use Rattle.freelist.specs.ListWriting.{IsMade, count_with}
+use Rattle.freelist.specs.Sound.{IsSound}
+use Rattle.freelist.proofs.MadeLists.{once, stays_sound_taking}
+use Rattle.freelist.proofs.Marking.{times_in-append}
+use Rattle.freelist.proofs.SoundBooks.{stays_sound}
+use Rattle.roots.specs.declared.root.Root.{Root}
+use Rattle.roots.specs.declared.store.Store.{Store}
+use Rattle.roots.specs.Listed.{list_sheets}
+use Rattle.roots.specs.Store.{durable_root}
+use Rattle.roots.specs.Turn.{LieBehind, numbers_of}
+use Rattle.roots.proofs.ListingLemmas.{all_pages, list_is_written}
+use Rattle.pager.specs.Kept.{IsBookFor, IsKept, IsNew}
+use Rattle.pager.specs.Planning.{next_generation, pages_with}
+use Rattle.pager.specs.Writing.{retired_all, written_of}
+use Rattle.pager.proofs.BookLemmas.{all_full, all_length, all_pins, all_sound, all_waiting, committed_length, committed_waiting, made_below}
+use Rattle.pager.proofs.ListLemmas.{all_both, all_joined, all_weaker, lie_joined}
+use Rattle.pager.proofs.ListedLemmas.{IsAsWide, all_free, as_wide, count_all, count_within, end_within, few_unused, free_before, free_inside, list_rises, sheets_of}
+use Rattle.pager.proofs.MemberLemmas.{all_filter, each_counted, lie_filter}
+
+module _ {D : Type 0} {listed : List ℕ} (history : D → History) (store : Store D) (cache : PageCache) (made : List Sheet) (retired : List ℕ) (book : Book)
+    (so : IsKept history store cache made book listed) where
+  abbrev root : Root
+  root = durable_root store
+
+  abbrev pub planned : Book
+  planned = retired_all root.generation retired book
+
+  abbrev pub tree : List Sheet
+  tree = written_of planned made
+
+  abbrev test : Sheet → Bool
+  test sheet = is_of_tree sheet.content && is_in_use planned.states sheet.page
+
+  tree_new : AllByRecursion (IsNew root.generation cache) tree
+  tree_new = all_filter (IsNew root.generation cache) test made so.each
+
+  pub tree_inside : AllByRecursion (λ (m : Sheet). m.page < 1048576) tree
+  tree_inside = all_weaker (IsNew root.generation cache) (λ (m : Sheet). m.page < 1048576) (λ m one. one.inside) tree tree_new
+
+  pub planned_sound : IsSound planned
+  planned_sound = all_sound root.generation retired book so.booked.sound
+
+  pub planned_pins : planned.pins ≡ []
+  planned_pins = all_pins root.generation retired book ∙ so.booked.no_pins
+
+  pub planned_waiting : planned.waiting ≡ []
+  planned_waiting = all_waiting root.generation retired book ∙ so.booked.none_waits
+
+  pub planned_long : length planned.states ≡ length book.states
+  planned_long = all_length root.generation retired book
+
+  module _ (pages named : List ℕ) (final : Book) (list : IsMade (pages_with root tree) pages named planned final) where
+    abbrev born : ℕ
+    born = next_generation root
+
+    abbrev sheets : List Sheet
+    sheets = list_sheets born (written pages named)
+
+    abbrev pub all : List Sheet
+    all = tree ++ sheets
+
+    abbrev count : ℕ
+    count = count_with (pages_with root tree) pages
+
+    pub wide : IsAsWide planned final
+    wide = as_wide pages planned final list.takes
+
+    -- what is taken for the list was free all along
+    pub free_then : (n : ℕ) → 1 ≤ times n pages → is_free book.states n ≡ true
+    free_then n some = free_before root.generation retired book n (all_free pages planned final list.takes n some)
+
+    pub all_lie : LieBehind 0 all
+    all_lie =
+        lie_joined 0 tree sheets (lie_filter 0 test made so.ascending)
+        (list_rises 0 born pages named planned final list.takes (λ n free. (free_inside planned.states n free).0))
+        (sheets_of (λ (y : Sheet). AllByRecursion (λ (x : Sheet). x.page < y.page) tree) born pages named
+        (λ m is some. all_filter (λ (x : Sheet). x.page < m.page) test made (so.booked.behind m.page (free_then m.page some))))
+
+    pub all_inside : AllByRecursion (λ (m : Sheet). m.page < 1048576) all
+    all_inside =
+        all_joined (λ (m : Sheet). m.page < 1048576) tree sheets tree_inside
+        (sheets_of (λ (m : Sheet). m.page < 1048576) born pages named
+        (λ m is some. omega (arith, (free_inside book.states m.page (free_then m.page some)).1, so.booked.limit)))
+
+    -- where none of the list's pages is in the cache
+    pub all_new : ((n : ℕ) → 1 ≤ times n pages → kept cache n ≡ None) → AllByRecursion (IsNew root.generation cache) all
+    all_new gone =
+        all_joined (IsNew root.generation cache) tree sheets tree_new
+        (sheets_of (IsNew root.generation cache) born pages named (λ m is some. record {
+          inside = omega (arith, (free_inside book.states m.page (free_then m.page some)).1, so.booked.limit);
+          some = omega (arith, is);
+          small = omega (arith, is);
+          until = omega (arith, is);
+          uncached = gone m.page some;
+        }))
+
+    -- the file has so many pages then
+    pub count_is : pages_with root all ≡ count
+    count_is = count_all root.pages 1 0 born tree pages named (omega arith) all_lie
+
+    pub fits : count ≤ length planned.states
+    fits =
+        let each : AllByRecursion (λ (m : Sheet). m.page < length planned.states) tree =
+        all_filter (λ (m : Sheet). m.page < length planned.states) test made
+        (all_weaker (λ (m : Sheet). 1 ≤ times m.page (numbers_of made)) (λ (m : Sheet). m.page < length planned.states)
+        (λ m some. omega (arith, planned_long, made_below made book so.booked m.page some)) made (each_counted made)) in
+        count_within (length planned.states) (pages_with root tree) pages
+        (omega (arith, so.wide, planned_long, end_within (length planned.states) 1 tree (omega (arith, so.wide, planned_long)) each))
+        (λ n some. omega (arith, planned_long, (free_inside book.states n (free_then n some)).1))
+
+    pub few : count ≤ 1048576
+    few = omega (arith, fits, planned_long, so.booked.limit)
+
+    pub named_few : length named ≤ 1048576
+    named_few = omega (arith, ap length list.names, few_unused count final.states, few)
+
+    pub all_sheets : AllByRecursion (λ (m : Sheet). IsContent m.content) tree → AllByRecursion (IsSheet (root.generation + 1)) all
+    all_sheets content =
+        let each_once : AreOnceBelow count (pages ++ named) = once (pages_with root tree) pages named planned final list in
+        all_joined (IsSheet (root.generation + 1)) tree sheets
+        (all_both (IsNew root.generation cache) (λ (m : Sheet). IsContent m.content) (IsSheet (root.generation + 1))
+        (λ m one holds. record { page = omega (arith, one.inside); some = one.some; small = one.small; until = one.until; content = holds }) tree tree_new
+        content)
+        (list_is_written (root.generation + 1) born count (omega arith) (omega arith) (omega arith) few pages named
+        (all_pages count pages (λ n. omega (arith, each_once n, times_in-append n pages named)))
+        (λ n. omega (arith, each_once n, times_in-append n pages named)))
+
+    -- the book of the next turn
+    pub final_sound : IsSound final
+    final_sound = stays_sound_taking pages planned final list.takes planned_sound
+
+    pub booked_after : (last : ℕ) → IsBookFor [] (committed last final)
+    booked_after last =
+        let pins = wide.pins ∙ planned_pins in
+        let waiting = wide.waiting ∙ planned_waiting in
+        record {
+          sound = (stays_sound final final_sound).committed last;
+          no_pins = pins;
+          none_waits = committed_waiting last final final_sound pins waiting;
+          turn = refl;
+          limit = omega (arith, committed_length last final final_sound pins waiting, wide.long, planned_long, so.booked.limit);
+          count = omega (arith, wide.full, all_full root.generation retired book, so.booked.count);
+          behind = λ n free. tt;
+        }
+
+    pub wide_after : (last : ℕ) → max (pages_with root all) 1 ≤ length (committed last final).states
+    wide_after last =
+        omega (arith, count_is, fits, wide.long, committed_length last final final_sound (wide.pins ∙ planned_pins) (wide.waiting ∙ planned_waiting), so.wide,
+        planned_long)

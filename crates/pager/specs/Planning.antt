@@ -1,0 +1,54 @@
+-- What a commit is to write.
+use Rattle.std.specs.Prelude.{◌≡◌, ℕ, ◌+◌, ◌-◌, ◌^◌, ◌<◌, max, min, List, ◌++◌, length}
+use Rattle.std.specs.List.{AllByRecursion}
+use Rattle.page.specs.Content.{IsContent}
+use Rattle.page.specs.Format.{Sheet}
+use Rattle.freelist.specs.Book.{Book, refused}
+use Rattle.freelist.specs.FreeList.{first_page, written}
+use Rattle.freelist.specs.ListWriting.{GoesBack, IsMade}
+use Rattle.roots.specs.Listed.{list_sheets}
+use Rattle.roots.specs.Turn.{end_behind}
+use Rattle.roots.specs.declared.root.Root.{Root}
+use Rattle.roots.specs.declared.store.CommitFault.{CommitFault}
+use Rattle.roots.specs.declared.store.CommitFault.TheVariants as faults
+use Rattle.pager.specs.Writing.{retired_all, written_of}
+use Rattle.pager.specs.declared.planning.Plan.{Plan}
+
+-- the number of the next commit, where there is a greater one
+abbrev pub next_generation : Root → ℕ
+next_generation root = min (root.generation + 1) (2 ^ 64 - 1)
+
+-- how many pages a file with this root has once these are written
+abbrev pub pages_with : Root → List Sheet → ℕ
+pages_with root sheets = max root.pages (end_behind 1 sheets)
+
+-- A commit was planned: these pages are retired, a list is made of what is free then, and its pages
+-- are written behind those of the turn that are in use.
+pub record IsPlanned (root : Root) (made : List Sheet) (pages : List ℕ) (plan : Plan)
+    (old new : Book) : Type 0 where
+  -- what the list names
+  pub named : List ℕ
+  pub writes : let tree = written_of (retired_all root.generation pages old) made in
+      plan.written.items
+      ≡ tree ++ list_sheets (next_generation root) (written plan.listed.items named)
+  pub content : let tree = written_of (retired_all root.generation pages old) made in
+      AllByRecursion (λ (sheet : Sheet). IsContent sheet.content) tree
+  pub list : let mid = retired_all root.generation pages old in
+      let tree = written_of mid made in
+      AllByRecursion (λ (sheet : Sheet). sheet.page < 1048576) tree
+      → IsMade (pages_with root tree) plan.listed.items named mid new
+  pub first : plan.free_list ≡ first_page (written plan.listed.items named)
+  pub count : plan.free_count ≡ min (length named) (2 ^ 32 - 1)
+
+-- No commit was planned: want of memory changes nothing, and that no page is free for the list is
+-- counted.
+abbrev pub PlanFails : CommitFault → Book → Book → Type 0
+PlanFails faults.Memory old new = new ≡ old
+PlanFails faults.Full old new = new ≡ refused old
+PlanFails faults.Device old new = ⊥
+
+-- the same once all is taken back
+abbrev pub FallsBack : CommitFault → Book → Book → Type 0
+FallsBack faults.Memory old new = GoesBack old old new
+FallsBack faults.Full old new = GoesBack old (refused old) new
+FallsBack faults.Device old new = ⊥
