@@ -185,10 +185,9 @@ impl<D: Disk> Pager<D> {
             Err(fault) => return Err(fault),
         };
         forget_all(&mut self.cache, &plan.listed);
-        if let Err(fault) = self
-            .store
-            .commit(&plan.written, root, plan.free_list, plan.free_count)
-        {
+        let list = plan.free_list;
+        let count = plan.free_count;
+        if let Err(fault) = self.store.commit(&plan.written, root, list, count) {
             self.book.undo_to(mark);
             return Err(fault);
         }
