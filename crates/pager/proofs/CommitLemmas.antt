@@ -132,7 +132,8 @@ module _ {D : Type 0} {listed : List ℕ} (history : D → History) (store : Sto
       still = tt;
       tree = commits.tree;
       listed = λ none n free.
-          let root_now = root_is history store cache made (retired ++ listed) book so pages is.named final list gone new after root leaves_all is.content keeps_all
+          let root_now = root_is history store cache made (retired ++ listed) book so pages is.named final list gone new after root leaves_all is.content
+          keeps_all
           commits.on.kept in
           let count = count_of_plan history store cache made (retired ++ listed) book so pages is.named final list in
           let first_none : first ≡ 0 = sym (ap (λ (r : Root). r.free_list) root_now) ∙ none in

@@ -88,7 +88,8 @@ module _ {D : Type 0} {listed : List ℕ} (history : D → History) (store : Sto
       moved : (start : State D) (live : List ℕ) (before : List Entry) → IsBegun history start live before → (reached : List ℕ) (after : List Entry)
           → (KeepsWord (disk_history history store) → IsTurn history start p root live reached after)
           → KeepsWord (disk_history history new)
-          → MovesMap history (next_root (durable_root store) written_all root (first_page (written pages named)) (length named)) reached before after result store
+          → MovesMap history (next_root (durable_root store) written_all root (first_page (written pages named)) (length named)) reached before after result
+          store
           new
       moved start live before begun reached after turn k2 =
           let k = commits.on.kept k2 in

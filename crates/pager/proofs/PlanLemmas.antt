@@ -32,9 +32,11 @@ use Rattle.roots.proofs.MadeLemmas.{end_most}
 use Rattle.pager.specs.Kept.{IsBookFor, IsKept, IsNew}
 use Rattle.pager.specs.Planning.{next_generation, pages_with}
 use Rattle.pager.specs.Writing.{retired_all, written_of}
-use Rattle.pager.proofs.BookLemmas.{all_full, all_length, all_pins, all_sound, all_waiting, committed_length, committed_use, committed_waiting, made_below, one_time}
+use Rattle.pager.proofs.BookLemmas.{all_full, all_length, all_pins, all_sound, all_waiting, committed_length, committed_use, committed_waiting}
+use Rattle.pager.proofs.BookLemmas.{made_below, one_time}
 use Rattle.pager.proofs.ListLemmas.{all_both, all_joined, all_weaker, lie_joined}
-use Rattle.pager.proofs.ListedLemmas.{IsAsWide, all_free, as_wide, count_all, count_within, few_unused, free_before, free_inside, free_unused, list_rises, sheets_of}
+use Rattle.pager.proofs.ListedLemmas.{IsAsWide, all_free, as_wide, count_all, count_within, few_unused, free_before, free_inside, free_unused}
+use Rattle.pager.proofs.ListedLemmas.{list_rises, sheets_of}
 use Rattle.pager.proofs.MemberLemmas.{all_filter, each_counted, lie_filter}
 
 module _ {D : Type 0} {listed : List ℕ} (history : D → History) (store : Store D) (cache : PageCache) (made : List Sheet) (retired : List ℕ) (book : Book)

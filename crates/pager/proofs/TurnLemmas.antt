@@ -130,7 +130,8 @@ module _ {D : Type 0} (history : D → History) (p start : State D) (stays : Sta
   pub made_apart : (parts : List Part) → HasListIn live parts (now (pager_history history p)) (durable_root p.store)
       → AllByRecursion (λ (m : Sheet). times m.page (reached_by live parts) ≡ 0) p.made
   made_apart parts has = all_weaker (λ (m : Sheet). 1 ≤ times m.page (numbers_of p.made)) (λ (m : Sheet). times m.page (reached_by live parts) ≡ 0)
-      (λ m some. omega (arith, some, used_with parts has m.page (made_below p.made p.book booked m.page some), flag_most (is_in_use p.book.states m.page))) p.made
+      (λ m some. omega (arith, some, used_with parts has m.page (made_below p.made p.book booked m.page some), flag_most (is_in_use p.book.states m.page)))
+      p.made
       (each_counted p.made)
 
   -- ---- with the own pages of the list that the root names
