@@ -217,7 +217,8 @@ module _ {D : Type 0} {listed : List ℕ} (history : D → History) (store : Sto
         subst (IsListIn (written pages named) (now (disk_history history new))) (sym root_is)
         (subst (λ (n : ℕ). IsFreeList (list_in (sheet_at behind next_root_is)) n (first_page (written pages named)) (length named) (written pages named))
         (sym (count_is history store cache made retired book so pages named final list))
-        (list_there (pages_with root_then those) pages named (planned history store cache made retired book so) final list (list_in (sheet_at behind next_root_is))
+        (list_there (pages_with root_then those) pages named (planned history store cache made retired book so) final list
+        (list_in (sheet_at behind next_root_is))
         holds))
 
     pub kept_after : (last : ℕ) → IsKept history new after [] (committed last final) pages

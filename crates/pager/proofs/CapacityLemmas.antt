@@ -1,16 +1,12 @@
 -- The pages of a turn's tree are pages of the file, each once.
 use Rattle.std.proofs.Common.{◌≡◌, ℕ, ◌<◌, ◌≤◌, Bool, true, false, not, List, [], ◌∷◌, length, get_or, refl, sym, ◌∙◌, ap, subst, arith, inl, inr}
-use Rattle.std.specs.Prelude.{◌&&◌, nat_lt, if◌then◌else◌, is_ok, reverse, Result, Err}
+use Rattle.std.specs.Prelude.{◌&&◌, nat_lt, is_ok, reverse}
 use Rattle.std.specs.List.{AllByRecursion}
 use Rattle.std.proofs.lemmas.Bool.{cases_eq, cases_lt}
-use Rattle.std.proofs.lemmas.Bool.Decides.{nat_tests}
 use Rattle.std.proofs.lemmas.List.{get_or_past}
-use Rattle.page.specs.Format.{Sheet, sheet_in}
+use Rattle.page.specs.Format.{Sheet}
 use Rattle.page.specs.History.{History, KeepsWord, now, reads}
-use Rattle.page.specs.Page.{page_at}
 use Rattle.page.specs.declared.page_cache.PageCache.{PageCache}
-use Rattle.page.specs.declared.page_fault.PageFault.{PageFault}
-use Rattle.page.specs.declared.page_fault.PageFault.TheVariants as page_faults
 use Rattle.btree.specs.Keys.{Each, Entry, times}
 use Rattle.btree.specs.Reach.{AreOnce}
 use Rattle.btree.specs.Store.{Frame, flag}
@@ -25,6 +21,7 @@ use Rattle.roots.specs.declared.store.Store.{Store}
 use Rattle.roots.specs.Image.{HoldsMap, sheet_at, store_of as image_store}
 use Rattle.roots.specs.Store.{durable_root}
 use Rattle.roots.specs.Turn.{made_or, numbers_of}
+use Rattle.roots.proofs.CountLemmas.{sheet_inside}
 use Rattle.roots.proofs.OpeningRules.{known}
 use Rattle.pager.specs.Capacity.{FitsFile, TreesFit}
 use Rattle.pager.specs.Commit.{IsTurn}
@@ -73,21 +70,6 @@ flag_is false some = absurd (omega (arith, some))
 flag_small : (b : Bool) → flag b ≤ 1
 flag_small true = omega arith
 flag_small false = omega arith
-
--- a sheet of the image has a number below that of the pages
-sheet_below : (image : ℕ → List ℕ) (root : Root) (n : ℕ) → is_ok (sheet_at image root n) ≡ true → n < root.pages
-sheet_below image root n there = elim (cases_lt n root.pages) [
-  | inl below ↦ below
-  | inr past ↦
-      let test : nat_lt n root.pages ≡ false = grind (arith, nat_tests, past) in
-      absurd (none (nat_lt 0 n) (nat_lt n root.pages) (sheet_in n root.generation (page_at image n)) test there)
-]
-  where
-    none : (a b : Bool) (found : Result Sheet PageFault) → b ≡ false
-        → is_ok (if a && b then found else Err page_faults.Number) ≡ true → ⊥
-    none true true found is there = cc
-    none true false found is there = cc
-    none false b found is there = cc
 
 -- ---- the pages that were live
 
@@ -146,7 +128,7 @@ module _ {D : Type 0} (history : D → History) (start : State D) (live : List �
     reached_inside n some = elim (cases_lt 0 (times n live)) [
       | inl lived ↦
           let found : is_ok (sheet_at image root n) ≡ true = has_times (λ m. is_ok (sheet_at image root m) ≡ true) n live there (omega (arith, lived)) in
-          omega (arith, sheet_below image root n found, known_root.pages)
+          omega (arith, (sheet_inside image root n found).1, known_root.pages)
       | inr none ↦
           has_times (λ m. m < 1048576) n (numbers_of p.made) (each_number (λ m. m < 1048576) p.made inside)
           (omega (arith, some, none, turn.account n, times_reverse n (numbers_of p.made)))

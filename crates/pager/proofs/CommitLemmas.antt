@@ -1,11 +1,9 @@
 -- A commit, by what was planned for it.
-use Rattle.std.proofs.Common.{◌≡◌, ℕ, ◌+◌, ◌≤◌, List, [], ◌++◌, length, refl, sym, ◌∙◌, ap, subst, arith, None}
+use Rattle.std.proofs.Common.{◌≡◌, ℕ, ◌≤◌, true, false, List, [], ◌++◌, length, refl, sym, ◌∙◌, ap, subst, arith, None}
 use Rattle.std.specs.Prelude.{Ok, Err}
-use Rattle.std.specs.List.{AllByRecursion}
 use Rattle.page.specs.Cache.{kept}
-use Rattle.page.specs.Content.{IsContent}
 use Rattle.page.specs.Format.{Sheet}
-use Rattle.page.specs.History.{History, KeepsWord, now}
+use Rattle.page.specs.History.{History}
 use Rattle.page.specs.declared.page_cache.PageCache.{PageCache}
 use Rattle.btree.specs.Keys.{times}
 use Rattle.freelist.specs.Book.{Book, committed, undone}
@@ -13,21 +11,20 @@ use Rattle.freelist.specs.FreeList.{first_page, written}
 use Rattle.freelist.specs.ListWriting.{IsMade}
 use Rattle.freelist.proofs.TakenPages.{goes_back}
 use Rattle.roots.specs.Commit.{CommitsRoot, LeavesPages, MovesMaps}
-use Rattle.roots.specs.Store.{disk_history, durable_root}
+use Rattle.roots.specs.Store.{durable_root}
 use Rattle.roots.specs.declared.root.Root.{Root}
 use Rattle.roots.specs.declared.store.CommitFault.{CommitFault}
 use Rattle.roots.specs.declared.store.Store.{Store}
-use Rattle.pager.specs.Commit.{MovesTurns}
+use Rattle.pager.specs.Commit.{Commits, MovesTurns}
 use Rattle.pager.specs.Kept.{IsKept}
 use Rattle.pager.specs.Planning.{IsPlanned, pages_with}
 use Rattle.pager.specs.State.{State}
 use Rattle.pager.specs.Writing.{Forgets, KeepsAll}
 use Rattle.pager.specs.declared.planning.Plan.{Plan}
-use Rattle.pager.proofs.AfterLemmas.{gone_then, kept_after, kept_failed, kept_forgotten, list_now}
+use Rattle.pager.proofs.AfterLemmas.{gone_then, kept_after, kept_failed, kept_forgotten, list_now, root_is}
 use Rattle.pager.proofs.BookLemmas.{all_full, all_longer, back_all, back_both}
 use Rattle.pager.proofs.EndLemmas.{moves_done, moves_failed}
-use Rattle.pager.proofs.PlanLemmas.{all, named_few, planned, tree, tree_inside, wide}
-use Rattle.pager.proofs.ReadLemmas.{IsListIn}
+use Rattle.pager.proofs.PlanLemmas.{all, count_is as count_of_plan, named_few, names_free, planned, tree, tree_inside, wide}
 
 -- what was planned for the parts that a call was handed is planned for those of the pager
 pub told : {root then : Root} {one made : List Sheet} {gone retired other listed : List ℕ} (plan : Plan) (book final : Book) → root ≡ then → one ≡ made
@@ -126,3 +123,31 @@ module _ {D : Type 0} {listed : List ℕ} (history : D → History) (store : Sto
         (recast (λ sheets free_list free_count. MovesMaps history sheets root free_list free_count (Ok tt) store new) moves) is.content
         (list_now history store cache made (retired ++ listed) book so pages is.named final list gone new after root leaves_all is.content keeps_all
         commits.on.kept) last
+
+    pub done_commits : Commits history root (Ok tt) p (record { store = new; made = []; retired = []; book = committed last final })
+    done_commits = record {
+      on = commits.on;
+      running = commits.running;
+      version = commits.version;
+      still = tt;
+      tree = commits.tree;
+      listed = λ none n free.
+          let root_now = root_is history store cache made (retired ++ listed) book so pages is.named final list gone new after root leaves_all is.content
+          keeps_all
+          commits.on.kept in
+          let count = count_of_plan history store cache made (retired ++ listed) book so pages is.named final list in
+          let first_none : first ≡ 0 = sym (ap (λ (r : Root). r.free_list) root_now) ∙ none in
+          omega (
+            arith,
+            ap (λ (r : Root). r.pages) root_now,
+            count,
+            names_free history store cache made (retired ++ listed) book so pages is.named final list last first_none n free,
+          );
+      made = refl;
+      retired = refl;
+      memory = λ e. absurd cc;
+      full = λ e. absurd cc;
+      device = λ e. absurd cc;
+      stops = λ e. absurd cc;
+      idle = λ stopped. let never : true ≡ false = sym stopped ∙ commits.running.0 in absurd cc;
+    }

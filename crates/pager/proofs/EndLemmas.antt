@@ -1,12 +1,12 @@
 -- How a commit ends.
-use Rattle.std.proofs.Common.{◌≡◌, ℕ, ◌<◌, true, false, List, [], ◌++◌, length, refl, sym, ◌∙◌, ap, subst, arith, inl, inr}
+use Rattle.std.proofs.Common.{◌≡◌, ℕ, ◌<◌, List, [], ◌++◌, length, refl, sym, ◌∙◌, ap, subst, arith, inl}
 use Rattle.std.specs.Prelude.{◌⊎◌, Result, Ok, Err}
 use Rattle.std.specs.List.{AllByRecursion}
 use Rattle.page.specs.Content.{IsContent}
 use Rattle.page.specs.Format.{Sheet}
 use Rattle.page.specs.History.{History, KeepsWord, now, reads}
 use Rattle.page.specs.declared.page_cache.PageCache.{PageCache}
-use Rattle.page.proofs.Moments.{reads_nothing, started}
+use Rattle.page.proofs.Moments.{started}
 use Rattle.btree.specs.Keys.{Entry, times}
 use Rattle.btree.specs.Store.{flag}
 use Rattle.freelist.specs.Book.{Book, committed, is_in_use}
@@ -14,16 +14,15 @@ use Rattle.freelist.specs.FreeList.{Part, first_page, pages_of, written}
 use Rattle.freelist.specs.ListWriting.{IsMade}
 use Rattle.freelist.proofs.WrittenLists.{reading_is_exact, written_pages}
 use Rattle.roots.specs.declared.store.CommitFault.{CommitFault}
-use Rattle.roots.specs.declared.store.CommitFault.TheVariants as faults
 use Rattle.roots.specs.declared.store.Store.{Store}
 use Rattle.roots.specs.Commit.{CommitsRoot, MovesMap, MovesMaps}
 use Rattle.roots.specs.Image.{StandsFor, list_in, reached_by, sheet_at}
-use Rattle.roots.specs.Store.{disk_history, durable_root, is_stopped}
+use Rattle.roots.specs.Store.{disk_history, durable_root}
 use Rattle.roots.specs.Turn.{next_root}
 use Rattle.roots.proofs.TurnLemmas.{stands_now}
-use Rattle.pager.specs.Commit.{Commits, CountsTakes, IsTurn, MovesTurns}
+use Rattle.pager.specs.Commit.{Commits, IsTurn, MovesTurns}
 use Rattle.pager.specs.Kept.{IsKept}
-use Rattle.pager.specs.Planning.{PlanFails, pages_with}
+use Rattle.pager.specs.Planning.{pages_with}
 use Rattle.pager.specs.State.{State}
 use Rattle.pager.specs.Turn.{AreInUse, IsBegun}
 use Rattle.pager.proofs.BookLemmas.{committed_length, committed_use, others_of}
@@ -31,7 +30,6 @@ use Rattle.pager.proofs.ListedLemmas.{used_by_takes}
 use Rattle.pager.proofs.MemberLemmas.{times_append}
 use Rattle.pager.proofs.PlanLemmas.{all, booked_after, final_sound, planned, planned_long, planned_pins, planned_waiting, tree, wide}
 use Rattle.pager.proofs.ReadLemmas.{HasListIn, IsListIn}
-use Rattle.pager.proofs.TakeLemmas.{refused_kept}
 use Rattle.pager.proofs.TurnLemmas.{committed_still}
 use Rattle.pager.proofs.WrittenLemmas.{roots_turn, tree_use}
 
@@ -90,7 +88,8 @@ module _ {D : Type 0} {listed : List ℕ} (history : D → History) (store : Sto
       moved : (start : State D) (live : List ℕ) (before : List Entry) → IsBegun history start live before → (reached : List ℕ) (after : List Entry)
           → (KeepsWord (disk_history history store) → IsTurn history start p root live reached after)
           → KeepsWord (disk_history history new)
-          → MovesMap history (next_root (durable_root store) written_all root (first_page (written pages named)) (length named)) reached before after result store
+          → MovesMap history (next_root (durable_root store) written_all root (first_page (written pages named)) (length named)) reached before after result
+          store
           new
       moved start live before begun reached after turn k2 =
           let k = commits.on.kept k2 in
@@ -153,6 +152,7 @@ module _ {D : Type 0} {listed : List ℕ} (history : D → History) (store : Sto
     version = tt;
     still = still;
     tree = tt;
+    listed = tt;
     made = tt;
     retired = tt;
     memory = λ is. absurd (commits.no_memory is);
@@ -161,71 +161,6 @@ module _ {D : Type 0} {listed : List ℕ} (history : D → History) (store : Sto
     stops = λ is. (commits.stops is, refl);
     idle = λ is i. record { store = commits.idle is i; made = made; retired = retired; book = book };
   }
-
-  pub commits_nothing : (root : ℕ) (fault : CommitFault) (other : Book) → is_stopped store ≡ false → PlanFails fault book other
-      → Commits history root (Err fault) p (with_book other)
-  commits_nothing root faults.Memory other running is = record {
-    on = (reads_nothing (disk_history history store)).on;
-    running = tt;
-    version = tt;
-    still = refl;
-    tree = tt;
-    made = tt;
-    retired = tt;
-    memory = λ _ i. with_book (is i);
-    full = λ e. absurd cc;
-    device = λ e. absurd cc;
-    stops = λ e. absurd cc;
-    idle = λ _ i. with_book (is i);
-  }
-  commits_nothing root faults.Full other running is = record {
-    on = (reads_nothing (disk_history history store)).on;
-    running = tt;
-    version = tt;
-    still = refl;
-    tree = tt;
-    made = tt;
-    retired = tt;
-    memory = λ e. absurd cc;
-    full = λ _. inr (λ i. with_book (is i));
-    device = λ e. absurd cc;
-    stops = λ e. absurd cc;
-    idle = λ stopped. let never : true ≡ false = sym stopped ∙ running in absurd cc;
-  }
-  commits_nothing root faults.Device other running is = absurd is
-
-  -- a stopped store commits nothing
-  pub commits_stopped : (root : ℕ) → is_stopped store ≡ true → Commits history root (Err faults.Device) p p
-  commits_stopped root stopped = record {
-    on = (reads_nothing (disk_history history store)).on;
-    running = tt;
-    version = tt;
-    still = refl;
-    tree = tt;
-    made = tt;
-    retired = tt;
-    memory = λ e. absurd cc;
-    full = λ e. absurd cc;
-    device = λ _ k. inl stopped;
-    stops = λ _. (stopped, refl);
-    idle = λ _. refl;
-  }
-
-  pub counts_nothing : (fault : CommitFault) (other : Book) → PlanFails fault book other → CountsTakes (Err fault) p (with_book other)
-  counts_nothing faults.Memory other is = record {
-    grows = omega (arith, ap (λ (b : Book). b.full_takes) is);
-    same = λ _. ap (λ (b : Book). b.full_takes) is;
-  }
-  counts_nothing faults.Full other is = record {
-    grows = omega (arith, ap (λ (b : Book). b.full_takes) is, so.booked.count);
-    same = λ other_fault. absurd (other_fault refl);
-  }
-  counts_nothing faults.Device other is = absurd is
-
-  pub kept_nothing : (fault : CommitFault) (other : Book) → PlanFails fault book other → IsKept history store cache made other listed
-  kept_nothing faults.Memory other is = subst (λ (b : Book). IsKept history store cache made b listed) (sym is) so
-  kept_nothing faults.Full other is = subst (λ (b : Book). IsKept history store cache made b listed) (sym is) (refused_kept history store made book cache listed so)
-  kept_nothing faults.Device other is = absurd is
 
 -- what isn't a fault is done
 pub ok_of : {E : Type 0} (result : Result (Unit {0}) E) → ((e : E) → result ≡ Err e → ⊥) → result ≡ Ok tt

@@ -96,8 +96,11 @@ lie_take last (suc n) (m ∷ ms) lie = (lie.0, lie_take m.page n ms lie.1)
 pub lie_joined : (last : ℕ) (xs ys : List Sheet) → LieBehind last xs → LieBehind last ys
     → AllByRecursion (λ (y : Sheet). AllByRecursion (λ (x : Sheet). x.page < y.page) xs) ys → LieBehind last (xs ++ ys)
 lie_joined last [] ys lie later above = later
-lie_joined last (x ∷ xs) ys lie later above =
-    (lie.0, lie_joined x.page xs ys lie.1 (lie_higher last x.page ys later (all_weaker _ _ (λ y all. all.0) ys above)) (all_weaker _ _ (λ y all. all.1) ys above))
+lie_joined last (x ∷ xs) ys lie later above = (
+  lie.0,
+  lie_joined x.page xs ys lie.1 (lie_higher last x.page ys later (all_weaker _ _ (λ y all. all.0) ys above))
+      (all_weaker _ _ (λ y all. all.1) ys above),
+)
   where
     lie_higher : (low high : ℕ) (those : List Sheet) → LieBehind low those → AllByRecursion (λ (y : Sheet). high < y.page) those → LieBehind high those
     lie_higher low high [] lies above = tt

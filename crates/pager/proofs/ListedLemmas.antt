@@ -1,5 +1,6 @@
 -- The pages that a commit takes for its list of free pages.
-use Rattle.std.proofs.Common.{◌≡◌, ◌≢◌, ℕ, zero, suc, ◌+◌, ◌<◌, ◌≤◌, max, Bool, true, false, List, [], ◌∷◌, ◌++◌, length, set, drop, get_or, refl, sym, ◌∙◌, ap, arith}
+use Rattle.std.proofs.Common.{◌≡◌, ℕ, zero, suc, ◌+◌, ◌<◌, ◌≤◌, max, Bool, true, false, List, [], ◌∷◌, ◌++◌, length, set, drop, get_or, refl, sym}
+use Rattle.std.proofs.Common.{◌∙◌, ap, arith}
 use Rattle.std.proofs.Common.{inl, inr}
 use Rattle.std.specs.Prelude.{◌&&◌, nat_lt, Result, Ok}
 use Rattle.std.specs.List.{AllByRecursion}
@@ -158,10 +159,6 @@ count_within most count [] le inside = le
 count_within most count (p ∷ pages) le inside =
     let here : p < most = inside p (omega (arith, one_time p p pages refl)) in
     count_within most (max count (p + 1)) pages (omega (arith, le, here)) (λ n some. inside n (omega (arith, some, more_times n p pages)))
-
-pub end_within : (most end : ℕ) (xs : List Sheet) → end ≤ most → AllByRecursion (λ (x : Sheet). x.page < most) xs → end_behind end xs ≤ most
-end_within most end [] le all = le
-end_within most end (x ∷ xs) le all = end_within most (x.page + 1) xs (omega (arith, all.0)) all.1
 
 -- a list names fewer pages than the file has
 pub few_unused : (count : ℕ) (pages : List PageState) → length (unused_below count pages) ≤ count

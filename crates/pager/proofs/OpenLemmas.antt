@@ -105,7 +105,8 @@ module _ {D : Type 0} (history : D → History) (disk : D) (mid new : Store D) (
 
   pub limit_opened : (asked : ℕ) → limit ≡ min asked 1048576 → length book.states ≡ max (min asked 1048576) (durable_root new).pages
   limit_opened asked is =
-      let most : length book.states ≡ max limit (durable_root new).pages = omega (arith, long_opened, first.known.tree, ap (λ (r : Root). r.pages) finds.root) in
+      let most : length book.states ≡ max limit (durable_root new).pages = omega
+      (arith, long_opened, first.known.tree, ap (λ (r : Root). r.pages) finds.root) in
       most ∙ ap (λ (n : ℕ). max n (durable_root new).pages) is
 
   -- entries that the disk's root has when it is opened are committed in the store

@@ -1,7 +1,10 @@
 -- What a commit writes: the pages of the turn that are in use, and behind them those of a list of what is free then.
-use Rattle.std.proofs.Common.{◌≡◌, ℕ, ◌+◌, ◌<◌, ◌≤◌, max, List, [], ◌++◌, length, refl, ◌∙◌, ap, arith, None}
-use Rattle.std.specs.Prelude.{Bool, true, ◌&&◌}
+use Rattle.std.proofs.Common.{◌≡◌, ℕ, ◌+◌, ◌<◌, ◌≤◌, max, false, List, [], ◌∷◌, ◌++◌, length, get_or, inl, inr, sym, refl, ◌∙◌, ap, arith, None}
+use Rattle.std.specs.Prelude.{Bool, true, ◌&&◌, nat_lt, not}
 use Rattle.std.specs.List.{AllByRecursion}
+use Rattle.std.proofs.lemmas.Bool.{cases_lt}
+use Rattle.std.proofs.lemmas.Bool.Decides.{nat_tests}
+use Rattle.std.proofs.lemmas.List.{get_or_default}
 use Rattle.page.specs.Cache.{kept}
 use Rattle.page.specs.Content.{IsContent, is_of_tree}
 use Rattle.page.specs.Format.{Sheet}
@@ -9,25 +12,31 @@ use Rattle.page.specs.History.{History}
 use Rattle.page.specs.PageLaws.{IsSheet}
 use Rattle.page.specs.declared.page_cache.PageCache.{PageCache}
 use Rattle.btree.specs.Keys.{times}
-use Rattle.freelist.specs.Book.{Book, committed, is_free, is_in_use}
-use Rattle.freelist.specs.FreeList.{AreOnceBelow, written}
+use Rattle.btree.specs.Store.{flag}
+use Rattle.freelist.specs.Book.{Book, committed, is_free, is_in_use, is_used_state}
+use Rattle.freelist.specs.FreeList.{AreOnceBelow, first_page, times_in, written}
 use Rattle.freelist.specs.ListWriting.{IsMade, count_with}
 use Rattle.freelist.specs.Sound.{IsSound}
+use Rattle.freelist.specs.declared.states.PageState.TheVariants as states
 use Rattle.freelist.proofs.MadeLists.{once, stays_sound_taking}
 use Rattle.freelist.proofs.Marking.{times_in-append}
 use Rattle.freelist.proofs.SoundBooks.{stays_sound}
+use Rattle.freelist.proofs.UnusedPages.{times_unused}
 use Rattle.roots.specs.declared.root.Root.{Root}
 use Rattle.roots.specs.declared.store.Store.{Store}
 use Rattle.roots.specs.Listed.{list_sheets}
 use Rattle.roots.specs.Store.{durable_root}
 use Rattle.roots.specs.Turn.{LieBehind, numbers_of}
 use Rattle.roots.proofs.ListingLemmas.{all_pages, list_is_written}
+use Rattle.roots.proofs.MadeLemmas.{end_most}
 use Rattle.pager.specs.Kept.{IsBookFor, IsKept, IsNew}
 use Rattle.pager.specs.Planning.{next_generation, pages_with}
 use Rattle.pager.specs.Writing.{retired_all, written_of}
-use Rattle.pager.proofs.BookLemmas.{all_full, all_length, all_pins, all_sound, all_waiting, committed_length, committed_waiting, made_below}
+use Rattle.pager.proofs.BookLemmas.{all_full, all_length, all_pins, all_sound, all_waiting, committed_length, committed_use, committed_waiting}
+use Rattle.pager.proofs.BookLemmas.{made_below, one_time}
 use Rattle.pager.proofs.ListLemmas.{all_both, all_joined, all_weaker, lie_joined}
-use Rattle.pager.proofs.ListedLemmas.{IsAsWide, all_free, as_wide, count_all, count_within, end_within, few_unused, free_before, free_inside, list_rises, sheets_of}
+use Rattle.pager.proofs.ListedLemmas.{IsAsWide, all_free, as_wide, count_all, count_within, few_unused, free_before, free_inside, free_unused}
+use Rattle.pager.proofs.ListedLemmas.{list_rises, sheets_of}
 use Rattle.pager.proofs.MemberLemmas.{all_filter, each_counted, lie_filter}
 
 module _ {D : Type 0} {listed : List ℕ} (history : D → History) (store : Store D) (cache : PageCache) (made : List Sheet) (retired : List ℕ) (book : Book)
@@ -118,7 +127,7 @@ module _ {D : Type 0} {listed : List ℕ} (history : D → History) (store : Sto
         (all_weaker (λ (m : Sheet). 1 ≤ times m.page (numbers_of made)) (λ (m : Sheet). m.page < length planned.states)
         (λ m some. omega (arith, planned_long, made_below made book so.booked m.page some)) made (each_counted made)) in
         count_within (length planned.states) (pages_with root tree) pages
-        (omega (arith, so.wide, planned_long, end_within (length planned.states) 1 tree (omega (arith, so.wide, planned_long)) each))
+        (omega (arith, so.wide, planned_long, end_most (length planned.states) tree 1 (omega (arith, so.wide, planned_long)) each))
         (λ n some. omega (arith, planned_long, (free_inside book.states n (free_then n some)).1))
 
     pub few : count ≤ 1048576
@@ -158,5 +167,43 @@ module _ {D : Type 0} {listed : List ℕ} (history : D → History) (store : Sto
 
     pub wide_after : (last : ℕ) → max (pages_with root all) 1 ≤ length (committed last final).states
     wide_after last =
-        omega (arith, count_is, fits, wide.long, committed_length last final final_sound (wide.pins ∙ planned_pins) (wide.waiting ∙ planned_waiting), so.wide,
-        planned_long)
+        omega (
+          arith,
+          count_is,
+          fits,
+          wide.long,
+          committed_length last final final_sound (wide.pins ∙ planned_pins) (wide.waiting ∙ planned_waiting),
+          so.wide,
+          planned_long,
+        )
+
+    -- ---- a root that names no list
+
+    no_first : (those : List ℕ) (names : List ℕ) → ((n : ℕ) → 1 ≤ times n those → 0 < n) → first_page (written those names) ≡ 0 → length those ≡ 0
+    no_first [] names some none = refl
+    no_first (p ∷ those) names some none = absurd (omega (arith, none, some p (omega (arith, one_time p p those refl))))
+
+    none_in : (n : ℕ) (xs : List ℕ) → length xs ≡ 0 → times_in n xs ≡ 0
+    none_in n [] none = refl
+    none_in n (x ∷ xs) none = absurd (omega (arith, none))
+
+    -- has no free page in its file
+    pub names_free : (last : ℕ) → first_page (written pages named) ≡ 0 → (n : ℕ) → is_free (committed last final).states n ≡ true → count ≤ n
+    names_free last none n free = elim (cases_lt n count) [
+      | inl below ↦
+          let pins = wide.pins ∙ planned_pins in
+          let waiting = wide.waiting ∙ planned_waiting in
+          let inside = free_inside (committed last final).states n free in
+          let within : n < length final.states = omega (arith, inside.1, committed_length last final final_sound pins waiting) in
+          let unused : is_in_use final.states n ≡ false =
+          sym (committed_use last final final_sound pins waiting n) ∙ free_unused (committed last final).states n free in
+          let positive : nat_lt 0 n ≡ true = grind (arith, nat_tests, inside.0) in
+          let test : nat_lt n count ≡ true = grind (arith, nat_tests, below) in
+          let state : is_used_state (get_or final.states n states.InUse) ≡ false =
+          ap is_used_state (get_or_default final.states n states.InUse states.Retired within) ∙ unused in
+          let there : times_in n named ≡ 1 =
+          ap (times_in n) list.names ∙ times_unused n count final.states ∙ (λ i. flag (test i && (positive i && not (state i)))) in
+          let no_pages : length pages ≡ 0 = no_first pages named (λ m some. (free_inside book.states m (free_then m some)).0) none in
+          absurd (omega (arith, there, none_in n named (omega (arith, list.room, no_pages))))
+      | inr past ↦ omega (arith, past)
+    ]

@@ -1,7 +1,7 @@
 -- A turn that is undone to an earlier moment of it.
 use Rattle.std.proofs.Common.{◌≡◌, ◌≢◌, ℕ, ◌<◌, Bool, true, false, List, [], ◌∷◌, ◌++◌, length, map, take, drop, set, get_or, refl, sym, ◌∙◌, ap, subst, arith}
 use Rattle.std.proofs.Common.{inl, inr}
-use Rattle.std.specs.Prelude.{◌==◌, ◌&&◌, nat_lt, not, if◌then◌else◌, reverse, is_ok, Result, Ok}
+use Rattle.std.specs.Prelude.{◌&&◌, nat_lt, not, reverse, is_ok, Result, Ok}
 use Rattle.std.specs.List.{AllByRecursion}
 use Rattle.std.proofs.lemmas.List.{length-map, reverse-append, reverse-reverse, take-append-drop, take-map}
 use Rattle.std.proofs.Math.Seq.{take-append_seam}

@@ -16,7 +16,7 @@ use Rattle.btree.specs.Keys.{times}
 use Rattle.btree.specs.Store.{HasFailed, HasNoPage, IsAt, IsMade, IsSame, KeepsWord, Stays, flag}
 use Rattle.btree.specs.declared.pages.TreeFault.{TreeFault}
 use Rattle.btree.specs.declared.pages.TreeFault.TheVariants as faults
-use Rattle.freelist.specs.Book.{Book, refused, Takes, is_free, is_free_state, least_free, rewind, taken, undone}
+use Rattle.freelist.specs.Book.{Book, Takes, is_free, is_free_state, least_free, rewind, taken, undone}
 use Rattle.freelist.specs.Coding.{state_number}
 use Rattle.freelist.specs.Undone.{after, given, take as asks}
 use Rattle.freelist.specs.declared.states.PageState.{PageState}
@@ -233,26 +233,6 @@ module _ {D : Type 0} {listed : List ℕ} (history : D → History) (store : Sto
     }
 
 -- ---- no page more
-
--- a take that found no page is counted
-pub refused_kept : {D : Type 0} (history : D → History) (store : Store D) (made : List Sheet) (book : Book) (cache : PageCache) (listed : List ℕ)
-    → IsKept history store cache made book listed → IsKept history store cache made (refused book) listed
-refused_kept history store made book cache listed so = record {
-  cached = so.cached;
-  ascending = so.ascending;
-  each = so.each;
-  booked = record {
-    sound = (stays_sound book so.booked.sound).refused;
-    no_pins = so.booked.no_pins;
-    none_waits = so.booked.none_waits;
-    turn = so.booked.turn;
-    limit = so.booked.limit;
-    count = omega arith;
-    behind = so.booked.behind;
-  };
-  listed = so.listed;
-  wide = so.wide;
-}
 
 module _ {D : Type 0} (history : D → History) (store : Store D) (made : List Sheet) (retired : List ℕ) (book new_book : Book)
     (count : book.full_takes < 2 ^ 64) where

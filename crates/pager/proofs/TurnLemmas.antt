@@ -1,44 +1,33 @@
 -- What is known of a pager whose turn began with committed entries.
-use Rattle.std.proofs.Common.{◌≡◌, ◌≢◌, ℕ, ◌+◌, ◌<◌, ◌≤◌, Bool, true, false, List, [], ◌∷◌, ◌++◌, length, drop, map, get_or, refl, sym, ◌∙◌, ap}
+use Rattle.std.proofs.Common.{◌≡◌, ℕ, ◌+◌, ◌<◌, ◌≤◌, Bool, true, false, List, [], ◌∷◌, length, drop, map, get_or, refl, sym, ◌∙◌, ap}
 use Rattle.std.proofs.Common.{subst, arith, inl}
 use Rattle.std.proofs.Common.{inr}
-use Rattle.std.specs.Prelude.{◌&&◌, is_ok, Result, Ok}
 use Rattle.std.specs.List.{AllByRecursion}
 use Rattle.std.proofs.lemmas.Bool.{cases_lt}
 use Rattle.std.proofs.lemmas.List.{length-set}
-use Rattle.page.specs.Content.{is_of_tree}
 use Rattle.page.specs.Format.{Sheet}
 use Rattle.page.specs.History.{History, Sector, KeepsWord, now, reads}
 use Rattle.page.specs.Crash.{IsDurable}
-use Rattle.page.specs.PageLaws.{IsSheet}
-use Rattle.page.specs.declared.page_fault.PageFault.{PageFault}
-use Rattle.btree.specs.Keys.{Each, Entry, times}
-use Rattle.btree.specs.Store.{Stays, Store, flag}
-use Rattle.btree.proofs.ReachLemmas.{Moves, map_moved}
-use Rattle.freelist.specs.Book.{Book, CanRewind, is_in_use, rewind}
+use Rattle.btree.specs.Keys.{Entry, times}
+use Rattle.btree.specs.Store.{Stays, flag}
+use Rattle.freelist.specs.Book.{CanRewind, is_in_use, rewind}
 use Rattle.freelist.specs.FreeList.{Part, pages_of}
 use Rattle.freelist.specs.Coding.{number_state, number_state-state_number, state_number}
 use Rattle.freelist.specs.declared.states.PageState.{PageState}
 use Rattle.freelist.specs.declared.states.PageState.TheVariants as states
 use Rattle.freelist.specs.declared.turns.Change.{Change}
-use Rattle.freelist.proofs.Rewinding.{below, used_is}
 use Rattle.roots.specs.declared.root.Root.{Root}
-use Rattle.roots.specs.Image.{HoldsMap, OpensAs, content_in, reached_by, sheet_at, store_of as image_store}
+use Rattle.roots.specs.Image.{HoldsMap, OpensAs, reached_by, sheet_at}
 use Rattle.roots.specs.Store.{IsCommitted, durable_root, is_stopped}
-use Rattle.roots.specs.Turn.{IsTurn as IsRootsTurn, LieBehind, made_or, next_root, numbers_of}
-use Rattle.roots.proofs.HeldFileLemmas.{empty_list}
-use Rattle.roots.proofs.KeptPages.{kept_there}
-use Rattle.pager.specs.Commit.{IsTurn}
+use Rattle.roots.specs.Turn.{numbers_of}
 use Rattle.pager.specs.Kept.{AreListed, IsBookFor, takes_of}
 use Rattle.pager.specs.State.{State}
 use Rattle.pager.specs.Turn.{AreInUse, IsBegun}
-use Rattle.pager.specs.View.{base_of, pager_history, sheets_of, store_of}
-use Rattle.pager.specs.Writing.{retired_all, written_of}
+use Rattle.pager.specs.View.{base_of, pager_history, store_of}
 use Rattle.pager.proofs.BookLemmas.{flag_most, made_below, taken_use}
-use Rattle.pager.proofs.ListLemmas.{all_weaker, made_none}
-use Rattle.pager.proofs.MemberLemmas.{all_filter, each_counted, member, more_times, times_append, times_reverse}
+use Rattle.pager.proofs.ListLemmas.{all_weaker}
+use Rattle.pager.proofs.MemberLemmas.{each_counted, times_append}
 use Rattle.pager.proofs.ReadLemmas.{HasListIn, of_same}
-use Rattle.pager.proofs.TreeLemmas.{IsOfTree, map_pages}
 
 -- ---- numbers that stand for states
 
@@ -141,7 +130,8 @@ module _ {D : Type 0} (history : D → History) (p start : State D) (stays : Sta
   pub made_apart : (parts : List Part) → HasListIn live parts (now (pager_history history p)) (durable_root p.store)
       → AllByRecursion (λ (m : Sheet). times m.page (reached_by live parts) ≡ 0) p.made
   made_apart parts has = all_weaker (λ (m : Sheet). 1 ≤ times m.page (numbers_of p.made)) (λ (m : Sheet). times m.page (reached_by live parts) ≡ 0)
-      (λ m some. omega (arith, some, used_with parts has m.page (made_below p.made p.book booked m.page some), flag_most (is_in_use p.book.states m.page))) p.made
+      (λ m some. omega (arith, some, used_with parts has m.page (made_below p.made p.book booked m.page some), flag_most (is_in_use p.book.states m.page)))
+      p.made
       (each_counted p.made)
 
   -- ---- with the own pages of the list that the root names

@@ -37,7 +37,7 @@ use Rattle.pager.specs.Turn.{IsBegun}
 use Rattle.pager.specs.View.{pager_history, sheets_of, store_of}
 use Rattle.pager.proofs.BookLemmas.{flag_most, flag_some, kept_use, lost_use, made_below, one_time}
 use Rattle.pager.proofs.CapacityLemmas.{has_times}
-use Rattle.pager.proofs.ListLemmas.{all_behind, all_joined as all_both_lists, all_weaker, made_joined, made_none}
+use Rattle.pager.proofs.ListLemmas.{all_behind, all_joined as all_both_lists, made_joined, made_none}
 use Rattle.pager.proofs.ListedLemmas.{all_free, free_inside, free_unused, holds_listed, sheets_of as each_sheet}
 use Rattle.pager.proofs.MemberLemmas.{all_among, all_filter, member, more_times, times_append, times_reverse}
 use Rattle.pager.proofs.PlanLemmas.{all, all_inside, all_lie, all_sheets, count_is, fits, free_then, planned, planned_long, tree}

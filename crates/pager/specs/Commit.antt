@@ -3,12 +3,13 @@ use Rattle.std.specs.Prelude.{◌≡◌, ◌≢◌, ◌⊎◌, ℕ, ◌+◌, ◌
 use Rattle.std.specs.Prelude.{OnOk, OnErr}
 use Rattle.page.specs.History.{History, KeepsWord}
 use Rattle.page.specs.Crash.{GoesOn, LeavesOnly, LeavesNow}
-use Rattle.freelist.specs.Book.{refused}
+use Rattle.freelist.specs.Book.{Book, is_free, refused}
 use Rattle.btree.specs.Keys.{Entry, times}
 use Rattle.btree.specs.Reach.{HasMap}
 use Rattle.btree.specs.Store.{Grows}
 use Rattle.roots.specs.Image.{StandsFor}
 use Rattle.roots.specs.Store.{HasDeviceCause, IsRunning, durable_root, is_stopped}
+use Rattle.roots.specs.declared.root.Root.{Root}
 use Rattle.roots.specs.declared.store.CommitFault.{CommitFault}
 use Rattle.roots.specs.declared.store.CommitFault.TheVariants as faults
 use Rattle.pager.specs.State.{State}
@@ -21,6 +22,11 @@ abbrev pub FindsNoRoom : {D : Type 0} → State D → State D → Type 0
 FindsNoRoom old new =
     (((durable_root old.store).generation ≡ 2 ^ 64 - 1) × (new ≡ old))
     ⊎ (new ≡ record old { book = refused old.book })
+
+-- A root that names no list of free pages is that of a file in which no page is free.
+abbrev pub ListsFree : Root → Book → Type 0
+ListsFree root book =
+    root.free_list ≡ 0 → (n : ℕ) → is_free book.states n ≡ true → root.pages ≤ n
 
 -- How often a page was asked for and none was free: never fewer, and more often only at Full.
 pub record CountsTakes {D : Type 0} (result : Result (Unit {0}) CommitFault)
@@ -38,6 +44,7 @@ pub record Commits {D : Type 0} (history : D → History) (root : ℕ)
   -- what isn't committed leaves the root that is
   pub still : OnErr result (durable_root new.store ≡ durable_root old.store)
   pub tree : OnOk result ((durable_root new.store).tree ≡ root)
+  pub listed : OnOk result (ListsFree (durable_root new.store) new.book)
   -- no turn runs
   pub made : OnOk result (new.made ≡ [])
   pub retired : OnOk result (new.retired ≡ [])

@@ -161,9 +161,10 @@ impl<D: Disk> Pager<D> {
         self.retired.truncate(mark.retired);
     }
 
-    /// Makes the tree below this page the committed one, with a list of the pages that are free then: the pages that the turn made
-    /// and didn't retire are written, then those of the list, then the root. What it retired is free from then on, and so are the
-    /// pages of the list that the last root named. An `Err` leaves the turn, to be undone. It reads nothing.
+    /// Makes the tree below this page the committed one, with a list of the pages that are free then: the pages that the turn
+    /// made and didn't retire are written, then those of the list, then the root. What it retired is free from then on, and so are
+    /// the pages of the list that the last root named. `Full` where no page is free for the list. An `Err` leaves the turn, to be
+    /// undone. It reads nothing.
     pub fn commit(&mut self, root: u32) -> Result<(), CommitFault>
         ensures commits { Commits D.history root result self.old self.new }
         ensures takes { CountsTakes result self.old self.new }
@@ -185,10 +186,9 @@ impl<D: Disk> Pager<D> {
             Err(fault) => return Err(fault),
         };
         forget_all(&mut self.cache, &plan.listed);
-        if let Err(fault) = self
-            .store
-            .commit(&plan.written, root, plan.free_list, plan.free_count)
-        {
+        let list = plan.free_list;
+        let count = plan.free_count;
+        if let Err(fault) = self.store.commit(&plan.written, root, list, count) {
             self.book.undo_to(mark);
             return Err(fault);
         }

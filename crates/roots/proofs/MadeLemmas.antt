@@ -55,9 +55,9 @@ inside_end (m ∷ ms) last end lie =
     (omega (arith, up), inside_end ms m.page (m.page + 1) lie.1)
 
 -- which is in reach.
-pub end_most : (made : List Sheet) (end : ℕ) → end ≤ 1048576 → AllByRecursion (λ (m : Sheet). m.page < 1048576) made → end_behind end made ≤ 1048576
-end_most [] end le inside = le
-end_most (m ∷ ms) end le inside = end_most ms (m.page + 1) (omega (arith, inside.0)) inside.1
+pub end_most : (most : ℕ) (made : List Sheet) (end : ℕ) → end ≤ most → AllByRecursion (λ (m : Sheet). m.page < most) made → end_behind end made ≤ most
+end_most most [] end le inside = le
+end_most most (m ∷ ms) end le inside = end_most most ms (m.page + 1) (omega (arith, inside.0)) inside.1
 
 -- ---- pages apart
 
@@ -202,4 +202,4 @@ end_last (m ∷ n ∷ ms) end x is =
 pub end_saturated : (made : List Sheet) (x : Sheet) (n : ℕ) → Some x ≡ slice_get made (length made - 1) → n ≡ min (x.page + 1) (2 ^ 32 - 1)
     → AllByRecursion (λ (m : Sheet). m.page < 1048576) made → n ≡ end_behind 1 made
 end_saturated made x n is at inside = let e : end_behind 1 made ≡ x.page + 1 = end_last made 1 x is in
-    omega (arith, at, e, end_most made 1 (omega arith) inside)
+    omega (arith, at, e, end_most 1048576 made 1 (omega arith) inside)

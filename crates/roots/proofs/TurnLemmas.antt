@@ -108,7 +108,7 @@ module _ (h0 h1 : History) (old next : Root) (live pages : List ℕ) (made : Lis
     possible k1 =
         let old_known = known (reads (now h0) 0) (reads (now h0) 1) old (keeps.opens (goes.kept k1)) in
         let some : 1 ≤ end_behind 1 made = end_grows made 0 1 refl turn.ascending in
-        let most : end_behind 1 made ≤ 1048576 = end_most made 1 (omega arith) turn.inside in
+        let most : end_behind 1 made ≤ 1048576 = end_most 1048576 made 1 (omega arith) turn.inside in
         let pages_some : 0 < next.pages = omega (arith, count, some) in
         let file = has k1 in
         let list = list_below (sheet_at (reads (now h1)) next) next pages file.listed.0 pages_some file.listed.1 in

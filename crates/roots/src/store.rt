@@ -56,7 +56,7 @@ pub enum CommitFault {
     Device = 1,
     /// Out of memory. Nothing changed.
     Memory,
-    /// No greater generation is left. Nothing changed.
+    /// No greater generation is left, and nothing changed; or, to who makes a list of free pages, no page is free for it.
     Full,
 }
 

@@ -1,6 +1,3 @@
-use Rattle.std.proofs.Common.{ap, sym, ◌∙◌}
-use Rattle.freelist.specs.Book.{Book}
-use Rattle.pager.specs.Writing.{retired_all}
 use Rattle.pager.proofs.BookLemmas.{back_both, both_retired}
 use Rattle.pager.proofs.planning.retire_both.Goals as goal
 
