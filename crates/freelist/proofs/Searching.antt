@@ -131,7 +131,7 @@ stays_marked sought pages marks page state are = elim (cases_Bool (fits sought s
       | inl same ↦ absurd (let never : true ≡ false =
           sym marked ∙ ap (λ (i : ℕ). get_or (set marks (page / 256) false) i false) same ∙ mark_is_gone marks (page / 256) in cc)
       | inr other ↦ fits_no_more sought pages page k state (λ same. absurd (other (in_block j k after below same)))
-        (are.none j (sym (get_or-set_other marks (page / 256) j false false other) ∙ marked) k after below)
+          (are.none j (sym (get_or-set_other marks (page / 256) j false false other) ∙ marked) k after below)
     ];
     whole = omega (arith, are.whole, length-set marks (page / 256) false, length-set pages page state);
   })

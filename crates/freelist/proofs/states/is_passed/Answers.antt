@@ -1,5 +1,5 @@
-use Rattle.std.proofs.Common.{◌*◌, ◌≡◌, ◌≤◌, ◌+◌, true, sym, subst, arith, List, Bool, length}
-use Rattle.freelist.specs.Search.{AreMarked, NoneFits}
+use Rattle.std.proofs.Common.{◌*◌, ◌≤◌, ◌+◌, sym, subst, arith, List, Bool, length}
+use Rattle.freelist.specs.Search.{AreMarked}
 use Rattle.freelist.proofs.Searching.{in_part, marks_block}
 use Rattle.freelist.proofs.states.is_passed.Goals as goal
 use Rattle.freelist.proofs.states.is_passed.Goals.{then-not-marks-block, else-not-marks-block}

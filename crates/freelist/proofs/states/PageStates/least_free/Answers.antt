@@ -1,4 +1,4 @@
-use Rattle.std.proofs.Common.{subst, List, ◌≡◌, ◌∙◌, ◌<◌, ap, arith, length}
+use Rattle.std.proofs.Common.{subst, List, ◌∙◌, ◌<◌, ap, arith, length}
 use Rattle.freelist.specs.Book.{IsStart, least_free}
 use Rattle.freelist.specs.Search.{IsFirst}
 use Rattle.freelist.specs.declared.states.PageState.{PageState}
@@ -16,10 +16,10 @@ returns-clause-result c =
     c.first_from-self-inside.ensures.first in
     let starts : IsStart page pages = starts_at c.self.inside.start page pages c.self.invariant.starts first in
     elim c.if-self-len.branch [
-      | then-self-len w ↦ 
+      | then-self-len w ↦
           let inside : page < length pages = omega (arith, w.if-self-len.true, c.len.ensures, c.deref.ensures.len, ap length c.deref.ensures.value) in
           w.result-is ∙ least_here page pages starts inside (first.fitting inside)
-      | else-self-len w ↦ 
+      | else-self-len w ↦
           w.result-is
           ∙ least_none page pages starts (omega (arith, w.if-self-len.false, c.len.ensures, c.deref.ensures.len, ap length c.deref.ensures.value))
     ] ∙ ap least_free c.self.view_is

@@ -14,11 +14,11 @@ returns-clause-next c =
     subst (λ (n : ℕ). IsFirst soughts.Unused n c.first_from-first.result c.args.self.now) c.max.ensures
     (subst (λ (ps : List PageState). IsFirst soughts.Unused c.max.result c.first_from-first.result ps) same c.first_from-first.ensures.first) in
     elim c.if-first-len.branch [
-      | then-first-len w ↦ 
+      | then-first-len w ↦
           subst (λ (n : ℕ). IsNextUnused c.args.from c.args.end n c.args.self.now) (sym (w.result-is ∙ w.min.ensures))
           (next_inside c.args.from c.first_from-first.result c.args.self.now few first c.args.end
           (omega (arith, w.if-first-len.true, c.len.ensures, c.deref.ensures.len, ap length same)))
-      | else-first-len w ↦ 
+      | else-first-len w ↦
           subst (λ (n : ℕ). IsNextUnused c.args.from c.args.end n c.args.self.now) (sym w.result-is)
           (next_past c.args.from c.first_from-first.result c.args.self.now few first c.args.end
           (omega (arith, w.if-first-len.false, c.len.ensures, c.deref.ensures.len, ap length same)))

@@ -1,8 +1,7 @@
-use Rattle.std.proofs.Common.{rules, ◌≡◌, sym, ◌∙◌, set, List, Bool, ℕ, arith, ap, length, subst}
+use Rattle.std.proofs.Common.{rules, ◌≡◌, sym, ◌∙◌, set, List, Bool, ℕ, ap, subst}
 use Rattle.std.proofs.lemmas.List.{set_past}
 use Rattle.freelist.specs.Book.{IsStart}
-use Rattle.freelist.specs.Search.{AreMarked, IsSearch, marks_after}
-use Rattle.freelist.specs.declared.states.PageState.{PageState}
+use Rattle.freelist.specs.Search.{AreMarked, marks_after}
 use Rattle.freelist.specs.declared.states.Sought.TheVariants as soughts
 use Rattle.freelist.proofs.Searching.{stays_marked, whole_part}
 use Rattle.freelist.proofs.states.PageStates.set.Goals as goal
