@@ -46,8 +46,11 @@ at_most (suc k) pages = elim (cases_Bool (is_unused pages k)) [
       omega (arith, step, at_most k pages)
 ]
 
+none_of : (p : ℕ) (test : Bool) → test ≡ false → (nat_lt 0 p && test) ≡ false
+none_of p test fails = elim (cases_Bool (nat_lt 0 p)) [ inl some ↦ rw (some, fails) refl | inr none ↦ rw none refl ]
+
 used_is_none : (p : ℕ) (s : PageState) → s ≡ states.InUse → (nat_lt 0 p && not (is_used_state s)) ≡ false
-used_is_none p s is = elim (cases_Bool (nat_lt 0 p)) [ inl some ↦ rw (some, is) refl | inr none ↦ rw none refl ]
+used_is_none p s is = none_of p (not (is_used_state s)) (ap (λ (x : PageState). not (is_used_state x)) is)
 
 pub grows_with : (k n : ℕ) (pages : List PageState) → k ≤ n → length (unused_below k pages) ≤ length (unused_below n pages)
 grows_with k zero pages less = omega (arith, at_most k pages, less)
@@ -91,10 +94,7 @@ passed_by from (suc n) pages less none = elim (cases_eq from (suc n)) [
 module _ (from first : ℕ) (pages : List PageState) (few : length pages < 2 ^ 32) (is : IsFirst soughts.Unused (max from 1) first pages) where
   none_before : (k : ℕ) → from ≤ k → k < first → is_unused pages k ≡ false
   none_before zero after below = refl
-  none_before (suc k) after below = rw (is.passed (suc k) (omega (arith, after)) below) (used_is_none' (suc k))
-    where
-      used_is_none' : (n : ℕ) → (nat_lt 0 n && false) ≡ false
-      used_is_none' n = elim (cases_Bool (nat_lt 0 n)) [ inl some ↦ rw some refl | inr none ↦ rw none refl ]
+  none_before (suc k) after below = none_of (suc k) _ (is.passed (suc k) (omega (arith, after)) below)
 
   is_one : first < length pages → is_unused pages first ≡ true
   is_one inside =
