@@ -1,14 +1,20 @@
 -- The search for the least free page, and for a pin.
-use Rattle.std.proofs.Common.{◌≡◌, ◌<◌, ◌≤◌, ◌+◌, ◌-◌, ℕ, zero, suc, true, false, List, [], ◌∷◌, length, drop, sym, ap, ◌∙◌, arith, Some, None, refl, inl, inr}
+use Rattle.std.proofs.Common.{◌≡◌, ◌<◌, ◌≤◌, ◌+◌, ◌-◌, ◌*◌, ◌/◌, ℕ, zero, suc, Bool, true, false, List, [], ◌∷◌, ◌++◌, length, drop, sym, ap, ◌∙◌, arith, Some, None, refl}
+use Rattle.std.proofs.Common.{inl, inr, set, subst, take}
 use Rattle.std.specs.Prelude.{◌≢◌, ◌==◌, get_or}
 use Rattle.std.specs.List.{remove}
 use Rattle.std.proofs.lemmas.Bool.Decides.{nat_tests}
-use Rattle.std.proofs.lemmas.Bool.{cases_lt}
-use Rattle.std.proofs.lemmas.List.{drop-drop, get_or-drop, drop_more, drop_all, length-drop}
+use Rattle.std.proofs.lemmas.Bool.{cases_Bool, cases_eq, cases_lt}
+use Rattle.std.proofs.lemmas.Grind.{get_or-set_at}
+use Rattle.std.proofs.lemmas.List.{drop-drop, get_or-drop, get_or-take, get_or-set_other, get_or_past, drop_more, drop_all, length-drop, length-set, length-take-le}
+use Rattle.std.proofs.Math.Nat.{mod-add-div'}
+use Rattle.std.proofs.Math.Seq.{take-append_seam}
 use Rattle.freelist.specs.Book.{is_free_state, first_free, least_free, without, IsStart}
-use Rattle.freelist.specs.Search.{NoneFree}
+use Rattle.freelist.specs.Search.{AreMarked, IsFirst, NoneFits, fits, marks_after}
 use Rattle.freelist.specs.declared.states.PageState.{PageState}
 use Rattle.freelist.specs.declared.states.PageState.TheVariants as states
+use Rattle.freelist.specs.declared.states.Sought.{Sought}
+use Rattle.freelist.specs.declared.states.Sought.TheVariants as soughts
 
 -- pages in front that aren't free are passed over
 passed_over : (k n : ℕ) (pages : List PageState) → k ≤ length pages → ((i : ℕ) → i < k → is_free_state (get_or pages i states.Retired) ≡ false)
@@ -19,6 +25,12 @@ passed_over (suc k) n (s ∷ pages) h none =
     rw (none 0 (omega arith)) (passed_over k (n + 1) pages (omega (arith, h)) (λ i below. none (suc i) (omega (arith, below)))
     ∙ ap (λ (m : ℕ). first_free m (drop k pages)) (omega arith))
 
+-- a state past the limit is no free one, whichever of the two it is
+free_past : (pages : List PageState) (k : ℕ) → is_free_state (get_or pages k states.Retired) ≡ is_free_state (get_or pages k states.InUse)
+free_past [] k = refl
+free_past (s ∷ pages) zero = refl
+free_past (s ∷ pages) (suc k) = free_past pages k
+
 pub least_from : (start : ℕ) (pages : List PageState) → IsStart start pages → least_free pages ≡ first_free start (drop start pages)
 least_from start pages is =
     let front : 1 + (start - 1) ≡ start = omega (arith, is.after) in
@@ -27,27 +39,120 @@ least_from start pages is =
     ∙ ap (first_free (1 + (start - 1))) (drop-drop (start - 1) 1 pages)
     ∙ ap (λ (m : ℕ). first_free m (drop m pages)) front
 
-pub least_here : (start : ℕ) (pages : List PageState) (s : PageState) → IsStart start pages → start < length pages → s ≡ get_or pages start s
-    → is_free_state s ≡ true → Some start ≡ least_free pages
-least_here start pages s is within here free =
-    let at : drop start pages ≡ s ∷ drop (start + 1) pages = drop_more pages start s within ∙ ap (λ (x : PageState). x ∷ drop (start + 1) pages) (sym here) in
-    sym (least_from start pages is ∙ ap (first_free start) at ∙ rw free refl)
+pub least_here : (start : ℕ) (pages : List PageState) → IsStart start pages → start < length pages
+    → is_free_state (get_or pages start states.InUse) ≡ true → Some start ≡ least_free pages
+least_here start pages is within free =
+    sym (least_from start pages is ∙ ap (first_free start) (drop_more pages start states.InUse within) ∙ rw free refl)
 
 pub least_none : (start : ℕ) (pages : List PageState) → IsStart start pages → length pages ≤ start → None ≡ least_free pages
 least_none start pages is past = sym (least_from start pages is ∙ ap (first_free start) (drop_all start pages past))
 
--- a block in which no page is free is passed over
-pub past_block : (page : ℕ) (pages : List PageState) → IsStart page pages → NoneFree page 256 pages → page + 256 ≤ length pages
-    → IsStart (page + 256) pages
-past_block page pages is none inside = record { after = omega (arith, is.after); within = inside; few = is.few; passed = passed }
+-- the search for a free page begins at the first one that it found
+pub starts_at : (start page : ℕ) (pages : List PageState) → IsStart start pages → IsFirst soughts.Free start page pages → IsStart page pages
+starts_at start page pages is first = record {
+  after = omega (arith, is.after, first.rises);
+  within = omega (arith, is.within, first.within);
+  few = is.few;
+  passed = passed;
+}
   where
-    passed : (k : ℕ) → 1 ≤ k → k < page + 256 → is_free_state (get_or pages k states.Retired) ≡ false
-    passed k from below = elim (cases_lt k page) [
+    passed : (k : ℕ) → 1 ≤ k → k < page → is_free_state (get_or pages k states.Retired) ≡ false
+    passed k from below = elim (cases_lt k start) [
       | inl front ↦ is.passed k from front
-      | inr behind ↦
-          let at : page + (k - page) ≡ k = omega (arith, behind) in
-          ap (λ (j : ℕ). is_free_state (get_or pages j states.Retired)) (sym at) ∙ none (k - page) (omega (arith, behind, below))
+      | inr behind ↦ free_past pages k ∙ first.passed k behind below
     ]
+
+-- ---- the marks
+
+module _ (sought : Sought) (pages : List PageState) where
+  -- what was found of a part of the pages
+  pub in_part : (first : ℕ) → first + 256 ≤ length pages
+      → NoneFits sought 0 (length (take (first + 256 - first) (drop first pages))) (take (first + 256 - first) (drop first pages))
+      → NoneFits sought first (first + 256) pages
+  in_part first inside none k after below =
+      let at : first + (k - first) ≡ k = omega (arith, after) in
+      let all : length (take (first + 256 - first) (drop first pages)) ≡ first + 256 - first =
+      length-take-le (first + 256 - first) (drop first pages) (omega (arith, inside, length-drop first pages)) in
+      ap (λ (j : ℕ). fits sought (get_or pages j states.InUse)) (sym at)
+      ∙ ap (fits sought) (sym (get_or-drop first pages (k - first) states.InUse))
+      ∙ ap (fits sought) (sym (get_or-take (first + 256 - first) (drop first pages) (k - first) states.InUse (omega (arith, after, below))))
+      ∙ none (k - first) (omega arith) (omega (arith, all, after, below))
+
+  -- a block of which it was found out is marked so
+  pub marks_block : (marks : List Bool) (block : ℕ) (found : Bool) → AreMarked sought marks pages
+      → (found ≡ true → NoneFits sought (block * 256) (block * 256 + 256) pages) → AreMarked sought (set marks block found) pages
+  marks_block marks block found are none = record { none = there; whole = omega (arith, are.whole, length-set marks block found) }
+    where
+      at_block : (j : ℕ) → j ≡ block → get_or (set marks block found) j false ≡ true → NoneFits sought (j * 256) (j * 256 + 256) pages
+      at_block j same marked = elim (cases_lt block (length marks)) [
+        | inl inside ↦
+            let so : found ≡ true = sym (get_or-set_at marks block j found false same inside) ∙ marked in
+            subst (λ (i : ℕ). NoneFits sought (i * 256) (i * 256 + 256) pages) (sym same) (none so)
+        | inr past ↦
+            let no : get_or (set marks block found) j false ≡ false =
+            get_or_past (set marks block found) j false (omega (arith, same, past, length-set marks block found)) in
+            absurd (let never : true ≡ false = sym marked ∙ no in cc)
+      ]
+
+      there : (j : ℕ) → get_or (set marks block found) j false ≡ true → NoneFits sought (j * 256) (j * 256 + 256) pages
+      there j marked = elim (cases_eq j block) [
+        | inl same ↦ at_block j same marked
+        | inr other ↦ are.none j (sym (get_or-set_other marks block j found false other) ∙ marked)
+      ]
+
+used_never_fits : (sought : Sought) → fits sought states.InUse ≡ false
+used_never_fits soughts.Free = refl
+used_never_fits soughts.Unused = refl
+
+-- a page is of another state now, and isn't sought in it
+fits_no_more : (sought : Sought) (pages : List PageState) (page k : ℕ) (state : PageState) → (k ≡ page → fits sought state ≡ false)
+    → fits sought (get_or pages k states.InUse) ≡ false → fits sought (get_or (set pages page state) k states.InUse) ≡ false
+fits_no_more sought pages page k state now was = elim (cases_eq k page) [
+  | inl same ↦ elim (cases_lt page (length pages)) [
+    | inl inside ↦ ap (fits sought) (get_or-set_at pages page k state states.InUse same inside) ∙ now same
+    | inr past ↦
+        ap (fits sought) (get_or_past (set pages page state) k states.InUse (omega (arith, same, past, length-set pages page state)))
+        ∙ used_never_fits sought
+  ]
+  | inr other ↦ ap (fits sought) (get_or-set_other pages page k state states.InUse other) ∙ was
+]
+
+mark_is_gone : (marks : List Bool) (block : ℕ) → get_or (set marks block false) block false ≡ false
+mark_is_gone [] block = refl
+mark_is_gone (m ∷ marks) zero = refl
+mark_is_gone (m ∷ marks) (suc block) = mark_is_gone marks block
+
+-- a block that is marked still was, and isn't that of a page which is sought now
+pub stays_marked : (sought : Sought) (pages : List PageState) (marks : List Bool) (page : ℕ) (state : PageState) → AreMarked sought marks pages
+    → AreMarked sought (marks_after sought page state marks) (set pages page state)
+stays_marked sought pages marks page state are = elim (cases_Bool (fits sought state)) [
+  | inl so ↦ subst (λ (ms : List Bool). AreMarked sought ms (set pages page state)) (sym (taken so)) (record {
+    none = λ j marked k after below. elim (cases_eq j (page / 256)) [
+      | inl same ↦ absurd (let never : true ≡ false =
+          sym marked ∙ ap (λ (i : ℕ). get_or (set marks (page / 256) false) i false) same ∙ mark_is_gone marks (page / 256) in cc)
+      | inr other ↦ fits_no_more sought pages page k state (λ same. absurd (other (in_block j k after below same)))
+          (are.none j (sym (get_or-set_other marks (page / 256) j false false other) ∙ marked) k after below)
+    ];
+    whole = omega (arith, are.whole, length-set marks (page / 256) false, length-set pages page state);
+  })
+  | inr not_so ↦ subst (λ (ms : List Bool). AreMarked sought ms (set pages page state)) (sym (left not_so)) (record {
+    none = λ j marked k after below. fits_no_more sought pages page k state (λ same. not_so) (are.none j marked k after below);
+    whole = omega (arith, are.whole, length-set pages page state);
+  })
+]
+  where
+    taken : fits sought state ≡ true → marks_after sought page state marks ≡ set marks (page / 256) false
+    taken so = rw so refl
+
+    left : fits sought state ≡ false → marks_after sought page state marks ≡ marks
+    left not_so = rw not_so refl
+
+    in_block : (j k : ℕ) → j * 256 ≤ k → k < j * 256 + 256 → k ≡ page → j ≡ page / 256
+    in_block j k after below same = omega (arith, after, below, same, mod-add-div' page 256)
+
+-- what a call left of a part of a vector that is the whole of it
+pub whole_part : (xs ys : List Bool) (n : ℕ) → length xs ≡ n → take n (xs ++ ys) ≡ xs
+whole_part xs ys n same = ap (λ (k : ℕ). take k (xs ++ ys)) (sym same) ∙ take-append_seam xs ys
 
 -- ---- a pin
 

@@ -80,6 +80,10 @@ pub on_err : {T E P : Type 0} (r : Result T E) → P → OnErr r P
 on_err (Ok x) h = tt
 on_err (Err e) h = h
 
+-- what a call left as it was of a book's pages
+pub same_book : (b now : Book) (pages : List PageState) → b ≡ now → pages ≡ b.states → record b { states = pages } ≡ now
+same_book b now pages is same = (λ i. record b { states = same i }) ∙ is
+
 -- ---- a page that was taken
 
 module _ (mid new : Book) (page : ℕ) (takes : Takes (Some page) mid new) where

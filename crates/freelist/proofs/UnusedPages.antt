@@ -1,6 +1,6 @@
 -- The pages that aren't in use, and what becomes of them when one is taken.
 use Rattle.std.proofs.Common.{◌≡◌, ◌<◌, ◌≤◌, ◌+◌, ℕ, zero, suc, Bool, true, false, List, [], ◌∷◌, ◌++◌, length, length-append, sym, ap, ◌∙◌, arith, refl, inl}
-use Rattle.std.proofs.Common.{inr, set}
+use Rattle.std.proofs.Common.{inr, set, subst, ◌^◌, max, min}
 use Rattle.std.specs.Prelude.{◌≢◌, ◌==◌, ◌&&◌, get_or, if◌then◌else◌, nat_lt, not}
 use Rattle.std.proofs.lemmas.Bool.Decides.{nat_tests}
 use Rattle.std.proofs.lemmas.Bool.{cases_eq, cases_Bool, cases_lt}
@@ -8,8 +8,10 @@ use Rattle.std.proofs.lemmas.List.{append-nil, get_or-set_other, get_or-set_same
 use Rattle.freelist.specs.Book.{is_in_use, is_used_state}
 use Rattle.freelist.specs.FreeList.{times_in}
 use Rattle.freelist.specs.ListWriting.{is_unused, unused_below}
+use Rattle.freelist.specs.Search.{IsFirst, IsNextUnused}
 use Rattle.freelist.specs.declared.states.PageState.{PageState}
 use Rattle.freelist.specs.declared.states.PageState.TheVariants as states
+use Rattle.freelist.specs.declared.states.Sought.TheVariants as soughts
 use Rattle.freelist.proofs.Marking.{times_in-append}
 use Rattle.freelist.proofs.Rewinding.{below, used_is}
 
@@ -44,8 +46,11 @@ at_most (suc k) pages = elim (cases_Bool (is_unused pages k)) [
       omega (arith, step, at_most k pages)
 ]
 
+none_of : (p : ℕ) (test : Bool) → test ≡ false → (nat_lt 0 p && test) ≡ false
+none_of p test fails = elim (cases_Bool (nat_lt 0 p)) [ inl some ↦ rw (some, fails) refl | inr none ↦ rw none refl ]
+
 used_is_none : (p : ℕ) (s : PageState) → s ≡ states.InUse → (nat_lt 0 p && not (is_used_state s)) ≡ false
-used_is_none p s is = elim (cases_Bool (nat_lt 0 p)) [ inl some ↦ rw (some, is) refl | inr none ↦ rw none refl ]
+used_is_none p s is = none_of p (not (is_used_state s)) (ap (λ (x : PageState). not (is_used_state x)) is)
 
 pub grows_with : (k n : ℕ) (pages : List PageState) → k ≤ n → length (unused_below k pages) ≤ length (unused_below n pages)
 grows_with k zero pages less = omega (arith, at_most k pages, less)
@@ -67,6 +72,56 @@ unused_within pages p so = elim (cases_lt p (length pages)) [
       let none : is_unused pages p ≡ false = used_is_none p (get_or pages p states.InUse) (get_or_past pages p states.InUse past) in
       absurd (let never : true ≡ false = sym so ∙ none in cc)
 ]
+
+-- pages that are in use are passed over
+pub passed_by : (from n : ℕ) (pages : List PageState) → from ≤ n → ((k : ℕ) → from ≤ k → k < n → is_unused pages k ≡ false)
+    → unused_below n pages ≡ unused_below from pages
+passed_by from zero pages less none =
+    let at_none : zero ≡ from = omega (arith, less) in
+    ap (λ (k : ℕ). unused_below k pages) at_none
+passed_by from (suc n) pages less none = elim (cases_eq from (suc n)) [
+  | inl same ↦ ap (λ (k : ℕ). unused_below k pages) (sym same)
+  | inr other ↦
+      ap (λ (k : ℕ). unused_below k pages) next
+      ∙ step_used n pages (none n (omega (arith, less, other)) (omega arith))
+      ∙ passed_by from n pages (omega (arith, less, other)) (λ k after below. none k after (omega (arith, below)))
+]
+  where
+    next : suc n ≡ n + 1
+    next = omega arith
+
+-- the next page that isn't in use
+module _ (from first : ℕ) (pages : List PageState) (few : length pages < 2 ^ 32) (is : IsFirst soughts.Unused (max from 1) first pages) where
+  none_before : (k : ℕ) → from ≤ k → k < first → is_unused pages k ≡ false
+  none_before zero after below = refl
+  none_before (suc k) after below = none_of (suc k) _ (is.passed (suc k) (omega (arith, after)) below)
+
+  is_one : first < length pages → is_unused pages first ≡ true
+  is_one inside =
+      let positive : nat_lt 0 first ≡ true = (let some : 0 < first = omega (arith, is.rises) in grind (arith, nat_tests)) in
+      rw (positive, is.fitting inside) refl
+
+  pub next_inside : (end : ℕ) → first < length pages → IsNextUnused from end (min first end) pages
+  next_inside end inside = record {
+    within = omega arith;
+    few = λ less. omega (arith, less, inside, few);
+    rises = λ less. omega (arith, less, is.rises);
+    unused = λ less. let at : first ≡ min first end = omega (arith, less) in subst (λ (n : ℕ). is_unused pages n ≡ true) at (is_one inside);
+    passed = λ in_order. passed_by from (min first end) pages (omega (arith, in_order, is.rises))
+        (λ k after below. none_before k after (omega (arith, below)));
+  }
+
+  pub next_past : (end : ℕ) → length pages ≤ first → IsNextUnused from end end pages
+  next_past end past = record {
+    within = omega arith;
+    few = λ less. absurd (omega (arith, less));
+    rises = λ less. absurd (omega (arith, less));
+    unused = λ less. absurd (omega (arith, less));
+    passed = λ in_order. passed_by from end pages in_order (λ k after below. elim (cases_lt k first) [
+      | inl front ↦ none_before k after front
+      | inr behind ↦ used_is_none k (get_or pages k states.InUse) (get_or_past pages k states.InUse (omega (arith, past, behind)))
+    ]);
+  }
 
 -- ---- a page that is in use isn't
 

@@ -155,12 +155,12 @@ impl FreePages {
         ensures pages { IfOk result (λ found. FindsRoom page_count found self.old self.new) }
         ensures err { OnErr result (GoesBack self.old self.old self.new) }
     {
-        let mut draft = Draft::begin(alloc, page_count, &self.pages);
+        let mut draft = Draft::begin(alloc, page_count, &mut self.pages);
         while draft.needs_more() {
             let Some(page) = self.take()? else {
                 return Ok(None);
             };
-            draft.note(page, &self.pages)?;
+            draft.note(page, &mut self.pages)?;
         }
         Ok(Some(draft))
     }

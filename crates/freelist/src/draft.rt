@@ -19,10 +19,11 @@ pub(crate) struct Draft {
 
 impl Draft {
     /// A list without pages of its own, in a file of so many pages.
-    pub(crate) fn begin(alloc: Global, page_count: u32, pages: &PageStates) -> Draft
+    pub(crate) fn begin(alloc: Global, page_count: u32, pages: &mut PageStates) -> Draft
         ensures pages { result.pages.items ≡ [] }
         ensures count { result.page_count ≡ page_count }
-        ensures counts { Counts result pages.now }
+        ensures counts { Counts result pages.old }
+        ensures same { pages.new ≡ pages.old }
     {
         let page_count = page_count as usize;
         Draft {
@@ -40,13 +41,14 @@ impl Draft {
     }
 
     /// Notes a page that was taken for the list.
-    pub(crate) fn note(&mut self, page: u32, pages: &PageStates) -> Result<(), NoMemory>
+    pub(crate) fn note(&mut self, page: u32, pages: &mut PageStates) -> Result<(), NoMemory>
         requires some { 0 < page }
-        requires taken { is_in_use pages.now page ≡ true }
-        requires counts { Counts self.old (slice_set pages.now page states.Free) }
+        requires taken { is_in_use pages.old page ≡ true }
+        requires counts { Counts self.old (slice_set pages.old page states.Free) }
         ensures pages { OnOk result (self.new.pages.items ≡ self.old.pages.items ++ page ∷ []) }
         ensures count { OnOk result (self.new.page_count ≡ max self.old.page_count (page + 1)) }
-        ensures counts { OnOk result (Counts self.new pages.now) }
+        ensures counts { OnOk result (Counts self.new pages.old) }
+        ensures same { pages.new ≡ pages.old }
     {
         self.pages.push(page)?;
         let page = page as usize;

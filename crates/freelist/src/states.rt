@@ -1,15 +1,16 @@
 //! What each page of a file is.
-ghost use Rattle.std.specs.Prelude.{◌≡◌, ◌<◌, ◌≤◌, ◌+◌, ◌-◌, ◌*◌, ◌^◌, true, false, IfOk, replicate, slice_set, get_or, List, length, max};
-ghost use Rattle.freelist.specs.Book.{is_in_use, is_free_state, least_free};
-ghost use Rattle.freelist.specs.ListWriting.{is_unused, unused_below};
-ghost use Rattle.freelist.specs.Search.{NoneFree, AreFull, IsSearch};
+ghost use Rattle.std.specs.Prelude.{◌≡◌, ◌<◌, ◌≤◌, ◌+◌, ◌*◌, true, false, IfOk, replicate, slice_set, get_or, List, length, max};
+ghost use Rattle.freelist.specs.Book.{IsStart, is_in_use, least_free};
+ghost use Rattle.freelist.specs.ListWriting.{unused_below};
+ghost use Rattle.freelist.specs.Search.{AreMarked, IsFirst, IsNextUnused, NoneFits, fits, marks_after};
+ghost use Rattle.freelist.specs.declared.states.PageState.{PageState};
 ghost use Rattle.freelist.specs.declared.states.PageState.TheVariants as states;
 
 use crate::book::NoMemory;
 use std::alloc::Global;
 use std::marker::Model;
 
-/// So many pages are passed over at once where none of them is free.
+/// So many pages are passed over at once where none of them is sought.
 const BLOCK: usize = 256;
 
 /// What a page is.
@@ -23,47 +24,104 @@ pub(crate) enum PageState {
     Retired,
 }
 
-impl PageState {
-    /// Whether the page may be taken.
-    fn is_free(self) -> bool
-        ensures { result ≡ is_free_state self }
+/// Which pages a search looks for.
+#[derive(Clone, Copy, Debug)]
+enum Sought {
+    /// Those that may be taken.
+    Free,
+    /// Those that aren't in use.
+    Unused,
+}
+
+impl Sought {
+    /// Whether a page in this state is one of them.
+    fn fits(self, state: PageState) -> bool
+        ensures { result ≡ fits self state }
     {
-        matches!(self, PageState::Free)
+        match self {
+            Sought::Free => matches!(state, PageState::Free),
+            Sought::Unused => !matches!(state, PageState::InUse),
+        }
     }
 }
 
-/// Whether none of a block's 256 pages is free, which is then marked.
-fn is_full(block: usize, pages: &[PageState], full: &mut [bool]) -> bool
-    requires marked { AreFull full.old pages.now }
-    requires whole { length full.old * 256 ≤ length pages.now }
-    ensures marked { AreFull full.new pages.now }
-    ensures whole { length full.new * 256 ≤ length pages.now }
-    ensures none { result ≡ true → NoneFree (block * 256) 256 pages.now }
+/// Whether none of these pages is sought.
+fn none_fits(sought: Sought, pages: &[PageState]) -> bool
+    ensures { result ≡ true → NoneFits sought 0 (length pages.now) pages.now }
+{
+    pages.iter().all(|state| !sought.fits(*state))
+}
+
+/// Whether none of a block's 256 pages is sought, which is then marked.
+fn is_passed(sought: Sought, block: usize, pages: &[PageState], marks: &mut [bool]) -> bool
+    requires marked { AreMarked sought marks.old pages.now }
+    ensures marked { AreMarked sought marks.new pages.now }
+    ensures none { result ≡ true → NoneFits sought (block * 256) (block * 256 + 256) pages.now }
     ensures inside { result ≡ true → block * 256 + 256 ≤ length pages.now }
 {
-    if full.len() <= block {
+    if marks.len() <= block {
         return false;
     }
-    if !full[block] {
+    if !marks[block] {
         let first = block * BLOCK;
-        let those = &pages[first..first + BLOCK];
-        full[block] = those.iter().all(|state| !state.is_free());
+        marks[block] = none_fits(sought, &pages[first..first + BLOCK]);
     }
-    full[block]
+    marks[block]
 }
 
-/// The next page at which the search looks, behind one that isn't free.
-fn behind(page: usize, pages: &[PageState], full: &mut [bool]) -> usize
-    requires search { IsSearch page full.old pages.now }
+/// The next page at which a search looks, behind one that isn't sought.
+fn behind(sought: Sought, page: usize, pages: &[PageState], marks: &mut [bool]) -> usize
+    requires marked { AreMarked sought marks.old pages.now }
     requires inside { page < length pages.now }
-    requires taken { is_free_state (get_or pages.now page states.Retired) ≡ false }
-    ensures search { IsSearch result full.new pages.now }
+    requires other { fits sought (get_or pages.now page states.InUse) ≡ false }
+    ensures marked { AreMarked sought marks.new pages.now }
     ensures rises { page < result }
+    ensures inside { result ≤ length pages.now }
+    ensures passed { NoneFits sought page result pages.now }
 {
-    if page % BLOCK == 0 && is_full(page / BLOCK, pages, full) {
+    if page % BLOCK == 0 && is_passed(sought, page / BLOCK, pages, marks) {
         page + BLOCK
     } else {
         page + 1
+    }
+}
+
+/// The first sought page from this one on. A page past the limit where there is none.
+fn first_from(sought: Sought, from: usize, pages: &[PageState], marks: &mut [bool]) -> usize
+    requires marked { AreMarked sought marks.old pages.now }
+    ensures marked { AreMarked sought marks.new pages.now }
+    ensures first { IsFirst sought from result pages.now }
+{
+    let mut page = from;
+    while page < pages.len() {
+        if sought.fits(pages[page]) {
+            return page;
+        }
+        page = behind(sought, page, pages, marks);
+    }
+    page
+}
+
+/// Takes the mark from a page's block, where the page is sought in its new state.
+#[tactic(auto, using(std::proofs::lemmas::List::set_past))]
+fn unmark(sought: Sought, page: usize, state: PageState, marks: &mut [bool])
+    ensures { marks.new ≡ marks_after sought page state marks.old }
+{
+    let block = page / BLOCK;
+    if sought.fits(state) && block < marks.len() {
+        marks[block] = false;
+    }
+}
+
+/// Where the search for a free page begins once a page is in a new state.
+fn start_after(start: usize, page: usize, state: PageState) -> usize
+    ensures { (pages : List PageState) → IsStart start pages
+        → IsStart result (slice_set pages page state) }
+{
+    if Sought::Free.fits(state) && 0 < page {
+        start.min(page)
+    } else {
+        start
     }
 }
 
@@ -75,6 +133,8 @@ pub(crate) struct PageStates {
     start: usize,
     /// Of each block of pages, whether it is known that none of them is free.
     full: Vec<bool>,
+    /// Of each block of pages, whether it is known that all of them are in use.
+    used: Vec<bool>,
 }
 
 impl Model for PageStates {
@@ -90,7 +150,7 @@ impl Model for PageStates {
 
     ghost view = { λ a. a.list.items };
 
-    ghost invariant = { λ a. IsSearch a.start a.full.items a.list.items };
+    ghost invariant = { λ a. IsSearch a.start a.full.items a.used.items a.list.items };
 }
 
 impl PageStates {
@@ -105,6 +165,7 @@ impl PageStates {
             list: vec![in alloc; PageState::Free; count]?,
             start: 1,
             full: vec![in alloc; false; count / BLOCK]?,
+            used: vec![in alloc; false; count / BLOCK]?,
         })
     }
 
@@ -115,40 +176,44 @@ impl PageStates {
         matches!(self.list.get(page as usize), Some(PageState::InUse))
     }
 
-    /// Whether a page from 1 to below the limit isn't in use.
-    fn is_unused(&self, page: usize) -> bool
-        ensures unused { result ≡ is_unused self.now page }
-        ensures within { result ≡ true → page < 2 ^ 32 }
+    /// The next page from this one to below that one that isn't in use, or that one where all are.
+    fn next_unused(&mut self, from: usize, end: usize) -> usize
+        ensures same { self.new ≡ self.old }
+        ensures next { IsNextUnused from end result self.old }
     {
-        match self.list.get(page) {
-            Some(PageState::Free) | Some(PageState::Retired) => 0 < page,
-            _ => false,
+        let first = first_from(Sought::Unused, from.max(1), &self.list, &mut self.used);
+        if first < self.list.len() {
+            first.min(end)
+        } else {
+            end
         }
     }
 
     /// How many of the pages from this one to below that one aren't in use.
-    pub(crate) fn count_unused(&self, from: usize, to: usize) -> usize
-        ensures { from ≤ to → length (unused_below from self.now) + result
-            ≡ length (unused_below to self.now) }
+    pub(crate) fn count_unused(&mut self, from: usize, to: usize) -> usize
+        ensures same { self.new ≡ self.old }
+        ensures count { from ≤ to → length (unused_below from self.old) + result
+            ≡ length (unused_below to self.old) }
     {
         let mut count = 0;
-        for page in from..to {
-            if self.is_unused(page) {
-                count += 1;
-            }
+        let mut page = self.next_unused(from, to);
+        while page < to {
+            count += 1;
+            page = self.next_unused(page + 1, to);
         }
         count
     }
 
     /// The pages below this one that aren't in use, in ascending order.
-    pub(crate) fn unused_below(&self, alloc: Global, end: usize) -> Result<Vec<u32>, NoMemory>
-        ensures { IfOk result (λ v. v.items ≡ unused_below end self.now) }
+    pub(crate) fn unused_below(&mut self, alloc: Global, end: usize) -> Result<Vec<u32>, NoMemory>
+        ensures same { self.new ≡ self.old }
+        ensures list { IfOk result (λ v. v.items ≡ unused_below end self.old) }
     {
         let mut unused = Vec::new(alloc);
-        for page in 0..end {
-            if self.is_unused(page) {
-                unused.push(page as u32)?;
-            }
+        let mut page = self.next_unused(0, end);
+        while page < end {
+            unused.push(page as u32)?;
+            page = self.next_unused(page + 1, end);
         }
         Ok(unused)
     }
@@ -158,13 +223,12 @@ impl PageStates {
         ensures result { result ≡ least_free self.old }
         ensures same { self.new ≡ self.old }
     {
-        while self.start < self.list.len() {
-            if self.list[self.start].is_free() {
-                return Some(self.start as u32);
-            }
-            self.start = behind(self.start, &self.list, &mut self.full);
+        self.start = first_from(Sought::Free, self.start, &self.list, &mut self.full);
+        if self.start < self.list.len() {
+            Some(self.start as u32)
+        } else {
+            None
         }
-        None
     }
 
     /// Says of a page below the limit what it is from now on.
@@ -175,13 +239,8 @@ impl PageStates {
         if let Some(place) = self.list.get_mut(at) {
             *place = state;
         }
-        if state.is_free() {
-            if 0 < at && at < self.start {
-                self.start = at;
-            }
-            if let Some(full) = self.full.get_mut(at / BLOCK) {
-                *full = false;
-            }
-        }
+        self.start = start_after(self.start, at, state);
+        unmark(Sought::Free, at, state, &mut self.full);
+        unmark(Sought::Unused, at, state, &mut self.used);
     }
 }

@@ -18,7 +18,7 @@ overflow_add-self c =
       c.requires.counts,
       ap length (unused_past c.args.self.now.page_count c.args.page c.args.pages.now states.Free c.if-page-self.false),
       at_most c.args.page c.args.pages.now,
-      c.count_unused.ensures c.if-page-self.false,
+      c.count_unused.ensures.count c.if-page-self.false,
     )
 
 pub returns-then-page-self-clause-counts : goal.returns-then-page-self-clause-counts
@@ -35,6 +35,6 @@ returns-else-page-self-clause-counts c =
       arith,
       c.requires.counts,
       ap length (unused_past c.args.self.now.page_count c.args.page c.args.pages.now states.Free c.if-page-self.false),
-      c.count_unused.ensures c.if-page-self.false,
+      c.count_unused.ensures.count c.if-page-self.false,
       unused_stays c.args.page c.args.pages.now (used_not_unused c.args.pages.now c.args.page c.requires.taken),
     )

@@ -1,16 +1,25 @@
-use Rattle.std.proofs.Common.{rules, ◌≡◌, ◌∙◌, sym, ap, true}
-use Rattle.freelist.specs.Book.{is_free_state, least_free}
-use Rattle.freelist.proofs.Searching.{least_here, least_none}
+use Rattle.std.proofs.Common.{subst, List, ◌∙◌, ◌<◌, ap, arith, length}
+use Rattle.freelist.specs.Book.{IsStart, least_free}
+use Rattle.freelist.specs.Search.{IsFirst}
+use Rattle.freelist.specs.declared.states.PageState.{PageState}
+use Rattle.freelist.specs.declared.states.Sought.TheVariants as soughts
+use Rattle.freelist.proofs.Searching.{least_here, least_none, starts_at}
 use Rattle.freelist.proofs.states.PageStates.least_free.Goals as goal
-
-pub returns-then-is_free-clause-result : goal.returns-then-is_free-clause-result
-returns-then-is_free-clause-result c =
-    let free : is_free_state c.index.result.now ≡ true = sym c.is_free.ensures ∙ c.if-is_free.true in
-    least_here c.loop-self.self-inside.start c.loop-self.self-inside.list.items c.index.result.now c.loop-self.invariant.start.starts (search rules)
-    (search rules) free
-    ∙ ap least_free c.loop-self.invariant.same
+use Rattle.freelist.proofs.states.PageStates.least_free.Goals.{then-self-len, else-self-len}
 
 pub returns-clause-result : goal.returns-clause-result
 returns-clause-result c =
-    least_none c.loop-self.self-inside.start c.loop-self.self-inside.list.items c.loop-self.invariant.start.starts (search rules)
-    ∙ ap least_free c.loop-self.invariant.same
+    let pages : List PageState = c.self.inside.list.items in
+    let page = c.first_from-self-inside.result in
+    let first : IsFirst soughts.Free c.self.inside.start page pages =
+    subst (λ (ps : List PageState). IsFirst soughts.Free c.self.inside.start page ps) c.deref.ensures.value
+    c.first_from-self-inside.ensures.first in
+    let starts : IsStart page pages = starts_at c.self.inside.start page pages c.self.invariant.starts first in
+    elim c.if-self-len.branch [
+      | then-self-len w ↦
+          let inside : page < length pages = omega (arith, w.if-self-len.true, c.len.ensures, c.deref.ensures.len, ap length c.deref.ensures.value) in
+          w.result-is ∙ least_here page pages starts inside (first.fitting inside)
+      | else-self-len w ↦
+          w.result-is
+          ∙ least_none page pages starts (omega (arith, w.if-self-len.false, c.len.ensures, c.deref.ensures.len, ap length c.deref.ensures.value))
+    ] ∙ ap least_free c.self.view_is
