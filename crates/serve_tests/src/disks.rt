@@ -19,12 +19,16 @@ const LEAF: &[u8] = b"\x01\0\x02\0\x01\0\0\0\x01\0\0\0\0\0\0\0\
 \x0e\0\x14\0\0\0\0\0\0\0\0\0\0\0\x40t.c\0\0\x14\0\0\0\x10n\0\x01\0\0\0\x04x\0\x05\0\0\0\0\0\
 \x11\0\x0e\0\0\0\0\0\0\x01\0\0\0\0\x30\x80\0\0\0\0\0\0\x01\x0e\0\0\0\x10_id\0\x01";
 
-/// Sector 0 after the delete.
-pub const NEXT_ROOT: &[u8] = b"DOCPAGE1\x01\0\0\0\0\x10\0\0\x02\0\0\0\0\0\0\0\x02\0\0\0\x03";
+/// Sector 0 after the delete: generation 2, the tree below page 2, 4 pages, a list on page 3 that names one.
+pub const NEXT_ROOT: &[u8] =
+    b"DOCPAGE1\x01\0\0\0\0\x10\0\0\x02\0\0\0\0\0\0\0\x02\0\0\0\x04\0\0\0\x03\0\0\0\x01";
 
 /// Sector 16, page 2: the leaf of the collection.
 const NEXT_LEAF: &[u8] = b"\x01\0\x01\0\x02\0\0\0\x02\0\0\0\0\0\0\0\
 \x0e\0\x14\0\0\0\0\0\0\0\0\0\0\0\x40t.c\0\0\x14\0\0\0\x10n\0\x01\0\0\0\x04x\0\x05";
+
+/// Sector 24, page 3: the list of free pages, with page 1.
+const LIST: &[u8] = b"\x04\0\x01\0\x03\0\0\0\x02\0\0\0\0\0\0\0\0\0\0\0\x01";
 
 /// A sector that begins with these bytes, has others at a place, and zeros behind.
 pub fn sector_of(front: &[u8], at: usize, bytes: &[u8]) -> [u8; 512] {
@@ -64,6 +68,7 @@ fn an_insert_and_a_delete(rt: HostRuntime) -> Result<(), Fail> {
     let mut disk = core.into_disk();
     assert!(rt; holds(&mut disk, 0, NEXT_ROOT) && holds(&mut disk, 1, ROOT));
     assert!(rt; holds(&mut disk, 8, LEAF) && holds(&mut disk, 16, NEXT_LEAF));
+    assert!(rt; holds(&mut disk, 24, LIST));
     Ok(())
 }
 
