@@ -21,7 +21,7 @@ use Rattle.file_state.specs.Laws.{ReadsCollections, ReadsHeld}
 use Rattle.file_state.proofs.EntriesRead.{reads_entries}
 
 -- a collection of a state is found by its name
-found_there : (cs : List Collection) (c : Collection) → AreNamedApart cs → Among c cs → find_collection cs c.name ≡ Some c
+pub found_there : (cs : List Collection) (c : Collection) → AreNamedApart cs → Among c cs → find_collection cs c.name ≡ Some c
 found_there cs c apart there = by (find_collection cs c.name) refl
   where
     by : (o : Option Collection) → find_collection cs c.name ≡ o → find_collection cs c.name ≡ Some c
