@@ -1,6 +1,6 @@
 -- What a search among a file's pages knows: where it begins, and which blocks it passes over.
 use Rattle.std.specs.Prelude.{◌≡◌, ℕ, ◌+◌, ◌*◌, ◌^◌, ◌<◌, ◌≤◌, Bool, true, false, not, max}
-use Rattle.std.specs.Prelude.{if◌then◌else◌, List, length, get_or, slice_set, ◌/◌}
+use Rattle.std.specs.Prelude.{if◌then◌else◌, List, length, get_or, slice_set, ◌/◌, ◌==◌}
 use Rattle.freelist.specs.Book.{is_free_state, is_used_state, IsStart}
 use Rattle.freelist.specs.ListWriting.{is_unused, unused_below}
 use Rattle.freelist.specs.declared.states.PageState.{PageState}
@@ -23,6 +23,10 @@ pub record AreMarked (sought : Sought) (marks : List Bool) (pages : List PageSta
   pub none : (block : ℕ) → get_or marks block false ≡ true
       → NoneFits sought (block * 256) (block * 256 + 256) pages
   pub whole : length marks * 256 ≤ length pages
+
+-- A block of which all 256 pages were passed over is marked.
+abbrev pub marks_passed : ℕ → ℕ → List Bool → List Bool
+marks_passed block passed marks = if passed == 256 then slice_set marks block true else marks
 
 -- A page's block isn't marked any more where the page is sought in its new state.
 abbrev pub marks_after : Sought → ℕ → PageState → List Bool → List Bool
