@@ -10,7 +10,7 @@ use Rattle.std.proofs.lemmas.List.{drop-drop, get_or-drop, get_or-take, get_or-s
 use Rattle.std.proofs.Math.Nat.{mod-add-div'}
 use Rattle.std.proofs.Math.Seq.{take-append_seam}
 use Rattle.freelist.specs.Book.{is_free_state, first_free, least_free, without, IsStart}
-use Rattle.freelist.specs.Search.{AreMarked, IsFirst, NoneFits, fits, marks_after, marks_passed}
+use Rattle.freelist.specs.Search.{MarksHold, IsFirst, NoneFits, fits, marks_after, marks_passed}
 use Rattle.freelist.specs.declared.states.PageState.{PageState}
 use Rattle.freelist.specs.declared.states.PageState.TheVariants as states
 use Rattle.freelist.specs.declared.states.Sought.{Sought}
@@ -81,14 +81,14 @@ module _ (sought : Sought) (pages : List PageState) where
       ∙ first.passed (k - from) (omega arith) (omega (arith, after, below))
 
   -- a block that was passed over is marked
-  pub marks_block : (marks : List Bool) (block from passed : ℕ) → AreMarked sought marks pages → NoneFits sought from (from + passed) pages
-      → (passed ≡ 256 → from ≡ block * 256) → AreMarked sought (marks_passed block passed marks) pages
+  pub marks_block : (marks : List Bool) (block from passed : ℕ) → MarksHold sought marks pages → NoneFits sought from (from + passed) pages
+      → (passed ≡ 256 → from ≡ block * 256) → MarksHold sought (marks_passed block passed marks) pages
   marks_block marks block from passed are none begins = elim (cases_eq passed 256) [
-    | inl all ↦ subst (λ (ms : List Bool). AreMarked sought ms pages) (sym (now all)) (record {
+    | inl all ↦ subst (λ (ms : List Bool). MarksHold sought ms pages) (sym (now all)) (record {
       none = there all;
       whole = omega (arith, are.whole, length-set marks block true);
     })
-    | inr some ↦ subst (λ (ms : List Bool). AreMarked sought ms pages) (sym (still some)) are
+    | inr some ↦ subst (λ (ms : List Bool). MarksHold sought ms pages) (sym (still some)) are
   ]
     where
       now : passed ≡ 256 → marks_passed block passed marks ≡ set marks block true
@@ -126,10 +126,10 @@ mark_is_gone (m ∷ marks) zero = refl
 mark_is_gone (m ∷ marks) (suc block) = mark_is_gone marks block
 
 -- a block that is marked still was, and isn't that of a page which is sought now
-pub stays_marked : (sought : Sought) (pages : List PageState) (marks : List Bool) (page : ℕ) (state : PageState) → AreMarked sought marks pages
-    → AreMarked sought (marks_after sought page state marks) (set pages page state)
+pub stays_marked : (sought : Sought) (pages : List PageState) (marks : List Bool) (page : ℕ) (state : PageState) → MarksHold sought marks pages
+    → MarksHold sought (marks_after sought page state marks) (set pages page state)
 stays_marked sought pages marks page state are = elim (cases_Bool (fits sought state)) [
-  | inl so ↦ subst (λ (ms : List Bool). AreMarked sought ms (set pages page state)) (sym (taken so)) (record {
+  | inl so ↦ subst (λ (ms : List Bool). MarksHold sought ms (set pages page state)) (sym (taken so)) (record {
     none = λ j marked k after below. elim (cases_eq j (page / 256)) [
       | inl same ↦ absurd (let never : true ≡ false =
           sym marked ∙ ap (λ (i : ℕ). get_or (set marks (page / 256) false) i false) same ∙ mark_is_gone marks (page / 256) in cc)
@@ -138,7 +138,7 @@ stays_marked sought pages marks page state are = elim (cases_Bool (fits sought s
     ];
     whole = omega (arith, are.whole, length-set marks (page / 256) false, length-set pages page state);
   })
-  | inr not_so ↦ subst (λ (ms : List Bool). AreMarked sought ms (set pages page state)) (sym (left not_so)) (record {
+  | inr not_so ↦ subst (λ (ms : List Bool). MarksHold sought ms (set pages page state)) (sym (left not_so)) (record {
     none = λ j marked k after below. fits_no_more sought pages page k state (λ same. not_so) (are.none j marked k after below);
     whole = omega (arith, are.whole, length-set pages page state);
   })

@@ -19,7 +19,7 @@ NoneFits sought from to pages =
     (k : ℕ) → from ≤ k → k < to → fits sought (get_or pages k states.InUse) ≡ false
 
 -- In a block that is marked none of the 256 pages is sought.
-pub record AreMarked (sought : Sought) (marks : List Bool) (pages : List PageState) : Type 0 where
+pub record MarksHold (sought : Sought) (marks : List Bool) (pages : List PageState) : Type 0 where
   pub none : (block : ℕ) → get_or marks block false ≡ true
       → NoneFits sought (block * 256) (block * 256 + 256) pages
   pub whole : length marks * 256 ≤ length pages
@@ -51,5 +51,5 @@ pub record IsNextUnused (from end page : ℕ) (pages : List PageState) : Type 0 
 -- What is known of the pages: where the next free one may be, and of two marks a block what they say.
 pub record IsSearch (start : ℕ) (full used : List Bool) (pages : List PageState) : Type 0 where
   pub starts : IsStart start pages
-  pub full_blocks : AreMarked soughts.Free full pages
-  pub used_blocks : AreMarked soughts.Unused used pages
+  pub full_blocks : MarksHold soughts.Free full pages
+  pub used_blocks : MarksHold soughts.Unused used pages
