@@ -1,6 +1,8 @@
 -- The collections of an image of the disk: those that its entries tell. Any entries give a list;
--- where they spell a lawful state, it is that.
+-- where they spell a lawful state, it is that. Where the list is no lawful state, the image holds
+-- none.
 use Rattle.std.specs.Prelude.{ℕ, pos, false, List, [], map, drop, codes, Option, Some, unwrap_or}
+use Rattle.std.specs.Prelude.{if◌then◌else◌}
 use Rattle.bson.specs.Lookup.{lookup}
 use Rattle.bson.specs.Raw.{document_spelled}
 use Rattle.bson.specs.Tree.{Tree, scalar, int32, array, Pairs}
@@ -11,6 +13,7 @@ use Rattle.index.specs.Escaping.{unescaped}
 use Rattle.index.specs.State.{Collection}
 use Rattle.index.specs.StateReads.{entries_under}
 use Rattle.file_state.specs.Entries.{entries_in}
+use Rattle.file_state.specs.StateTests.{is_lawful}
 
 -- ---- what an entry of the catalogue tells
 
@@ -53,3 +56,7 @@ collections_among entries = map (collection_told entries) (entries_under 0 0 ent
 -- those of the entries of the tree that the image's root names
 unfoldable pub collections_in : (ℕ → List ℕ) → List Collection
 collections_in image = collections_among (entries_in image)
+
+-- these where they are a lawful state, and else none: a lawful one, whatever the image is
+unfoldable pub held_in : (ℕ → List ℕ) → List Collection
+held_in image = if is_lawful (collections_in image) then collections_in image else []

@@ -1,3 +1,5 @@
 pub mod Entries
+pub mod DocumentTests
+pub mod StateTests
 pub mod Collections
 pub mod Laws
