@@ -1,5 +1,5 @@
 -- What is held is lawful on any image, and is what an image that holds collections holds.
-use Rattle.std.proofs.Common.{◌≡◌, Bool, true, false, List, [], replicate, refl, sym, ◌∙◌, ap, subst}
+use Rattle.std.proofs.Common.{◌≡◌, Bool, true, false, List, [], replicate, refl, ◌∙◌, ap}
 use Rattle.std.specs.Prelude.{if◌then◌else◌}
 use Rattle.index.specs.LawfulState.{IsLawfulState}
 use Rattle.index.specs.State.{Collection}

@@ -1,5 +1,5 @@
 -- What a test decides, from what its parts do.
-use Rattle.std.proofs.Common.{◌≡◌, ◌≢◌, ℕ, zero, suc, ◌<◌, ◌≤◌, Bool, true, false, not, ◌&&◌, ◌||◌, List, [], ◌∷◌, length, All, AllPairs, Decides, refl, arith}
+use Rattle.std.proofs.Common.{◌≡◌, ◌≢◌, ℕ, suc, ◌≤◌, Bool, true, false, not, ◌&&◌, List, [], ◌∷◌, All, AllPairs, Decides, refl, arith}
 use Rattle.std.specs.Prelude.{◌==◌, nat_le, IsUtf8}
 use Rattle.std.specs.List.{list_all}
 use Rattle.std.specs.Ordering.{is_lt}
@@ -46,9 +46,10 @@ implied_tested false b d = (λ e same. absurd cc, λ h. refl)
 pub all_tested : {X : Type 0} (p : X → Bool) (P : X → Type 0) → ((x : X) → Decides (p x) (P x)) → (xs : List X) → Decides (list_all p xs) (All P xs)
 all_tested p P each xs = Decides-by_and p P (list_all p) each refl (λ _ _. refl) xs
 
-pub pairs_tested : {X : Type 0} (p : X → X → Bool) (R : X → X → Type 0) → ((x y : X) → Decides (p x y) (R x y)) → (xs : List X) → Decides (all_pairs p xs) (AllPairs R xs)
-pairs_tested p R each [] = (λ e i j d lt below. absurd (omega (arith, below)), λ h. refl)
-pairs_tested p R each (x ∷ xs) =
+pub all_pairs_tested : {X : Type 0} (p : X → X → Bool) (R : X → X → Type 0) → ((x y : X) → Decides (p x y) (R x y))
+    → (xs : List X) → Decides (all_pairs p xs) (AllPairs R xs)
+all_pairs_tested p R each [] = (λ e i j d lt below. absurd (omega (arith, below)), λ h. refl)
+all_pairs_tested p R each (x ∷ xs) =
     Decides-like (list_all (p x) xs && all_pairs p xs) (λ h. AllPairs-cons R x xs h.0 h.1)
     (λ h. (λ k d below. h 0 (suc k) d (omega arith) (omega (arith, below)), λ i j d lt below. h (suc i) (suc j) d (omega (arith, lt)) (omega (arith, below))))
-    (all_tested (p x) (R x) (each x) xs also pairs_tested p R each xs)
+    (all_tested (p x) (R x) (each x) xs also all_pairs_tested p R each xs)

@@ -8,8 +8,8 @@ use Rattle.std.specs.Str.{is_utf8}
 use Rattle.bson.specs.Lawful.{pairs_levels}
 use Rattle.bson.specs.Lookup.{lookup}
 use Rattle.bson.specs.Spelling.{frame_of, pairs_bytes}
-use Rattle.bson.specs.Tree.{Scalar, text, binary, object_id, boolean, date, null, int32, timestamp}
-use Rattle.bson.specs.Tree.{int64, min_key, max_key, Tree, scalar, document, array, Pairs, no_pairs}
+use Rattle.bson.specs.Tree.{Scalar, text, binary, object_id, date, int32, timestamp}
+use Rattle.bson.specs.Tree.{int64, Tree, scalar, document, array, Pairs, no_pairs}
 use Rattle.bson.specs.Tree.{pair, Items, no_items, item}
 use Rattle.path.specs.Parts.{has_zero}
 use Rattle.value_order.specs.KeyText.{tree_text}

@@ -13,7 +13,8 @@ use Rattle.file_state.specs.StateTests.{is_lawful}
 -- Of an image that stands for entries just these are read.
 abbrev pub ReadsEntries : Type 0
 ReadsEntries =
-    (image : ℕ → List ℕ) (entries : List Entry) → StandsFor image entries → entries_in image ≡ entries
+    (image : ℕ → List ℕ) (entries : List Entry) → StandsFor image entries
+    → entries_in image ≡ entries
 
 -- Of entries that spell a lawful state just this is read.
 abbrev pub ReadsCollections : Type 0
