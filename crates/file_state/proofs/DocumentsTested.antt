@@ -66,7 +66,7 @@ name_tested : (name : List ℕ) → Decides (is_name name) (IsName name)
 name_tested name =
     Decides-like (is_name name) (λ h. record { is_text = h.0; no_zero = h.1 }) (λ h. (h.is_text, h.no_zero)) (utf8_tested name also zero_tested name)
 
-lacks_tested : (ps : Pairs) (name : List ℕ) → Decides (is_none (lookup ps name)) (Lacks ps name)
+pub lacks_tested : (ps : Pairs) (name : List ℕ) → Decides (is_none (lookup ps name)) (Lacks ps name)
 lacks_tested no_pairs name = (λ e. tt, λ h. refl)
 lacks_tested (pair other t ps) name = by (bytes_eq name other) (bytes_eq-Decides name other) (lacks_tested ps name)
   where

@@ -11,7 +11,7 @@ use Rattle.file_state.proofs.CollectionsRead.{reads_held}
 use Rattle.file_state.proofs.StateTested.{tests_lawful}
 
 -- as an image of zeros holds none
-none_lawful : IsLawfulState []
+pub none_lawful : IsLawfulState []
 none_lawful = (zeros_hold_nothing (λ sector. replicate 512 0) refl refl).state
 
 pub held_is_lawful : HeldIsLawful
