@@ -1,6 +1,7 @@
 -- A document passes the test just where it may be stored.
-use Rattle.std.proofs.Common.{◌≡◌, ◌≢◌, ℕ, ℤ, zero, suc, pos, negsuc, ◌<◌, ◌^◌, Bool, true, false, not, List, [], ◌∷◌, length, get_or, codes, Option, Some, None, unwrap_or, Decides, FitsSigned, refl, arith}
-use Rattle.std.specs.Prelude.{◌==◌, nat_lt, is_some, is_none, if◌then◌else◌}
+use Rattle.std.proofs.Common.{◌≡◌, ◌≢◌, ℕ, ℤ, zero, suc, pos, negsuc, ◌<◌, ◌^◌, Bool, true, false, not, List, [], ◌∷◌, length, codes, refl, arith}
+use Rattle.std.proofs.Common.{Option, Some, None, unwrap_or, Decides, FitsSigned}
+use Rattle.std.specs.Prelude.{◌==◌, is_some, is_none, if◌then◌else◌}
 use Rattle.std.specs.Int.{w32, w64}
 use Rattle.std.specs.Str.{bytes_eq}
 use Rattle.std.proofs.lemmas.Bool.{lt-ltb, ltb-true, false_from_ne_true}
@@ -9,7 +10,8 @@ use Rattle.std.proofs.lemmas.Slice.Eq.{bytes_eq-Decides}
 use Rattle.bson.specs.Lawful.{NoZero, IsName, Lacks, IsBytes, IsScalar, IsTree, IsPairs, IsItems, IsDocument, pairs_levels}
 use Rattle.bson.specs.Lookup.{lookup}
 use Rattle.bson.specs.Spelling.{frame_of, pairs_bytes}
-use Rattle.bson.specs.Tree.{Scalar, text, binary, object_id, boolean, date, null, int32, timestamp, int64, min_key, max_key, Tree, scalar, document, array, Pairs, no_pairs, pair, Items, no_items, item}
+use Rattle.bson.specs.Tree.{Scalar, text, binary, object_id, boolean, date, null, int32, timestamp, int64, min_key, max_key}
+use Rattle.bson.specs.Tree.{Tree, scalar, document, array, Pairs, no_pairs, pair, Items, no_items, item}
 use Rattle.path.specs.Parts.{has_zero}
 use Rattle.path.proofs.NameLemmas.{no_zero}
 use Rattle.value_order.specs.KeyText.{tree_text}
@@ -64,7 +66,7 @@ name_tested : (name : List ℕ) → Decides (is_name name) (IsName name)
 name_tested name =
     Decides-like (is_name name) (λ h. record { is_text = h.0; no_zero = h.1 }) (λ h. (h.is_text, h.no_zero)) (utf8_tested name also zero_tested name)
 
-lacks_tested : (ps : Pairs) (name : List ℕ) → Decides (is_none (lookup ps name)) (Lacks ps name)
+pub lacks_tested : (ps : Pairs) (name : List ℕ) → Decides (is_none (lookup ps name)) (Lacks ps name)
 lacks_tested no_pairs name = (λ e. tt, λ h. refl)
 lacks_tested (pair other t ps) name = by (bytes_eq name other) (bytes_eq-Decides name other) (lacks_tested ps name)
   where

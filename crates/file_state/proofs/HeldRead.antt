@@ -1,5 +1,5 @@
 -- What is held is lawful on any image, and is what an image that holds collections holds.
-use Rattle.std.proofs.Common.{◌≡◌, Bool, true, false, List, [], replicate, refl, sym, ◌∙◌, ap, subst}
+use Rattle.std.proofs.Common.{◌≡◌, Bool, true, false, List, [], replicate, refl, ◌∙◌, ap}
 use Rattle.std.specs.Prelude.{if◌then◌else◌}
 use Rattle.index.specs.LawfulState.{IsLawfulState}
 use Rattle.index.specs.State.{Collection}
@@ -11,7 +11,7 @@ use Rattle.file_state.proofs.CollectionsRead.{reads_held}
 use Rattle.file_state.proofs.StateTested.{tests_lawful}
 
 -- as an image of zeros holds none
-none_lawful : IsLawfulState []
+pub none_lawful : IsLawfulState []
 none_lawful = (zeros_hold_nothing (λ sector. replicate 512 0) refl refl).state
 
 pub held_is_lawful : HeldIsLawful

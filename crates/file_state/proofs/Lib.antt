@@ -4,3 +4,4 @@ pub mod TestLemmas
 pub mod DocumentsTested
 pub mod StateTested
 pub mod HeldRead
+pub mod StoredTested

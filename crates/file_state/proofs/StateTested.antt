@@ -1,6 +1,6 @@
 -- Collections pass the test just where they are a lawful state.
-use Rattle.std.proofs.Common.{◌≡◌, ◌≢◌, ℕ, suc, ◌<◌, ◌≤◌, Bool, true, false, not, List, [], ◌∷◌, length, All, AllPairs, Option, Some, None, Result, Ok, Err, Decides, refl, arith}
-use Rattle.std.specs.Prelude.{◌==◌, is_ok}
+use Rattle.std.proofs.Common.{◌≡◌, ◌≢◌, ℕ, Bool, true, false, not, List, [], ◌∷◌, length, Option, Some, None, Result, Ok, Decides, refl}
+use Rattle.std.specs.Prelude.{is_ok}
 use Rattle.std.specs.List.{list_all}
 use Rattle.std.specs.Ordering.{nat_cmp}
 use Rattle.std.specs.Cmp.Lexicographic.{slice_cmp}
@@ -11,7 +11,6 @@ use Rattle.outcome.specs.Outcome.{fault_or, unless}
 use Rattle.bson.specs.Tree.{Pairs}
 use Rattle.path.specs.Parts.{parts_of, path_fault, path_of}
 use Rattle.path.specs.declared.fault.PathFault.{PathFault}
-use Rattle.path.specs.declared.refusal.Refusal.{Refusal}
 use Rattle.path.specs.declared.refusal.Refusal.TheVariants as refusals
 use Rattle.value_order.specs.Order.{compare}
 use Rattle.index.specs.Changes.{is_among}
@@ -19,7 +18,7 @@ use Rattle.index.specs.Definition.{AreFields, Definition, Field, IsDefinition, I
 use Rattle.index.specs.Entering.{share_key}
 use Rattle.index.specs.IndexKeys.{has_parallel_arrays, is_multikey}
 use Rattle.index.specs.KeyTexts.{encoded_keys, is_too_long, keys_in}
-use Rattle.index.specs.LawfulState.{AreNamedApart, AreNumberedApart, IsIndexOf, IsKept, IsLawfulState, IsRising, IsStorable, ShareNoKey}
+use Rattle.index.specs.LawfulState.{AreNamedApart, AreNumberedApart, IsIndexOf, IsKept, IsRising, IsStorable, ShareNoKey}
 use Rattle.index.specs.State.{Collection, key_of, uses}
 use Rattle.index.proofs.EnteringLemmas.{not_any, stands_among}
 use Rattle.index.proofs.KeyOfDocument.{among_test}
@@ -27,25 +26,31 @@ use Rattle.index.proofs.LawfulLaws.{all_of}
 use Rattle.file_state.specs.DocumentTests.{is_storable}
 use Rattle.file_state.specs.Laws.{TestsLawful}
 use Rattle.file_state.specs.StateTests.{are_fields, are_named_apart, are_numbered_apart, is_definition, is_index_of, is_kept, is_lawful, is_rising}
-use Rattle.file_state.proofs.DocumentsTested.{pairs_tested as names_tested, storable_tested}
-use Rattle.file_state.proofs.TestLemmas.{◌also◌, all_tested, false_tested, implied_tested, le_tested, less_tested, pairs_tested, true_tested, unequal_tested, utf8_tested}
+use Rattle.file_state.proofs.DocumentsTested.{pairs_tested, storable_tested}
+use Rattle.file_state.proofs.TestLemmas.{◌also◌, all_pairs_tested, all_tested, false_tested, implied_tested, le_tested, less_tested}
+use Rattle.file_state.proofs.TestLemmas.{true_tested, unequal_tested, utf8_tested}
 
 -- ---- definitions of indexes
+
+-- that there is a result tells that it is this one
+abbrev TellsWhether : {X E : Type 0} → Result X E → X → Type 0
+TellsWhether told x = Decides (is_ok told) (told ≡ Ok x)
 
 path_tested : (text : List ℕ) → Decides (is_ok (path_of text)) (IsPath text)
 path_tested text = by (path_fault text (parts_of text))
   where
-    by : (o : Option PathFault) → Decides (is_ok (fault_or o (parts_of text))) (fault_or o (parts_of text) ≡ Ok (parts_of text))
+    by : (o : Option PathFault) → TellsWhether (fault_or o (parts_of text)) (parts_of text)
     by None = (λ e. refl, λ e. refl)
     by (Some fault) = (λ e. absurd cc, λ e. absurd cc)
 
 fields_tested : (fields : List Field) → Decides (are_fields fields) (AreFields fields)
 fields_tested fields =
+    let test : Field → Bool = λ f. is_ok (path_of f.path) in
+    let each = by_recursion.Decides-by_and test (λ f. IsPath f.path) (list_all test) (λ f. path_tested f.path) refl (λ _ _. refl) in
     Decides-like (are_fields fields) (λ h. record { some = h.0.0.0; most = h.0.0.1; paths = h.0.1; distinct = h.1 })
     (λ h. (((h.some, h.most), h.paths), h.distinct))
     (le_tested 1 (length fields) also le_tested (length fields) 4
-    also by_recursion.Decides-by_and (λ f. is_ok (path_of f.path)) (λ f. IsPath f.path) (list_all (λ f. is_ok (path_of f.path))) (λ f. path_tested f.path) refl (λ _ _. refl) fields
-    also names_tested (key_document fields))
+    also each fields also pairs_tested (key_document fields))
 
 definition_tested : (d : Definition) → Decides (is_definition d) (IsDefinition d)
 definition_tested d =
@@ -60,8 +65,7 @@ definition_tested d =
 keys_tested : (fields : List Field) (d : Pairs) → Decides (is_ok (keys_in fields d)) (keys_in fields d ≡ Ok (encoded_keys fields d))
 keys_tested fields d = by (is_too_long fields d) (has_parallel_arrays fields d) (encoded_keys fields d)
   where
-    by : (a b : Bool) (keys : List (List ℕ)) → let told : Result (List (List ℕ)) Refusal = unless a refusals.KeyTooLong (unless b refusals.CannotIndexParallelArrays (Ok keys)) in
-        Decides (is_ok told) (told ≡ Ok keys)
+    by : (a b : Bool) (keys : List (List ℕ)) → TellsWhether (unless a refusals.KeyTooLong (unless b refusals.CannotIndexParallelArrays (Ok keys))) keys
     by true b keys = (λ e. absurd cc, λ e. absurd cc)
     by false true keys = (λ e. absurd cc, λ e. absurd cc)
     by false false keys = (λ e. refl, λ e. refl)
@@ -79,13 +83,14 @@ index_tested ds i =
     Decides-like (is_index_of ds i) (λ h. record { lawful = h.0.0.0; keys = h.0.0.1; unique = h.0.1; multi = h.1 })
     (λ h. (((h.lawful, h.keys), h.unique), h.multi))
     (definition_tested i also all_tested _ (λ d. keys_in i.fields d ≡ Ok (encoded_keys i.fields d)) (keys_tested i.fields) ds
-    also implied_tested i.is_unique _ (pairs_tested _ (ShareNoKey i.fields) (shared_tested i.fields) ds)
-    also all_tested _ (λ d. is_multikey i.fields d ≡ true → i.is_multi ≡ true) (λ d. implied_tested (is_multikey i.fields d) i.is_multi (true_tested i.is_multi)) ds)
+    also implied_tested i.is_unique _ (all_pairs_tested _ (ShareNoKey i.fields) (shared_tested i.fields) ds)
+    also all_tested _ (λ d. is_multikey i.fields d ≡ true → i.is_multi ≡ true)
+    (λ d. implied_tested (is_multikey i.fields d) i.is_multi (true_tested i.is_multi)) ds)
 
 -- ---- collections
 
 rising_tested : (ds : List Pairs) → Decides (is_rising ds) (IsRising ds)
-rising_tested ds = pairs_tested _ _ (λ d e. less_tested (compare (key_of d) (key_of e))) ds
+rising_tested ds = all_pairs_tested _ _ (λ d e. less_tested (compare (key_of d) (key_of e))) ds
 
 kept_tested : (c : Collection) → Decides (is_kept c) (IsKept c)
 kept_tested c =
@@ -103,11 +108,12 @@ kept_tested c =
     })
     (λ h. ((((((((h.name, h.short), h.least), h.most), h.rising), h.storable), h.indexes), h.distinct), h.few))
     (utf8_tested c.name also le_tested (length c.name) 255 also le_tested 1 c.number also le_tested c.number 1000 also rising_tested c.documents
-    also all_tested is_storable IsStorable storable_tested c.documents also all_tested (is_index_of c.documents) (IsIndexOf c.documents) (index_tested c.documents) c.indexes
-    also pairs_tested _ (λ i j. i.number ≢ j.number) (λ i j. unequal_tested i.number j.number) c.indexes also le_tested (length c.indexes) 16)
+    also all_tested is_storable IsStorable storable_tested c.documents
+    also all_tested (is_index_of c.documents) (IsIndexOf c.documents) (index_tested c.documents) c.indexes
+    also all_pairs_tested _ (λ i j. i.number ≢ j.number) (λ i j. unequal_tested i.number j.number) c.indexes also le_tested (length c.indexes) 16)
 
 named_tested : (cs : List Collection) → Decides (are_named_apart cs) (AreNamedApart cs)
-named_tested cs = pairs_tested _ _ (λ c d. less_tested (slice_cmp nat_cmp c.name d.name)) cs
+named_tested cs = all_pairs_tested _ _ (λ c d. less_tested (slice_cmp nat_cmp c.name d.name)) cs
 
 numbered_tested : (cs : List Collection) → Decides (are_numbered_apart cs) (AreNumberedApart cs)
 numbered_tested [] = (λ e. tt, λ h. refl)

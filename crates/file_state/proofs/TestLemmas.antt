@@ -1,5 +1,5 @@
 -- What a test decides, from what its parts do.
-use Rattle.std.proofs.Common.{◌≡◌, ◌≢◌, ℕ, zero, suc, ◌<◌, ◌≤◌, Bool, true, false, not, ◌&&◌, ◌||◌, List, [], ◌∷◌, length, All, AllPairs, Decides, refl, arith}
+use Rattle.std.proofs.Common.{◌≡◌, ◌≢◌, ℕ, suc, ◌≤◌, Bool, true, false, not, ◌&&◌, List, [], ◌∷◌, All, AllPairs, Decides, refl, arith}
 use Rattle.std.specs.Prelude.{◌==◌, nat_le, IsUtf8}
 use Rattle.std.specs.List.{list_all}
 use Rattle.std.specs.Ordering.{is_lt}
@@ -10,6 +10,8 @@ use Rattle.std.proofs.lemmas.Bool.{le-leb, leb-true}
 use Rattle.std.proofs.lemmas.Bool.Decides.{Decides-and, Decides-by_and, Decides-eqb, Decides-like, Decides-not}
 use Rattle.std.proofs.lemmas.List.Kept.{AllPairs-cons}
 use Rattle.std.proofs.lemmas.Str.{IsUtf8-from_is_utf8, is_utf8-from_IsUtf8}
+use Rattle.index.proofs.LawfulLaws.{all_of}
+use Rattle.index.proofs.MemberLemmas.{Among, of_all}
 use Rattle.file_state.specs.StateTests.{all_pairs, implies}
 
 infixl 35 ◌also◌
@@ -46,9 +48,18 @@ implied_tested false b d = (λ e same. absurd cc, λ h. refl)
 pub all_tested : {X : Type 0} (p : X → Bool) (P : X → Type 0) → ((x : X) → Decides (p x) (P x)) → (xs : List X) → Decides (list_all p xs) (All P xs)
 all_tested p P each xs = Decides-by_and p P (list_all p) each refl (λ _ _. refl) xs
 
-pub pairs_tested : {X : Type 0} (p : X → X → Bool) (R : X → X → Type 0) → ((x y : X) → Decides (p x y) (R x y)) → (xs : List X) → Decides (all_pairs p xs) (AllPairs R xs)
-pairs_tested p R each [] = (λ e i j d lt below. absurd (omega (arith, below)), λ h. refl)
-pairs_tested p R each (x ∷ xs) =
+-- where each that stands there is tested
+pub among_tested : {X : Type 0} (p : X → Bool) (P : X → Type 0) (xs : List X) → ((x : X) → Among x xs → Decides (p x) (P x))
+    → Decides (list_all p xs) (All P xs)
+among_tested p P xs each =
+    Decides-like (list_all p xs) (λ h. all_of P xs (λ x there. (each x there).0 (of_all (λ y. p y ≡ true) xs x h there)))
+    (λ h. all_of (λ y. p y ≡ true) xs (λ x there. (each x there).1 (of_all P xs x h there)))
+    (all_tested p (λ y. p y ≡ true) (λ y. true_tested (p y)) xs)
+
+pub all_pairs_tested : {X : Type 0} (p : X → X → Bool) (R : X → X → Type 0) → ((x y : X) → Decides (p x y) (R x y))
+    → (xs : List X) → Decides (all_pairs p xs) (AllPairs R xs)
+all_pairs_tested p R each [] = (λ e i j d lt below. absurd (omega (arith, below)), λ h. refl)
+all_pairs_tested p R each (x ∷ xs) =
     Decides-like (list_all (p x) xs && all_pairs p xs) (λ h. AllPairs-cons R x xs h.0 h.1)
     (λ h. (λ k d below. h 0 (suc k) d (omega arith) (omega (arith, below)), λ i j d lt below. h (suc i) (suc j) d (omega (arith, lt)) (omega (arith, below))))
-    (all_tested (p x) (R x) (each x) xs also pairs_tested p R each xs)
+    (all_tested (p x) (R x) (each x) xs also all_pairs_tested p R each xs)

@@ -8,8 +8,8 @@ use Rattle.std.specs.Str.{is_utf8}
 use Rattle.bson.specs.Lawful.{pairs_levels}
 use Rattle.bson.specs.Lookup.{lookup}
 use Rattle.bson.specs.Spelling.{frame_of, pairs_bytes}
-use Rattle.bson.specs.Tree.{Scalar, text, binary, object_id, boolean, date, null, int32, timestamp}
-use Rattle.bson.specs.Tree.{int64, min_key, max_key, Tree, scalar, document, array, Pairs, no_pairs}
+use Rattle.bson.specs.Tree.{Scalar, text, binary, object_id, date, int32, timestamp}
+use Rattle.bson.specs.Tree.{int64, Tree, scalar, document, array, Pairs, no_pairs}
 use Rattle.bson.specs.Tree.{pair, Items, no_items, item}
 use Rattle.path.specs.Parts.{has_zero}
 use Rattle.value_order.specs.KeyText.{tree_text}
@@ -22,9 +22,11 @@ abbrev pub fits_signed : ℕ → ℤ → Bool
 fits_signed bits (pos n) = nat_lt n (2 ^ bits)
 fits_signed bits (negsuc n) = nat_lt n (2 ^ bits)
 
+-- each number is below 256
 abbrev pub are_bytes : List ℕ → Bool
 are_bytes bytes = list_all (λ b. nat_lt b 256) bytes
 
+-- Texts are UTF-8, bytes are bytes, and numbers fit.
 abbrev pub is_scalar : Scalar → Bool
 is_scalar (text s) = is_utf8 s
 is_scalar (binary subtype bytes) = not (subtype == 2) && nat_lt subtype 256 && are_bytes bytes
@@ -35,6 +37,7 @@ is_scalar (timestamp n) = nat_lt n (2 ^ 64)
 is_scalar (int64 z) = fits_signed 63 z
 is_scalar other = true
 
+-- a text with no zero byte
 abbrev pub is_name : List ℕ → Bool
 is_name name = is_utf8 name && not (has_zero name)
 
