@@ -29,7 +29,7 @@ module _ (s : Store) where
       let all : (if q == 0 then [] else chain_from s.page most q) ≡ drop 4076 value = rw other rest in
       ap (λ (c : Content). chain_part c (chain_from s.page most)) h.1.holds ∙ (λ i. take 4076 value ++ all i) ∙ take-append-drop 4076 value
 
-  value_read : (links value : List ℕ) → (0 < length links → HasLinks s links value) → value_in s.page (place_of links value) ≡ value
+  pub value_read : (links value : List ℕ) → (0 < length links → HasLinks s links value) → value_in s.page (place_of links value) ≡ value
   value_read [] value h = refl
   value_read (p ∷ ps) value h = chain_read p ps value (length value) (omega arith) (h (omega arith))
 

@@ -5,3 +5,7 @@ pub mod DocumentsTested
 pub mod StateTested
 pub mod HeldRead
 pub mod StoredTested
+pub mod BodiesRead
+pub mod TreeTested
+pub mod ListTested
+pub mod FileTested

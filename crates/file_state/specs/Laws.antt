@@ -9,6 +9,7 @@ use Rattle.index.specs.StateEntries.{Spells}
 use Rattle.collections.specs.Holding.{Holds}
 use Rattle.file_state.specs.Collections.{collections_among, collections_in, held_in}
 use Rattle.file_state.specs.Entries.{entries_in}
+use Rattle.file_state.specs.FileTests.{stands}
 use Rattle.file_state.specs.StateTests.{is_lawful}
 use Rattle.file_state.specs.StoredTests.{is_stored, stored_in}
 use Rattle.database_model.specs.Lawful.{IsStored}
@@ -63,3 +64,11 @@ abbrev pub GivesStored : Type 0
 GivesStored =
     (image : ℕ → List ℕ) (cs : List Collection) → Holds image cs → AreStored cs
     → stored_in image ≡ cs
+
+-- ---- whether an image stands for anything
+
+-- An image passes the test just where there are entries that it stands for.
+abbrev pub Stands : Type 0
+Stands =
+    (image : ℕ → List ℕ)
+    → Decides (stands image) ((entries : List Entry) × StandsFor image entries)

@@ -3,4 +3,6 @@ pub mod DocumentTests
 pub mod StateTests
 pub mod Collections
 pub mod StoredTests
+pub mod TreeTests
+pub mod FileTests
 pub mod Laws

@@ -1,7 +1,7 @@
 //! Laws of what is read of an image and of what is tested, each the contract of a function that does nothing.
 
 ghost use Rattle.file_state.specs.Laws.{HeldIsLawful, GivesHeld, ReadsCollections, ReadsEntries, ReadsHeld};
-ghost use Rattle.file_state.specs.Laws.{GivesStored, StoredIsLawful, TestsLawful, TestsStored};
+ghost use Rattle.file_state.specs.Laws.{GivesStored, Stands, StoredIsLawful, TestsLawful, TestsStored};
 
 /// Of an image that stands for entries just these are read.
 pub fn reads_entries()
@@ -46,4 +46,9 @@ pub fn stored_is_lawful()
 /// Of an image that holds collections with such documents alone it gives just these.
 pub fn gives_stored()
     ensures { GivesStored }
+{}
+
+/// An image passes the test just where there are entries that it stands for.
+pub fn stands()
+    ensures { Stands }
 {}
