@@ -6,7 +6,7 @@ use Rattle.std.proofs.lemmas.Bool.Decides.{nat_tests}
 use Rattle.page.specs.Content.{Content}
 use Rattle.btree.specs.Keys.{Each, Pair}
 use Rattle.btree.specs.Store.{Store}
-use Rattle.btree.specs.Tree.{Body, HasChain, HasLinks, IsTree, Shows, Twig, arm_of, content_of, item_of, place_of}
+use Rattle.btree.specs.Tree.{Body, HasChain, HasLinks, IsTree, Shows, Twig, content_of, item_of, place_of}
 use Rattle.file_state.specs.TreeTests.{body_in, links_behind, links_from, links_in, pair_in}
 use Rattle.file_state.proofs.EntriesRead.{value_read}
 

@@ -1,5 +1,5 @@
 -- An image passes the test just where it stands for entries.
-use Rattle.std.proofs.Common.{◌≡◌, ℕ, suc, ◌<◌, Bool, List, [], ◌∷◌, Option, Decides, refl, sym, ◌∙◌, ap, subst, arith, inl, inr}
+use Rattle.std.proofs.Common.{◌≡◌, ℕ, ◌<◌, List, [], ◌∷◌, Decides, refl, sym, ◌∙◌, subst, inl, inr}
 use Rattle.std.specs.Prelude.{◌⊎◌, ◌==◌, ◌&&◌, Result, Ok, Err}
 use Rattle.std.proofs.lemmas.Bool.Decides.{Decides-below_or, Decides-eqb, Decides-like, Decides-or}
 use Rattle.page.specs.Format.{Sheet}
@@ -57,7 +57,7 @@ module _ (sheets : ℕ → Result Sheet PageFault) (root : Root) where
   found : Heights → HoldsSome
   found (inl (none, fits)) =
       record { pages = []; entries = []; holds = record { map = inl (none, (refl, refl)); once = fits.once; listed = (fits.parts, fits.has) } }
-  found (inr (d, (low, h))) = record {
+  found (inr (d, low, h)) = record {
     pages = root.tree ∷ pages_of d h.body;
     entries = entries_of d h.body;
     holds = record {
@@ -72,7 +72,7 @@ module _ (sheets : ℕ → Result Sheet PageFault) (root : Root) where
     where
       by : HasMap (store_of sheets) root.tree h.pages h.entries → FitsList h.pages → Heights
       by (inl (none, (are, _))) fits = inl (none, subst FitsList are fits)
-      by (inr t) fits = inr (t.d, (t.tree.depth, record { body = t.body; tree = t.tree; fits = subst FitsList t.pages_are fits }))
+      by (inr t) fits = inr (t.d, t.tree.depth, record { body = t.body; tree = t.tree; fits = subst FitsList t.pages_are fits })
 
   holds_tested : Decides (holds_file sheets root) HoldsSome
   holds_tested =

@@ -3,10 +3,9 @@ use Rattle.std.proofs.Common.{◌≡◌, ◌≢◌, ℕ, zero, suc, ◌+◌, ◌
 use Rattle.std.proofs.Common.{Decides, refl, sym, ◌∙◌, ap, subst, arith, inl, inr}
 use Rattle.std.specs.Prelude.{◌==◌, nat_lt, nat_le, if◌then◌else◌, Result}
 use Rattle.std.specs.List.{AllByRecursion, list_all}
-use Rattle.std.specs.Str.{bytes_eq}
 use Rattle.std.proofs.ByRecursion as by_recursion
 use Rattle.std.proofs.lemmas.Bool.{cases_lt}
-use Rattle.std.proofs.lemmas.Bool.Decides.{Decides-below_and, Decides-eqb, Decides-like, Decides-not, nat_tests}
+use Rattle.std.proofs.lemmas.Bool.Decides.{Decides-below_and, Decides-eqb, Decides-like, nat_tests}
 use Rattle.std.proofs.lemmas.Option.{same_Some}
 use Rattle.std.proofs.lemmas.Slice.Eq.{bytes_eq-Decides}
 use Rattle.page.specs.Format.{Sheet}
@@ -27,14 +26,17 @@ use Rattle.file_state.proofs.TestLemmas.{◌also◌, implied_tested, le_tested, 
 
 -- ---- numbers of pages
 
+abbrev room_of : Bool → ℕ
+room_of b = if b then 1 else 0
+
 -- what holds of all that stand there holds of one that does
 stood : (P : ℕ → Type 0) (xs : List ℕ) → AllByRecursion P xs → (n : ℕ) → 0 < times_in n xs → P n
 stood P [] h n some = absurd (omega (arith, some))
-stood P (x ∷ xs) h n some = by (n == x) (Decides-eqb n x) some
+stood P (x ∷ xs) h n some = by (n == x) (Decides-eqb n x) some (stood P xs h.1 n)
   where
-    by : (b : Bool) → Decides b (n ≡ x) → 0 < (if b then 1 else 0) + times_in n xs → P n
-    by true same more = subst P (sym (same.0 refl)) h.0
-    by false same more = stood P xs h.1 n more
+    by : (b : Bool) → Decides b (n ≡ x) → 0 < room_of b + times_in n xs → (0 < times_in n xs → P n) → P n
+    by true same more rest = subst P (sym (same.0 refl)) h.0
+    by false same more rest = rest (omega (arith, more))
 
 all_stand : (P : ℕ → Type 0) (xs : List ℕ) → ((n : ℕ) → P n) → AllByRecursion P xs
 all_stand P [] h = tt
@@ -45,7 +47,7 @@ numbers_tested : (test : ℕ → Bool) (P : ℕ → Type 0) → ((n : ℕ) → D
     → Decides (list_all test xs) ((n : ℕ) → P n)
 numbers_tested test P each xs rest =
     Decides-like (list_all test xs)
-    (λ h n. elim (cases_lt 0 (times_in n xs)) [ | inl some ↦ stood P xs h n some | inr none ↦ rest n (omega (arith, none)) ])
+    (λ h n. elim (cases_lt 0 (times_in n xs)) [ inl some ↦ stood P xs h n some | inr none ↦ rest n (omega (arith, none)) ])
     (all_stand P xs)
     (by_recursion.Decides-by_and test P (list_all test) each refl (λ _ _. refl) xs)
 
@@ -59,14 +61,11 @@ once_below_tested count pages =
     numbers_tested (λ n. nat_le (times_in n pages) (room_for count n)) (λ n. times_in n pages ≤ room_for count n)
     (λ n. le_tested (times_in n pages) (room_for count n)) pages (λ n none. omega (arith, none))
 
-room_of : Bool → ℕ
-room_of b = if b then 1 else 0
-
 -- no page from the page count on has room
 no_room : (count n : ℕ) → count ≤ n → room_for count n ≡ 0
 no_room count n past = by (nat_lt 0 n) (nat_lt n count) (grind (arith, nat_tests, past))
   where
-    by : (a b : Bool) → b ≡ false → (if a && b then 1 else 0) ≡ 0
+    by : (a b : Bool) → b ≡ false → room_of (a && b) ≡ 0
     by true true e = absurd cc
     by true false e = refl
     by false b e = refl
@@ -74,14 +73,14 @@ no_room count n past = by (nat_lt 0 n) (nat_lt n count) (grind (arith, nat_tests
 most_room : (count n : ℕ) → room_for count n ≤ 1
 most_room count n = by (nat_lt 0 n && nat_lt n count)
   where
-    by : (b : Bool) → (if b then 1 else 0) ≤ 1
+    by : (b : Bool) → room_of b ≤ 1
     by true = omega arith
     by false = omega arith
 
 all_below_tested : (count : ℕ) (pages : List ℕ) → Decides (are_all_below count pages) (AreAllBelow count pages)
 all_below_tested count pages =
     Decides-like (are_all_below count pages)
-    (λ h n. elim (cases_lt n count) [ | inl inside ↦ h.1 n inside | inr past ↦ omega (arith, h.0 n, no_room count n past) ])
+    (λ h n. elim (cases_lt n count) [ inl inside ↦ h.1 n inside | inr past ↦ omega (arith, h.0 n, no_room count n past) ])
     (λ h. (λ n. omega (arith, h n), λ n inside. h n))
     (once_below_tested count pages
     also Decides-below_and (λ n. times_in n pages == room_for count n) (λ n. times_in n pages ≡ room_for count n)

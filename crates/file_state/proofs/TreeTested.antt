@@ -1,7 +1,7 @@
 -- A page passes the test of a root just where it heads a tree.
-use Rattle.std.proofs.Common.{◌≡◌, ℕ, zero, suc, ◌<◌, ◌≤◌, ◌^◌, Bool, true, false, not, ◌&&◌, List, [], ◌∷◌, length, map, take, drop, Option, Some, None}
-use Rattle.std.proofs.Common.{Decides, refl, ap, arith}
-use Rattle.std.specs.Prelude.{◌==◌, nat_lt, nat_le}
+use Rattle.std.proofs.Common.{◌≡◌, ℕ, zero, suc, ◌^◌, Bool, ◌&&◌, List, [], ◌∷◌, length, map, take, drop, Option, Some, None}
+use Rattle.std.proofs.Common.{Decides, refl, ap}
+use Rattle.std.specs.Prelude.{nat_lt}
 use Rattle.std.specs.List.{list_all}
 use Rattle.std.specs.Ordering.{is_lt}
 use Rattle.std.specs.Str.{bytes_eq}
@@ -10,7 +10,7 @@ use Rattle.std.proofs.lemmas.Bool.Decides.{Decides-eqb, Decides-like, Decides-lt
 use Rattle.std.proofs.lemmas.Slice.Eq.{bytes_eq-Decides}
 use Rattle.page.specs.Content.{Place, inline, spilled, Item, Arm, Content, leaf, branch, chain, free_list}
 use Rattle.page.specs.Content.{IsArm, IsBranch, IsItem, IsLeaf, IsPlace, arm_keys, arm_size, arms_size, first_key, item_keys, item_size, rise, total}
-use Rattle.btree.specs.Keys.{Each, IsBetween, IsNotUnder, IsUnder, IsWithin, Pair, Rises, is_within, key_cmp}
+use Rattle.btree.specs.Keys.{Each, IsBetween, IsUnder, IsWithin, Pair, Rises, is_within, key_cmp}
 use Rattle.btree.specs.Store.{IsAt, Store}
 use Rattle.btree.specs.Tree.{Body, HasChain, HasLinks, IsFan, IsSound, IsTree, IsWhole, Shows, Twig, arm_of, content_of, high_of, item_of, next_of}
 use Rattle.btree.specs.Tree.{pair_keys, twig_keys, with_low}
@@ -90,7 +90,7 @@ module _ (s : Store) where
   links_tested : (pages bytes : List ℕ) → Decides (has_links s pages bytes) (HasLinks s pages bytes)
   links_tested [] bytes = bytes_eq-Decides bytes []
   links_tested (page ∷ pages) bytes =
-      Decides-like (has_links s (page ∷ pages) bytes) (λ h. (h.0.0, (h.0.1, h.1))) (λ h. ((h.0, h.1), h.2))
+      Decides-like (has_links s (page ∷ pages) bytes) (λ h. (h.0.0, h.0.1, h.1)) (λ h. ((h.0, h.1), h.2))
       (Decides-ltb 0 (length bytes) also at_tested page (chain (next_of pages) (take 4076 bytes)) also links_tested pages (drop 4076 bytes))
 
   chain_tested : (x : Pair) → Decides (has_chain s x) (HasChain s x)
@@ -110,7 +110,7 @@ module _ (s : Store) where
 place_tested : (place : Place) → Decides (is_place place) (IsPlace place)
 place_tested (inline value) = le_tested (length value) 330
 place_tested (spilled len page) =
-    Decides-like (is_place (spilled len page)) (λ h. (h.0.0, (h.0.1, h.1))) (λ h. ((h.0, h.1), h.2))
+    Decides-like (is_place (spilled len page)) (λ h. (h.0.0, h.0.1, h.1)) (λ h. ((h.0, h.1), h.2))
     (Decides-ltb 330 len also Decides-ltb len (2 ^ 32) also Decides-ltb page (2 ^ 32))
 
 item_tested : (item : Item) → Decides (is_item item) (IsItem item)
@@ -162,9 +162,10 @@ fan_tested lies Lies each high [] = (λ e. tt, λ h. refl)
 fan_tested lies Lies each high (w ∷ ws) = each w.key (high_of high ws) w.body also fan_tested lies Lies each high ws
 
 sound_tested : (d : ℕ) (low : List ℕ) (high : Option (List ℕ)) (body : Body d) → Decides (is_sound d low high body) (IsSound d low high body)
-sound_tested zero low high pairs = rise_tested (pair_keys pairs) also each_tested (is_between low high) (IsBetween low high) (between_tested low high) (pair_keys pairs)
+sound_tested zero low high pairs =
+    rise_tested (pair_keys pairs) also each_tested (is_between low high) (IsBetween low high) (between_tested low high) (pair_keys pairs)
 sound_tested (suc d) low high twigs =
-    Decides-like (is_sound (suc d) low high twigs) (λ h. (h.0.0, (h.0.1, h.1))) (λ h. ((h.0, h.1), h.2))
+    Decides-like (is_sound (suc d) low high twigs) (λ h. (h.0.0, h.0.1, h.1)) (λ h. ((h.0, h.1), h.2))
     (fan_tested (λ from to body. is_whole d body && is_sound d from to body) (λ from to body. IsWhole d body × IsSound d from to body)
     (λ from to body. whole_tested d body also sound_tested d from to body) high (with_low low twigs)
     also rise_tested (twig_keys (with_low low twigs))

@@ -8,7 +8,6 @@ use Rattle.std.specs.Str.{bytes_eq}
 use Rattle.page.specs.Format.{Sheet}
 use Rattle.page.specs.declared.page_fault.PageFault.{PageFault}
 use Rattle.btree.specs.Keys.{times}
-use Rattle.btree.specs.Store.{Store}
 use Rattle.btree.specs.Tree.{Body, pages_of}
 use Rattle.freelist.specs.FreeList.{ListContent, Part, first_page, named_by, room_for, times_in}
 use Rattle.freelist.specs.FreeList.{pages_of as list_pages}
