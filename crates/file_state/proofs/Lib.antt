@@ -9,3 +9,4 @@ pub mod BodiesRead
 pub mod TreeTested
 pub mod ListTested
 pub mod FileTested
+pub mod HoldingTested

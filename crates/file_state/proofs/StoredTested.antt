@@ -63,7 +63,7 @@ tests_stored ps h =
 
 -- ---- collections
 
-collections_tested : (cs : List Collection) → IsLawfulState cs → Decides (are_stored cs) (AreStored cs)
+pub collections_tested : (cs : List Collection) → IsLawfulState cs → Decides (are_stored cs) (AreStored cs)
 collections_tested cs lawful =
     among_tested (λ c. list_all is_stored c.documents) (λ c. All IsStored c.documents) cs (λ c there.
     among_tested is_stored IsStored c.documents (λ d in_c. tests_stored d (storable_of c d (kept_of cs c lawful there) in_c)))

@@ -18,6 +18,11 @@ infixl 35 ◌also◌
 pub ◌also◌ : {P Q : Type 0} {x y : Bool} → Decides x P → Decides y Q → Decides (x && y) (P × Q)
 ◌also◌ {P} {Q} {x} {y} d k = Decides-and x y d k
 
+-- where the second is tested if the first holds
+pub given_tested : {P Q : Type 0} (x y : Bool) → Decides x P → (P → Decides y Q) → Decides (x && y) (P × Q)
+given_tested true y d k = (λ e. (d.0 refl, (k (d.0 refl)).0 e), λ h. (k h.0).1 h.1)
+given_tested false y d k = (λ e. absurd cc, λ h. d.1 h.0)
+
 pub le_tested : (a b : ℕ) → Decides (nat_le a b) (a ≤ b)
 le_tested a b = (leb-true a b, le-leb a b)
 

@@ -1,5 +1,5 @@
 -- What is read of an image, and what is tested of collections.
-use Rattle.std.specs.Prelude.{◌≡◌, ℕ, List, All, Decides}
+use Rattle.std.specs.Prelude.{◌≡◌, ℕ, true, List, All, Decides}
 use Rattle.bson.specs.Tree.{Pairs}
 use Rattle.btree.specs.Keys.{Entry}
 use Rattle.roots.specs.Image.{StandsFor}
@@ -10,6 +10,7 @@ use Rattle.collections.specs.Holding.{Holds}
 use Rattle.file_state.specs.Collections.{collections_among, collections_in, held_in}
 use Rattle.file_state.specs.Entries.{entries_in}
 use Rattle.file_state.specs.FileTests.{stands}
+use Rattle.file_state.specs.HoldingTests.{holds_some}
 use Rattle.file_state.specs.StateTests.{is_lawful}
 use Rattle.file_state.specs.StoredTests.{is_stored, stored_in}
 use Rattle.database_model.specs.Lawful.{IsStored}
@@ -72,3 +73,15 @@ abbrev pub Stands : Type 0
 Stands =
     (image : ℕ → List ℕ)
     → Decides (stands image) ((entries : List Entry) × StandsFor image entries)
+
+-- An image passes the test just where it holds collections all of whose documents are such as
+-- commands store.
+abbrev pub HoldsSome : Type 0
+HoldsSome =
+    (image : ℕ → List ℕ)
+    → Decides (holds_some image) ((cs : List Collection) × Holds image cs × AreStored cs)
+
+-- These are then what `stored_in` gives.
+abbrev pub StoredIsHeld : Type 0
+StoredIsHeld =
+    (image : ℕ → List ℕ) → holds_some image ≡ true → Holds image (stored_in image)

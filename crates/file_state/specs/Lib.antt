@@ -5,4 +5,5 @@ pub mod Collections
 pub mod StoredTests
 pub mod TreeTests
 pub mod FileTests
+pub mod HoldingTests
 pub mod Laws

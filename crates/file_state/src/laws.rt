@@ -1,7 +1,8 @@
 //! Laws of what is read of an image and of what is tested, each the contract of a function that does nothing.
 
 ghost use Rattle.file_state.specs.Laws.{HeldIsLawful, GivesHeld, ReadsCollections, ReadsEntries, ReadsHeld};
-ghost use Rattle.file_state.specs.Laws.{GivesStored, Stands, StoredIsLawful, TestsLawful, TestsStored};
+ghost use Rattle.file_state.specs.Laws.{GivesStored, StoredIsLawful, TestsLawful, TestsStored};
+ghost use Rattle.file_state.specs.Laws.{HoldsSome, Stands, StoredIsHeld};
 
 /// Of an image that stands for entries just these are read.
 pub fn reads_entries()
@@ -51,4 +52,14 @@ pub fn gives_stored()
 /// An image passes the test just where there are entries that it stands for.
 pub fn stands()
     ensures { Stands }
+{}
+
+/// An image passes the test just where it holds collections all of whose documents are such as commands store.
+pub fn holds_some()
+    ensures { HoldsSome }
+{}
+
+/// These are then what `stored_in` gives.
+pub fn stored_is_held()
+    ensures { StoredIsHeld }
 {}
