@@ -21,6 +21,7 @@ invariant_of-self-2 g c =
     c.unwrap.ensures c.reserve.ensures.items)
     c.in_ok-shared.ensures.taken c.image.result.now.page (ap (λ (m : Sheet). m.page) (sym c.image.ensures)) c.remove.ensures.this c.remove.ensures.others
     c.saturating_add-generation.result c.in_ok-shared.ensures.generation (search rules)
+    c.find_place.result (search rules) c.insert.new.self.items (search rules)
 
 pub returns-clause-makes : goal.returns-clause-makes
 returns-clause-makes g c =
