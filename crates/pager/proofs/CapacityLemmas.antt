@@ -48,7 +48,7 @@ each_there P [] there = tt
 each_there P (x ∷ xs) there =
     (there x (omega (arith, one_time x x xs refl)), each_there P xs (λ n some. there n (omega (arith, some, more_times n x xs))))
 
-each_number : (P : ℕ → Type 0) (made : List Sheet) → AllByRecursion (λ (m : Sheet). P m.page) made → Each P (numbers_of made)
+pub each_number : (P : ℕ → Type 0) (made : List Sheet) → AllByRecursion (λ (m : Sheet). P m.page) made → Each P (numbers_of made)
 each_number P [] all = tt
 each_number P (m ∷ ms) all = (all.0, each_number P ms all.1)
 

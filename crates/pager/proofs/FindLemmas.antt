@@ -1,5 +1,5 @@
 -- A page is looked for in the order of the pages that were made.
-use Rattle.std.proofs.Common.{◌≡◌, ◌≢◌, ℕ, zero, suc, ◌+◌, ◌<◌, ◌≤◌, List, [], ◌∷◌, length, take, drop, get_or, refl, sym, ◌∙◌, ap, subst, arith}
+use Rattle.std.proofs.Common.{◌≡◌, ◌≢◌, ℕ, zero, suc, ◌+◌, ◌<◌, ◌≤◌, List, [], ◌∷◌, length, take, drop, get_or, sym, ◌∙◌, ap, subst, arith}
 use Rattle.std.specs.Prelude.{Result, Ok}
 use Rattle.std.specs.List.{AllByRecursion}
 use Rattle.std.proofs.lemmas.List.{drop_more, get_or-map, get_or_default, length-map}
@@ -31,18 +31,18 @@ lie_at last (m ∷ ms) (suc i) x lt is lie =
       subst (λ (k : ℕ). AllByRecursion (λ (s : Sheet). x.page < s.page) (drop k (m ∷ ms))) (sym next) later.1,
     )
 
-pub place_inside : (made : List Sheet) (places : List ℕ) (i place : ℕ) → AllByRecursion (λ (p : ℕ). p < length made) places → i < length places
-    → place ≡ get_or places i place → place < length made
-place_inside made [] i place inside less is = absurd (omega (arith, less))
-place_inside made (p ∷ ps) zero place inside less is = omega (arith, inside.0, is)
-place_inside made (p ∷ ps) (suc i) place inside less is = place_inside made ps i place inside.1 (omega (arith, less)) is
+place_inside : (made : List Sheet) (places : List ℕ) (i : ℕ) → AllByRecursion (λ (p : ℕ). p < length made) places → i < length places
+    → get_or places i 0 < length made
+place_inside made [] i inside less = absurd (omega (arith, less))
+place_inside made (p ∷ ps) zero inside less = inside.0
+place_inside made (p ∷ ps) (suc i) inside less = place_inside made ps i inside.1 (omega (arith, less))
 
 -- a page by its place in the order
-pub page_at_place : (made : List Sheet) (places : List ℕ) (i place : ℕ) (x : Sheet) → AllByRecursion (λ (p : ℕ). p < length made) places → i < length places
-    → place ≡ get_or places i place → x ≡ get_or made place x → x ≡ get_or (pages_at made places) i x
-page_at_place made places i place x inside less place_is is =
-    is ∙ get_or_default made place x no_sheet (place_inside made places i place inside less place_is)
-    ∙ ap (λ (p : ℕ). get_or made p no_sheet) place_is ∙ sym (get_or-map (λ (p : ℕ). get_or made p no_sheet) places i place x less)
+pub page_at_place : (made : List Sheet) (places : List ℕ) (i : ℕ) (x : Sheet) → AllByRecursion (λ (p : ℕ). p < length made) places → i < length places
+    → x ≡ get_or made (get_or places i 0) x → x ≡ get_or (pages_at made places) i x
+page_at_place made places i x inside less is =
+    is ∙ get_or_default made (get_or places i 0) x no_sheet (place_inside made places i inside less)
+    ∙ sym (get_or-map (λ (p : ℕ). get_or made p no_sheet) places i 0 x less)
 
 pub between_all : (sheets : List Sheet) (n to : ℕ) → to ≡ length sheets → IsBetween sheets n 0 to
 between_all sheets n to is = record {

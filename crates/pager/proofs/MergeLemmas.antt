@@ -1,9 +1,10 @@
 -- Two lists of pages as one.
-use Rattle.std.proofs.Common.{◌≡◌, ◌≢◌, ℕ, zero, suc, ◌+◌, ◌<◌, ◌≤◌, max, Bool, true, false, List, [], ◌∷◌, refl, sym, ◌∙◌, ap, subst, arith, inl, inr}
-use Rattle.std.specs.Prelude.{nat_lt, if◌then◌else◌, Result, Ok}
+use Rattle.std.proofs.Common.{◌≡◌, ◌≢◌, ℕ, zero, suc, ◌<◌, ◌≤◌, max, Bool, true, false, List, [], ◌∷◌, ◌++◌, ◌-◌, length, take, drop, refl, sym, ◌∙◌, ap, subst, arith, inl, inr}
+use Rattle.std.specs.Prelude.{◌⊎◌, nat_lt, if◌then◌else◌}
 use Rattle.std.specs.List.{AllByRecursion}
 use Rattle.std.proofs.lemmas.Bool.{cases_lt}
 use Rattle.std.proofs.lemmas.Bool.Decides.{nat_tests}
+use Rattle.std.proofs.lemmas.List.{append-nil, append_assoc, length-drop, take_all}
 use Rattle.page.specs.Format.{Sheet}
 use Rattle.roots.specs.Turn.{LieBehind, end_behind}
 use Rattle.roots.proofs.MadeLemmas.{end_grows, end_most, inside_end}
@@ -30,6 +31,31 @@ put_later x next y ys le =
 pub merged_none : (xs : List Sheet) → merged xs [] ≡ xs
 merged_none [] = refl
 merged_none (x ∷ xs) = ap (λ (l : List Sheet). x ∷ l) (merged_none xs)
+
+dropped : (n : ℕ) (xs : List Sheet) → length xs ≤ n → drop n xs ≡ []
+dropped zero [] le = refl
+dropped zero (x ∷ xs) le = absurd (omega (arith, le))
+dropped (suc n) [] le = refl
+dropped (suc n) (x ∷ xs) le = dropped n xs (omega (arith, le))
+
+-- where one of them is at its end, the rest of both goes behind
+pub merged_done : (pages one other mid last : List Sheet) (i j : ℕ) → (length one ≤ i) ⊎ (length other ≤ j)
+    → pages ++ merged (drop i one) (drop j other) ≡ merged one other → mid ≡ pages ++ take (length one - i) (drop i one)
+    → last ≡ mid ++ take (length other - j) (drop j other) → last ≡ merged one other
+merged_done pages one other mid last i j ends so first second =
+    second ∙ (λ k. (first ∙ ap (λ (l : List Sheet). pages ++ l) (whole i one)) k ++ whole j other k) ∙ append_assoc pages (drop i one) (drop j other)
+    ∙ ap (λ (l : List Sheet). pages ++ l) (sym (rest ends)) ∙ so
+  where
+    whole : (n : ℕ) (xs : List Sheet) → take (length xs - n) (drop n xs) ≡ drop n xs
+    whole n xs = take_all (length xs - n) (drop n xs) (omega (arith, length-drop n xs))
+
+    rest : (length one ≤ i) ⊎ (length other ≤ j) → merged (drop i one) (drop j other) ≡ drop i one ++ drop j other
+    rest (inl end) =
+        let none : drop i one ≡ [] = dropped i one end in
+        ap (λ (l : List Sheet). merged l (drop j other)) none ∙ ap (λ (l : List Sheet). l ++ drop j other) (sym none)
+    rest (inr end) =
+        let none : drop j other ≡ [] = dropped j other end in
+        ap (merged (drop i one)) none ∙ merged_none (drop i one) ∙ sym (append-nil (drop i one)) ∙ ap (λ (l : List Sheet). drop i one ++ l) (sym none)
 
 -- ---- what holds of all
 

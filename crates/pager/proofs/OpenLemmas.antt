@@ -32,6 +32,7 @@ use Rattle.pager.specs.Kept.{AreListed, IsBookFor, IsKept}
 use Rattle.pager.specs.Opening.{IsOpened}
 use Rattle.pager.specs.Turn.{IsBegun}
 use Rattle.pager.proofs.BookLemmas.{no_time, one_time, others_of}
+use Rattle.pager.proofs.OrderLemmas.{order_none}
 use Rattle.pager.proofs.ReadLemmas.{HasListIn, IsListIn, of_same}
 
 length_used : (in_use : List ℕ) (pages : List PageState) → length (with_used in_use pages) ≡ length pages

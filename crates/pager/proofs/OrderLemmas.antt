@@ -1,7 +1,7 @@
 -- The order of the pages that a turn made: a page more, and some fewer.
-use Rattle.std.proofs.Common.{◌≡◌, ◌≢◌, ℕ, zero, suc, ◌+◌, ◌<◌, ◌≤◌, Bool, true, false, List, [], ◌∷◌, ◌++◌, length, take, drop, map, get_or, refl, sym}
+use Rattle.std.proofs.Common.{◌≡◌, ◌≢◌, ℕ, zero, suc, ◌+◌, ◌<◌, ◌≤◌, true, false, List, [], ◌∷◌, ◌++◌, length, take, drop, get_or, refl, sym}
 use Rattle.std.proofs.Common.{◌∙◌, ap, subst, arith, inl, inr}
-use Rattle.std.specs.Prelude.{nat_lt, Result, Ok}
+use Rattle.std.specs.Prelude.{nat_lt, if◌then◌else◌, is_ok, Result, Ok}
 use Rattle.std.specs.List.{AllByRecursion, filter, insert}
 use Rattle.std.proofs.lemmas.Bool.{cases_eq, cases_lt}
 use Rattle.std.proofs.lemmas.Bool.Decides.{nat_tests}
@@ -11,12 +11,14 @@ use Rattle.page.specs.Format.{Sheet}
 use Rattle.page.specs.declared.page_fault.PageFault.{PageFault}
 use Rattle.btree.specs.Keys.{times}
 use Rattle.btree.specs.Reach.{AreOnce}
+use Rattle.btree.proofs.CapacityLemmas.{pages_are_few}
 use Rattle.roots.specs.Turn.{LieBehind, made_or, numbers_of}
 use Rattle.roots.proofs.KeptPages.{made_there}
 use Rattle.pager.specs.Order.{IsOrderOf, StandsAt, no_sheet, pages_at}
 use Rattle.pager.specs.Writing.{IsAmong}
 use Rattle.pager.proofs.BookLemmas.{no_time, one_time}
-use Rattle.pager.proofs.ListLemmas.{all_both, all_joined, all_more, all_take, all_weaker, lie_higher}
+use Rattle.pager.proofs.CapacityLemmas.{each_number}
+use Rattle.pager.proofs.ListLemmas.{all_both, all_joined, all_take, all_weaker, lie_higher}
 use Rattle.pager.proofs.MemberLemmas.{all_among, among_at, lie_lower, member, times_append}
 
 -- ---- one of some pages
@@ -96,15 +98,10 @@ order_none = record { ascending = tt; inside = tt; each = λ i less. absurd (ome
 
 -- ---- a page more
 
-all_drop : (P : ℕ → Type 0) (n : ℕ) (xs : List ℕ) → AllByRecursion P xs → AllByRecursion P (drop n xs)
+all_drop : {X : Type 0} (P : X → Type 0) (n : ℕ) (xs : List X) → AllByRecursion P xs → AllByRecursion P (drop n xs)
 all_drop P zero xs all = all
 all_drop P (suc n) [] all = tt
 all_drop P (suc n) (x ∷ xs) all = all_drop P n xs all.1
-
-drop_of : {P : Sheet → Type 0} (n : ℕ) (xs : List Sheet) → AllByRecursion P xs → AllByRecursion P (drop n xs)
-drop_of zero xs all = all
-drop_of (suc n) [] all = tt
-drop_of {P = P} (suc n) (x ∷ xs) all = drop_of {P = P} n xs all.1
 
 same_at : (made : List Sheet) (sheet : Sheet) (places : List ℕ) → AllByRecursion (λ (p : ℕ). p < length made) places
     → pages_at (made ++ sheet ∷ []) places ≡ pages_at made places
@@ -130,7 +127,7 @@ module _ (made : List Sheet) (places : List ℕ) (so : IsOrderOf made places) (s
   above =
       all_both (λ (m : Sheet). sheet.page ≤ m.page) (λ (m : Sheet). m.page ≢ sheet.page) (λ (m : Sheet). sheet.page < m.page)
       (λ m le ne. omega (arith, le, ne)) (drop at those) stands.above
-      (drop_of {P = λ (m : Sheet). m.page ≢ sheet.page} at those (all_at (λ (m : Sheet). m.page ≢ sheet.page) made places so.inside apart))
+      (all_drop (λ (m : Sheet). m.page ≢ sheet.page) at those (all_at (λ (m : Sheet). m.page ≢ sheet.page) made places so.inside apart))
 
   pages_are : pages_at more (insert places at (length made)) ≡ take at those ++ sheet ∷ drop at those
   pages_are =
@@ -224,3 +221,14 @@ order_undone n made places so = record {
   each = λ i less. omega
       (arith, times_lower_than n i places (omega (arith, less, length-take n made)), so.each i (omega (arith, less, length-take n made)));
 }
+
+-- ---- how many they are
+
+pub few_made : (made : List Sheet) (most : ℕ) → AreOnce (numbers_of made) → AllByRecursion (λ (m : Sheet). m.page < most) made → length made ≤ most
+few_made made most once inside =
+    omega (arith, length-map made (λ (m : Sheet). m.page), pages_are_few most (numbers_of made) once (each_number (λ n. n < most) made inside))
+
+pub inserted : {V E : Type 0} (items xs places : List ℕ) (at x : ℕ) (n : ℕ) (result : Result V E) (v : V)
+    → items ≡ (if is_ok result then insert xs at x else xs) → result ≡ Ok v → xs ≡ places → x ≡ n → items ≡ insert places at n
+inserted {V = V} {E = E} items xs places at x n result v is ok same number =
+    is ∙ ap (λ (r : Result V E). if is_ok r then insert xs at x else xs) ok ∙ (λ i. insert (same i) at (number i))

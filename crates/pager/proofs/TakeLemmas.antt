@@ -36,9 +36,10 @@ use Rattle.pager.specs.Kept.{Agrees, IsKept, IsNew}
 use Rattle.pager.specs.Order.{StandsAt}
 use Rattle.pager.specs.State.{State}
 use Rattle.pager.specs.View.{pager_history, root_numbers, sheets_of, store_of}
-use Rattle.pager.proofs.ListLemmas.{all_both, all_more, made_last, made_others}
+use Rattle.pager.proofs.BookLemmas.{made_once}
+use Rattle.pager.proofs.ListLemmas.{all_both, all_more, all_weaker, made_last, made_others}
 use Rattle.pager.proofs.MemberLemmas.{free_not_made}
-use Rattle.pager.proofs.OrderLemmas.{order_more}
+use Rattle.pager.proofs.OrderLemmas.{few_made, order_more}
 
 abbrev pub base_with : {D : Type 0} → Store D → List PageState → List ℕ
 base_with store pages = flag (is_stopped store) ∷ root_numbers (durable_root store) ++ map state_number pages
@@ -220,6 +221,13 @@ module _ {D : Type 0} {listed places : List ℕ} (history : D → History) (stor
       listed = kept_so.listed;
       wide = omega (arith, length-set book.states sheet.page states.InUse, kept_so.wide);
     }
+
+-- the book has room for all of them
+pub few_kept : {D : Type 0} {listed places : List ℕ} (history : D → History) (store : Store D) (cache : PageCache) (made : List Sheet) (book : Book)
+    → IsKept history store cache made book listed places → length made ≤ 1048576
+few_kept history store cache made book so =
+    few_made made 1048576 (made_once made book so.booked)
+    (all_weaker (IsNew (durable_root store).generation cache) (λ (m : Sheet). m.page < 1048576) (λ m new. new.inside) made so.each)
 
 -- ---- no page more
 

@@ -1,15 +1,12 @@
 -- A turn that is taken back.
-use Rattle.std.proofs.Common.{◌≡◌, ℕ, zero, suc, ◌<◌, true, List, [], ◌∷◌, length, take, drop, set, refl, sym, ◌∙◌, ap, subst, arith, inl, inr}
-use Rattle.std.specs.Prelude.{◌&&◌, ◌⊎◌, nat_lt}
-use Rattle.std.specs.List.{AllByRecursion}
-use Rattle.std.proofs.lemmas.Bool.{cases_eq}
-use Rattle.std.proofs.lemmas.List.{get_or-set_other, length-set}
+use Rattle.std.proofs.Common.{◌≡◌, ℕ, zero, suc, List, [], ◌∷◌, length, take, drop, refl, sym, ◌∙◌, ap, subst, arith}
+use Rattle.std.proofs.lemmas.List.{length-set}
 use Rattle.page.specs.Format.{Sheet}
 use Rattle.page.specs.History.{History}
 use Rattle.page.specs.declared.page_cache.PageCache.{PageCache}
 use Rattle.btree.specs.Keys.{Entry}
 use Rattle.btree.specs.Store.{Grows, flag}
-use Rattle.freelist.specs.Book.{Book, is_free, is_free_state, is_in_use, rewind, undone}
+use Rattle.freelist.specs.Book.{Book, is_in_use, rewind, undone}
 use Rattle.freelist.specs.declared.states.PageState.{PageState}
 use Rattle.freelist.specs.declared.states.PageState.TheVariants as states
 use Rattle.freelist.specs.declared.turns.Change.{Change}

@@ -1,5 +1,5 @@
 -- The pages of a turn by their numbers, whatever order they were made in.
-use Rattle.std.specs.Prelude.{◌≡◌, ℕ, ◌<◌, ◌≤◌, nat_lt, if◌then◌else◌, List, [], ◌∷◌, length, map}
+use Rattle.std.specs.Prelude.{ℕ, ◌<◌, ◌≤◌, nat_lt, if◌then◌else◌, List, [], ◌∷◌, length, map}
 use Rattle.std.specs.Prelude.{get_or, take, drop}
 use Rattle.std.specs.List.{AllByRecursion}
 use Rattle.page.specs.Content.{leaf}
