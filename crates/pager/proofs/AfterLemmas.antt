@@ -179,8 +179,8 @@ gone_then pages cache after forgets n some = by_case (kept after n) (λ found is
     by_case None never = refl
     by_case (Some sheet) never = absurd (never sheet refl)
 
-module _ {D : Type 0} {listed places : List ℕ} (history : D → History) (store : Store D) (cache : PageCache) (made : List Sheet) (retired : List ℕ) (book : Book)
-    (so : IsKept history store cache made book listed places) (pages named : List ℕ) (final : Book)
+module _ {D : Type 0} {listed places : List ℕ} (history : D → History) (store : Store D) (cache : PageCache) (made : List Sheet) (retired : List ℕ)
+    (book : Book) (so : IsKept history store cache made book listed places) (pages named : List ℕ) (final : Book)
     (list : IsMade (pages_with (durable_root store) (tree history store cache made retired book so)) pages named
     (planned history store cache made retired book so) final) (gone : (n : ℕ) → 1 ≤ times n pages → kept cache n ≡ None) where
   abbrev written_all : List Sheet

@@ -31,7 +31,8 @@ no_longer {X = X} (Some x) b none less = let never : Some x ≡ None = sym (less
 pub read_kept : {D : Type 0} {listed places : List ℕ} (history : D → History) (store new : Store D) (cache after : PageCache) (made : List Sheet) (book : Book)
     (page : ℕ)
     (result : Result Sheet TreeFault) → IsKept history store cache made book listed places
-    → ReadsPage history page result store new cache after → AllByRecursion (λ (m : Sheet). m.page ≢ page) made → IsKept history new after made book listed places
+    → ReadsPage history page result store new cache after → AllByRecursion (λ (m : Sheet). m.page ≢ page) made
+    → IsKept history new after made book listed places
 read_kept {listed = listed} {places = places} history store new cache after made book page result so read ne = record {
   cached = read.agrees so.cached;
   order = so.order;

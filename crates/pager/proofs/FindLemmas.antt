@@ -44,18 +44,6 @@ page_at_place made places i x inside less is =
     is ∙ get_or_default made (get_or places i 0) x no_sheet (place_inside made places i inside less)
     ∙ sym (get_or-map (λ (p : ℕ). get_or made p no_sheet) places i 0 x less)
 
-pub between_all : (sheets : List Sheet) (n to : ℕ) → to ≡ length sheets → IsBetween sheets n 0 to
-between_all sheets n to is = record {
-  order = omega arith;
-  within = omega (arith, is);
-  below = tt;
-  above = subst (λ (k : ℕ). AllByRecursion (λ (m : Sheet). n ≤ m.page) (drop k sheets)) (sym is) (none sheets);
-}
-  where
-    none : (xs : List Sheet) → AllByRecursion (λ (m : Sheet). n ≤ m.page) (drop (length xs) xs)
-    none [] = tt
-    none (x ∷ xs) = none xs
-
 module _ (sheets : List Sheet) (n from to mid : ℕ) (x : Sheet) (lie : LieBehind 0 sheets) (so : IsBetween sheets n from to) (low : from ≤ mid)
     (high : mid < to) (is : x ≡ get_or sheets mid x) where
   less : mid < length sheets
@@ -84,14 +72,6 @@ module _ (sheets : List Sheet) (n from to mid : ℕ) (x : Sheet) (lie : LieBehin
           (lie_at 0 sheets mid x less is lie).1,
     );
   }
-
-pub stands_between : (made : List Sheet) (places : List ℕ) (n from to : ℕ) → IsBetween (pages_at made places) n from to → to ≤ from
-    → StandsAt made places n from
-stands_between made places n from to so end = record {
-  within = omega (arith, so.order, so.within, length-map places (λ (p : ℕ). get_or made p no_sheet));
-  below = so.below;
-  above = subst (λ (k : ℕ). AllByRecursion (λ (m : Sheet). n ≤ m.page) (drop k (pages_at made places))) (omega (arith, so.order, end)) so.above;
-}
 
 -- ---- what stands there
 

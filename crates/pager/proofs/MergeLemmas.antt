@@ -1,5 +1,6 @@
 -- Two lists of pages as one.
-use Rattle.std.proofs.Common.{◌≡◌, ◌≢◌, ℕ, zero, suc, ◌<◌, ◌≤◌, max, Bool, true, false, List, [], ◌∷◌, ◌++◌, ◌-◌, length, take, drop, refl, sym, ◌∙◌, ap, subst, arith, inl, inr}
+use Rattle.std.proofs.Common.{◌≡◌, ◌≢◌, ℕ, zero, suc, ◌<◌, ◌≤◌, max, Bool, true, false, List, [], ◌∷◌, ◌++◌, ◌-◌, length, take, drop}
+use Rattle.std.proofs.Common.{refl, sym, ◌∙◌, ap, subst, arith, inl, inr}
 use Rattle.std.specs.Prelude.{◌⊎◌, nat_lt, if◌then◌else◌}
 use Rattle.std.specs.List.{AllByRecursion}
 use Rattle.std.proofs.lemmas.Bool.{cases_lt}
@@ -16,19 +17,19 @@ use Rattle.pager.proofs.OrderLemmas.{each_among}
 
 -- ---- one step
 
-pub put_first : (x : Sheet) (next : List Sheet → List Sheet) (y : Sheet) (ys : List Sheet) → x.page < y.page
+put_first : (x : Sheet) (next : List Sheet → List Sheet) (y : Sheet) (ys : List Sheet) → x.page < y.page
     → put_before x next (y ∷ ys) ≡ x ∷ next (y ∷ ys)
 put_first x next y ys less =
     let test : nat_lt x.page y.page ≡ true = grind (arith, nat_tests, less) in
     ap (λ (b : Bool). if b then x ∷ next (y ∷ ys) else y ∷ put_before x next ys) test
 
-pub put_later : (x : Sheet) (next : List Sheet → List Sheet) (y : Sheet) (ys : List Sheet) → y.page ≤ x.page
+put_later : (x : Sheet) (next : List Sheet → List Sheet) (y : Sheet) (ys : List Sheet) → y.page ≤ x.page
     → put_before x next (y ∷ ys) ≡ y ∷ put_before x next ys
 put_later x next y ys le =
     let test : nat_lt x.page y.page ≡ false = grind (arith, nat_tests, le) in
     ap (λ (b : Bool). if b then x ∷ next (y ∷ ys) else y ∷ put_before x next ys) test
 
-pub merged_none : (xs : List Sheet) → merged xs [] ≡ xs
+merged_none : (xs : List Sheet) → merged xs [] ≡ xs
 merged_none [] = refl
 merged_none (x ∷ xs) = ap (λ (l : List Sheet). x ∷ l) (merged_none xs)
 

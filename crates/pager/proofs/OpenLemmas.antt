@@ -142,13 +142,13 @@ module _ {D : Type 0} (history : D → History) (disk : D) (mid new : Store D) (
       → IsKept history new cache made book found.1.items places
   kept_opened cache made places is empty none = subst (λ (ps : List ℕ). IsKept history new cache made book found.1.items ps) (sym empty)
       (subst (λ (m : List Sheet). IsKept history new cache m book found.1.items []) (sym is) (record {
-    cached = λ k n found there. let never : Some found ≡ None = sym there ∙ none n in absurd cc;
-    order = order_none;
-    each = tt;
-    booked = booked;
-    listed = listed_opened;
-    wide = omega (arith, long_opened, ap (λ (r : Root). r.pages) finds.root);
-  }))
+        cached = λ k n found there. let never : Some found ≡ None = sym there ∙ none n in absurd cc;
+        order = order_none;
+        each = tt;
+        booked = booked;
+        listed = listed_opened;
+        wide = omega (arith, long_opened, ap (λ (r : Root). r.pages) finds.root);
+      }))
 
   begins : (live : List ℕ) (entries : List Entry)
       → (KeepsWord (disk_history history new) → HoldsMap (sheet_at (reads (now (history disk))) (durable_root new)) (durable_root new) live entries)

@@ -42,8 +42,8 @@ use Rattle.pager.proofs.MemberLemmas.{all_filter, each_counted, free_not_made, l
 use Rattle.pager.proofs.MergeLemmas.{AreApart, all_merged, lie_merged}
 use Rattle.pager.proofs.OrderLemmas.{all_at}
 
-module _ {D : Type 0} {listed places : List ℕ} (history : D → History) (store : Store D) (cache : PageCache) (made : List Sheet) (retired : List ℕ) (book : Book)
-    (so : IsKept history store cache made book listed places) where
+module _ {D : Type 0} {listed places : List ℕ} (history : D → History) (store : Store D) (cache : PageCache) (made : List Sheet) (retired : List ℕ)
+    (book : Book) (so : IsKept history store cache made book listed places) where
   abbrev root : Root
   root = durable_root store
 
@@ -137,7 +137,8 @@ module _ {D : Type 0} {listed places : List ℕ} (history : D → History) (stor
     fits =
         let each : AllByRecursion (λ (m : Sheet). m.page < length planned.states) tree =
         all_filter (λ (m : Sheet). m.page < length planned.states) test (pages_at made places)
-        (all_at (λ (m : Sheet). m.page < length planned.states) made places so.order.inside (all_weaker (λ (m : Sheet). 1 ≤ times m.page (numbers_of made)) (λ (m : Sheet). m.page < length planned.states)
+        (all_at (λ (m : Sheet). m.page < length planned.states) made places so.order.inside
+        (all_weaker (λ (m : Sheet). 1 ≤ times m.page (numbers_of made)) (λ (m : Sheet). m.page < length planned.states)
         (λ m some. omega (arith, planned_long, made_below made book so.booked m.page some)) made (each_counted made))) in
         count_within (length planned.states) (pages_with root tree) pages
         (omega (arith, so.wide, planned_long, end_most (length planned.states) tree 1 (omega (arith, so.wide, planned_long)) each))

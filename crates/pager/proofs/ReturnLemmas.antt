@@ -190,5 +190,7 @@ module _ {D : Type 0} (history : D → History) (earlier old : State D) (orderly
 pub returns_back : {D : Type 0} (history : D → History) (old : State D) → IsBookFor old.made old.book
     → AllByRecursion (λ (m : Sheet). 0 < m.page) old.made → (some few : ℕ)
     → Returns history some few old (undone_to some few old)
-returns_back history old booked positive some few earlier orderly grows some_is few_is =
-    (grows_back history earlier old orderly booked positive grows some few some_is few_is, same_back history earlier old orderly booked positive grows some few some_is few_is)
+returns_back history old booked positive some few earlier orderly grows some_is few_is = (
+  grows_back history earlier old orderly booked positive grows some few some_is few_is,
+  same_back history earlier old orderly booked positive grows some few some_is few_is,
+)

@@ -90,8 +90,8 @@ module _ (b : Book) (page : ℕ) (least : least_free b.states ≡ Some page) whe
 
 -- ---- a page more
 
-module _ {D : Type 0} {listed places : List ℕ} (history : D → History) (store : Store D) (cache : PageCache) (made : List Sheet) (retired : List ℕ) (book : Book)
-    (kept_so : IsKept history store cache made book listed places)
+module _ {D : Type 0} {listed places : List ℕ} (history : D → History) (store : Store D) (cache : PageCache) (made : List Sheet) (retired : List ℕ)
+    (book : Book) (kept_so : IsKept history store cache made book listed places)
     (sheet : Sheet) (least : least_free book.states ≡ Some sheet.page) where
   apart : AllByRecursion (λ (m : Sheet). m.page ≢ sheet.page) made
   apart = free_not_made made book kept_so.booked sheet.page (ap is_used_state (free_state book sheet.page least))
@@ -310,8 +310,8 @@ fresh_refused {D = D} history store made more retired book new_book old count vi
     (HasFailed (store_of history (start history store made retired book new_book count)) (store_of history (new made)))) (sym is)
     (take_failed history store made retired book new_book count fault refuses word)))
 
-pub fresh_done : {D : Type 0} {listed places : List ℕ} (history : D → History) (store : Store D) (cache : PageCache) (made more : List Sheet) (retired : List ℕ)
-    (book new_book : Book)
+pub fresh_done : {D : Type 0} {listed places : List ℕ} (history : D → History) (store : Store D) (cache : PageCache) (made more : List Sheet)
+    (retired : List ℕ) (book new_book : Book)
     (old : State D) → IsKept history store cache made book listed places
     → record { store = store; made = made; retired = retired; book = book } ≡ old → (sheet : Sheet) → more ≡ made ++ sheet ∷ []
     → Takes (Some sheet.page) book new_book → (page : ℕ) → sheet.page ≡ page → (content : Content) → sheet.content ≡ content
@@ -339,8 +339,8 @@ pub fresh_kept : {D : Type 0} {listed places : List ℕ} (history : D → Histor
     → (generation : ℕ) → sheet.generation ≡ generation → generation ≡ min ((durable_root store).generation + 1) (2 ^ 64 - 1)
     → (at : ℕ) → StandsAt made places page at → (later : List ℕ) → later ≡ insert places at (length made)
     → IsKept history store after_cache more new_book listed later
-fresh_kept {listed = listed} {places = places} history store cache after_cache made more book new_book so sheet pushed takes page page_is this others generation born is at
-    stands later put =
+fresh_kept {listed = listed} {places = places} history store cache after_cache made more book new_book so sheet pushed takes page page_is this others
+    generation born is at stands later put =
     subst (λ (ps : List ℕ). IsKept history store after_cache more new_book listed ps) (sym put)
     (subst (λ (m : List Sheet). IsKept history store after_cache m new_book listed (insert places at (length made))) (sym pushed)
     (subst (λ (b : Book). IsKept history store after_cache (made ++ sheet ∷ []) b listed (insert places at (length made))) (sym takes.1)
@@ -358,8 +358,8 @@ fresh_stays_refused {D = D} history store made more retired book new_book old co
     (subst (λ (s : State D). Stays (store_of history s) (store_of history (after made))) view_is
     (refused_stays history store made retired book new_book count fault refuses))
 
-pub fresh_stays : {D : Type 0} {listed places : List ℕ} (history : D → History) (store : Store D) (cache : PageCache) (made more : List Sheet) (retired : List ℕ)
-    (book new_book : Book)
+pub fresh_stays : {D : Type 0} {listed places : List ℕ} (history : D → History) (store : Store D) (cache : PageCache) (made more : List Sheet)
+    (retired : List ℕ) (book new_book : Book)
     (old : State D) → IsKept history store cache made book listed places
     → record { store = store; made = made; retired = retired; book = book } ≡ old → (sheet : Sheet) → more ≡ made ++ sheet ∷ []
     → Takes (Some sheet.page) book new_book

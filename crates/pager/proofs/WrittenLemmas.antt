@@ -255,7 +255,8 @@ module _ {D : Type 0} {listed places : List ℕ} (history : D → History) (p st
     free_pages parts has =
         all_merged (λ (m : Sheet). times m.page (reached_by live parts) ≡ 0) those sheets
         (all_filter (λ (m : Sheet). times m.page (reached_by live parts) ≡ 0) test (pages_at p.made places)
-        (all_at (λ (m : Sheet). times m.page (reached_by live parts) ≡ 0) p.made places so.order.inside (made_apart history p start stays word live before begun so.booked parts has)))
+        (all_at (λ (m : Sheet). times m.page (reached_by live parts) ≡ 0) p.made places so.order.inside
+        (made_apart history p start stays word live before begun so.booked parts has)))
         (each_sheet (λ (m : Sheet). times m.page (reached_by live parts) ≡ 0) (next_generation (durable_root p.store)) pages named (λ m is taken.
         let free = free_then history p.store cache p.made gone p.book so pages named final list m.page taken in
         omega (

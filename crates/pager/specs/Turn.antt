@@ -46,8 +46,8 @@ LeadsBack {D = D} history made retired old new =
 abbrev pub is_changed : {D : Type 0} → State D → Bool
 is_changed p = nat_lt 0 (length p.made) || nat_lt 0 (length p.retired)
 
--- What holds of any pager: none of its turn's pages was made twice, and the book has just the turn's
--- takes.
+-- What holds of any pager: none of its turn's pages was made twice, and the book has just the
+-- turn's takes.
 pub record IsOrderly {D : Type 0} (p : State D) : Type 0 where
   pub once : AreOnce (numbers_of p.made)
   pub booked : IsBookFor p.made p.book

@@ -1,5 +1,5 @@
 //! Pages among those that a turn made.
-ghost use Rattle.std.specs.Prelude.{◌≡◌, ◌≢◌, ◌<◌, Result, Ok, MatchOption, length};
+ghost use Rattle.std.specs.Prelude.{◌≡◌, ◌≢◌, Result, Ok, MatchOption};
 ghost use Rattle.std.specs.List.{AllByRecursion};
 ghost use Rattle.page.specs.Format.{Sheet};
 ghost use Rattle.page.specs.declared.page_fault.PageFault.{PageFault};

@@ -1,5 +1,5 @@
 //! What a commit writes: pages of the turn, and the list of the file's free pages.
-ghost use Rattle.std.specs.Prelude.{◌≡◌, ◌<◌, ◌≤◌, ◌++◌, ◌-◌, ◌^◌, min, IfErr, IfOk, MatchResult, OnOk, length};
+ghost use Rattle.std.specs.Prelude.{◌≡◌, ◌<◌, ◌≤◌, ◌++◌, ◌-◌, ◌^◌, min, IfErr, IfOk, OnOk, length};
 ghost use Rattle.std.specs.List.{AllByRecursion};
 ghost use Rattle.freelist.specs.Book.{undone};
 ghost use Rattle.freelist.specs.FreeList.{first_page, written};
@@ -52,7 +52,8 @@ fn with_list(
     generation: u64,
 ) -> Result<Plan, AllocError>
     ensures written { let parts = written list.pages.items list.named.items in
-        IfOk result (λ plan. plan.written.items ≡ merged tree.items (list_sheets generation parts)) }
+        IfOk result (λ plan.
+        plan.written.items ≡ merged tree.items (list_sheets generation parts)) }
     ensures listed { IfOk result (λ plan. plan.listed.items ≡ list.pages.items) }
     ensures first { let parts = written list.pages.items list.named.items in
         IfOk result (λ plan. plan.free_list ≡ first_page parts) }
