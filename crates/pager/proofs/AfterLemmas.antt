@@ -35,9 +35,11 @@ use Rattle.pager.specs.Kept.{Agrees, AreListed, IsKept, IsNew}
 use Rattle.pager.specs.Planning.{next_generation, pages_with}
 use Rattle.pager.specs.Writing.{Forgets, KeepsAll}
 use Rattle.pager.proofs.CallLemmas.{no_longer}
-use Rattle.pager.proofs.ListLemmas.{all_behind, all_both, all_weaker, made_none}
+use Rattle.pager.proofs.ListLemmas.{all_both, all_weaker, made_none}
 use Rattle.pager.proofs.ListedLemmas.{holds_listed}
 use Rattle.pager.proofs.MemberLemmas.{all_among, member}
+use Rattle.pager.proofs.MergeLemmas.{all_parts}
+use Rattle.pager.proofs.OrderLemmas.{order_none}
 use Rattle.pager.proofs.PlanLemmas.{all, all_lie, all_new, all_sheets, booked_after, count_is, planned, tree, wide_after}
 use Rattle.pager.proofs.ReadLemmas.{IsListIn}
 
@@ -152,11 +154,11 @@ module _ {D : Type 0} (history : D → History) (store : Store D) (cache : PageC
 -- ---- what every pager keeps
 
 -- where the list's pages went out of the cache
-pub kept_forgotten : {D : Type 0} {listed : List ℕ} (history : D → History) (store : Store D) (cache after : PageCache) (made : List Sheet) (book : Book)
-    (pages : List ℕ) → IsKept history store cache made book listed → Forgets pages cache after → IsKept history store after made book listed
+pub kept_forgotten : {D : Type 0} {listed places : List ℕ} (history : D → History) (store : Store D) (cache after : PageCache) (made : List Sheet) (book : Book)
+    (pages : List ℕ) → IsKept history store cache made book listed places → Forgets pages cache after → IsKept history store after made book listed places
 kept_forgotten history store cache after made book pages so forgets = record {
   cached = λ k n found is. so.cached k n found (forgets n found is).0;
-  ascending = so.ascending;
+  order = so.order;
   each = all_weaker (IsNew (durable_root store).generation cache) (IsNew (durable_root store).generation after)
       (λ m one. record {
         inside = one.inside;
@@ -177,8 +179,8 @@ gone_then pages cache after forgets n some = by_case (kept after n) (λ found is
     by_case None never = refl
     by_case (Some sheet) never = absurd (never sheet refl)
 
-module _ {D : Type 0} {listed : List ℕ} (history : D → History) (store : Store D) (cache : PageCache) (made : List Sheet) (retired : List ℕ) (book : Book)
-    (so : IsKept history store cache made book listed) (pages named : List ℕ) (final : Book)
+module _ {D : Type 0} {listed places : List ℕ} (history : D → History) (store : Store D) (cache : PageCache) (made : List Sheet) (retired : List ℕ)
+    (book : Book) (so : IsKept history store cache made book listed places) (pages named : List ℕ) (final : Book)
     (list : IsMade (pages_with (durable_root store) (tree history store cache made retired book so)) pages named
     (planned history store cache made retired book so) final) (gone : (n : ℕ) → 1 ≤ times n pages → kept cache n ≡ None) where
   abbrev written_all : List Sheet
@@ -211,9 +213,9 @@ module _ {D : Type 0} {listed : List ℕ} (history : D → History) (store : Sto
         let root_then = durable_root store in
         let those = tree history store cache made retired book so in
         let holds = holds_listed (sheet_at behind next_root_is) (next_generation root_then) pages named
-        (all_behind (λ (m : Sheet). sheet_at behind next_root_is m.page ≡ Ok m) those (list_sheets (next_generation root_then) (written pages named))
+        (all_parts (λ (m : Sheet). sheet_at behind next_root_is m.page ≡ Ok m) those (list_sheets (next_generation root_then) (written pages named))
         (each_there history store cache so.cached written_all lies news new after root (first_page (written pages named)) (length named) leaves sheets_so keeps
-        on k)) in
+        on k)).1 in
         subst (IsListIn (written pages named) (now (disk_history history new))) (sym root_is)
         (subst (λ (n : ℕ). IsFreeList (list_in (sheet_at behind next_root_is)) n (first_page (written pages named)) (length named) (written pages named))
         (sym (count_is history store cache made retired book so pages named final list))
@@ -221,11 +223,11 @@ module _ {D : Type 0} {listed : List ℕ} (history : D → History) (store : Sto
         (list_in (sheet_at behind next_root_is))
         holds))
 
-    pub kept_after : (last : ℕ) → IsKept history new after [] (committed last final) pages
+    pub kept_after : (last : ℕ) → IsKept history new after [] (committed last final) pages []
     kept_after last = record {
       cached = agrees_after history store cache so.cached written_all lies news new after root (first_page (written pages named)) (length named) leaves
           sheets_so keeps on;
-      ascending = tt;
+      order = order_none;
       each = tt;
       booked = booked_after history store cache made retired book so pages named final list last;
       listed = λ running k parts other.
@@ -244,10 +246,10 @@ module _ {D : Type 0} {listed : List ℕ} (history : D → History) (store : Sto
   listed_failed new root faults.Full commits = subst (λ (s : Store D). AreListed history s listed) (sym (commits.full refl).1) so.listed
 
   pub kept_failed : (new : Store D) (root free_list free_count : ℕ) (fault : CommitFault) → CommitsRoot history root (Err fault) store new
-      → LeavesPages history written_all root free_list free_count (Err fault) store new → IsKept history new cache made book listed
+      → LeavesPages history written_all root free_list free_count (Err fault) store new → IsKept history new cache made book listed places
   kept_failed new root free_list free_count fault commits leaves = record {
     cached = agrees_failed history store cache so.cached written_all lies news new root free_list free_count fault leaves commits.on.kept;
-    ascending = so.ascending;
+    order = so.order;
     each = subst (λ (r : Root). AllByRecursion (IsNew r.generation cache) made) (sym leaves.still) so.each;
     booked = so.booked;
     listed = listed_failed new root fault commits;

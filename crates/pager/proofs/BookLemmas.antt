@@ -8,6 +8,7 @@ use Rattle.std.proofs.lemmas.Bool.Decides.{nat_tests}
 use Rattle.std.proofs.lemmas.List.{get_or-set_other, get_or-set_same, get_or_default, length-set, take_more}
 use Rattle.page.specs.Format.{Sheet}
 use Rattle.btree.specs.Keys.{times}
+use Rattle.btree.specs.Reach.{AreOnce}
 use Rattle.btree.specs.Store.{flag}
 use Rattle.freelist.specs.Book.{Book, CanRewind, committed, freed, is_free, is_free_state, is_in_use, is_used_state, kept, retired, retired_in, rewind, undone}
 use Rattle.freelist.specs.Sound.{IsSound, retired_count, times as listed}
@@ -259,3 +260,9 @@ made_below made book booked n some =
     let can : CanRewind (takes_of made) book.states = subst (λ (turn : List Change). CanRewind turn book.states) booked.turn booked.sound.undoable in
     let used : is_in_use book.states n ≡ true = flag_some (is_in_use book.states n) (omega (arith, some, taken_use made book.states can n)) in
     below book.states n states.InUse (used_is (get_or book.states n states.Retired) used) (λ e. cc)
+
+-- and made once
+pub made_once : (made : List Sheet) (book : Book) → IsBookFor made book → AreOnce (numbers_of made)
+made_once made book booked n =
+    let can : CanRewind (takes_of made) book.states = subst (λ (turn : List Change). CanRewind turn book.states) booked.turn booked.sound.undoable in
+    omega (arith, taken_use made book.states can n, flag_most (is_in_use book.states n))

@@ -28,13 +28,14 @@ pub no_longer : {X : Type 0} (a b : Option X) → b ≡ None → ((x : X) → a 
 no_longer None b none less = refl
 no_longer {X = X} (Some x) b none less = let never : Some x ≡ None = sym (less x refl) ∙ none in absurd cc
 
-pub read_kept : {D : Type 0} {listed : List ℕ} (history : D → History) (store new : Store D) (cache after : PageCache) (made : List Sheet) (book : Book)
+pub read_kept : {D : Type 0} {listed places : List ℕ} (history : D → History) (store new : Store D) (cache after : PageCache) (made : List Sheet) (book : Book)
     (page : ℕ)
-    (result : Result Sheet TreeFault) → IsKept history store cache made book listed
-    → ReadsPage history page result store new cache after → AllByRecursion (λ (m : Sheet). m.page ≢ page) made → IsKept history new after made book listed
-read_kept {listed = listed} history store new cache after made book page result so read ne = record {
+    (result : Result Sheet TreeFault) → IsKept history store cache made book listed places
+    → ReadsPage history page result store new cache after → AllByRecursion (λ (m : Sheet). m.page ≢ page) made
+    → IsKept history new after made book listed places
+read_kept {listed = listed} {places = places} history store new cache after made book page result so read ne = record {
   cached = read.agrees so.cached;
-  ascending = so.ascending;
+  order = so.order;
   each = all_both (IsNew (durable_root store).generation cache) (λ (m : Sheet). m.page ≢ page) (IsNew (durable_root new).generation after)
       (λ m new_one other. record {
         inside = new_one.inside;
@@ -48,10 +49,10 @@ read_kept {listed = listed} history store new cache after made book page result 
   wide = subst (λ (root : Root). max root.pages 1 ≤ length book.states) (sym read.only.root) so.wide;
 }
 
-pub read_value : {D : Type 0} {listed : List ℕ} (history : D → History) (store new : Store D) (cache after : PageCache) (made : List Sheet)
+pub read_value : {D : Type 0} {listed places : List ℕ} (history : D → History) (store new : Store D) (cache after : PageCache) (made : List Sheet)
     (retired : List ℕ) (book : Book)
     (page : ℕ) (result : Result Sheet TreeFault) (old : State D)
-    → record { store = store; made = made; retired = retired; book = book } ≡ old → IsKept history store cache made book listed
+    → record { store = store; made = made; retired = retired; book = book } ≡ old → IsKept history store cache made book listed places
     → ReadsPage history page result store new cache after → AllByRecursion (λ (m : Sheet). m.page ≢ page) made
     → KeepsWord (store_of history (record { store = new; made = made; retired = retired; book = book }))
     → IfOk result (λ shared. content_in (sheets_of history old page) ≡ shared.content)

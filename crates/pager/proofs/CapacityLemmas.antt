@@ -48,7 +48,7 @@ each_there P [] there = tt
 each_there P (x ∷ xs) there =
     (there x (omega (arith, one_time x x xs refl)), each_there P xs (λ n some. there n (omega (arith, some, more_times n x xs))))
 
-each_number : (P : ℕ → Type 0) (made : List Sheet) → AllByRecursion (λ (m : Sheet). P m.page) made → Each P (numbers_of made)
+pub each_number : (P : ℕ → Type 0) (made : List Sheet) → AllByRecursion (λ (m : Sheet). P m.page) made → Each P (numbers_of made)
 each_number P [] all = tt
 each_number P (m ∷ ms) all = (all.0, each_number P ms all.1)
 
@@ -143,9 +143,9 @@ module _ {D : Type 0} (history : D → History) (start : State D) (live : List �
           few = omega (arith, entries_are_few (store_of history p) tree pages after turn.holds, pages_are_few 1048576 pages once all);
         }
 
-pub trees_fit : {D : Type 0} {listed : List ℕ} (history : D → History) (store : Store D) (cache : PageCache) (made : List Sheet) (retired : List ℕ)
+pub trees_fit : {D : Type 0} {listed places : List ℕ} (history : D → History) (store : Store D) (cache : PageCache) (made : List Sheet) (retired : List ℕ)
     (book : Book)
-    → IsKept history store cache made book listed
+    → IsKept history store cache made book listed places
     → TreesFit history (record { store = store; made = made; retired = retired; book = book })
 trees_fit history store cache made retired book so start live before begun root pages after turn k =
     let inside : AllByRecursion (λ (m : Sheet). m.page < 1048576) made =

@@ -17,6 +17,7 @@ use Rattle.roots.specs.declared.store.CommitFault.{CommitFault}
 use Rattle.roots.specs.declared.store.Store.{Store}
 use Rattle.pager.specs.Commit.{Commits, MovesTurns}
 use Rattle.pager.specs.Kept.{IsKept}
+use Rattle.pager.specs.Order.{pages_at}
 use Rattle.pager.specs.Planning.{IsPlanned, pages_with}
 use Rattle.pager.specs.State.{State}
 use Rattle.pager.specs.Writing.{Forgets, KeepsAll}
@@ -27,20 +28,22 @@ use Rattle.pager.proofs.EndLemmas.{moves_done, moves_failed}
 use Rattle.pager.proofs.PlanLemmas.{all, count_is as count_of_plan, named_few, names_free, planned, tree, tree_inside, wide}
 
 -- what was planned for the parts that a call was handed is planned for those of the pager
-pub told : {root then : Root} {one made : List Sheet} {gone retired other listed : List ℕ} (plan : Plan) (book final : Book) → root ≡ then → one ≡ made
-    → gone ≡ retired → other ≡ listed → IsPlanned root one (gone ++ other) plan book final → IsPlanned then made (retired ++ listed) plan book final
-told {root = root} {one = one} {made = made} {retired = retired} {listed = listed} plan book final root_is made_is retired_is listed_is so =
-    subst (λ (r : Root). IsPlanned r made (retired ++ listed) plan book final) root_is
-    (subst (λ (m : List Sheet). IsPlanned root m (retired ++ listed) plan book final) made_is
-    (subst (λ (pages : List ℕ). IsPlanned root one pages plan book final) (λ j. retired_is j ++ listed_is j) so))
+pub told : {root then : Root} {one made : List Sheet} {those places gone retired other listed : List ℕ} (plan : Plan) (book final : Book) → root ≡ then
+    → one ≡ made → those ≡ places → gone ≡ retired → other ≡ listed → IsPlanned root (pages_at one those) (gone ++ other) plan book final
+    → IsPlanned then (pages_at made places) (retired ++ listed) plan book final
+told {root = root} {one = one} {made = made} {those = those} {places = places} {retired = retired} {listed = listed} plan book final root_is made_is places_is
+    retired_is listed_is so =
+    subst (λ (r : Root). IsPlanned r (pages_at made places) (retired ++ listed) plan book final) root_is
+    (subst (λ (m : List Sheet). IsPlanned root m (retired ++ listed) plan book final) (λ j. pages_at (made_is j) (places_is j))
+    (subst (λ (pages : List ℕ). IsPlanned root (pages_at one those) pages plan book final) (λ j. retired_is j ++ listed_is j) so))
 
-module _ {D : Type 0} {listed : List ℕ} (history : D → History) (store : Store D) (before cache : PageCache) (made : List Sheet) (retired : List ℕ)
-    (book final : Book) (so_before : IsKept history store before made book listed) (plan : Plan)
-    (is : IsPlanned (durable_root store) made (retired ++ listed) plan book final) (forgets : Forgets plan.listed.items before cache) where
+module _ {D : Type 0} {listed places : List ℕ} (history : D → History) (store : Store D) (before cache : PageCache) (made : List Sheet) (retired : List ℕ)
+    (book final : Book) (so_before : IsKept history store before made book listed places) (plan : Plan)
+    (is : IsPlanned (durable_root store) (pages_at made places) (retired ++ listed) plan book final) (forgets : Forgets plan.listed.items before cache) where
   abbrev p : State D
   p = record { store = store; made = made; retired = retired; book = book }
 
-  so : IsKept history store cache made book listed
+  so : IsKept history store cache made book listed places
   so = kept_forgotten history store before cache made book plan.listed.items so_before forgets
 
   abbrev pages : List ℕ
@@ -89,7 +92,7 @@ module _ {D : Type 0} {listed : List ℕ} (history : D → History) (store : Sto
 
   module _ (root : ℕ) (fault : CommitFault) (new : Store D) (commits : CommitsRoot history root (Err fault) store new) where
     pub failed_kept : LeavesPages history plan.written.items root plan.free_list plan.free_count (Err fault) store new
-        → IsKept history new cache made book listed
+        → IsKept history new cache made book listed places
     failed_kept leaves =
         kept_failed history store cache made (retired ++ listed) book so pages is.named final list gone new root first (length is.named) fault commits
         (recast (λ sheets free_list free_count. LeavesPages history sheets root free_list free_count (Err fault) store new) leaves)
@@ -111,7 +114,7 @@ module _ {D : Type 0} {listed : List ℕ} (history : D → History) (store : Sto
     keeps_all : KeepsAll written_all cache after
     keeps_all = subst (λ (sheets : List Sheet). KeepsAll sheets cache after) is.writes keeps
 
-    pub done_kept : IsKept history new after [] (committed last final) pages
+    pub done_kept : IsKept history new after [] (committed last final) pages []
     done_kept =
         kept_after history store cache made (retired ++ listed) book so pages is.named final list gone new after root leaves_all is.content keeps_all
         commits.on.kept last

@@ -27,10 +27,11 @@ use Rattle.pager.proofs.ReadLemmas.{still_agrees, still_listed, still_there}
 use Rattle.pager.proofs.TurnLemmas.{committed_still}
 
 module _ {D : Type 0} (history : D → History) (store new : Store D) (only : OnlyRead history store new) (made : List Sheet) (book : Book) where
-  pub kept_read : (cache : PageCache) (listed : List ℕ) → IsKept history store cache made book listed → IsKept history new cache made book listed
+  pub kept_read : {places : List ℕ} (cache : PageCache) (listed : List ℕ) → IsKept history store cache made book listed places
+      → IsKept history new cache made book listed places
   kept_read cache listed so = record {
     cached = still_agrees history store new only cache cache (λ n found is. is) so.cached;
-    ascending = so.ascending;
+    order = so.order;
     each = subst (λ (root : Root). AllByRecursion (IsNew root.generation cache) made) (sym only.root) so.each;
     booked = so.booked;
     listed = still_listed history store new only listed so.listed;

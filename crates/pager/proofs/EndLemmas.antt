@@ -33,8 +33,8 @@ use Rattle.pager.proofs.ReadLemmas.{HasListIn, IsListIn}
 use Rattle.pager.proofs.TurnLemmas.{committed_still}
 use Rattle.pager.proofs.WrittenLemmas.{roots_turn, tree_use}
 
-module _ {D : Type 0} {listed : List ℕ} (history : D → History) (store : Store D) (cache : PageCache) (made : List Sheet) (retired : List ℕ) (book : Book)
-    (so : IsKept history store cache made book listed) where
+module _ {D : Type 0} {listed places : List ℕ} (history : D → History) (store : Store D) (cache : PageCache) (made : List Sheet) (retired : List ℕ)
+    (book : Book) (so : IsKept history store cache made book listed places) where
   abbrev p : State D
   p = record { store = store; made = made; retired = retired; book = book }
 

@@ -10,7 +10,9 @@ pub mod FindLemmas
 pub mod ListLemmas
 pub mod ListedLemmas
 pub mod MemberLemmas
+pub mod MergeLemmas
 pub mod OpenLemmas
+pub mod OrderLemmas
 pub mod PlanLemmas
 pub mod ReadLemmas
 pub mod RefusalLemmas

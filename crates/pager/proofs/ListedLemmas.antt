@@ -1,5 +1,5 @@
 -- The pages that a commit takes for its list of free pages.
-use Rattle.std.proofs.Common.{◌≡◌, ℕ, zero, suc, ◌+◌, ◌<◌, ◌≤◌, max, Bool, true, false, List, [], ◌∷◌, ◌++◌, length, set, drop, get_or, refl, sym}
+use Rattle.std.proofs.Common.{◌≡◌, ℕ, zero, suc, ◌+◌, ◌<◌, ◌≤◌, max, Bool, true, false, List, [], ◌∷◌, length, set, drop, get_or, refl, sym}
 use Rattle.std.proofs.Common.{◌∙◌, ap, arith}
 use Rattle.std.proofs.Common.{inl, inr}
 use Rattle.std.specs.Prelude.{◌&&◌, nat_lt, Result, Ok}
@@ -21,9 +21,12 @@ use Rattle.freelist.proofs.Rewinding.{below, free_is, used_is}
 use Rattle.roots.specs.Image.{list_in, listed_sheet}
 use Rattle.roots.specs.Listed.{list_sheets}
 use Rattle.roots.specs.Turn.{LieBehind, end_behind}
+use Rattle.roots.proofs.MadeLemmas.{end_grows}
+use Rattle.pager.specs.Order.{merged}
 use Rattle.pager.specs.Writing.{retired_all}
 use Rattle.pager.proofs.BookLemmas.{no_time, one_time}
 use Rattle.pager.proofs.MemberLemmas.{more_times}
+use Rattle.pager.proofs.MergeLemmas.{end_merged}
 use Rattle.pager.proofs.TakeLemmas.{none_below, not_free, others_free, page_below, was_free}
 
 -- ---- what is free
@@ -176,11 +179,16 @@ count_list most end last generation (p ∷ pages) named le lie =
     let same : max most (p + 1) ≡ max (max most end) (p + 1) = omega (arith, le, lie.0) in
     count_list most (p + 1) p generation pages (drop 1019 named) (omega arith) lie.1 ∙ ap (λ (n : ℕ). count_with n pages) same
 
-pub count_all : (most end last generation : ℕ) (xs : List Sheet) (pages named : List ℕ) → end ≤ last + 1
-    → LieBehind last (xs ++ list_sheets generation (written pages named))
-    → max most (end_behind end (xs ++ list_sheets generation (written pages named))) ≡ count_with (max most (end_behind end xs)) pages
-count_all most end last generation [] pages named le lie = count_list most end last generation pages named le lie
-count_all most end last generation (x ∷ xs) pages named le lie = count_all most (x.page + 1) x.page generation xs pages named (omega arith) lie.1
+pub count_all : (most generation : ℕ) (xs : List Sheet) (pages named : List ℕ)
+    → let ys = list_sheets generation (written pages named) in LieBehind 0 xs → LieBehind 0 ys → LieBehind 0 (merged xs ys)
+    → max most (end_behind 1 (merged xs ys)) ≡ count_with (max most (end_behind 1 xs)) pages
+count_all most generation xs pages named lie lies both =
+    let ys = list_sheets generation (written pages named) in
+    let grown : 1 ≤ end_behind 1 xs = end_grows xs 0 1 refl lie in
+    let reached : max most (end_behind 1 (merged xs ys)) ≡ max (max most (end_behind 1 xs)) (end_behind 1 ys) =
+    omega (arith, end_merged xs ys lie lies both) in
+    let same : max (max most (end_behind 1 xs)) 1 ≡ max most (end_behind 1 xs) = omega (arith, grown) in
+    reached ∙ count_list (max most (end_behind 1 xs)) 1 0 generation pages named (omega arith) lies ∙ ap (λ (n : ℕ). count_with n pages) same
 
 -- where each is there, they hold the list
 pub holds_listed : (sheets : ℕ → Result Sheet PageFault) (generation : ℕ) (pages named : List ℕ)

@@ -12,10 +12,14 @@ use Rattle.page.specs.Format.{Sheet}
 use Rattle.page.specs.declared.page_cache.PageCache.{PageCache}
 use Rattle.page.specs.declared.page_fault.PageFault.{PageFault}
 use Rattle.btree.specs.Keys.{times}
+use Rattle.btree.specs.Store.{flag}
+use Rattle.freelist.specs.Book.{Book, CanRewind, is_in_use}
+use Rattle.freelist.specs.declared.turns.Change.{Change}
 use Rattle.roots.specs.Turn.{LieBehind, made_or, numbers_of}
 use Rattle.pager.specs.Calls.{Keeps}
+use Rattle.pager.specs.Kept.{IsBookFor, takes_of}
 use Rattle.pager.specs.Writing.{Forgets, IsAmong, KeepsAll}
-use Rattle.pager.proofs.BookLemmas.{no_time, one_time}
+use Rattle.pager.proofs.BookLemmas.{no_time, one_time, taken_use}
 use Rattle.pager.proofs.ListLemmas.{all_weaker, made_here}
 
 -- ---- the cache
@@ -46,7 +50,7 @@ all_filter P p (x ∷ xs) all = elim (cases_Bool (p x)) [
   | inr not_so ↦ rw not_so (all_filter P p xs all.1)
 ]
 
-lie_lower : (low high : ℕ) (xs : List Sheet) → low ≤ high → LieBehind high xs → LieBehind low xs
+pub lie_lower : (low high : ℕ) (xs : List Sheet) → low ≤ high → LieBehind high xs → LieBehind low xs
 lie_lower low high [] le lie = tt
 lie_lower low high (x ∷ xs) le lie = (omega (arith, le, lie.0), lie.1)
 
@@ -57,13 +61,25 @@ lie_filter last p (x ∷ xs) lie = elim (cases_Bool (p x)) [
   | inr not_so ↦ rw not_so (lie_lower last x.page (filter p xs) (omega (arith, lie.0)) (lie_filter x.page p xs lie.1))
 ]
 
--- the page of this number, and that it is one of those that pass
+pub behind_among : (last : ℕ) (made : List Sheet) (x : Sheet) → LieBehind last made → IsAmong x made → last < x.page
+behind_among last [] x lie among = absurd among
+behind_among last (m ∷ ms) x lie (inl is) = omega (arith, lie.0, ap (λ (s : Sheet). s.page) is)
+behind_among last (m ∷ ms) x lie (inr later) = omega (arith, lie.0, behind_among m.page ms x lie.1 later)
+
+pub among_filter : (p : Sheet → Bool) (xs : List Sheet) (x : Sheet) → p x ≡ true → IsAmong x xs → IsAmong x (filter p xs)
+among_filter p [] x passes among = absurd among
+among_filter p (y ∷ ys) x passes (inl is) = let here : p y ≡ true = ap p (sym is) ∙ passes in rw here (inl is)
+among_filter p (y ∷ ys) x passes (inr later) = elim (cases_Bool (p y)) [
+  | inl so ↦ rw so (inr (among_filter p ys x passes later))
+  | inr not_so ↦ rw not_so (among_filter p ys x passes later)
+]
+
+-- the page of this number
 pub record IsMember (made : List Sheet) (n : ℕ) : Type 0 where
   pub sheet : Sheet
   pub among : IsAmong sheet made
   pub is : sheet.page ≡ n
   pub there : (other : Result Sheet PageFault) → made_or made n other ≡ Ok sheet
-  pub passed : (p : Sheet → Bool) → p sheet ≡ true → (other : Result Sheet PageFault) → made_or (filter p made) n other ≡ Ok sheet
   pub count : 1 ≤ times n (numbers_of made)
 
 later_member : (m : Sheet) (ms : List Sheet) (n : ℕ) → m.page ≢ n → IsMember ms n → IsMember (m ∷ ms) n
@@ -72,10 +88,6 @@ later_member m ms n ne r = record {
   among = inr r.among;
   is = r.is;
   there = λ other. skip (made_or ms n other) ∙ r.there other;
-  passed = λ p pass other. elim (cases_Bool (p m)) [
-    | inl so ↦ rw so (skip (made_or (filter p ms) n other) ∙ r.passed p pass other)
-    | inr not_so ↦ rw not_so (r.passed p pass other)
-  ];
   count = omega (arith, r.count, no_time n m.page (numbers_of ms) (λ is. ne (sym is)));
 }
   where
@@ -92,7 +104,6 @@ member (m ∷ ms) n = elim (cases_eq m.page n) [
     among = inl refl;
     is = is;
     there = λ other. made_here m ms n other is;
-    passed = λ p pass other. rw pass (made_here m (filter p ms) n other is);
     count = omega (arith, one_time n m.page (numbers_of ms) (sym is));
   })
   | inr ne ↦ elim (member ms n) [
@@ -113,6 +124,15 @@ each_counted (m ∷ ms) = (
   all_weaker (λ (x : Sheet). 1 ≤ times x.page (numbers_of ms)) (λ (x : Sheet). 1 ≤ times x.page (numbers_of (m ∷ ms)))
       (λ x some. omega (arith, some, more_times x.page m.page (numbers_of ms))) ms (each_counted ms),
 )
+
+-- a page that isn't in use is none that the turn made
+pub free_not_made : (made : List Sheet) (book : Book) → IsBookFor made book → (n : ℕ) → is_in_use book.states n ≡ false
+    → AllByRecursion (λ (m : Sheet). m.page ≢ n) made
+free_not_made made book booked n unused =
+    let can : CanRewind (takes_of made) book.states = subst (λ (turn : List Change). CanRewind turn book.states) booked.turn booked.sound.undoable in
+    let none : times n (numbers_of made) ≡ 0 = omega (arith, taken_use made book.states can n, ap flag unused) in
+    all_weaker (λ (m : Sheet). 1 ≤ times m.page (numbers_of made)) (λ (m : Sheet). m.page ≢ n)
+    (λ m some is. omega (arith, some, none, ap (λ (k : ℕ). times k (numbers_of made)) is)) made (each_counted made)
 
 pub times_append : (n : ℕ) (xs ys : List ℕ) → times n (xs ++ ys) ≡ times n xs + times n ys
 times_append n [] ys = omega arith

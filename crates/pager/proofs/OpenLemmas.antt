@@ -32,6 +32,7 @@ use Rattle.pager.specs.Kept.{AreListed, IsBookFor, IsKept}
 use Rattle.pager.specs.Opening.{IsOpened}
 use Rattle.pager.specs.Turn.{IsBegun}
 use Rattle.pager.proofs.BookLemmas.{no_time, one_time, others_of}
+use Rattle.pager.proofs.OrderLemmas.{order_none}
 use Rattle.pager.proofs.ReadLemmas.{HasListIn, IsListIn, of_same}
 
 length_used : (in_use : List ℕ) (pages : List PageState) → length (with_used in_use pages) ≡ length pages
@@ -86,7 +87,6 @@ booked_new in_use count generation few = record {
   turn = refl;
   limit = omega (arith, length_used in_use (replicate count states.Free), length-replicate count states.Free, few);
   count = omega arith;
-  behind = λ n free. tt;
 }
 
 module _ {D : Type 0} (history : D → History) (disk : D) (mid new : Store D) (found : Book × Vec ℕ) (limit : ℕ) (few : limit ≤ 1048576)
@@ -138,16 +138,17 @@ module _ {D : Type 0} (history : D → History) (disk : D) (mid new : Store D) (
       ∙ ap pages_of (reading_is_exact (list_in (sheet_at image root)) root.pages root.free_list root.free_count root.free_count held.0 parts held.1.list
       list_now)
 
-  pub kept_opened : (cache : PageCache) (made : List Sheet) → made ≡ [] → ((n : ℕ) → kept cache n ≡ None)
-      → IsKept history new cache made book found.1.items
-  kept_opened cache made is none = subst (λ (m : List Sheet). IsKept history new cache m book found.1.items) (sym is) (record {
-    cached = λ k n found there. let never : Some found ≡ None = sym there ∙ none n in absurd cc;
-    ascending = tt;
-    each = tt;
-    booked = booked;
-    listed = listed_opened;
-    wide = omega (arith, long_opened, ap (λ (r : Root). r.pages) finds.root);
-  })
+  pub kept_opened : (cache : PageCache) (made : List Sheet) (places : List ℕ) → made ≡ [] → places ≡ [] → ((n : ℕ) → kept cache n ≡ None)
+      → IsKept history new cache made book found.1.items places
+  kept_opened cache made places is empty none = subst (λ (ps : List ℕ). IsKept history new cache made book found.1.items ps) (sym empty)
+      (subst (λ (m : List Sheet). IsKept history new cache m book found.1.items []) (sym is) (record {
+        cached = λ k n found there. let never : Some found ≡ None = sym there ∙ none n in absurd cc;
+        order = order_none;
+        each = tt;
+        booked = booked;
+        listed = listed_opened;
+        wide = omega (arith, long_opened, ap (λ (r : Root). r.pages) finds.root);
+      }))
 
   begins : (live : List ℕ) (entries : List Entry)
       → (KeepsWord (disk_history history new) → HoldsMap (sheet_at (reads (now (history disk))) (durable_root new)) (durable_root new) live entries)

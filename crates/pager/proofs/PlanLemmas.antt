@@ -1,5 +1,5 @@
--- What a commit writes: the pages of the turn that are in use, and behind them those of a list of what is free then.
-use Rattle.std.proofs.Common.{◌≡◌, ℕ, ◌+◌, ◌<◌, ◌≤◌, max, false, List, [], ◌∷◌, ◌++◌, length, get_or, inl, inr, sym, refl, ◌∙◌, ap, arith, None}
+-- What a commit writes: the pages of the turn that are in use, and those of a list of what is free then.
+use Rattle.std.proofs.Common.{◌≡◌, ℕ, ◌+◌, ◌<◌, ◌≤◌, max, false, List, [], ◌∷◌, ◌++◌, ◌≢◌, length, get_or, inl, inr, sym, refl, ◌∙◌, ap, arith, None}
 use Rattle.std.specs.Prelude.{Bool, true, ◌&&◌, nat_lt, not}
 use Rattle.std.specs.List.{AllByRecursion}
 use Rattle.std.proofs.lemmas.Bool.{cases_lt}
@@ -30,17 +30,20 @@ use Rattle.roots.specs.Turn.{LieBehind, numbers_of}
 use Rattle.roots.proofs.ListingLemmas.{all_pages, list_is_written}
 use Rattle.roots.proofs.MadeLemmas.{end_most}
 use Rattle.pager.specs.Kept.{IsBookFor, IsKept, IsNew}
+use Rattle.pager.specs.Order.{merged, pages_at}
 use Rattle.pager.specs.Planning.{next_generation, pages_with}
 use Rattle.pager.specs.Writing.{retired_all, written_of}
 use Rattle.pager.proofs.BookLemmas.{all_full, all_length, all_pins, all_sound, all_waiting, committed_length, committed_use, committed_waiting}
 use Rattle.pager.proofs.BookLemmas.{made_below, one_time}
-use Rattle.pager.proofs.ListLemmas.{all_both, all_joined, all_weaker, lie_joined}
+use Rattle.pager.proofs.ListLemmas.{all_both, all_weaker}
 use Rattle.pager.proofs.ListedLemmas.{IsAsWide, all_free, as_wide, count_all, count_within, few_unused, free_before, free_inside, free_unused}
 use Rattle.pager.proofs.ListedLemmas.{list_rises, sheets_of}
-use Rattle.pager.proofs.MemberLemmas.{all_filter, each_counted, lie_filter}
+use Rattle.pager.proofs.MemberLemmas.{all_filter, each_counted, free_not_made, lie_filter}
+use Rattle.pager.proofs.MergeLemmas.{AreApart, all_merged, lie_merged}
+use Rattle.pager.proofs.OrderLemmas.{all_at}
 
-module _ {D : Type 0} {listed : List ℕ} (history : D → History) (store : Store D) (cache : PageCache) (made : List Sheet) (retired : List ℕ) (book : Book)
-    (so : IsKept history store cache made book listed) where
+module _ {D : Type 0} {listed places : List ℕ} (history : D → History) (store : Store D) (cache : PageCache) (made : List Sheet) (retired : List ℕ)
+    (book : Book) (so : IsKept history store cache made book listed places) where
   abbrev root : Root
   root = durable_root store
 
@@ -48,13 +51,13 @@ module _ {D : Type 0} {listed : List ℕ} (history : D → History) (store : Sto
   planned = retired_all root.generation retired book
 
   abbrev pub tree : List Sheet
-  tree = written_of planned made
+  tree = written_of planned (pages_at made places)
 
   abbrev test : Sheet → Bool
   test sheet = is_of_tree sheet.content && is_in_use planned.states sheet.page
 
   tree_new : AllByRecursion (IsNew root.generation cache) tree
-  tree_new = all_filter (IsNew root.generation cache) test made so.each
+  tree_new = all_filter (IsNew root.generation cache) test (pages_at made places) (all_at (IsNew root.generation cache) made places so.order.inside so.each)
 
   pub tree_inside : AllByRecursion (λ (m : Sheet). m.page < 1048576) tree
   tree_inside = all_weaker (IsNew root.generation cache) (λ (m : Sheet). m.page < 1048576) (λ m one. one.inside) tree tree_new
@@ -79,7 +82,7 @@ module _ {D : Type 0} {listed : List ℕ} (history : D → History) (store : Sto
     sheets = list_sheets born (written pages named)
 
     abbrev pub all : List Sheet
-    all = tree ++ sheets
+    all = merged tree sheets
 
     abbrev count : ℕ
     count = count_with (pages_with root tree) pages
@@ -91,23 +94,33 @@ module _ {D : Type 0} {listed : List ℕ} (history : D → History) (store : Sto
     pub free_then : (n : ℕ) → 1 ≤ times n pages → is_free book.states n ≡ true
     free_then n some = free_before root.generation retired book n (all_free pages planned final list.takes n some)
 
+    tree_lie : LieBehind 0 tree
+    tree_lie = lie_filter 0 test (pages_at made places) so.order.ascending
+
+    sheets_lie : LieBehind 0 sheets
+    sheets_lie = list_rises 0 born pages named planned final list.takes (λ n free. (free_inside planned.states n free).0)
+
+    -- and no page of the turn is free
+    apart : AreApart tree sheets
+    apart =
+        sheets_of (λ (y : Sheet). AllByRecursion (λ (x : Sheet). x.page ≢ y.page) tree) born pages named
+        (λ m is some. all_filter (λ (x : Sheet). x.page ≢ m.page) test (pages_at made places)
+        (all_at (λ (x : Sheet). x.page ≢ m.page) made places so.order.inside
+        (free_not_made made book so.booked m.page (free_unused book.states m.page (free_then m.page some)))))
+
     pub all_lie : LieBehind 0 all
-    all_lie =
-        lie_joined 0 tree sheets (lie_filter 0 test made so.ascending)
-        (list_rises 0 born pages named planned final list.takes (λ n free. (free_inside planned.states n free).0))
-        (sheets_of (λ (y : Sheet). AllByRecursion (λ (x : Sheet). x.page < y.page) tree) born pages named
-        (λ m is some. all_filter (λ (x : Sheet). x.page < m.page) test made (so.booked.behind m.page (free_then m.page some))))
+    all_lie = lie_merged 0 tree sheets tree_lie sheets_lie apart
 
     pub all_inside : AllByRecursion (λ (m : Sheet). m.page < 1048576) all
     all_inside =
-        all_joined (λ (m : Sheet). m.page < 1048576) tree sheets tree_inside
+        all_merged (λ (m : Sheet). m.page < 1048576) tree sheets tree_inside
         (sheets_of (λ (m : Sheet). m.page < 1048576) born pages named
         (λ m is some. omega (arith, (free_inside book.states m.page (free_then m.page some)).1, so.booked.limit)))
 
     -- where none of the list's pages is in the cache
     pub all_new : ((n : ℕ) → 1 ≤ times n pages → kept cache n ≡ None) → AllByRecursion (IsNew root.generation cache) all
     all_new gone =
-        all_joined (IsNew root.generation cache) tree sheets tree_new
+        all_merged (IsNew root.generation cache) tree sheets tree_new
         (sheets_of (IsNew root.generation cache) born pages named (λ m is some. record {
           inside = omega (arith, (free_inside book.states m.page (free_then m.page some)).1, so.booked.limit);
           some = omega (arith, is);
@@ -118,14 +131,15 @@ module _ {D : Type 0} {listed : List ℕ} (history : D → History) (store : Sto
 
     -- the file has so many pages then
     pub count_is : pages_with root all ≡ count
-    count_is = count_all root.pages 1 0 born tree pages named (omega arith) all_lie
+    count_is = count_all root.pages born tree pages named tree_lie sheets_lie all_lie
 
     pub fits : count ≤ length planned.states
     fits =
         let each : AllByRecursion (λ (m : Sheet). m.page < length planned.states) tree =
-        all_filter (λ (m : Sheet). m.page < length planned.states) test made
+        all_filter (λ (m : Sheet). m.page < length planned.states) test (pages_at made places)
+        (all_at (λ (m : Sheet). m.page < length planned.states) made places so.order.inside
         (all_weaker (λ (m : Sheet). 1 ≤ times m.page (numbers_of made)) (λ (m : Sheet). m.page < length planned.states)
-        (λ m some. omega (arith, planned_long, made_below made book so.booked m.page some)) made (each_counted made)) in
+        (λ m some. omega (arith, planned_long, made_below made book so.booked m.page some)) made (each_counted made))) in
         count_within (length planned.states) (pages_with root tree) pages
         (omega (arith, so.wide, planned_long, end_most (length planned.states) tree 1 (omega (arith, so.wide, planned_long)) each))
         (λ n some. omega (arith, planned_long, (free_inside book.states n (free_then n some)).1))
@@ -139,7 +153,7 @@ module _ {D : Type 0} {listed : List ℕ} (history : D → History) (store : Sto
     pub all_sheets : AllByRecursion (λ (m : Sheet). IsContent m.content) tree → AllByRecursion (IsSheet (root.generation + 1)) all
     all_sheets content =
         let each_once : AreOnceBelow count (pages ++ named) = once (pages_with root tree) pages named planned final list in
-        all_joined (IsSheet (root.generation + 1)) tree sheets
+        all_merged (IsSheet (root.generation + 1)) tree sheets
         (all_both (IsNew root.generation cache) (λ (m : Sheet). IsContent m.content) (IsSheet (root.generation + 1))
         (λ m one holds. record { page = omega (arith, one.inside); some = one.some; small = one.small; until = one.until; content = holds }) tree tree_new
         content)
@@ -162,7 +176,6 @@ module _ {D : Type 0} {listed : List ℕ} (history : D → History) (store : Sto
           turn = refl;
           limit = omega (arith, committed_length last final final_sound pins waiting, wide.long, planned_long, so.booked.limit);
           count = omega (arith, wide.full, all_full root.generation retired book, so.booked.count);
-          behind = λ n free. tt;
         }
 
     pub wide_after : (last : ℕ) → max (pages_with root all) 1 ≤ length (committed last final).states

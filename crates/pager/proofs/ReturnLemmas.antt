@@ -25,11 +25,11 @@ use Rattle.pager.specs.State.{State}
 use Rattle.pager.specs.Turn.{IsOrderly, Returns, undone_to}
 use Rattle.pager.specs.View.{base_of, pager_history, sheets_of, store_of}
 use Rattle.pager.proofs.BookLemmas.{flag_some, taken_use}
-use Rattle.pager.proofs.ListLemmas.{made_joined, made_none}
+use Rattle.pager.proofs.ListLemmas.{all_take, made_joined, made_none}
 use Rattle.pager.proofs.MemberLemmas.{IsMember, all_among, member}
 use Rattle.pager.proofs.TakeLemmas.{base_with}
 use Rattle.pager.proofs.TurnLemmas.{same_beginning, same_root}
-use Rattle.pager.proofs.UndoLemmas.{behind_among, take_takes}
+use Rattle.pager.proofs.UndoLemmas.{take_takes}
 
 -- ---- lists
 
@@ -81,6 +81,7 @@ same_start n b = sym (rewind-append (take n b.turn) (drop n b.turn) b.states) �
 -- ---- the pages
 
 module _ {D : Type 0} (history : D → History) (earlier old : State D) (orderly : IsOrderly earlier) (booked : IsBookFor old.made old.book)
+    (positive : AllByRecursion (λ (m : Sheet). 0 < m.page) old.made)
     (grows : Grows (store_of history earlier) (store_of history old))
     (some few : ℕ) (some_is : some ≡ length earlier.made) (few_is : few ≡ length earlier.retired) where
   abbrev last : State D
@@ -144,7 +145,9 @@ module _ {D : Type 0} (history : D → History) (earlier old : State D) (orderly
         ∙ is.there (made_or (drop some old.made) n (disk_of old n)) in
         let used : is_in_use earlier.book.states n ≡ true =
         flag_some (is_in_use earlier.book.states n) (omega (arith, was.count, taken_use earlier.made earlier.book.states could n)) in
-        let some_number : 0 < n = subst (λ (m : ℕ). 0 < m) was.is (behind_among 0 earlier.made was.sheet orderly.ascending was.among) in
+        let some_number : 0 < n =
+        subst (λ (m : ℕ). 0 < m) is.is
+        (all_among (λ (m : Sheet). 0 < m.page) (take some old.made) is.sheet (all_take (λ (m : Sheet). 0 < m.page) some old.made positive) is.among) in
         let at : IsAt (store_of history earlier) n (content_in (sheets_of history earlier n)) = record {
           number = some_number;
           live = (λ i. is_ok (then_there i) && not (not_free_used earlier.book.states n used i));
@@ -184,7 +187,10 @@ module _ {D : Type 0} (history : D → History) (earlier old : State D) (orderly
   pub grows_back : Grows (store_of history earlier) (store_of history last)
   grows_back = grows_same (store_of history earlier) (store_of history last) stays_back same_back
 
-pub returns_back : {D : Type 0} (history : D → History) (old : State D) → IsBookFor old.made old.book → (some few : ℕ)
+pub returns_back : {D : Type 0} (history : D → History) (old : State D) → IsBookFor old.made old.book
+    → AllByRecursion (λ (m : Sheet). 0 < m.page) old.made → (some few : ℕ)
     → Returns history some few old (undone_to some few old)
-returns_back history old booked some few earlier orderly grows some_is few_is =
-    (grows_back history earlier old orderly booked grows some few some_is few_is, same_back history earlier old orderly booked grows some few some_is few_is)
+returns_back history old booked positive some few earlier orderly grows some_is few_is = (
+  grows_back history earlier old orderly booked positive grows some few some_is few_is,
+  same_back history earlier old orderly booked positive grows some few some_is few_is,
+)

@@ -2,7 +2,7 @@
 use Rattle.std.proofs.Common.{◌≡◌, ◌≢◌, ℕ, ◌+◌, ◌-◌, ◌^◌, ◌<◌, ◌≤◌, Bool, true, false, List, [], ◌∷◌, ◌++◌, length, map, set, refl, sym, ◌∙◌, ap, subst, arith}
 use Rattle.std.proofs.Common.{inl, inr, Option, Some, None}
 use Rattle.std.specs.Prelude.{◌&&◌, ◌==◌, not, nat_lt, min, get_or, reverse, if◌then◌else◌, is_ok, Result, Ok, Err, MatchResult}
-use Rattle.std.specs.List.{AllByRecursion}
+use Rattle.std.specs.List.{AllByRecursion, insert}
 use Rattle.std.proofs.lemmas.Bool.{cases_eq, cases_lt}
 use Rattle.std.proofs.lemmas.Bool.Decides.{nat_tests}
 use Rattle.std.proofs.lemmas.List.{get_or-set_other, get_or-set_same, length-set, map-append, reverse-append}
@@ -16,7 +16,7 @@ use Rattle.btree.specs.Keys.{times}
 use Rattle.btree.specs.Store.{HasFailed, HasNoPage, IsAt, IsMade, IsSame, KeepsWord, Stays, flag}
 use Rattle.btree.specs.declared.pages.TreeFault.{TreeFault}
 use Rattle.btree.specs.declared.pages.TreeFault.TheVariants as faults
-use Rattle.freelist.specs.Book.{Book, Takes, is_free, is_free_state, least_free, rewind, taken, undone}
+use Rattle.freelist.specs.Book.{Book, Takes, is_free, is_free_state, is_used_state, least_free, rewind, taken, undone}
 use Rattle.freelist.specs.Coding.{state_number}
 use Rattle.freelist.specs.Undone.{after, given, take as asks}
 use Rattle.freelist.specs.declared.states.PageState.{PageState}
@@ -33,9 +33,13 @@ use Rattle.roots.specs.Store.{durable_root, is_stopped}
 use Rattle.roots.specs.Turn.{numbers_of}
 use Rattle.pager.specs.Calls.{Refuses}
 use Rattle.pager.specs.Kept.{Agrees, IsKept, IsNew}
+use Rattle.pager.specs.Order.{StandsAt}
 use Rattle.pager.specs.State.{State}
 use Rattle.pager.specs.View.{pager_history, root_numbers, sheets_of, store_of}
-use Rattle.pager.proofs.ListLemmas.{all_both, all_more, lie_more, made_last, made_others}
+use Rattle.pager.proofs.BookLemmas.{made_once}
+use Rattle.pager.proofs.ListLemmas.{all_both, all_more, all_weaker, made_last, made_others}
+use Rattle.pager.proofs.MemberLemmas.{free_not_made}
+use Rattle.pager.proofs.OrderLemmas.{few_made, order_more}
 
 abbrev pub base_with : {D : Type 0} → Store D → List PageState → List ℕ
 base_with store pages = flag (is_stopped store) ∷ root_numbers (durable_root store) ++ map state_number pages
@@ -86,11 +90,11 @@ module _ (b : Book) (page : ℕ) (least : least_free b.states ≡ Some page) whe
 
 -- ---- a page more
 
-module _ {D : Type 0} {listed : List ℕ} (history : D → History) (store : Store D) (cache : PageCache) (made : List Sheet) (retired : List ℕ) (book : Book)
-    (kept_so : IsKept history store cache made book listed)
+module _ {D : Type 0} {listed places : List ℕ} (history : D → History) (store : Store D) (cache : PageCache) (made : List Sheet) (retired : List ℕ)
+    (book : Book) (kept_so : IsKept history store cache made book listed places)
     (sheet : Sheet) (least : least_free book.states ≡ Some sheet.page) where
-  below_all : AllByRecursion (λ (m : Sheet). m.page < sheet.page) made
-  below_all = kept_so.booked.behind sheet.page (was_free book sheet.page least)
+  apart : AllByRecursion (λ (m : Sheet). m.page ≢ sheet.page) made
+  apart = free_not_made made book kept_so.booked sheet.page (ap is_used_state (free_state book sheet.page least))
 
   abbrev before : State D
   before = record { store = store; made = made; retired = retired; book = book }
@@ -99,7 +103,7 @@ module _ {D : Type 0} {listed : List ℕ} (history : D → History) (store : Sto
   afterwards = record { store = store; made = made ++ sheet ∷ []; retired = retired; book = taken sheet.page book }
 
   sheet_new : sheets_of history afterwards sheet.page ≡ Ok sheet
-  sheet_new = made_last made sheet (sheet_at (reads (now (pager_history history before))) (durable_root store) sheet.page) below_all
+  sheet_new = made_last made sheet (sheet_at (reads (now (pager_history history before))) (durable_root store) sheet.page) apart
 
   sheet_other : (n : ℕ) → n ≢ sheet.page → sheets_of history afterwards n ≡ sheets_of history before n
   sheet_other n ne = made_others made sheet n (sheet_at (reads (now (pager_history history before))) (durable_root store) n) ne
@@ -181,36 +185,23 @@ module _ {D : Type 0} {listed : List ℕ} (history : D → History) (store : Sto
       | inr ne ↦ kept_so.cached k n found (sym (others n ne) ∙ is)
     ]
 
-    new_still : (m : Sheet) → IsNew (durable_root store).generation cache m → m.page < sheet.page → IsNew (durable_root store).generation after_cache m
-    new_still m new less = record {
+    new_still : (m : Sheet) → IsNew (durable_root store).generation cache m → m.page ≢ sheet.page → IsNew (durable_root store).generation after_cache m
+    new_still m new ne = record {
       inside = new.inside;
       some = new.some;
       small = new.small;
       until = new.until;
-      uncached = others m.page (λ is. omega (arith, is, less)) ∙ new.uncached;
+      uncached = others m.page ne ∙ new.uncached;
     }
 
-    behind_still : (n : ℕ) → is_free (taken sheet.page book).states n ≡ true → AllByRecursion (λ (m : Sheet). m.page < n) (made ++ sheet ∷ [])
-    behind_still n free = elim (cases_eq n sheet.page) [
-      | inl same ↦ let never : true ≡ false = sym free ∙ ap (is_free (taken sheet.page book).states) same ∙ not_free book sheet.page least in absurd cc
-      | inr ne ↦
-          let earlier : is_free book.states n ≡ true = sym (others_free book sheet.page least n ne) ∙ free in
-          all_more (λ (m : Sheet). m.page < n) made sheet (kept_so.booked.behind n earlier) (above n ne earlier)
-    ]
-      where
-        above : (n : ℕ) → n ≢ sheet.page → is_free book.states n ≡ true → sheet.page < n
-        above n ne free = elim (cases_lt n sheet.page) [
-          | inl less ↦ let never : true ≡ false = sym free ∙ none_below book sheet.page least n less in absurd cc
-          | inr not_less ↦ omega (arith, ne, not_less)
-        ]
-
-    pub one_kept : IsKept history store after_cache (made ++ sheet ∷ []) (taken sheet.page book) listed
-    one_kept = record {
+    pub one_kept : (at : ℕ) → StandsAt made places sheet.page at
+        → IsKept history store after_cache (made ++ sheet ∷ []) (taken sheet.page book) listed (insert places at (length made))
+    one_kept at stands = record {
       cached = agrees_still;
-      ascending = lie_more 0 made sheet kept_so.ascending (some_page book sheet.page least) below_all;
+      order = order_more made places kept_so.order sheet at stands (some_page book sheet.page least) apart;
       each = all_more (IsNew (durable_root store).generation after_cache) made sheet
-          (all_both (IsNew (durable_root store).generation cache) (λ (m : Sheet). m.page < sheet.page)
-          (IsNew (durable_root store).generation after_cache) new_still made kept_so.each below_all)
+          (all_both (IsNew (durable_root store).generation cache) (λ (m : Sheet). m.page ≢ sheet.page)
+          (IsNew (durable_root store).generation after_cache) new_still made kept_so.each apart)
           (record {
             inside = omega (arith, page_below book sheet.page least, kept_so.booked.limit);
             some = some;
@@ -226,11 +217,17 @@ module _ {D : Type 0} {listed : List ℕ} (history : D → History) (store : Sto
             ∙ sym (map-append (λ (m : Sheet). changes.Taken m.page) made (sheet ∷ []));
         limit = omega (arith, length-set book.states sheet.page states.InUse, kept_so.booked.limit);
         count = kept_so.booked.count;
-        behind = behind_still;
       };
       listed = kept_so.listed;
       wide = omega (arith, length-set book.states sheet.page states.InUse, kept_so.wide);
     }
+
+-- the book has room for all of them
+pub few_kept : {D : Type 0} {listed places : List ℕ} (history : D → History) (store : Store D) (cache : PageCache) (made : List Sheet) (book : Book)
+    → IsKept history store cache made book listed places → length made ≤ 1048576
+few_kept history store cache made book so =
+    few_made made 1048576 (made_once made book so.booked)
+    (all_weaker (IsNew (durable_root store).generation cache) (λ (m : Sheet). m.page < 1048576) (λ m new. new.inside) made so.each)
 
 -- ---- no page more
 
@@ -313,9 +310,9 @@ fresh_refused {D = D} history store made more retired book new_book old count vi
     (HasFailed (store_of history (start history store made retired book new_book count)) (store_of history (new made)))) (sym is)
     (take_failed history store made retired book new_book count fault refuses word)))
 
-pub fresh_done : {D : Type 0} {listed : List ℕ} (history : D → History) (store : Store D) (cache : PageCache) (made more : List Sheet) (retired : List ℕ)
-    (book new_book : Book)
-    (old : State D) → IsKept history store cache made book listed
+pub fresh_done : {D : Type 0} {listed places : List ℕ} (history : D → History) (store : Store D) (cache : PageCache) (made more : List Sheet)
+    (retired : List ℕ) (book new_book : Book)
+    (old : State D) → IsKept history store cache made book listed places
     → record { store = store; made = made; retired = retired; book = book } ≡ old → (sheet : Sheet) → more ≡ made ++ sheet ∷ []
     → Takes (Some sheet.page) book new_book → (page : ℕ) → sheet.page ≡ page → (content : Content) → sheet.content ≡ content
     → let new : State D = record { store = store; made = more; retired = retired; book = new_book } in KeepsWord (store_of history new)
@@ -334,18 +331,22 @@ fresh_done {D = D} history store cache made more retired book new_book old so vi
     → IsMade (store_of history (new made book)) (store_of history (new (made ++ sheet ∷ []) (taken sheet.page book))) sheet.page x) content_is
     (one_made history store cache made retired book so sheet takes.0)))))
 
-pub fresh_kept : {D : Type 0} {listed : List ℕ} (history : D → History) (store : Store D) (cache after_cache : PageCache) (made more : List Sheet)
+pub fresh_kept : {D : Type 0} {listed places : List ℕ} (history : D → History) (store : Store D) (cache after_cache : PageCache) (made more : List Sheet)
     (book new_book : Book)
-    → IsKept history store cache made book listed
+    → IsKept history store cache made book listed places
     → (sheet : Sheet) → more ≡ made ++ sheet ∷ [] → Takes (Some sheet.page) book new_book → (page : ℕ) → sheet.page ≡ page → kept after_cache page ≡ None
     → ((n : ℕ) → n ≢ page → kept after_cache n ≡ kept cache n)
     → (generation : ℕ) → sheet.generation ≡ generation → generation ≡ min ((durable_root store).generation + 1) (2 ^ 64 - 1)
-    → IsKept history store after_cache more new_book listed
-fresh_kept {listed = listed} history store cache after_cache made more book new_book so sheet pushed takes page page_is this others generation born is =
-    subst (λ (m : List Sheet). IsKept history store after_cache m new_book listed) (sym pushed)
-    (subst (λ (b : Book). IsKept history store after_cache (made ++ sheet ∷ []) b listed) (sym takes.1)
+    → (at : ℕ) → StandsAt made places page at → (later : List ℕ) → later ≡ insert places at (length made)
+    → IsKept history store after_cache more new_book listed later
+fresh_kept {listed = listed} {places = places} history store cache after_cache made more book new_book so sheet pushed takes page page_is this others
+    generation born is at stands later put =
+    subst (λ (ps : List ℕ). IsKept history store after_cache more new_book listed ps) (sym put)
+    (subst (λ (m : List Sheet). IsKept history store after_cache m new_book listed (insert places at (length made))) (sym pushed)
+    (subst (λ (b : Book). IsKept history store after_cache (made ++ sheet ∷ []) b listed (insert places at (length made))) (sym takes.1)
     (one_kept history store cache made [] book so sheet takes.0 after_cache (ap (kept after_cache) page_is ∙ this)
-    (λ n ne. others n (λ same. ne (same ∙ sym page_is))) (omega (arith, born, is)) (omega (arith, born, is)) (omega (arith, born, is))))
+    (λ n ne. others n (λ same. ne (same ∙ sym page_is))) (omega (arith, born, is)) (omega (arith, born, is)) (omega (arith, born, is)) at
+    (subst (λ (n : ℕ). StandsAt made places n at) (sym page_is) stands))))
 
 pub fresh_stays_refused : {D : Type 0} (history : D → History) (store : Store D) (made more : List Sheet) (retired : List ℕ) (book new_book : Book)
     (old : State D) → book.full_takes < 2 ^ 64
@@ -357,9 +358,9 @@ fresh_stays_refused {D = D} history store made more retired book new_book old co
     (subst (λ (s : State D). Stays (store_of history s) (store_of history (after made))) view_is
     (refused_stays history store made retired book new_book count fault refuses))
 
-pub fresh_stays : {D : Type 0} {listed : List ℕ} (history : D → History) (store : Store D) (cache : PageCache) (made more : List Sheet) (retired : List ℕ)
-    (book new_book : Book)
-    (old : State D) → IsKept history store cache made book listed
+pub fresh_stays : {D : Type 0} {listed places : List ℕ} (history : D → History) (store : Store D) (cache : PageCache) (made more : List Sheet)
+    (retired : List ℕ) (book new_book : Book)
+    (old : State D) → IsKept history store cache made book listed places
     → record { store = store; made = made; retired = retired; book = book } ≡ old → (sheet : Sheet) → more ≡ made ++ sheet ∷ []
     → Takes (Some sheet.page) book new_book
     → Stays (store_of history old) (store_of history (record { store = store; made = more; retired = retired; book = new_book }))

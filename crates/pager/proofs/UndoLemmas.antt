@@ -1,15 +1,12 @@
 -- A turn that is taken back.
-use Rattle.std.proofs.Common.{◌≡◌, ℕ, zero, suc, ◌<◌, true, List, [], ◌∷◌, length, take, drop, set, refl, sym, ◌∙◌, ap, subst, arith, inl, inr}
-use Rattle.std.specs.Prelude.{◌&&◌, ◌⊎◌, nat_lt}
-use Rattle.std.specs.List.{AllByRecursion}
-use Rattle.std.proofs.lemmas.Bool.{cases_eq}
-use Rattle.std.proofs.lemmas.List.{get_or-set_other, length-set}
+use Rattle.std.proofs.Common.{◌≡◌, ℕ, zero, suc, List, [], ◌∷◌, length, take, drop, refl, sym, ◌∙◌, ap, subst, arith}
+use Rattle.std.proofs.lemmas.List.{length-set}
 use Rattle.page.specs.Format.{Sheet}
 use Rattle.page.specs.History.{History}
 use Rattle.page.specs.declared.page_cache.PageCache.{PageCache}
 use Rattle.btree.specs.Keys.{Entry}
 use Rattle.btree.specs.Store.{Grows, flag}
-use Rattle.freelist.specs.Book.{Book, is_free, is_free_state, is_in_use, rewind, undone}
+use Rattle.freelist.specs.Book.{Book, is_in_use, rewind, undone}
 use Rattle.freelist.specs.declared.states.PageState.{PageState}
 use Rattle.freelist.specs.declared.states.PageState.TheVariants as states
 use Rattle.freelist.specs.declared.turns.Change.{Change}
@@ -17,14 +14,13 @@ use Rattle.freelist.specs.declared.turns.Change.TheVariants as changes
 use Rattle.freelist.proofs.SoundBooks.{stays_sound}
 use Rattle.roots.specs.declared.store.Store.{Store}
 use Rattle.roots.specs.Store.{durable_root}
-use Rattle.roots.specs.Turn.{LieBehind}
 use Rattle.pager.specs.Kept.{IsKept, IsNew, takes_of}
 use Rattle.pager.specs.State.{State}
 use Rattle.pager.specs.Turn.{IsBegun, LeadsBack, undone_to}
 use Rattle.pager.specs.View.{store_of}
-use Rattle.pager.specs.Writing.{IsAmong}
 use Rattle.pager.proofs.BookLemmas.{others_of}
-use Rattle.pager.proofs.ListLemmas.{all_take, lie_take}
+use Rattle.pager.proofs.ListLemmas.{all_take}
+use Rattle.pager.proofs.OrderLemmas.{lower_than, order_undone}
 use Rattle.pager.proofs.TurnLemmas.{committed_still, in_use_then, states_then}
 
 pub take_takes : (n : ℕ) (made : List Sheet) → take n (takes_of made) ≡ takes_of (take n made)
@@ -41,59 +37,18 @@ length_takes : (made : List Sheet) (pages : List PageState) → length (rewind (
 length_takes [] pages = refl
 length_takes (m ∷ made) pages = length-set (rewind (takes_of made) pages) m.page states.Free ∙ length_takes made pages
 
--- a page that is free then was free before, or was taken
-record IsFreed (made : List Sheet) (n : ℕ) : Type 0 where
-  sheet : Sheet
-  among : IsAmong sheet made
-  is : sheet.page ≡ n
-
-freed_by : (made : List Sheet) (pages : List PageState) (n : ℕ) → is_free (rewind (takes_of made) pages) n ≡ true → (is_free pages n ≡ true) ⊎ IsFreed made n
-freed_by [] pages n free = inl free
-freed_by (m ∷ made) pages n free = elim (cases_eq n m.page) [
-  | inl is ↦ inr (record { sheet = m; among = inl refl; is = sym is })
-  | inr ne ↦
-      let same : is_free (set (rewind (takes_of made) pages) m.page states.Free) n ≡ is_free (rewind (takes_of made) pages) n =
-      ap (λ (s : PageState). nat_lt 0 n && is_free_state s) (get_or-set_other (rewind (takes_of made) pages) m.page n states.Free states.Retired ne) in
-      elim (freed_by made pages n (sym same ∙ free)) [
-        | inl earlier ↦ inl earlier
-        | inr r ↦ inr (record { sheet = r.sheet; among = inr r.among; is = r.is })
-      ]
-]
-
-pub behind_among : (last : ℕ) (made : List Sheet) (x : Sheet) → LieBehind last made → IsAmong x made → last < x.page
-behind_among last [] x lie among = absurd among
-behind_among last (m ∷ ms) x lie (inl is) = omega (arith, lie.0, ap (λ (s : Sheet). s.page) is)
-behind_among last (m ∷ ms) x lie (inr later) = omega (arith, lie.0, behind_among m.page ms x lie.1 later)
-
-dropped_among : (n : ℕ) (made : List Sheet) (x : Sheet) → IsAmong x (drop n made) → IsAmong x made
-dropped_among zero made x among = among
-dropped_among (suc n) [] x among = among
-dropped_among (suc n) (m ∷ ms) x among = inr (dropped_among n ms x among)
-
-before_rest : (last n : ℕ) (made : List Sheet) (x : Sheet) → LieBehind last made → IsAmong x (drop n made)
-    → AllByRecursion (λ (m : Sheet). m.page < x.page) (take n made)
-before_rest last zero made x lie among = tt
-before_rest last (suc n) [] x lie among = tt
-before_rest last (suc n) (m ∷ ms) x lie among = (behind_among m.page ms x lie.1 (dropped_among n ms x among), before_rest m.page n ms x lie.1 among)
-
-module _ {D : Type 0} {listed : List ℕ} (history : D → History) (store : Store D) (cache : PageCache) (made : List Sheet) (book : Book)
-    (so : IsKept history store cache made book listed) (n : ℕ) where
+module _ {D : Type 0} {listed places : List ℕ} (history : D → History) (store : Store D) (cache : PageCache) (made : List Sheet) (book : Book)
+    (so : IsKept history store cache made book listed places) (n : ℕ) where
   later_is : drop n book.turn ≡ takes_of (drop n made)
   later_is = ap (drop n) so.booked.turn ∙ drop_takes n made
 
   states_are : (undone n book).states ≡ rewind (takes_of (drop n made)) book.states
   states_are = ap (λ (turn : List Change). rewind turn book.states) later_is
 
-  behind_still : (k : ℕ) → is_free (undone n book).states k ≡ true → AllByRecursion (λ (m : Sheet). m.page < k) (take n made)
-  behind_still k free = elim (freed_by (drop n made) book.states k (ap (λ (pages : List PageState). is_free pages k) (sym states_are) ∙ free)) [
-    | inl earlier ↦ all_take (λ (m : Sheet). m.page < k) n made (so.booked.behind k earlier)
-    | inr r ↦ subst (λ (j : ℕ). AllByRecursion (λ (m : Sheet). m.page < j) (take n made)) r.is (before_rest 0 n made r.sheet so.ascending r.among)
-  ]
-
-  pub kept_undone : IsKept history store cache (take n made) (undone n book) listed
+  pub kept_undone : IsKept history store cache (take n made) (undone n book) listed (lower_than n places)
   kept_undone = record {
     cached = so.cached;
-    ascending = lie_take 0 n made so.ascending;
+    order = order_undone n made places so.order;
     each = all_take (IsNew (durable_root store).generation cache) n made so.each;
     booked = record {
       sound = (stays_sound book so.booked.sound).undone n;
@@ -102,16 +57,15 @@ module _ {D : Type 0} {listed : List ℕ} (history : D → History) (store : Sto
       turn = ap (take n) so.booked.turn ∙ take_takes n made;
       limit = omega (arith, ap length states_are, length_takes (drop n made) book.states, so.booked.limit);
       count = so.booked.count;
-      behind = behind_still;
     };
     listed = so.listed;
     wide = omega (arith, ap length states_are, length_takes (drop n made) book.states, so.wide);
   }
 
 -- back to where the turn began
-pub begun_again : {D : Type 0} {listed : List ℕ} (history : D → History) (store : Store D) (cache : PageCache) (made : List Sheet) (retired : List ℕ)
+pub begun_again : {D : Type 0} {listed places : List ℕ} (history : D → History) (store : Store D) (cache : PageCache) (made : List Sheet) (retired : List ℕ)
     (book : Book)
-    (so : IsKept history store cache made book listed)
+    (so : IsKept history store cache made book listed places)
     (start : State D) (live : List ℕ) (entries : List Entry) → IsBegun history start live entries
     → let p : State D = record { store = store; made = made; retired = retired; book = book } in
     Grows (store_of history start) (store_of history p) → IsBegun history (undone_to 0 0 p) live entries
@@ -132,9 +86,9 @@ begun_again {D = D} history store cache made retired book so start live entries 
       };
     }
 
-pub leads_back : {D : Type 0} {listed : List ℕ} (history : D → History) (store : Store D) (cache : PageCache) (made : List Sheet) (retired : List ℕ)
+pub leads_back : {D : Type 0} {listed places : List ℕ} (history : D → History) (store : Store D) (cache : PageCache) (made : List Sheet) (retired : List ℕ)
     (book : Book)
-    → IsKept history store cache made book listed → (some few : ℕ)
+    → IsKept history store cache made book listed places → (some few : ℕ)
     → let p : State D = record { store = store; made = made; retired = retired; book = book } in LeadsBack history some few p (undone_to some few p)
 leads_back {D = D} history store cache made retired book so some few start live entries begun grows none empty =
     let p : State D = record { store = store; made = made; retired = retired; book = book } in

@@ -31,20 +31,23 @@ use Rattle.roots.proofs.KeptPages.{kept_there, made_there}
 use Rattle.roots.proofs.MadeLemmas.{inside_end}
 use Rattle.pager.specs.Commit.{IsTurn}
 use Rattle.pager.specs.Kept.{IsKept}
+use Rattle.pager.specs.Order.{pages_at}
 use Rattle.pager.specs.Planning.{next_generation, pages_with}
 use Rattle.pager.specs.State.{State}
 use Rattle.pager.specs.Turn.{IsBegun}
 use Rattle.pager.specs.View.{pager_history, sheets_of, store_of}
+use Rattle.pager.specs.Writing.{IsAmong}
 use Rattle.pager.proofs.BookLemmas.{flag_most, flag_some, kept_use, lost_use, made_below, one_time}
 use Rattle.pager.proofs.CapacityLemmas.{has_times}
-use Rattle.pager.proofs.ListLemmas.{all_behind, all_joined as all_both_lists, made_joined, made_none}
+use Rattle.pager.proofs.ListLemmas.{made_none}
 use Rattle.pager.proofs.ListedLemmas.{all_free, free_inside, free_unused, holds_listed, sheets_of as each_sheet}
-use Rattle.pager.proofs.MemberLemmas.{all_among, all_filter, member, more_times, times_append, times_reverse}
+use Rattle.pager.proofs.MemberLemmas.{all_among, all_filter, among_filter, behind_among, member, more_times, times_append, times_reverse}
+use Rattle.pager.proofs.MergeLemmas.{all_merged, all_parts, among_first}
+use Rattle.pager.proofs.OrderLemmas.{all_at, found_among, in_order}
 use Rattle.pager.proofs.PlanLemmas.{all, all_inside, all_lie, all_sheets, count_is, fits, free_then, planned, planned_long, tree}
 use Rattle.pager.proofs.ReadLemmas.{HasListIn}
 use Rattle.pager.proofs.TreeLemmas.{IsOfTree, map_pages}
 use Rattle.pager.proofs.TurnLemmas.{made_apart, times_once, used_now, used_with}
-use Rattle.pager.proofs.UndoLemmas.{behind_among}
 
 both_less : (a b c : Bool) → flag (a && (b && c)) ≤ flag c
 both_less true true c = omega arith
@@ -55,9 +58,9 @@ live_part : (a b : Bool) → (a && b) ≡ true → a ≡ true
 live_part true b is = refl
 live_part false b is = absurd cc
 
-module _ {D : Type 0} {listed : List ℕ} (history : D → History) (p start : State D) (stays : Stays (store_of history start) (store_of history p))
+module _ {D : Type 0} {listed places : List ℕ} (history : D → History) (p start : State D) (stays : Stays (store_of history start) (store_of history p))
     (word : KeepsWord (pager_history history p)) (live : List ℕ) (before : List Entry) (begun : IsBegun history start live before) (cache : PageCache)
-    (so : IsKept history p.store cache p.made p.book listed) (root : ℕ) (reached : List ℕ) (after : List Entry)
+    (so : IsKept history p.store cache p.made p.book listed places) (root : ℕ) (reached : List ℕ) (after : List Entry)
     (turn : IsTurn history start p root live reached after) where
   abbrev gone : List ℕ
   gone = p.retired ++ listed
@@ -124,6 +127,9 @@ module _ {D : Type 0} {listed : List ℕ} (history : D → History) (p start : S
     abbrev after_store : Store
     after_store = image_store after_sheets
 
+    lies : LieBehind 0 written_all
+    lies = all_lie history p.store cache p.made gone p.book so pages named final list
+
     -- the list takes no page of the tree
     not_reached : (n : ℕ) → 1 ≤ times n pages → times n reached ≡ 0
     not_reached n some =
@@ -142,7 +148,8 @@ module _ {D : Type 0} {listed : List ℕ} (history : D → History) (p start : S
           | inl none ↦
               let other : sheets_of history p n ≡ sheet_at image (durable_root p.store) n = made_none p.made n (sheet_at image (durable_root p.store) n) none in
               let none_written : AllByRecursion (λ (m : Sheet). m.page ≢ n) written_all =
-              all_both_lists (λ (m : Sheet). m.page ≢ n) those sheets (all_filter (λ (m : Sheet). m.page ≢ n) test p.made none)
+              all_merged (λ (m : Sheet). m.page ≢ n) those sheets
+              (all_filter (λ (m : Sheet). m.page ≢ n) test (pages_at p.made places) (all_at (λ (m : Sheet). m.page ≢ n) p.made places so.order.inside none))
               (each_sheet (λ (m : Sheet). m.page ≢ n) (next_generation (durable_root p.store)) pages named
               (λ m is taken same. omega (arith, some, not_reached m.page taken, ap (λ (k : ℕ). times k reached) same))) in
               kept_there image (durable_root p.store) written_all root (first_page (written pages named)) (length named) n content none_written
@@ -153,8 +160,10 @@ module _ {D : Type 0} {listed : List ℕ} (history : D → History) (p start : S
               let stays_used : is_in_use mid.states n ≡ true = flag_some (is_in_use mid.states n) (omega (arith, some, tree_use n within)) in
               let fits_tree : is_of_tree r.sheet.content ≡ true = ap (λ (found : Result Sheet PageFault). is_of_tree (content_in found)) (sym is) ∙ whole in
               let passes : test r.sheet ≡ true = (λ i. fits_tree i && (ap (is_in_use mid.states) r.is ∙ stays_used) i) in
+              let among : IsAmong r.sheet those =
+              among_filter test (pages_at p.made places) r.sheet passes (in_order p.made places so.order r.sheet r.among) in
               let found : after_sheets n ≡ Ok r.sheet =
-              made_joined those sheets n (sheet_at image next n) ∙ r.passed test passes (made_or sheets n (sheet_at image next n)) in
+              found_among 0 written_all r.sheet n (sheet_at image next n) lies (among_first those sheets r.sheet among) r.is in
               record { number = at.number; live = ap is_ok found; holds = ap content_in found ∙ ap content_in (sym is) ∙ at.holds }
         ]
 
@@ -172,9 +181,6 @@ module _ {D : Type 0} {listed : List ℕ} (history : D → History) (p start : S
 
     -- ---- the list
 
-    lies : LieBehind 0 written_all
-    lies = all_lie history p.store cache p.made gone p.book so pages named final list
-
     abbrev count : ℕ
     count = count_with (pages_with (durable_root p.store) those) pages
 
@@ -186,7 +192,7 @@ module _ {D : Type 0} {listed : List ℕ} (history : D → History) (p start : S
         subst (λ (n : ℕ). IsFreeList (list_in after_sheets) n (first_page (written pages named)) (length named) (written pages named)) (sym pages_are)
         (list_there (pages_with (durable_root p.store) those) pages named mid final list (list_in after_sheets)
         (holds_listed after_sheets (next_generation (durable_root p.store)) pages named
-        (all_behind (λ (m : Sheet). after_sheets m.page ≡ Ok m) those sheets (made_there (λ m. sheet_at image next m) 0 written_all lies))))
+        (all_parts (λ (m : Sheet). after_sheets m.page ≡ Ok m) those sheets (made_there (λ m. sheet_at image next m) 0 written_all lies)).1))
 
     -- what the tree reaches are pages of the file
     reached_inside : (n : ℕ) → 1 ≤ times n reached → IsInside next.pages n
@@ -247,9 +253,10 @@ module _ {D : Type 0} {listed : List ℕ} (history : D → History) (p start : S
     free_pages : (parts : List Part) → HasListIn live parts (now (pager_history history p)) (durable_root p.store)
         → AllByRecursion (λ (m : Sheet). times m.page (reached_by live parts) ≡ 0) written_all
     free_pages parts has =
-        all_both_lists (λ (m : Sheet). times m.page (reached_by live parts) ≡ 0) those sheets
-        (all_filter (λ (m : Sheet). times m.page (reached_by live parts) ≡ 0) test p.made
-        (made_apart history p start stays word live before begun so.booked parts has))
+        all_merged (λ (m : Sheet). times m.page (reached_by live parts) ≡ 0) those sheets
+        (all_filter (λ (m : Sheet). times m.page (reached_by live parts) ≡ 0) test (pages_at p.made places)
+        (all_at (λ (m : Sheet). times m.page (reached_by live parts) ≡ 0) p.made places so.order.inside
+        (made_apart history p start stays word live before begun so.booked parts has)))
         (each_sheet (λ (m : Sheet). times m.page (reached_by live parts) ≡ 0) (next_generation (durable_root p.store)) pages named (λ m is taken.
         let free = free_then history p.store cache p.made gone p.book so pages named final list m.page taken in
         omega (

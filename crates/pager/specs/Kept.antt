@@ -1,12 +1,12 @@
 -- What holds of every pager: its cache agrees with its disk, and its turn with its book.
-use Rattle.std.specs.Prelude.{◌≡◌, ℕ, ◌+◌, ◌<◌, ◌≤◌, ◌^◌, true, List, [], length, map, Some, None}
+use Rattle.std.specs.Prelude.{◌≡◌, ℕ, ◌+◌, ◌<◌, ◌≤◌, ◌^◌, List, [], length, map, Some, None}
 use Rattle.std.specs.Prelude.{Ok, max}
 use Rattle.std.specs.List.{AllByRecursion}
 use Rattle.page.specs.Cache.{kept}
 use Rattle.page.specs.Format.{Sheet}
 use Rattle.page.specs.History.{History, KeepsWord, now, reads}
 use Rattle.page.specs.declared.page_cache.PageCache.{PageCache}
-use Rattle.freelist.specs.Book.{Book, is_free}
+use Rattle.freelist.specs.Book.{Book}
 use Rattle.freelist.specs.FreeList.{IsFreeList, Part, pages_of}
 use Rattle.freelist.specs.Sound.{IsSound}
 use Rattle.freelist.specs.declared.turns.Change.{Change}
@@ -14,7 +14,7 @@ use Rattle.freelist.specs.declared.turns.Change.TheVariants as changes
 use Rattle.roots.specs.declared.store.Store.{Store}
 use Rattle.roots.specs.Image.{list_in, sheet_at}
 use Rattle.roots.specs.Store.{IsRunning, disk_history, durable_root}
-use Rattle.roots.specs.Turn.{LieBehind}
+use Rattle.pager.specs.Order.{IsOrderOf}
 
 -- while the disk keeps its word, each page in the cache is the one on the disk
 abbrev pub Agrees : {D : Type 0} → (D → History) → Store D → PageCache → Type 0
@@ -42,9 +42,6 @@ pub record IsBookFor (made : List Sheet) (book : Book) : Type 0 where
   pub turn : book.turn ≡ takes_of made
   pub limit : length book.states ≤ 1048576
   pub count : book.full_takes < 2 ^ 64
-  -- what is free lies behind the pages that the turn made
-  pub behind : (n : ℕ) → is_free book.states n ≡ true
-      → AllByRecursion (λ (sheet : Sheet). sheet.page < n) made
 
 -- These are the own pages of the list that the committed root names, if it names one. A stopped
 -- store may have written over them.
@@ -57,9 +54,9 @@ AreListed history store listed =
     → listed ≡ pages_of parts
 
 pub record IsKept {D : Type 0} (history : D → History) (store : Store D) (cache : PageCache)
-    (made : List Sheet) (book : Book) (list_pages : List ℕ) : Type 0 where
+    (made : List Sheet) (book : Book) (list_pages : List ℕ) (places : List ℕ) : Type 0 where
   pub cached : Agrees history store cache
-  pub ascending : LieBehind 0 made
+  pub order : IsOrderOf made places
   pub each : AllByRecursion (IsNew (durable_root store).generation cache) made
   pub booked : IsBookFor made book
   pub listed : AreListed history store list_pages

@@ -4,6 +4,7 @@ pub mod Commit
 pub mod Counting
 pub mod Kept
 pub mod Opening
+pub mod Order
 pub mod Planning
 pub mod State
 pub mod Turn

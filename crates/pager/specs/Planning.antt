@@ -1,5 +1,5 @@
 -- What a commit is to write.
-use Rattle.std.specs.Prelude.{◌≡◌, ℕ, ◌+◌, ◌-◌, ◌^◌, ◌<◌, max, min, List, ◌++◌, length}
+use Rattle.std.specs.Prelude.{◌≡◌, ℕ, ◌+◌, ◌-◌, ◌^◌, ◌<◌, max, min, List, length}
 use Rattle.std.specs.List.{AllByRecursion}
 use Rattle.page.specs.Content.{IsContent}
 use Rattle.page.specs.Format.{Sheet}
@@ -11,6 +11,7 @@ use Rattle.roots.specs.Turn.{end_behind}
 use Rattle.roots.specs.declared.root.Root.{Root}
 use Rattle.roots.specs.declared.store.CommitFault.{CommitFault}
 use Rattle.roots.specs.declared.store.CommitFault.TheVariants as faults
+use Rattle.pager.specs.Order.{merged}
 use Rattle.pager.specs.Writing.{retired_all, written_of}
 use Rattle.pager.specs.declared.planning.Plan.{Plan}
 
@@ -23,14 +24,14 @@ abbrev pub pages_with : Root → List Sheet → ℕ
 pages_with root sheets = max root.pages (end_behind 1 sheets)
 
 -- A commit was planned: these pages are retired, a list is made of what is free then, and its pages
--- are written behind those of the turn that are in use.
+-- are written with those of the turn that are in use, in ascending order where the turn's are.
 pub record IsPlanned (root : Root) (made : List Sheet) (pages : List ℕ) (plan : Plan)
     (old new : Book) : Type 0 where
   -- what the list names
   pub named : List ℕ
   pub writes : let tree = written_of (retired_all root.generation pages old) made in
       plan.written.items
-      ≡ tree ++ list_sheets (next_generation root) (written plan.listed.items named)
+      ≡ merged tree (list_sheets (next_generation root) (written plan.listed.items named))
   pub content : let tree = written_of (retired_all root.generation pages old) made in
       AllByRecursion (λ (sheet : Sheet). IsContent sheet.content) tree
   pub list : let mid = retired_all root.generation pages old in

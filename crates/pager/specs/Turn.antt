@@ -2,12 +2,13 @@
 use Rattle.std.specs.Prelude.{◌≡◌, ℕ, ◌<◌, Bool, ◌||◌, nat_lt, not, List, [], take, length}
 use Rattle.page.specs.History.{History, KeepsWord, now, reads}
 use Rattle.btree.specs.Keys.{Entry, times}
+use Rattle.btree.specs.Reach.{AreOnce}
 use Rattle.btree.specs.Store.{Grows, IsSame, flag}
 use Rattle.freelist.specs.Book.{Book, is_free, is_in_use, undone}
 use Rattle.freelist.specs.FreeList.{Part}
 use Rattle.roots.specs.Image.{HasList, reached_by, sheet_at}
 use Rattle.roots.specs.Store.{IsCommitted, durable_root}
-use Rattle.roots.specs.Turn.{LieBehind}
+use Rattle.roots.specs.Turn.{numbers_of}
 use Rattle.pager.specs.Kept.{IsBookFor}
 use Rattle.pager.specs.State.{State}
 use Rattle.pager.specs.View.{pager_history, store_of}
@@ -45,9 +46,10 @@ LeadsBack {D = D} history made retired old new =
 abbrev pub is_changed : {D : Type 0} → State D → Bool
 is_changed p = nat_lt 0 (length p.made) || nat_lt 0 (length p.retired)
 
--- What holds of any pager: the pages of its turn ascend, and the book has just the turn's takes.
+-- What holds of any pager: none of its turn's pages was made twice, and the book has just the
+-- turn's takes.
 pub record IsOrderly {D : Type 0} (p : State D) : Type 0 where
-  pub ascending : LieBehind 0 p.made
+  pub once : AreOnce (numbers_of p.made)
   pub booked : IsBookFor p.made p.book
 
 -- Undoing what was made and retired since a moment of the turn leads back to the pages as they were

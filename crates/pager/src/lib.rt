@@ -4,6 +4,7 @@
 
 mod finding;
 mod mark;
+mod merging;
 mod pager;
 mod planning;
 mod reading;

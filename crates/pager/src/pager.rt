@@ -1,11 +1,11 @@
 //! The pages of a database file.
 ghost use Rattle.std.specs.Prelude.{◌≡◌};
 
-use crate::finding::find_page;
+use crate::finding::{find_page, find_place};
 use crate::mark::Mark;
 use crate::planning::plan_commit;
 use crate::reading::read_page;
-use crate::taking::take_page;
+use crate::taking::{keep_lower, take_page};
 use crate::writing::{forget_all, keep_all};
 use btree::{Pages, TreeFault};
 use freelist::FreePages;
@@ -23,6 +23,8 @@ pub struct Pager<D: Disk> {
     cache: PageCache,
     book: FreePages,
     made: Vec<SharedPage>,
+    /// Where each page was made, in ascending order of the pages' numbers.
+    places: Vec<u32>,
     retired: Vec<u32>,
     /// The own pages of the list of free pages that the committed root names, if it names one.
     listed: Vec<u32>,
@@ -43,7 +45,7 @@ impl<D: Disk> Model for Pager<D> {
     } };
 
     ghost invariant = { λ a. IsKept D.history a.store a.cache a.made.items a.book
-        a.listed.items };
+        a.listed.items a.places.items };
 }
 
 impl<D: Disk> Pager<D> {
@@ -82,6 +84,7 @@ impl<D: Disk> Pager<D> {
             book,
             made: Vec::new(alloc),
             retired: Vec::new(alloc),
+            places: Vec::new(alloc),
             listed,
         })
     }
@@ -159,6 +162,7 @@ impl<D: Disk> Pager<D> {
         self.book.undo_to(mark.book);
         self.made.truncate(mark.made);
         self.retired.truncate(mark.retired);
+        keep_lower(&mut self.places, mark.made);
     }
 
     /// Makes the tree below this page the committed one, with a list of the pages that are free then: the pages that the turn
@@ -178,6 +182,7 @@ impl<D: Disk> Pager<D> {
             self.alloc,
             &mut self.book,
             &self.made,
+            &self.places,
             &self.retired,
             &self.listed,
             self.store.root(),
@@ -196,6 +201,7 @@ impl<D: Disk> Pager<D> {
         keep_all(&mut self.cache, &plan.written);
         self.made.clear();
         self.retired.clear();
+        self.places.clear();
         self.listed = plan.listed;
         Ok(())
     }
@@ -207,7 +213,7 @@ impl<D: Disk> Pages for Pager<D> {
     ghost store = { λ p. store_of D.history p };
 
     fn read(&mut self, page: u32) -> Result<SharedPage, TreeFault> {
-        if let Some(shared) = find_page(&self.made, page) {
+        if let Some(shared) = find_page(&self.made, &self.places, page) {
             return Ok(shared.share()?);
         }
         read_page(self.alloc, &mut self.store, &mut self.cache, page)
@@ -215,10 +221,13 @@ impl<D: Disk> Pages for Pager<D> {
 
     fn fresh(&mut self, content: PageContent) -> Result<u32, TreeFault> {
         self.made.reserve(1)?;
+        self.places.reserve(1)?;
         let generation = self.store.root().generation.saturating_add(1);
         let shared = take_page(self.alloc, &mut self.book, generation, content)?;
         let page = shared.image().page;
         self.cache.remove(page);
+        let at = find_place(&self.made, &self.places, page);
+        self.places.insert(at, self.made.len() as u32).unwrap();
         self.made.push(shared).unwrap();
         Ok(page)
     }

@@ -1,11 +1,14 @@
 //! What a commit writes: pages of the turn, and the list of the file's free pages.
-ghost use Rattle.std.specs.Prelude.{◌≡◌, ◌≤◌, ◌++◌, ◌-◌, ◌^◌, min, IfErr, IfOk, MatchResult, OnOk, length};
+ghost use Rattle.std.specs.Prelude.{◌≡◌, ◌<◌, ◌≤◌, ◌++◌, ◌-◌, ◌^◌, min, IfErr, IfOk, OnOk, length};
+ghost use Rattle.std.specs.List.{AllByRecursion};
 ghost use Rattle.freelist.specs.Book.{undone};
 ghost use Rattle.freelist.specs.FreeList.{first_page, written};
 ghost use Rattle.roots.specs.Listed.{list_sheets};
+ghost use Rattle.pager.specs.Order.{merged, pages_at};
 ghost use Rattle.pager.specs.Planning.{FallsBack, IsPlanned, PlanFails};
 ghost use Rattle.pager.specs.Writing.{retired_all};
 
+use crate::merging::merge;
 use crate::writing::{pages_to_write, retire_all};
 use freelist::{FreeList, FreePages, NoMemory};
 use page::SharedPage;
@@ -15,7 +18,7 @@ use std::alloc::{AllocError, Global};
 /// What a commit writes.
 #[derive(Drop)]
 pub(crate) struct Plan {
-    /// The pages in ascending order, those of the list last.
+    /// The pages in ascending order, those of the list too.
     pub(crate) written: Vec<SharedPage>,
     /// The list's own pages.
     pub(crate) listed: Vec<u32>,
@@ -41,25 +44,26 @@ fn retire_both(
     retire_all(book, listed, version)
 }
 
-/// Puts the pages of a list behind the others that are written.
+/// Puts the pages of a list among the others that are written.
 fn with_list(
     alloc: Global,
-    mut tree: Vec<SharedPage>,
+    tree: Vec<SharedPage>,
     list: FreeList,
     generation: u64,
 ) -> Result<Plan, AllocError>
     ensures written { let parts = written list.pages.items list.named.items in
-        IfOk result (λ plan. plan.written.items ≡ tree.items ++ list_sheets generation parts) }
+        IfOk result (λ plan.
+        plan.written.items ≡ merged tree.items (list_sheets generation parts)) }
     ensures listed { IfOk result (λ plan. plan.listed.items ≡ list.pages.items) }
     ensures first { let parts = written list.pages.items list.named.items in
         IfOk result (λ plan. plan.free_list ≡ first_page parts) }
     ensures count { IfOk result (λ plan.
         plan.free_count ≡ min (length list.named.items) (2 ^ 32 - 1)) }
 {
-    let mut sheets = list_sheets(alloc, &list, generation)?;
-    tree.append(&mut sheets)?;
+    let sheets = list_sheets(alloc, &list, generation)?;
+    let written = merge(alloc, &tree, &sheets)?;
     Ok(Plan {
-        written: tree,
+        written,
         free_list: list.pages.first().copied().unwrap_or(0),
         free_count: list.named.len().min(u32::MAX as usize) as u32,
         listed: list.pages,
@@ -71,18 +75,21 @@ fn draft_commit(
     alloc: Global,
     book: &mut FreePages,
     made: &[SharedPage],
+    places: &[u32],
     retired: &[u32],
     listed: &[u32],
     root: Root,
 ) -> Result<Plan, CommitFault>
+    requires { AllByRecursion (λ place. place < length made.now) places.now }
     ensures plan { IfOk result (λ plan.
-        IsPlanned root made.now (retired.now ++ listed.now) plan book.old book.new) }
+        IsPlanned root (pages_at made.now places.now) (retired.now ++ listed.now) plan
+        book.old book.new) }
     ensures back { IfErr result (λ fault. FallsBack fault book.old book.new) }
 {
     if retire_both(book, retired, listed, root.generation).is_err() {
         return Err(CommitFault::Memory);
     }
-    let Ok(tree) = pages_to_write(alloc, book, made) else {
+    let Ok(tree) = pages_to_write(alloc, book, made, places) else {
         return Err(CommitFault::Memory);
     };
     let page_count = root.pages.max(end_of(&tree));
@@ -104,16 +111,19 @@ pub(crate) fn plan_commit(
     alloc: Global,
     book: &mut FreePages,
     made: &[SharedPage],
+    places: &[u32],
     retired: &[u32],
     listed: &[u32],
     root: Root,
 ) -> Result<Plan, CommitFault>
+    requires { AllByRecursion (λ place. place < length made.now) places.now }
     ensures plan { IfOk result (λ plan.
-        IsPlanned root made.now (retired.now ++ listed.now) plan book.old book.new) }
+        IsPlanned root (pages_at made.now places.now) (retired.now ++ listed.now) plan
+        book.old book.new) }
     ensures err { IfErr result (λ fault. PlanFails fault book.old book.new) }
 {
     let mark = book.mark();
-    match draft_commit(alloc, book, made, retired, listed, root) {
+    match draft_commit(alloc, book, made, places, retired, listed, root) {
         Ok(plan) => Ok(plan),
         Err(fault) => {
             book.undo_to(mark);

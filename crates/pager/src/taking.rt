@@ -1,5 +1,6 @@
-//! A page is taken from the book, and made.
-ghost use Rattle.std.specs.Prelude.{◌≡◌, Some, IfOk, IfErr};
+//! A page is taken from the book, and made; and what was made is taken back.
+ghost use Rattle.std.specs.Prelude.{◌≡◌, nat_lt, Some, IfOk, IfErr};
+ghost use Rattle.std.specs.List.{filter};
 ghost use Rattle.freelist.specs.Book.{Takes};
 ghost use Rattle.page.specs.Format.{IsFit, Sheet};
 ghost use Rattle.btree.specs.View.{content_in};
@@ -37,4 +38,11 @@ pub(crate) fn take_page(
         return Err(TreeFault::Memory);
     };
     Ok(shared)
+}
+
+/// Keeps the places below this number of pages, in their order.
+pub(crate) fn keep_lower(places: &mut Vec<u32>, count: usize)
+    ensures { places.new.items ≡ filter (λ place. nat_lt place count) places.old.items }
+{
+    places.retain(|place| (*place as usize) < count);
 }

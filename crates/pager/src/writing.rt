@@ -1,9 +1,10 @@
 //! Pages of a turn that are retired in the book, written, and kept in the cache.
-ghost use Rattle.std.specs.Prelude.{◌≡◌, ◌≤◌, IfOk, OnOk, length};
+ghost use Rattle.std.specs.Prelude.{◌≡◌, ◌<◌, ◌≤◌, IfOk, OnOk, length};
 ghost use Rattle.std.specs.List.{AllByRecursion};
 ghost use Rattle.freelist.specs.Book.{undone};
 ghost use Rattle.page.specs.Content.{IsContent};
 ghost use Rattle.page.specs.Format.{Sheet};
+ghost use Rattle.pager.specs.Order.{pages_at};
 ghost use Rattle.pager.specs.Writing.{Forgets, KeepsAll, retired_all, written_of};
 
 use crate::reading::keep_page;
@@ -25,18 +26,22 @@ pub(crate) fn retire_all(book: &mut FreePages, pages: &[u32], version: u64) -> R
     Ok(())
 }
 
-/// The pages that a commit writes: those that the book has in use, as far as a tree may have them.
+/// The pages that a commit writes, in the order of these places: those that the book has in use, as far as a tree may have them.
 pub(crate) fn pages_to_write(
     alloc: Global,
     book: &FreePages,
     made: &[SharedPage],
+    places: &[u32],
 ) -> Result<Vec<SharedPage>, AllocError>
-    ensures written { IfOk result (λ v. v.items ≡ written_of book.now made.now) }
+    requires { AllByRecursion (λ place. place < length made.now) places.now }
+    ensures written { IfOk result (λ v.
+        v.items ≡ written_of book.now (pages_at made.now places.now)) }
     ensures content { IfOk result (λ v.
         AllByRecursion (λ (sheet : Sheet). IsContent sheet.content) v.items) }
 {
     let mut written = Vec::new(alloc);
-    for shared in made {
+    for place in places {
+        let shared = &made[*place as usize];
         let image = shared.image();
         if image.is_of_tree() && book.is_in_use(image.page) {
             written.push(shared.share()?)?;

@@ -1,25 +1,24 @@
-use Rattle.std.proofs.Common.{arith, ap, sym, ◌∙◌}
+use Rattle.std.proofs.Common.{ap, rules, sym, ◌∙◌}
 use Rattle.page.specs.Format.{Sheet}
-use Rattle.pager.proofs.FindLemmas.{between_down, between_here, between_none, between_up}
+use Rattle.pager.proofs.FindLemmas.{another_there, found_at_place, none_behind, page_at_place}
 use Rattle.pager.proofs.finding.find_page.Goals as goal
 
-pub returns-then-found-page : goal.returns-then-found-page
-returns-then-found-page c =
-    between_here c.args.made.now c.args.page c.loop-from.from c.loop-from.to _ c.index-made-mid.result c.requires c.loop-from.invariant (omega arith)
-    (omega (arith, c.loop-from-test.true)) c.index-made-mid.is
-    (ap (λ (m : Sheet). m.page) (sym c.image.ensures) ∙ c.if-found-page.true)
+pub returns-then-at-places : goal.returns-then-at-places
+returns-then-at-places c =
+    none_behind c.args.made.now c.args.places.now c.requires c.args.page c.find_place-at.result c.find_place-at.ensures c.if-at-places.true
 
-pub loop-from-preserved-then-found-page-2 : goal.loop-from-preserved-then-found-page-2
-loop-from-preserved-then-found-page-2 c =
-    between_up c.args.made.now c.args.page c.loop-from.from c.loop-from.to _ c.index-made-mid.result c.requires c.loop-from.invariant (omega arith)
-    (omega (arith, c.loop-from-test.true)) c.index-made-mid.is
-    (omega (arith, c.if-found-page-2.true, ap (λ (m : Sheet). m.page) c.image.ensures))
+pub returns-then-image-page : goal.returns-then-image-page
+returns-then-image-page c =
+    let made = c.args.made.now in
+    let places = c.args.places.now in
+    found_at_place made places c.requires c.args.page c.find_place-at.result c.find_place-at.ensures c.index-made-places.result (search rules)
+    (page_at_place made places c.find_place-at.result c.index-made-places.result c.requires.inside (search rules) c.index-made-places.is)
+    (ap (λ (m : Sheet). m.page) (sym c.image.ensures) ∙ c.if-image-page.true)
 
-pub loop-from-preserved : goal.loop-from-preserved
-loop-from-preserved c =
-    between_down c.args.made.now c.args.page c.loop-from.from c.loop-from.to _ c.index-made-mid.result c.requires c.loop-from.invariant (omega arith)
-    (omega (arith, c.loop-from-test.true)) c.index-made-mid.is
-    (omega (arith, c.if-found-page.false, c.if-found-page-2.false, ap (λ (m : Sheet). m.page) c.image.ensures))
-
-pub returns : goal.returns
-returns c = between_none c.args.made.now c.args.page c.loop-from.from c.loop-from.to c.loop-from.invariant c.loop-from-test.false
+pub returns-else-image-page : goal.returns-else-image-page
+returns-else-image-page c =
+    let made = c.args.made.now in
+    let places = c.args.places.now in
+    another_there made places c.requires c.args.page c.find_place-at.result c.find_place-at.ensures c.index-made-places.result (search rules)
+    (page_at_place made places c.find_place-at.result c.index-made-places.result c.requires.inside (search rules) c.index-made-places.is)
+    (λ same. c.if-image-page.false (ap (λ (m : Sheet). m.page) c.image.ensures ∙ same))

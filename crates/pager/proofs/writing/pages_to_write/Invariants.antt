@@ -2,11 +2,12 @@ use Rattle.std.proofs.Common.{◌≡◌, ◌++◌, drop}
 use Rattle.std.specs.List.{AllByRecursion}
 use Rattle.page.specs.Content.{IsContent}
 use Rattle.page.specs.Format.{Sheet}
+use Rattle.pager.specs.Order.{pages_at}
 use Rattle.pager.specs.Writing.{written_of}
 use Rattle.pager.proofs.writing.pages_to_write.Given as goal
 
 -- those so far, and those that are left
-abbrev pub invariant-loop-shared : goal.invariant-loop-shared
-invariant-loop-shared l =
-    (l.written.items ++ written_of l.book (drop l.shared-index l.made) ≡ written_of l.book l.made)
+abbrev pub invariant-loop-place : goal.invariant-loop-place
+invariant-loop-place l =
+    (l.written.items ++ written_of l.book (pages_at l.made (drop l.place-index l.places)) ≡ written_of l.book (pages_at l.made l.places))
     × AllByRecursion (λ (sheet : Sheet). IsContent sheet.content) l.written.items

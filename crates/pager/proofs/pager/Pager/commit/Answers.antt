@@ -35,15 +35,15 @@ invariant_of-self-in-Err-commit g c =
     let plan = c.in-Ok.plan in
     let last = c.plan_commit.new.book in
     let is =
-    told plan i.book last c.root.ensures c.deref.ensures.value c.deref-2.ensures.value c.deref-3.ensures.value c.in-Ok.ensures.plan in
-    let forgets = subst (λ (pages : List ℕ). Forgets pages i.cache cache) c.deref-4.ensures.value c.forget_all.ensures in
+    told plan i.book last c.root.ensures c.deref.ensures.value c.deref-2.ensures.value c.deref-3.ensures.value c.deref-4.ensures.value c.in-Ok.ensures.plan in
+    let forgets = subst (λ (pages : List ℕ). Forgets pages i.cache cache) c.deref-5.ensures.value c.forget_all.ensures in
     let leaves =
-    subst (λ (w : List Sheet). LeavesPages history w c.args.root plan.free_list plan.free_count (Err fault) i.store new) c.deref-5.ensures.value
+    subst (λ (w : List Sheet). LeavesPages history w c.args.root plan.free_list plan.free_count (Err fault) i.store new) c.deref-6.ensures.value
     c.in-Err-commit.ensures.pages in
     let back : c.undo_to.new.self ≡ i.book =
     c.undo_to.ensures ∙ ap (λ (n : ℕ). undone n last) c.mark-mark.ensures
     ∙ goes_back_all history i.store i.cache cache i.made.items i.retired.items i.book last c.self.invariant plan is forgets in
-    subst (λ (b : Book). IsKept history new cache i.made.items b i.listed.items) (sym back)
+    subst (λ (b : Book). IsKept history new cache i.made.items b i.listed.items i.places.items) (sym back)
     (failed_kept history i.store i.cache cache i.made.items i.retired.items i.book last c.self.invariant plan is forgets c.args.root fault new
     c.in-Err-commit.ensures.commits leaves)
 
@@ -58,8 +58,8 @@ returns-in-Err-commit-clause-commits g c =
     let plan = c.in-Ok.plan in
     let last = c.plan_commit.new.book in
     let is =
-    told plan i.book last c.root.ensures c.deref.ensures.value c.deref-2.ensures.value c.deref-3.ensures.value c.in-Ok.ensures.plan in
-    let forgets = subst (λ (pages : List ℕ). Forgets pages i.cache cache) c.deref-4.ensures.value c.forget_all.ensures in
+    told plan i.book last c.root.ensures c.deref.ensures.value c.deref-2.ensures.value c.deref-3.ensures.value c.deref-4.ensures.value c.in-Ok.ensures.plan in
+    let forgets = subst (λ (pages : List ℕ). Forgets pages i.cache cache) c.deref-5.ensures.value c.forget_all.ensures in
     let back : c.undo_to.new.self ≡ i.book =
     c.undo_to.ensures ∙ ap (λ (n : ℕ). undone n last) c.mark-mark.ensures
     ∙ goes_back_all history i.store i.cache cache i.made.items i.retired.items i.book last c.self.invariant plan is forgets in
@@ -79,8 +79,8 @@ returns-in-Err-commit-clause-takes g c =
     let plan = c.in-Ok.plan in
     let last = c.plan_commit.new.book in
     let is =
-    told plan i.book last c.root.ensures c.deref.ensures.value c.deref-2.ensures.value c.deref-3.ensures.value c.in-Ok.ensures.plan in
-    let forgets = subst (λ (pages : List ℕ). Forgets pages i.cache cache) c.deref-4.ensures.value c.forget_all.ensures in
+    told plan i.book last c.root.ensures c.deref.ensures.value c.deref-2.ensures.value c.deref-3.ensures.value c.deref-4.ensures.value c.in-Ok.ensures.plan in
+    let forgets = subst (λ (pages : List ℕ). Forgets pages i.cache cache) c.deref-5.ensures.value c.forget_all.ensures in
     let back : c.undo_to.new.self ≡ i.book =
     c.undo_to.ensures ∙ ap (λ (n : ℕ). undone n last) c.mark-mark.ensures
     ∙ goes_back_all history i.store i.cache cache i.made.items i.retired.items i.book last c.self.invariant plan is forgets in
@@ -97,13 +97,13 @@ returns-in-Err-commit-clause-moves g c =
     let plan = c.in-Ok.plan in
     let last = c.plan_commit.new.book in
     let is =
-    told plan i.book last c.root.ensures c.deref.ensures.value c.deref-2.ensures.value c.deref-3.ensures.value c.in-Ok.ensures.plan in
-    let forgets = subst (λ (pages : List ℕ). Forgets pages i.cache cache) c.deref-4.ensures.value c.forget_all.ensures in
+    told plan i.book last c.root.ensures c.deref.ensures.value c.deref-2.ensures.value c.deref-3.ensures.value c.deref-4.ensures.value c.in-Ok.ensures.plan in
+    let forgets = subst (λ (pages : List ℕ). Forgets pages i.cache cache) c.deref-5.ensures.value c.forget_all.ensures in
     let back : c.undo_to.new.self ≡ i.book =
     c.undo_to.ensures ∙ ap (λ (n : ℕ). undone n last) c.mark-mark.ensures
     ∙ goes_back_all history i.store i.cache cache i.made.items i.retired.items i.book last c.self.invariant plan is forgets in
     let moves =
-    subst (λ (w : List Sheet). MovesMaps history w c.args.root plan.free_list plan.free_count (Err fault) i.store new) c.deref-5.ensures.value
+    subst (λ (w : List Sheet). MovesMaps history w c.args.root plan.free_list plan.free_count (Err fault) i.store new) c.deref-6.ensures.value
     c.in-Err-commit.ensures.moves in
     let start : State D = record { store = i.store; made = i.made.items; retired = i.retired.items; book = i.book } in
     let after : Book → State D = λ b. record { store = new; made = i.made.items; retired = i.retired.items; book = b } in
@@ -121,20 +121,22 @@ invariant_of-self-2 g c =
     let plan = c.in-Ok.plan in
     let last = c.plan_commit.new.book in
     let is =
-    told plan i.book last c.root.ensures c.deref.ensures.value c.deref-2.ensures.value c.deref-3.ensures.value c.in-Ok.ensures.plan in
-    let forgets = subst (λ (pages : List ℕ). Forgets pages i.cache cache) c.deref-4.ensures.value c.forget_all.ensures in
+    told plan i.book last c.root.ensures c.deref.ensures.value c.deref-2.ensures.value c.deref-3.ensures.value c.deref-4.ensures.value c.in-Ok.ensures.plan in
+    let forgets = subst (λ (pages : List ℕ). Forgets pages i.cache cache) c.deref-5.ensures.value c.forget_all.ensures in
     let ok = ok_of c.commit.result c.in_default.not-Err in
     let commits = subst (λ (r : Result (Unit {0}) CommitFault). CommitsRoot history c.args.root r i.store new) ok c.commit.ensures.commits in
     let leaves =
-    subst (λ (w : List Sheet). LeavesPages history w c.args.root plan.free_list plan.free_count (Ok tt) i.store new) c.deref-5.ensures.value
-    (subst (λ (r : Result (Unit {0}) CommitFault). LeavesPages history c.deref-5.result.now c.args.root plan.free_list plan.free_count r i.store new) ok
+    subst (λ (w : List Sheet). LeavesPages history w c.args.root plan.free_list plan.free_count (Ok tt) i.store new) c.deref-6.ensures.value
+    (subst (λ (r : Result (Unit {0}) CommitFault). LeavesPages history c.deref-6.result.now c.args.root plan.free_list plan.free_count r i.store new) ok
     c.commit.ensures.pages) in
     let version = c.root-2.result.generation in
-    let keeps = subst (λ (w : List Sheet). KeepsAll w cache c.keep_all.new.cache) c.deref-6.ensures.value c.keep_all.ensures in
-    subst (λ (made : List Sheet). IsKept history new c.keep_all.new.cache made c.commit-2.new.self plan.listed.items) (sym c.clear.ensures.items)
-    (subst (λ (b : Book). IsKept history new c.keep_all.new.cache [] b plan.listed.items) (sym c.commit-2.ensures)
+    let keeps = subst (λ (w : List Sheet). KeepsAll w cache c.keep_all.new.cache) c.deref-7.ensures.value c.keep_all.ensures in
+    subst (λ (places : List ℕ). IsKept history new c.keep_all.new.cache c.clear.new.self.items c.commit-2.new.self plan.listed.items places)
+    (sym c.clear-3.ensures.items)
+    (subst (λ (made : List Sheet). IsKept history new c.keep_all.new.cache made c.commit-2.new.self plan.listed.items []) (sym c.clear.ensures.items)
+    (subst (λ (b : Book). IsKept history new c.keep_all.new.cache [] b plan.listed.items []) (sym c.commit-2.ensures)
     (done_kept history i.store i.cache cache i.made.items i.retired.items i.book last c.self.invariant plan is forgets c.args.root new commits
-    leaves c.keep_all.new.cache keeps version))
+    leaves c.keep_all.new.cache keeps version)))
 
 pub returns-clause-takes : goal.returns-clause-takes
 returns-clause-takes g c =
@@ -145,8 +147,8 @@ returns-clause-takes g c =
     let plan = c.in-Ok.plan in
     let last = c.plan_commit.new.book in
     let is =
-    told plan i.book last c.root.ensures c.deref.ensures.value c.deref-2.ensures.value c.deref-3.ensures.value c.in-Ok.ensures.plan in
-    let forgets = subst (λ (pages : List ℕ). Forgets pages i.cache cache) c.deref-4.ensures.value c.forget_all.ensures in
+    told plan i.book last c.root.ensures c.deref.ensures.value c.deref-2.ensures.value c.deref-3.ensures.value c.deref-4.ensures.value c.in-Ok.ensures.plan in
+    let forgets = subst (λ (pages : List ℕ). Forgets pages i.cache cache) c.deref-5.ensures.value c.forget_all.ensures in
     counted _ _ _
     (ap (λ (b : Book). b.full_takes) c.commit-2.ensures
     ∙ full_same history i.store i.cache cache i.made.items i.retired.items i.book last c.self.invariant plan is forgets
@@ -162,16 +164,16 @@ returns-clause-commits g c =
     let plan = c.in-Ok.plan in
     let last = c.plan_commit.new.book in
     let is =
-    told plan i.book last c.root.ensures c.deref.ensures.value c.deref-2.ensures.value c.deref-3.ensures.value c.in-Ok.ensures.plan in
-    let forgets = subst (λ (pages : List ℕ). Forgets pages i.cache cache) c.deref-4.ensures.value c.forget_all.ensures in
+    told plan i.book last c.root.ensures c.deref.ensures.value c.deref-2.ensures.value c.deref-3.ensures.value c.deref-4.ensures.value c.in-Ok.ensures.plan in
+    let forgets = subst (λ (pages : List ℕ). Forgets pages i.cache cache) c.deref-5.ensures.value c.forget_all.ensures in
     let ok = ok_of c.commit.result c.in_default.not-Err in
     let commits = subst (λ (r : Result (Unit {0}) CommitFault). CommitsRoot history c.args.root r i.store new) ok c.commit.ensures.commits in
     let leaves =
-    subst (λ (w : List Sheet). LeavesPages history w c.args.root plan.free_list plan.free_count (Ok tt) i.store new) c.deref-5.ensures.value
-    (subst (λ (r : Result (Unit {0}) CommitFault). LeavesPages history c.deref-5.result.now c.args.root plan.free_list plan.free_count r i.store new) ok
+    subst (λ (w : List Sheet). LeavesPages history w c.args.root plan.free_list plan.free_count (Ok tt) i.store new) c.deref-6.ensures.value
+    (subst (λ (r : Result (Unit {0}) CommitFault). LeavesPages history c.deref-6.result.now c.args.root plan.free_list plan.free_count r i.store new) ok
     c.commit.ensures.pages) in
     let version = c.root-2.result.generation in
-    let keeps = subst (λ (w : List Sheet). KeepsAll w cache c.keep_all.new.cache) c.deref-6.ensures.value c.keep_all.ensures in
+    let keeps = subst (λ (w : List Sheet). KeepsAll w cache c.keep_all.new.cache) c.deref-7.ensures.value c.keep_all.ensures in
     let start : State D = record { store = i.store; made = i.made.items; retired = i.retired.items; book = i.book } in
     let after : List Sheet → List ℕ → Book → State D = λ m r b. record { store = new; made = m; retired = r; book = b } in
     subst (λ (s : State D). Commits history c.args.root (Ok tt) s (after c.clear.new.self.items c.clear-2.new.self.items c.commit-2.new.self)) c.self.view_is
@@ -190,19 +192,19 @@ returns-clause-moves g c =
     let plan = c.in-Ok.plan in
     let last = c.plan_commit.new.book in
     let is =
-    told plan i.book last c.root.ensures c.deref.ensures.value c.deref-2.ensures.value c.deref-3.ensures.value c.in-Ok.ensures.plan in
-    let forgets = subst (λ (pages : List ℕ). Forgets pages i.cache cache) c.deref-4.ensures.value c.forget_all.ensures in
+    told plan i.book last c.root.ensures c.deref.ensures.value c.deref-2.ensures.value c.deref-3.ensures.value c.deref-4.ensures.value c.in-Ok.ensures.plan in
+    let forgets = subst (λ (pages : List ℕ). Forgets pages i.cache cache) c.deref-5.ensures.value c.forget_all.ensures in
     let ok = ok_of c.commit.result c.in_default.not-Err in
     let commits = subst (λ (r : Result (Unit {0}) CommitFault). CommitsRoot history c.args.root r i.store new) ok c.commit.ensures.commits in
     let leaves =
-    subst (λ (w : List Sheet). LeavesPages history w c.args.root plan.free_list plan.free_count (Ok tt) i.store new) c.deref-5.ensures.value
-    (subst (λ (r : Result (Unit {0}) CommitFault). LeavesPages history c.deref-5.result.now c.args.root plan.free_list plan.free_count r i.store new) ok
+    subst (λ (w : List Sheet). LeavesPages history w c.args.root plan.free_list plan.free_count (Ok tt) i.store new) c.deref-6.ensures.value
+    (subst (λ (r : Result (Unit {0}) CommitFault). LeavesPages history c.deref-6.result.now c.args.root plan.free_list plan.free_count r i.store new) ok
     c.commit.ensures.pages) in
     let version = c.root-2.result.generation in
-    let keeps = subst (λ (w : List Sheet). KeepsAll w cache c.keep_all.new.cache) c.deref-6.ensures.value c.keep_all.ensures in
+    let keeps = subst (λ (w : List Sheet). KeepsAll w cache c.keep_all.new.cache) c.deref-7.ensures.value c.keep_all.ensures in
     let moves =
-    subst (λ (w : List Sheet). MovesMaps history w c.args.root plan.free_list plan.free_count (Ok tt) i.store new) c.deref-5.ensures.value
-    (subst (λ (r : Result (Unit {0}) CommitFault). MovesMaps history c.deref-5.result.now c.args.root plan.free_list plan.free_count r i.store new) ok
+    subst (λ (w : List Sheet). MovesMaps history w c.args.root plan.free_list plan.free_count (Ok tt) i.store new) c.deref-6.ensures.value
+    (subst (λ (r : Result (Unit {0}) CommitFault). MovesMaps history c.deref-6.result.now c.args.root plan.free_list plan.free_count r i.store new) ok
     c.commit.ensures.moves) in
     let start : State D = record { store = i.store; made = i.made.items; retired = i.retired.items; book = i.book } in
     let after : List Sheet → List ℕ → Book → State D = λ m r b. record { store = new; made = m; retired = r; book = b } in

@@ -7,7 +7,7 @@ pub invariant_of-result : goal.invariant_of-result
 invariant_of-result g c =
     kept_opened g.D.Disk.history c.args.disk c.in-Ok.store c.free_pages.new.self c.in-Ok-free_pages.found c.min.result
     (omega arith) c.in-Ok.ensures.opened c.free_pages.ensures.looks.reads c.in-Ok-free_pages.ensures.finds
-    c.in-Ok-new.cache c.new-2.result.items c.new-2.ensures.items c.in-Ok-new.ensures
+    c.in-Ok-new.cache c.new-2.result.items c.new-4.result.items c.new-2.ensures.items c.new-4.ensures.items c.in-Ok-new.ensures
 
 pub returns-clause-opened : goal.returns-clause-opened
 returns-clause-opened g c =

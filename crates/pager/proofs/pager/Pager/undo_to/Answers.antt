@@ -4,6 +4,7 @@ use Rattle.freelist.specs.Book.{Book, undone}
 use Rattle.pager.specs.Kept.{IsKept}
 use Rattle.pager.specs.State.{State}
 use Rattle.pager.specs.Turn.{LeadsBack, Returns}
+use Rattle.pager.proofs.OrderLemmas.{all_positive, lower_than}
 use Rattle.pager.proofs.ReturnLemmas.{returns_back}
 use Rattle.pager.proofs.UndoLemmas.{kept_undone, leads_back}
 use Rattle.pager.proofs.pager.Pager.undo_to.Goals as goal
@@ -12,9 +13,14 @@ pub invariant_of-self : goal.invariant_of-self
 invariant_of-self g c =
     let i = c.self.inside in
     let book : c.undo_to.new.self ≡ undone c.args.mark.made i.book = c.undo_to.ensures ∙ ap (λ (n : ℕ). undone n i.book) c.args.mark.same in
-    subst (λ (m : List Sheet). IsKept g.D.Disk.history i.store i.cache m c.undo_to.new.self i.listed.items) (sym c.truncate.ensures.items)
-    (subst (λ (b : Book). IsKept g.D.Disk.history i.store i.cache (take c.args.mark.made i.made.items) b i.listed.items) (sym book)
-    (kept_undone g.D.Disk.history i.store i.cache i.made.items i.book c.self.invariant c.args.mark.made))
+    subst (λ (ps : List ℕ). IsKept g.D.Disk.history i.store i.cache c.truncate.new.self.items c.undo_to.new.self i.listed.items ps)
+    (sym c.keep_lower.ensures)
+    (subst (λ (m : List Sheet). IsKept g.D.Disk.history i.store i.cache m c.undo_to.new.self i.listed.items (lower_than c.args.mark.made i.places.items))
+    (sym c.truncate.ensures.items)
+    (subst
+    (λ (b : Book). IsKept g.D.Disk.history i.store i.cache (take c.args.mark.made i.made.items) b i.listed.items (lower_than c.args.mark.made i.places.items))
+    (sym book)
+    (kept_undone g.D.Disk.history i.store i.cache i.made.items i.book c.self.invariant c.args.mark.made)))
 
 pub returns-clause-begun : goal.returns-clause-begun
 returns-clause-begun g c =
@@ -42,4 +48,4 @@ returns-clause-returns g c =
     let p : State D = after i.made.items i.retired.items i.book in
     subst (λ (s : State D). Returns history made retired s (after c.truncate.new.self.items c.truncate-2.new.self.items c.undo_to.new.self)) c.self.view_is
     (subst (Returns history made retired p) (λ j. after (sym c.truncate.ensures.items j) (sym c.truncate-2.ensures.items j) (sym book j))
-    (returns_back history p c.self.invariant.booked made retired))
+    (returns_back history p c.self.invariant.booked (all_positive i.made.items i.places.items c.self.invariant.order) made retired))
