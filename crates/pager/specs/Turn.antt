@@ -14,8 +14,8 @@ use Rattle.pager.specs.Kept.{IsBookFor}
 use Rattle.pager.specs.State.{State}
 use Rattle.pager.specs.View.{pager_history, store_of}
 
--- Below the limit of the book just these pages are in use, and the others from page 1 on are free or
--- wait.
+-- Below the limit of the book just these pages are in use, and the others from page 1 on are free
+-- or wait.
 pub record AreInUse (pages : List ℕ) (book : Book) : Type 0 where
   pub used : (n : ℕ) → n < length book.states
       → times n pages ≡ flag (is_in_use book.states n)

@@ -26,8 +26,8 @@ pub(crate) fn retire_all(book: &mut FreePages, pages: &[u32], version: u64) -> R
     Ok(())
 }
 
-/// The pages that a commit writes, in the order of these places, as far as a tree may have them: those that the book has in use, and
-/// those that were retired at this version where a pin keeps them.
+/// The pages that a commit writes, in the order of these places, as far as a tree may have them: those that the book has in use,
+/// and those that were retired at this version where a pin keeps them.
 pub(crate) fn pages_to_write(
     alloc: Global,
     book: &FreePages,
