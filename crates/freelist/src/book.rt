@@ -1,12 +1,12 @@
 //! The book of a file's pages.
 ghost use Rattle.std.specs.Prelude.{◌≡◌, ◌-◌, IfOk, OnOk, OnErr, max, length};
-ghost use Rattle.freelist.specs.Book.{Takes, is_in_use, retired, committed, pinned, unpinned, undone, opened};
+ghost use Rattle.freelist.specs.Book.{Takes, is_in_use, is_pinned, retired, committed, pinned, unpinned, undone, opened};
 ghost use Rattle.freelist.specs.ListWriting.{DraftsList, FindsRoom, GoesBack, WritesList};
 
 use crate::draft::Draft;
 use crate::list::FreeList;
 use crate::states::{PageState, PageStates};
-use crate::turns::{Change, Retirement, note, release, remove_pin, settle};
+use crate::turns::{Change, Retirement, is_pinned, note, release, remove_pin, settle};
 use std::alloc::{AllocError, Global};
 use std::marker::Model;
 
@@ -197,6 +197,13 @@ impl FreePages {
     {
         remove_pin(&mut self.pins, version);
         release(&self.pins, &mut self.pages, &mut self.waiting);
+    }
+
+    /// Whether a pin keeps what is retired at this version.
+    pub fn keeps(&self, version: u64) -> bool
+        ensures { result ≡ is_pinned self.now.pins version }
+    {
+        is_pinned(&self.pins, version)
     }
 
     /// How far the running turn has come.

@@ -10,8 +10,8 @@ use Rattle.page.specs.Format.{Sheet}
 use Rattle.btree.specs.Keys.{times}
 use Rattle.btree.specs.Reach.{AreOnce}
 use Rattle.btree.specs.Store.{flag}
-use Rattle.freelist.specs.Book.{Book, CanRewind, committed, freed, is_free, is_free_state, is_in_use, is_used_state, kept, retired, retired_in, rewind, undone}
-use Rattle.freelist.specs.Sound.{IsSound, retired_count, times as listed}
+use Rattle.freelist.specs.Book.{Book, CanRewind, committed, freed, is_free, is_in_use, is_pinned, is_used_state, retired, retired_in, rewind, undone}
+use Rattle.freelist.specs.Sound.{IsSound, retired_count, times as listed, waits}
 use Rattle.freelist.specs.Undone.{Call, after, retire}
 use Rattle.freelist.specs.declared.states.PageState.{PageState}
 use Rattle.freelist.specs.declared.states.PageState.TheVariants as states
@@ -19,7 +19,7 @@ use Rattle.freelist.specs.declared.turns.Change.{Change}
 use Rattle.freelist.specs.declared.turns.Change.TheVariants as changes
 use Rattle.freelist.specs.declared.turns.Retirement.{Retirement}
 use Rattle.freelist.proofs.Rewinding.{below, one_same, used_is}
-use Rattle.freelist.proofs.SoundBooks.{stays_sound}
+use Rattle.freelist.proofs.SoundBooks.{free_by_definition, stays_sound}
 use Rattle.freelist.proofs.Undoing.{undone-undone, undoing_leads_back}
 use Rattle.roots.specs.Turn.{numbers_of}
 use Rattle.pager.specs.Kept.{IsBookFor, takes_of}
@@ -163,13 +163,18 @@ lost_use v (p ∷ pages) n b some = elim (cases_eq n p) [
   | inr ne ↦ lost_use v pages n (retired p v b) (omega (arith, some, no_time n p pages ne))
 ]
 
--- ---- the end of a turn, where nothing is pinned
+-- ---- the end of a turn
 
-freed_other : (rs : List Retirement) (n : ℕ) (pages : List PageState) (d : PageState) → listed n rs ≡ 0 → get_or (freed [] rs pages) n d ≡ get_or pages n d
-freed_other [] n pages d none = refl
-freed_other (r ∷ rs) n pages d none = elim (cases_eq n r.page) [
-  | inl is ↦ absurd (omega (arith, none, one_same n r is))
-  | inr ne ↦ freed_other rs n (set pages r.page states.Free) d (omega (arith, none)) ∙ get_or-set_other pages r.page n states.Free d ne
+-- a step of what is freed, where the page is another or isn't in use
+freed_other : (pins : List ℕ) (rs : List Retirement) (n : ℕ) (pages : List PageState) (d : PageState) → listed n rs ≡ 0
+    → get_or (freed pins rs pages) n d ≡ get_or pages n d
+freed_other pins [] n pages d none = refl
+freed_other pins (r ∷ rs) n pages d none = elim (cases_Bool (is_pinned pins r.version)) [
+  | inl so ↦ rw so (freed_other pins rs n pages d (omega (arith, none)))
+  | inr not_so ↦ rw not_so (elim (cases_eq n r.page) [
+    | inl is ↦ absurd (omega (arith, none, one_same n r is))
+    | inr ne ↦ freed_other pins rs n (set pages r.page states.Free) d (omega (arith, none)) ∙ get_or-set_other pages r.page n states.Free d ne
+  ])
 ]
 
 set_free : (pages : List PageState) (p n : ℕ) → is_in_use pages n ≡ false → is_in_use (set pages p states.Free) n ≡ false
@@ -179,59 +184,43 @@ set_free (s ∷ pages) zero (suc n) h = h
 set_free (s ∷ pages) (suc p) zero h = h
 set_free (s ∷ pages) (suc p) (suc n) h = set_free pages p n h
 
-freed_unused : (rs : List Retirement) (n : ℕ) (pages : List PageState) → is_in_use pages n ≡ false → is_in_use (freed [] rs pages) n ≡ false
-freed_unused [] n pages h = h
-freed_unused (r ∷ rs) n pages h = freed_unused rs n (set pages r.page states.Free) (set_free pages r.page n h)
+freed_unused : (pins : List ℕ) (rs : List Retirement) (n : ℕ) (pages : List PageState) → is_in_use pages n ≡ false
+    → is_in_use (freed pins rs pages) n ≡ false
+freed_unused pins [] n pages h = h
+freed_unused pins (r ∷ rs) n pages h = elim (cases_Bool (is_pinned pins r.version)) [
+  | inl so ↦ rw so (freed_unused pins rs n pages h)
+  | inr not_so ↦ rw not_so (freed_unused pins rs n (set pages r.page states.Free) (set_free pages r.page n h))
+]
 
-kept_none : (rs : List Retirement) → kept [] rs ≡ []
-kept_none [] = refl
-kept_none (r ∷ rs) = kept_none rs
+length_freed : (pins : List ℕ) (rs : List Retirement) (pages : List PageState) → length (freed pins rs pages) ≡ length pages
+length_freed pins [] pages = refl
+length_freed pins (r ∷ rs) pages = elim (cases_Bool (is_pinned pins r.version)) [
+  | inl so ↦ rw so (length_freed pins rs pages)
+  | inr not_so ↦ rw not_so (length_freed pins rs (set pages r.page states.Free) ∙ length-set pages r.page states.Free)
+]
 
-length_freed : (rs : List Retirement) (pages : List PageState) → length (freed [] rs pages) ≡ length pages
-length_freed [] pages = refl
-length_freed (r ∷ rs) pages = length_freed rs (set pages r.page states.Free) ∙ length-set pages r.page states.Free
+pub committed_length : (v : ℕ) (b : Book) → length (committed v b).states ≡ length b.states
+committed_length v b = length_freed b.pins (retired_in b.turn) b.states
 
-module _ (v : ℕ) (b : Book) (sound : IsSound b) (no_pins : b.pins ≡ []) (none_waits : b.waiting ≡ []) where
-  states_are : (committed v b).states ≡ freed [] (retired_in b.turn) b.states
-  states_are = ap (λ (pins : List ℕ). freed pins (retired_in b.turn) b.states) no_pins
+-- what is in use stays so, and nothing else comes to be
+pub committed_use : (v : ℕ) (b : Book) → IsSound b → (n : ℕ) → is_in_use (committed v b).states n ≡ is_in_use b.states n
+committed_use v b sound n = elim (cases_Bool (is_in_use b.states n)) [
+  | inl so ↦
+      let here : get_or b.states n states.Retired ≡ states.InUse = used_is (get_or b.states n states.Retired) so in
+      let within : n < length b.states = below b.states n states.InUse here (λ e. cc) in
+      let count : retired_count (get_or b.states n states.Free) ≡ 0 = ap retired_count (get_or_default b.states n states.Free states.Retired within ∙ here) in
+      let none : listed n (retired_in b.turn) ≡ 0 = omega (arith, sound.listed n, count) in
+      ap is_used_state (freed_other b.pins (retired_in b.turn) n b.states states.Retired none)
+  | inr not_so ↦ freed_unused b.pins (retired_in b.turn) n b.states not_so ∙ sym not_so
+]
 
-  pub committed_waiting : (committed v b).waiting ≡ []
-  committed_waiting = (λ i. none_waits i ++ kept (no_pins i) (retired_in b.turn)) ∙ kept_none (retired_in b.turn)
+-- ---- what isn't in use is free or waits
 
-  pub committed_length : length (committed v b).states ≡ length b.states
-  committed_length = ap length states_are ∙ length_freed (retired_in b.turn) b.states
-
-  pub committed_use : (n : ℕ) → is_in_use (committed v b).states n ≡ is_in_use b.states n
-  committed_use n = ap (λ (pages : List PageState). is_in_use pages n) states_are ∙ elim (cases_Bool (is_in_use b.states n)) [
-    | inl so ↦
-        let here : get_or b.states n states.Retired ≡ states.InUse = used_is (get_or b.states n states.Retired) so in
-        let within : n < length b.states = below b.states n states.InUse here (λ e. cc) in
-        let count : retired_count (get_or b.states n states.Free) ≡ 0 = ap retired_count (get_or_default b.states n states.Free states.Retired within ∙ here) in
-        let none : listed n (retired_in b.turn) ≡ 0 = omega (arith, sound.listed n, count) in
-        ap is_used_state (freed_other (retired_in b.turn) n b.states states.Retired none)
-    | inr not_so ↦ freed_unused (retired_in b.turn) n b.states not_so ∙ sym not_so
-  ]
-
--- ---- what isn't in use is free
-
-takes_retire_none : (made : List Sheet) → retired_in (takes_of made) ≡ []
-takes_retire_none [] = refl
-takes_retire_none (m ∷ made) = takes_retire_none made
-
-pub others_of : (made : List Sheet) (b : Book) → IsBookFor made b → (n : ℕ) → 0 < n → n < length b.states → is_free b.states n ≡ not (is_in_use b.states n)
-others_of made b so n some within =
-    let test : nat_lt 0 n ≡ true = grind (arith, nat_tests, some) in
-    let none : listed n (retired_in b.turn) ≡ 0 = ap (λ (turn : List Change). listed n (retired_in turn)) so.turn ∙ ap (listed n) (takes_retire_none made) in
-    let waits : listed n b.waiting ≡ 0 = ap (listed n) so.none_waits in
-    let count : retired_count (get_or b.states n states.Retired) ≡ 0 =
-    ap retired_count (sym (get_or_default b.states n states.Free states.Retired within)) ∙ omega (arith, so.sound.listed n, none, waits) in
-    by_state (nat_lt 0 n) test (get_or b.states n states.Retired) count
-  where
-    by_state : (some : Bool) → some ≡ true → (s : PageState) → retired_count s ≡ 0 → (some && is_free_state s) ≡ not (is_used_state s)
-    by_state true test states.Free count = refl
-    by_state true test states.InUse count = refl
-    by_state true test states.Retired count = absurd (omega (arith, count))
-    by_state false test s count = absurd cc
+pub others_of : (b : Book) → IsSound b → (n : ℕ) → 0 < n → n < length b.states → is_free b.states n ≡ (not (is_in_use b.states n) && not (waits b n))
+others_of b sound n some within =
+    let first : nat_lt 0 n ≡ true = grind (arith, nat_tests, some) in
+    let inside : nat_lt n (length b.states) ≡ true = grind (arith, nat_tests, within) in
+    free_by_definition b sound n ∙ (λ i. first i && (inside i && (not (is_in_use b.states n) && not (waits b n))))
 
 -- ---- what the turn took is in use
 

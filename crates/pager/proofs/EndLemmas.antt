@@ -28,7 +28,7 @@ use Rattle.pager.specs.Turn.{AreInUse, IsBegun}
 use Rattle.pager.proofs.BookLemmas.{committed_length, committed_use, others_of}
 use Rattle.pager.proofs.ListedLemmas.{used_by_takes}
 use Rattle.pager.proofs.MemberLemmas.{times_append}
-use Rattle.pager.proofs.PlanLemmas.{all, booked_after, final_sound, planned, planned_long, planned_pins, planned_waiting, tree, wide}
+use Rattle.pager.proofs.PlanLemmas.{all, booked_after, final_sound, planned, planned_long, tree, wide}
 use Rattle.pager.proofs.ReadLemmas.{HasListIn, IsListIn}
 use Rattle.pager.proofs.TurnLemmas.{committed_still}
 use Rattle.pager.proofs.WrittenLemmas.{roots_turn, tree_use}
@@ -56,16 +56,14 @@ module _ {D : Type 0} {listed places : List ℕ} (history : D → History) (stor
       use_after n within =
           let sound = final_sound history store cache made (retired ++ listed) book so pages named final list in
           let more = wide history store cache made (retired ++ listed) book so pages named final list in
-          let pins = more.pins ∙ planned_pins history store cache made (retired ++ listed) book so in
-          let waiting = more.waiting ∙ planned_waiting history store cache made (retired ++ listed) book so in
           let long = planned_long history store cache made (retired ++ listed) book so in
-          let low : n < length book.states = omega (arith, within, committed_length last final sound pins waiting, more.long, long) in
+          let low : n < length book.states = omega (arith, within, committed_length last final, more.long, long) in
           omega (
             arith,
             times_append n reached pages,
             tree_use history p start turn.grows.stays k live before begun cache so root reached after turn n low,
             used_by_takes pages mid final list.takes n,
-            ap flag (committed_use last final sound pins waiting n),
+            ap flag (committed_use last final sound n),
           )
 
       in_use_after : (new : Store D) → IsListIn (written pages named) (now (disk_history history new)) (durable_root new) → (parts : List Part)
@@ -78,8 +76,8 @@ module _ {D : Type 0} {listed places : List ℕ} (history : D → History) (stor
           ∙ written_pages pages named in
           subst (λ (own : List ℕ). AreInUse (reached ++ own) (committed last final)) (sym same) (record {
             used = use_after;
-            others = others_of [] (committed last final)
-                (booked_after history store cache made (retired ++ listed) book so pages named final list last);
+            others = others_of (committed last final)
+                (booked_after history store cache made (retired ++ listed) book so pages named final list last).sound;
           })
 
     module _ (root : ℕ) (result : Result (Unit {0}) CommitFault) (new : Store D) (commits : CommitsRoot history root result store new)

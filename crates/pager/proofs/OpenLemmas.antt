@@ -82,8 +82,6 @@ opened_used live count generation once n within =
 booked_new : (in_use : List ℕ) (count generation : ℕ) → count ≤ 1048576 → IsBookFor [] (opened in_use count generation)
 booked_new in_use count generation few = record {
   sound = opens_sound in_use count generation;
-  no_pins = refl;
-  none_waits = refl;
   turn = refl;
   limit = omega (arith, length_used in_use (replicate count states.Free), length-replicate count states.Free, few);
   count = omega arith;
@@ -173,7 +171,7 @@ module _ {D : Type 0} (history : D → History) (disk : D) (mid new : Store D) (
         record {
           used = λ n within. subst (λ (b : Book). n < length b.states → times n reached ≡ flag (is_in_use b.states n)) (sym is)
               (opened_used reached (max limit root.pages) root.generation once n) within;
-          others = others_of [] book booked;
+          others = others_of book booked.sound;
         };
   }
     where

@@ -1,6 +1,6 @@
--- What a commit writes: the pages of the turn that are in use, and those of a list of what is free then.
+-- What a commit writes: the pages of the turn that are in use or wait, and those of a list of what is free then.
 use Rattle.std.proofs.Common.{◌≡◌, ℕ, ◌+◌, ◌<◌, ◌≤◌, max, false, List, [], ◌∷◌, ◌++◌, ◌≢◌, length, get_or, inl, inr, sym, refl, ◌∙◌, ap, arith, None}
-use Rattle.std.specs.Prelude.{Bool, true, ◌&&◌, nat_lt, not}
+use Rattle.std.specs.Prelude.{Bool, true, ◌&&◌, ◌||◌, nat_lt, not}
 use Rattle.std.specs.List.{AllByRecursion}
 use Rattle.std.proofs.lemmas.Bool.{cases_lt}
 use Rattle.std.proofs.lemmas.Bool.Decides.{nat_tests}
@@ -13,7 +13,7 @@ use Rattle.page.specs.PageLaws.{IsSheet}
 use Rattle.page.specs.declared.page_cache.PageCache.{PageCache}
 use Rattle.btree.specs.Keys.{times}
 use Rattle.btree.specs.Store.{flag}
-use Rattle.freelist.specs.Book.{Book, committed, is_free, is_in_use, is_used_state}
+use Rattle.freelist.specs.Book.{Book, committed, is_free, is_in_use, is_pinned, is_used_state}
 use Rattle.freelist.specs.FreeList.{AreOnceBelow, first_page, times_in, written}
 use Rattle.freelist.specs.ListWriting.{IsMade, count_with}
 use Rattle.freelist.specs.Sound.{IsSound}
@@ -33,7 +33,7 @@ use Rattle.pager.specs.Kept.{IsBookFor, IsKept, IsNew}
 use Rattle.pager.specs.Order.{merged, pages_at}
 use Rattle.pager.specs.Planning.{next_generation, pages_with}
 use Rattle.pager.specs.Writing.{retired_all, written_of}
-use Rattle.pager.proofs.BookLemmas.{all_full, all_length, all_pins, all_sound, all_waiting, committed_length, committed_use, committed_waiting}
+use Rattle.pager.proofs.BookLemmas.{all_full, all_length, all_sound, committed_length, committed_use}
 use Rattle.pager.proofs.BookLemmas.{made_below, one_time}
 use Rattle.pager.proofs.ListLemmas.{all_both, all_weaker}
 use Rattle.pager.proofs.ListedLemmas.{IsAsWide, all_free, as_wide, count_all, count_within, few_unused, free_before, free_inside, free_unused}
@@ -51,10 +51,10 @@ module _ {D : Type 0} {listed places : List ℕ} (history : D → History) (stor
   planned = retired_all root.generation retired book
 
   abbrev pub tree : List Sheet
-  tree = written_of planned (pages_at made places)
+  tree = written_of root.generation planned (pages_at made places)
 
   abbrev test : Sheet → Bool
-  test sheet = is_of_tree sheet.content && is_in_use planned.states sheet.page
+  test sheet = is_of_tree sheet.content && (is_in_use planned.states sheet.page || is_pinned planned.pins root.generation)
 
   tree_new : AllByRecursion (IsNew root.generation cache) tree
   tree_new = all_filter (IsNew root.generation cache) test (pages_at made places) (all_at (IsNew root.generation cache) made places so.order.inside so.each)
@@ -64,12 +64,6 @@ module _ {D : Type 0} {listed places : List ℕ} (history : D → History) (stor
 
   pub planned_sound : IsSound planned
   planned_sound = all_sound root.generation retired book so.booked.sound
-
-  pub planned_pins : planned.pins ≡ []
-  planned_pins = all_pins root.generation retired book ∙ so.booked.no_pins
-
-  pub planned_waiting : planned.waiting ≡ []
-  planned_waiting = all_waiting root.generation retired book ∙ so.booked.none_waits
 
   pub planned_long : length planned.states ≡ length book.states
   planned_long = all_length root.generation retired book
@@ -166,29 +160,15 @@ module _ {D : Type 0} {listed places : List ℕ} (history : D → History) (stor
     final_sound = stays_sound_taking pages planned final list.takes planned_sound
 
     pub booked_after : (last : ℕ) → IsBookFor [] (committed last final)
-    booked_after last =
-        let pins = wide.pins ∙ planned_pins in
-        let waiting = wide.waiting ∙ planned_waiting in
-        record {
-          sound = (stays_sound final final_sound).committed last;
-          no_pins = pins;
-          none_waits = committed_waiting last final final_sound pins waiting;
-          turn = refl;
-          limit = omega (arith, committed_length last final final_sound pins waiting, wide.long, planned_long, so.booked.limit);
-          count = omega (arith, wide.full, all_full root.generation retired book, so.booked.count);
-        }
+    booked_after last = record {
+      sound = (stays_sound final final_sound).committed last;
+      turn = refl;
+      limit = omega (arith, committed_length last final, wide.long, planned_long, so.booked.limit);
+      count = omega (arith, wide.full, all_full root.generation retired book, so.booked.count);
+    }
 
     pub wide_after : (last : ℕ) → max (pages_with root all) 1 ≤ length (committed last final).states
-    wide_after last =
-        omega (
-          arith,
-          count_is,
-          fits,
-          wide.long,
-          committed_length last final final_sound (wide.pins ∙ planned_pins) (wide.waiting ∙ planned_waiting),
-          so.wide,
-          planned_long,
-        )
+    wide_after last = omega (arith, count_is, fits, wide.long, committed_length last final, so.wide, planned_long)
 
     -- ---- a root that names no list
 
@@ -204,12 +184,10 @@ module _ {D : Type 0} {listed places : List ℕ} (history : D → History) (stor
     pub names_free : (last : ℕ) → first_page (written pages named) ≡ 0 → (n : ℕ) → is_free (committed last final).states n ≡ true → count ≤ n
     names_free last none n free = elim (cases_lt n count) [
       | inl below ↦
-          let pins = wide.pins ∙ planned_pins in
-          let waiting = wide.waiting ∙ planned_waiting in
           let inside = free_inside (committed last final).states n free in
-          let within : n < length final.states = omega (arith, inside.1, committed_length last final final_sound pins waiting) in
+          let within : n < length final.states = omega (arith, inside.1, committed_length last final) in
           let unused : is_in_use final.states n ≡ false =
-          sym (committed_use last final final_sound pins waiting n) ∙ free_unused (committed last final).states n free in
+          sym (committed_use last final final_sound n) ∙ free_unused (committed last final).states n free in
           let positive : nat_lt 0 n ≡ true = grind (arith, nat_tests, inside.0) in
           let test : nat_lt n count ≡ true = grind (arith, nat_tests, below) in
           let state : is_used_state (get_or final.states n states.InUse) ≡ false =

@@ -211,8 +211,6 @@ module _ {D : Type 0} {listed places : List ℕ} (history : D → History) (stor
           });
       booked = record {
         sound = (stays_sound book kept_so.booked.sound).taken sheet.page least;
-        no_pins = kept_so.booked.no_pins;
-        none_waits = kept_so.booked.none_waits;
         turn = ap (λ (turn : List Change). turn ++ changes.Taken sheet.page ∷ []) kept_so.booked.turn
             ∙ sym (map-append (λ (m : Sheet). changes.Taken m.page) made (sheet ∷ []));
         limit = omega (arith, length-set book.states sheet.page states.InUse, kept_so.booked.limit);

@@ -52,8 +52,6 @@ module _ {D : Type 0} {listed places : List ℕ} (history : D → History) (stor
     each = all_take (IsNew (durable_root store).generation cache) n made so.each;
     booked = record {
       sound = (stays_sound book so.booked.sound).undone n;
-      no_pins = so.booked.no_pins;
-      none_waits = so.booked.none_waits;
       turn = ap (take n) so.booked.turn ∙ take_takes n made;
       limit = omega (arith, ap length states_are, length_takes (drop n made) book.states, so.booked.limit);
       count = so.booked.count;
@@ -82,7 +80,7 @@ begun_again {D = D} history store cache made retired book so start live entries 
             ap (λ (turn : List Change). rewind turn book.states) so.booked.turn ∙ states_then history p start grows.stays k live entries begun so.booked in
             (in_use_then history p start grows.stays k live entries begun parts has).used n (omega (arith, within, ap length same))
             ∙ ap (λ (pages : List PageState). flag (is_in_use pages n)) (sym same);
-        others = others_of [] (undone 0 book) (kept_undone history store cache made book so 0).booked;
+        others = others_of (undone 0 book) (kept_undone history store cache made book so 0).booked.sound;
       };
     }
 

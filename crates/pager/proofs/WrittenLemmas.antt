@@ -1,6 +1,6 @@
 -- The turn that a commit hands to its store: the pages of the new tree that are there, those that are written, and a list of the others.
 use Rattle.std.proofs.Common.{◌≡◌, ◌≢◌, ℕ, ◌+◌, ◌<◌, ◌≤◌, Bool, true, false, List, [], ◌∷◌, ◌++◌, length, refl, sym, ◌∙◌, ap, subst, arith, inl, inr}
-use Rattle.std.specs.Prelude.{◌&&◌, nat_lt, is_ok, Result, Ok}
+use Rattle.std.specs.Prelude.{◌&&◌, ◌||◌, nat_lt, is_ok, Result, Ok}
 use Rattle.std.specs.List.{AllByRecursion}
 use Rattle.std.proofs.lemmas.Bool.{cases_lt}
 use Rattle.std.proofs.lemmas.Bool.Decides.{nat_tests}
@@ -14,7 +14,7 @@ use Rattle.btree.specs.Reach.{HasMap}
 use Rattle.btree.specs.Store.{Stays, Store, flag}
 use Rattle.btree.proofs.OnceLemmas.{map_live}
 use Rattle.btree.proofs.ReachLemmas.{Moves, map_moved}
-use Rattle.freelist.specs.Book.{Book, is_in_use}
+use Rattle.freelist.specs.Book.{Book, is_in_use, is_pinned}
 use Rattle.freelist.specs.FreeList.{IsFreeList, IsPartition, Part, first_page, named_by, pages_of, room_for, times_in, written}
 use Rattle.freelist.specs.ListLaws.{used_below}
 use Rattle.freelist.specs.ListWriting.{IsMade, count_with}
@@ -71,11 +71,11 @@ module _ {D : Type 0} {listed places : List ℕ} (history : D → History) (p st
   abbrev those : List Sheet
   those = tree history p.store cache p.made gone p.book so
 
-  abbrev test : Sheet → Bool
-  test sheet = is_of_tree sheet.content && is_in_use mid.states sheet.page
-
   abbrev version : ℕ
   version = (durable_root p.store).generation
+
+  abbrev test : Sheet → Bool
+  test sheet = is_of_tree sheet.content && (is_in_use mid.states sheet.page || is_pinned mid.pins version)
 
   account : (n : ℕ) → times n reached + times n p.retired ≡ times n live + times n (numbers_of p.made)
   account n = omega (arith, turn.account n, times_reverse n p.retired, times_reverse n (numbers_of p.made))
@@ -159,7 +159,7 @@ module _ {D : Type 0} {listed places : List ℕ} (history : D → History) (p st
               let within = made_below p.made p.book so.booked n r.count in
               let stays_used : is_in_use mid.states n ≡ true = flag_some (is_in_use mid.states n) (omega (arith, some, tree_use n within)) in
               let fits_tree : is_of_tree r.sheet.content ≡ true = ap (λ (found : Result Sheet PageFault). is_of_tree (content_in found)) (sym is) ∙ whole in
-              let passes : test r.sheet ≡ true = (λ i. fits_tree i && (ap (is_in_use mid.states) r.is ∙ stays_used) i) in
+              let passes : test r.sheet ≡ true = (λ i. fits_tree i && ((ap (is_in_use mid.states) r.is ∙ stays_used) i || is_pinned mid.pins version)) in
               let among : IsAmong r.sheet those =
               among_filter test (pages_at p.made places) r.sheet passes (in_order p.made places so.order r.sheet r.among) in
               let found : after_sheets n ≡ Ok r.sheet =

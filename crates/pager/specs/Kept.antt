@@ -34,11 +34,9 @@ pub record IsNew (generation : ℕ) (cache : PageCache) (sheet : Sheet) : Type 0
 abbrev pub takes_of : List Sheet → List Change
 takes_of made = map (λ sheet. changes.Taken sheet.page) made
 
--- nothing is pinned, so nothing waits
+-- The book has just the turn's takes.
 pub record IsBookFor (made : List Sheet) (book : Book) : Type 0 where
   pub sound : IsSound book
-  pub no_pins : book.pins ≡ []
-  pub none_waits : book.waiting ≡ []
   pub turn : book.turn ≡ takes_of made
   pub limit : length book.states ≤ 1048576
   pub count : book.full_takes < 2 ^ 64

@@ -24,18 +24,21 @@ abbrev pub pages_with : Root → List Sheet → ℕ
 pages_with root sheets = max root.pages (end_behind 1 sheets)
 
 -- A commit was planned: these pages are retired, a list is made of what is free then, and its pages
--- are written with those of the turn that are in use, in ascending order where the turn's are.
+-- are written with those of the turn that are in use or wait, in ascending order where the turn's
+-- are.
 pub record IsPlanned (root : Root) (made : List Sheet) (pages : List ℕ) (plan : Plan)
     (old new : Book) : Type 0 where
   -- what the list names
   pub named : List ℕ
-  pub writes : let tree = written_of (retired_all root.generation pages old) made in
+  pub writes : let mid = retired_all root.generation pages old in
+      let tree = written_of root.generation mid made in
       plan.written.items
       ≡ merged tree (list_sheets (next_generation root) (written plan.listed.items named))
-  pub content : let tree = written_of (retired_all root.generation pages old) made in
+  pub content : let mid = retired_all root.generation pages old in
+      let tree = written_of root.generation mid made in
       AllByRecursion (λ (sheet : Sheet). IsContent sheet.content) tree
   pub list : let mid = retired_all root.generation pages old in
-      let tree = written_of mid made in
+      let tree = written_of root.generation mid made in
       AllByRecursion (λ (sheet : Sheet). sheet.page < 1048576) tree
       → IsMade (pages_with root tree) plan.listed.items named mid new
   pub first : plan.free_list ≡ first_page (written plan.listed.items named)

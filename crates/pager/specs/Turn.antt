@@ -1,11 +1,12 @@
 -- Between two commits of a pager.
-use Rattle.std.specs.Prelude.{◌≡◌, ℕ, ◌<◌, Bool, ◌||◌, nat_lt, not, List, [], take, length}
+use Rattle.std.specs.Prelude.{◌≡◌, ℕ, ◌<◌, Bool, ◌&&◌, ◌||◌, nat_lt, not, List, [], take, length}
 use Rattle.page.specs.History.{History, KeepsWord, now, reads}
 use Rattle.btree.specs.Keys.{Entry, times}
 use Rattle.btree.specs.Reach.{AreOnce}
 use Rattle.btree.specs.Store.{Grows, IsSame, flag}
 use Rattle.freelist.specs.Book.{Book, is_free, is_in_use, undone}
 use Rattle.freelist.specs.FreeList.{Part}
+use Rattle.freelist.specs.Sound.{waits}
 use Rattle.roots.specs.Image.{HasList, reached_by, sheet_at}
 use Rattle.roots.specs.Store.{IsCommitted, durable_root}
 use Rattle.roots.specs.Turn.{numbers_of}
@@ -13,12 +14,13 @@ use Rattle.pager.specs.Kept.{IsBookFor}
 use Rattle.pager.specs.State.{State}
 use Rattle.pager.specs.View.{pager_history, store_of}
 
--- Below the limit of the book just these pages are in use, and the others from page 1 on are free.
+-- Below the limit of the book just these pages are in use, and the others from page 1 on are free
+-- or wait.
 pub record AreInUse (pages : List ℕ) (book : Book) : Type 0 where
   pub used : (n : ℕ) → n < length book.states
       → times n pages ≡ flag (is_in_use book.states n)
   pub others : (n : ℕ) → 0 < n → n < length book.states
-      → is_free book.states n ≡ not (is_in_use book.states n)
+      → is_free book.states n ≡ (not (is_in_use book.states n) && not (waits book n))
 
 -- No turn runs: nothing was made or retired. While the disk keeps its word, these entries are
 -- committed, and in the book just the pages that the root reaches are in use: those of the tree and

@@ -1,22 +1,24 @@
 -- What a commit writes, and what it makes of the book and the cache.
-use Rattle.std.specs.Prelude.{◌≡◌, ◌⊎◌, ℕ, ◌&&◌, List, [], ◌∷◌, Some}
+use Rattle.std.specs.Prelude.{◌≡◌, ◌⊎◌, ℕ, ◌&&◌, ◌||◌, List, [], ◌∷◌, Some}
 use Rattle.std.specs.List.{filter}
 use Rattle.page.specs.Cache.{kept}
 use Rattle.page.specs.Content.{is_of_tree}
 use Rattle.page.specs.Format.{Sheet}
 use Rattle.page.specs.declared.page_cache.PageCache.{PageCache}
 use Rattle.btree.specs.Keys.{times}
-use Rattle.freelist.specs.Book.{Book, is_in_use, retired}
+use Rattle.freelist.specs.Book.{Book, is_in_use, is_pinned, retired}
 
 -- the book after these pages were retired, one after the other
 abbrev pub retired_all : ℕ → List ℕ → Book → Book
 retired_all version [] book = book
 retired_all version (page ∷ pages) book = retired_all version pages (retired page version book)
 
--- the pages that are written: those that are in use, as far as a tree may have them
-abbrev pub written_of : Book → List Sheet → List Sheet
-written_of book made =
-    filter (λ sheet. is_of_tree sheet.content && is_in_use book.states sheet.page) made
+-- The pages that are written, once the others of the turn were retired at this version: those that
+-- are in use, and those that wait since a pin keeps them, as far as a tree may have them.
+abbrev pub written_of : ℕ → Book → List Sheet → List Sheet
+written_of version book made =
+    filter (λ sheet. is_of_tree sheet.content
+    && (is_in_use book.states sheet.page || is_pinned book.pins version)) made
 
 abbrev pub IsAmong : Sheet → List Sheet → Type 0
 IsAmong sheet [] = ⊥

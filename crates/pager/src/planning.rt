@@ -89,7 +89,7 @@ fn draft_commit(
     if retire_both(book, retired, listed, root.generation).is_err() {
         return Err(CommitFault::Memory);
     }
-    let Ok(tree) = pages_to_write(alloc, book, made, places) else {
+    let Ok(tree) = pages_to_write(alloc, book, made, places, root.generation) else {
         return Err(CommitFault::Memory);
     };
     let page_count = root.pages.max(end_of(&tree));

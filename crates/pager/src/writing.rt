@@ -26,24 +26,27 @@ pub(crate) fn retire_all(book: &mut FreePages, pages: &[u32], version: u64) -> R
     Ok(())
 }
 
-/// The pages that a commit writes, in the order of these places: those that the book has in use, as far as a tree may have them.
+/// The pages that a commit writes, in the order of these places, as far as a tree may have them: those that the book has in use,
+/// and those that were retired at this version where a pin keeps them.
 pub(crate) fn pages_to_write(
     alloc: Global,
     book: &FreePages,
     made: &[SharedPage],
     places: &[u32],
+    version: u64,
 ) -> Result<Vec<SharedPage>, AllocError>
     requires { AllByRecursion (λ place. place < length made.now) places.now }
     ensures written { IfOk result (λ v.
-        v.items ≡ written_of book.now (pages_at made.now places.now)) }
+        v.items ≡ written_of version book.now (pages_at made.now places.now)) }
     ensures content { IfOk result (λ v.
         AllByRecursion (λ (sheet : Sheet). IsContent sheet.content) v.items) }
 {
     let mut written = Vec::new(alloc);
+    let keeps = book.keeps(version);
     for place in places {
         let shared = &made[*place as usize];
         let image = shared.image();
-        if image.is_of_tree() && book.is_in_use(image.page) {
+        if image.is_of_tree() && (book.is_in_use(image.page) || keeps) {
             written.push(shared.share()?)?;
         }
     }

@@ -9,5 +9,6 @@ use Rattle.pager.proofs.writing.pages_to_write.Given as goal
 -- those so far, and those that are left
 abbrev pub invariant-loop-place : goal.invariant-loop-place
 invariant-loop-place l =
-    (l.written.items ++ written_of l.book (pages_at l.made (drop l.place-index l.places)) ≡ written_of l.book (pages_at l.made l.places))
+    (l.written.items ++ written_of l.version l.book (pages_at l.made (drop l.place-index l.places))
+    ≡ written_of l.version l.book (pages_at l.made l.places))
     × AllByRecursion (λ (sheet : Sheet). IsContent sheet.content) l.written.items
