@@ -182,3 +182,80 @@ fn changed_files(rt: HostRuntime) -> Result<(), Fail> {
     }
     Ok(())
 }
+
+/// A page of a list of free pages: its number, the page that goes on, and the pages that it names, each from one to below another.
+type Listed = (u32, u32, &'static [(u32, u32)]);
+
+/// How many pages a file has, the first page of its list and how many that names; the list; and how many pages are free, or that
+/// it is damaged. The tree is page 1, a leaf, and page 2 is a leaf too where it isn't the list's.
+const LISTS: [([u32; 3], &[Listed], Option<u32>); 17] = [
+    // one page names 1,019, and 1,020 take two; a page may name none, they are in any order, and a file may have no list
+    ([1_022, 2, 1_019], &[(2, 0, &[(3, 1_022)])], Some(1_019)),
+    (
+        [1_024, 2, 1_020],
+        &[(2, 3, &[(4, 1_023)]), (3, 0, &[(1_023, 1_024)])],
+        Some(1_020),
+    ),
+    ([1_023, 2, 1_020], &[(2, 0, &[(3, 1_023)])], None),
+    (
+        [6, 5, 2],
+        &[(5, 2, &[(4, 5), (3, 4)]), (2, 0, &[])],
+        Some(2),
+    ),
+    ([5, 0, 0], &[(2, 0, &[(3, 5)])], Some(3)),
+    // a page twice, and in place of another; one left out; one of the tree, page 0, one behind the end; one fewer than there are
+    ([5, 2, 3], &[(2, 0, &[(3, 5), (4, 5)])], None),
+    ([5, 2, 2], &[(2, 0, &[(3, 4), (3, 4)])], None),
+    ([5, 2, 1], &[(2, 0, &[(3, 4)])], None),
+    ([5, 2, 3], &[(2, 0, &[(1, 2), (3, 5)])], None),
+    ([5, 2, 3], &[(2, 0, &[(0, 1), (3, 5)])], None),
+    ([5, 2, 3], &[(2, 0, &[(3, 6)])], None),
+    ([5, 2, 1], &[(2, 0, &[(3, 5)])], None),
+    // a page leads to itself, at once and by way of another; to a leaf; the first is a leaf, and the tree; none, but a number
+    ([5, 2, 2], &[(2, 2, &[(3, 5)])], None),
+    ([5, 2, 1], &[(2, 3, &[(4, 5)]), (3, 2, &[])], None),
+    ([5, 3, 1], &[(3, 2, &[(4, 5)])], None),
+    ([4, 2, 1], &[], None),
+    ([5, 0, 2], &[(2, 0, &[(3, 5)])], None),
+];
+
+fn list_page(alloc: Global, (page, next, named): &Listed) -> Result<[u8; 4096], Fail> {
+    let mut front = Vec::new(alloc);
+    for number in [4, *page, 1, 0, *next] {
+        front.extend_from_slice(&number.to_le_bytes())?;
+    }
+    for (from, to) in *named {
+        for number in *from..*to {
+            front.extend_from_slice(&number.to_le_bytes())?;
+        }
+    }
+    let count = (front.len() / 4).saturating_sub(5) as u16;
+    Ok(page_of(&front, 2, &count.to_le_bytes()))
+}
+
+fn listed_file(alloc: Global, numbers: &[u32; 3], list: &[Listed]) -> Result<MemDisk, Fail> {
+    let mut bytes = Vec::new(alloc);
+    for number in numbers {
+        bytes.extend_from_slice(&number.to_le_bytes())?;
+    }
+    let mut disk = MemDisk::new(alloc);
+    write_page(&mut disk, 0, &root_page(540, &bytes))?;
+    write_page(&mut disk, 1, &page_of(TREE[3], 4, b"\x01"))?;
+    write_page(&mut disk, 2, &page_of(TREE[3], 4, b"\x02"))?;
+    for listed in list {
+        write_page(&mut disk, listed.0, &list_page(alloc, listed)?)?;
+    }
+    Ok(disk)
+}
+
+#[test]
+fn lists_of_files(rt: HostRuntime) -> Result<(), Fail> {
+    for (row, (numbers, list, wanted)) in LISTS.iter().enumerate() {
+        let free = match Pager::open(rt.alloc(), listed_file(rt.alloc(), numbers, list)?, 16) {
+            Ok(mut pager) => pager.count_pages().map(|counts| counts.free),
+            Err((_disk, fault)) => Err(fault),
+        };
+        assert_eq!(rt; free, wanted.ok_or(OpenFault::Damaged), "row {row}");
+    }
+    Ok(())
+}
