@@ -1,8 +1,6 @@
 -- What a disk, and its history with its word only where something is true, say of each other.
-use Rattle.std.proofs.Common.{◌≡◌, ℕ, Bool, true, false, List, refl, ap, subst, rules}
+use Rattle.std.proofs.Common.{◌≡◌, ℕ, Bool, List, ap, rules}
 use Rattle.std.specs.Prelude.{IsTrue, ◌&&◌}
-use Rattle.page.specs.History.{History}
-use Rattle.trusted_disk.specs.Trusting.{trusting}
 use Rattle.trusted_disk.specs.Laws.{LeavesAlike, PassesOn, StaysTrusted, TakesBack, TellsWord, TrustsAll}
 
 pub tells_word : TellsWord

@@ -2,8 +2,9 @@
 ghost use Rattle.std.specs.Prelude.{ℕ, List};
 ghost use Rattle.trusted_disk.specs.Laws.{HasSectors, LeavesAlike, PassesOn, StaysTrusted, TakesBack, TellsWord, TrustsAll};
 
-/// Images of one kind, as a law speaks of them.
+/// A kind of image, of which laws say that crashes leave no other.
 pub trait Images {
+    // whether an image is of the kind
     ghost hold: { (ℕ → List ℕ) → Type 0 };
 }
 
@@ -12,7 +13,7 @@ pub fn tells_word()
     ensures { TellsWord }
 {}
 
-/// Sectors, and what reads give, are the disk's.
+/// Its sectors, and what reads give, are the disk's.
 pub fn has_sectors()
     ensures { HasSectors }
 {}
@@ -27,17 +28,17 @@ pub fn trusts_all()
     ensures { TrustsAll }
 {}
 
-/// What is so of a disk that goes on is so of it under any truth value.
+/// A disk that goes on, only reads or only syncs does so under any truth value, and crashes leave images of the same kind.
 pub fn passes_on<I: Images>()
     ensures { PassesOn I.hold }
 {}
 
-/// What is so under a truth value that is true is so of the disk.
+/// What is so under truth values that are true is so of the disk.
 pub fn takes_back<I: Images>()
     ensures { TakesBack I.hold }
 {}
 
-/// A trusted disk that keeps its word stays trusted.
+/// A trusted disk that keeps its word, and has time, stays trusted.
 pub fn stays_trusted()
     ensures { StaysTrusted }
 {}
