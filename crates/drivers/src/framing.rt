@@ -6,8 +6,8 @@ ghost use Rattle.bson.specs.Spelling.{frame_of, pairs_bytes};
 ghost use Rattle.drivers.specs.Framing.{begun_head, query_head, query_reply, frame, framed, IsShort};
 
 use crate::step::Step;
-use driver_messages::Form;
 use bson::{Document, EncodeFault, NoMemory, encode_onto};
+use driver_messages::Form;
 use op_msg::reply;
 use std::alloc::{AllocError, Global};
 

@@ -19,8 +19,8 @@ use crate::explaining::explained;
 use crate::server_info::ServerInfo;
 use crate::starting::{name_of, start, unheard};
 use crate::step::Step;
-use driver_messages::Message;
 use bson::{Array, Document, NoMemory, Text};
+use driver_messages::Message;
 use driver_replies::{
     Batch, Distinct, FreshIds, Kills, Modification, Part, Tally, Write, collection_of,
     drop_command, drop_first, dropped_reply, first_batch, first_id, ids_of, indexes_told, is_alone,

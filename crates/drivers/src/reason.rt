@@ -3,8 +3,8 @@
 ghost use Rattle.std.specs.Prelude.{◌≡◌, IfOk, pos, option_map, string_bytes};
 ghost use Rattle.drivers.specs.Reasons.{row_of, text_of, refusal_document, refusal_reply};
 
-use driver_messages::ForeignType;
 use bson::{Document, NoMemory};
+use driver_messages::ForeignType;
 use driver_replies::{Fact, document_of};
 use std::alloc::Global;
 

@@ -17,8 +17,8 @@ use crate::modifying::modify_first;
 use crate::reason::{Reason, refusal_reply};
 use crate::server_info::ServerInfo;
 use crate::step::Step;
-use driver_messages::{BodyFault, Form, Message};
 use bson::{Document, NoMemory, Value};
+use driver_messages::{BodyFault, Form, Message};
 use driver_replies::{
     Fact, cursor_of, document_of, first_id, ids_of, kill_one, list_command, set, text_or_none,
 };

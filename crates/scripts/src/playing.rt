@@ -4,7 +4,10 @@ use crate::last_commit::with_last_commit;
 use crate::player::Player;
 use bson::{Array, Document, Text, Value, decode};
 use page::MemDisk;
-use script_text::{Draft, Fault, Reply, Word, batch_reply, bytes_in, differs, document_in, documents_in, done, is_document, number_in, values_in, with_ids};
+use script_text::{
+    Draft, Fault, Reply, Word, batch_reply, bytes_in, differs, document_in, documents_in, done,
+    is_document, number_in, values_in, with_ids,
+};
 use std::alloc::{AllocError, Global};
 
 /// The code of a refusal because the device failed.

@@ -1,7 +1,10 @@
 //! Tests, line by line.
 
 use crate::player::Player;
-use script_text::{Draft, Fault, Head, Kind, Line, Word, bytes_in, document_in, done, head_of, number_in, opened, row_in, subject_of, with_number};
+use script_text::{
+    Draft, Fault, Head, Kind, Line, Word, bytes_in, document_in, done, head_of, number_in, opened,
+    row_in, subject_of, with_number,
+};
 
 /// The connection on which a test looks at what stands in the server.
 const LOOKING: u8 = 63;
