@@ -21,4 +21,5 @@ pub mod TakeLemmas
 pub mod TreeLemmas
 pub mod TurnLemmas
 pub mod UndoLemmas
+pub mod VersionLemmas
 pub mod WrittenLemmas

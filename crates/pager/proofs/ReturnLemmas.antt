@@ -88,7 +88,7 @@ module _ {D : Type 0} (history : D → History) (earlier old : State D) (orderly
   last = undone_to some few old
 
   base_same : base_of last ≡ base_of earlier
-  base_same = (λ i. base_with old.store (same_start some old.book i)) ∙ grows.stays.base
+  base_same = (λ i. base_with old.store old.book (same_start some old.book i)) ∙ grows.stays.base
 
   stays_back : Stays (store_of history earlier) (store_of history last)
   stays_back = record { base = base_same; reads = grows.stays.reads }
