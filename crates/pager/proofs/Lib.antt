@@ -1,4 +1,5 @@
 pub mod AfterLemmas
+pub mod AgainLemmas
 pub mod BeginLemmas
 pub mod BookLemmas
 pub mod CallLemmas

@@ -52,13 +52,16 @@ pinned_since generation version (pin ∷ pins) some le = elim (cases_eq generati
 -- ---- what only reads, makes and retires pages
 
 pub versions_stay : {D : Type 0} (history : D → History) → VersionsStay history
-versions_stay history old new grows version pages entries keeps =
+versions_stay history old new grows =
     let same = same_book new old grows.stays.base in
     record {
-      pinned = subst (λ (pins : List ℕ). 1 ≤ times version.generation pins) (sym same.pins) keeps.pinned;
-      since = subst (λ (root : Root). version.generation ≤ root.generation) (sym (same_root new old grows.stays.base)) keeps.since;
-      waits = subst (WaitSince version.generation pages) (sym same.waiting) keeps.waits;
-      holds = λ k.
-          let frame = grows.frame k in
-          old_trees_stay (store_of history old) (store_of history new) version.root pages entries frame (keeps.holds frame.word);
+      pins = same.pins;
+      each = λ version pages entries keeps. record {
+        pinned = subst (λ (pins : List ℕ). 1 ≤ times version.generation pins) (sym same.pins) keeps.pinned;
+        since = subst (λ (root : Root). version.generation ≤ root.generation) (sym (same_root new old grows.stays.base)) keeps.since;
+        waits = λ k. subst (WaitSince version.generation pages) (sym same.waiting) (keeps.waits (grows.frame k).word);
+        holds = λ k.
+            let frame = grows.frame k in
+            old_trees_stay (store_of history old) (store_of history new) version.root pages entries frame (keeps.holds frame.word);
+      };
     }

@@ -1,5 +1,5 @@
 -- Versions of the tree that are pinned, and what keeps them.
-use Rattle.std.specs.Prelude.{◌≡◌, ℕ, ◌≤◌, List, length, Result, IfOk, OnErr, OnOk}
+use Rattle.std.specs.Prelude.{◌≡◌, ℕ, ◌≤◌, List, Result, IfOk, OnErr, OnOk}
 use Rattle.std.specs.List.{AllByRecursion}
 use Rattle.page.specs.History.{History, KeepsWord}
 use Rattle.btree.specs.Keys.{Entry, times}
@@ -10,7 +10,7 @@ use Rattle.freelist.specs.declared.turns.Retirement.{Retirement}
 use Rattle.roots.specs.Store.{durable_root}
 use Rattle.pager.specs.Commit.{IsTurn}
 use Rattle.pager.specs.State.{State}
-use Rattle.pager.specs.Turn.{IsBegun, IsOrderly, undone_to}
+use Rattle.pager.specs.Turn.{IsBegun, undone_to}
 use Rattle.pager.specs.View.{pager_history, store_of}
 use Rattle.pager.specs.declared.version.Version.{Version}
 
@@ -29,21 +29,66 @@ pub record KeepsVersion {D : Type 0} (history : D → History) (version : Versio
     (entries : List Entry) (p : State D) : Type 0 where
   pub pinned : IsPinned version p
   pub since : version.generation ≤ (durable_root p.store).generation
-  pub waits : WaitSince version.generation pages p.book.waiting
+  pub waits : KeepsWord (pager_history history p)
+      → WaitSince version.generation pages p.book.waiting
   pub holds : KeepsWord (pager_history history p)
       → HasMap (store_of history p) version.root pages entries
 
--- What is pinned in the one and is kept is kept in the other, where it is pinned still.
-abbrev pub KeepsVersions : {D : Type 0} → (D → History) → State D → State D → Type 0
-KeepsVersions {D = D} history old new =
+-- each version that the one keeps is kept by the other
+abbrev pub KeepsEach : {D : Type 0} → (D → History) → State D → State D → Type 0
+KeepsEach {D = D} history old new =
     (version : Version) (pages : List ℕ) (entries : List Entry)
-    → KeepsVersion history version pages entries old → IsPinned version new
+    → KeepsVersion history version pages entries old
     → KeepsVersion history version pages entries new
+
+-- What is pinned stays so, and is kept.
+pub record KeepsVersions {D : Type 0} (history : D → History) (old new : State D) : Type 0 where
+  pub pins : new.book.pins ≡ old.book.pins
+  pub each : KeepsEach history old new
 
 -- Law: what only reads, makes and retires pages keeps each version that is pinned.
 abbrev pub VersionsStay : {D : Type 0} → (D → History) → Type 0
 VersionsStay {D = D} history =
     (old new : State D) → Grows (store_of history old) (store_of history new)
-    → (version : Version) (pages : List ℕ) (entries : List Entry)
-    → KeepsVersion history version pages entries old
-    → KeepsVersion history version pages entries new
+    → KeepsVersions history old new
+
+-- A pin and the end of one are no calls that a turn's beginning stays the same in. The turn goes
+-- on as one that began where undoing all of it would lead to now.
+pub record TurnGoesOn {D : Type 0} (history : D → History) (old new : State D) : Type 0 where
+  pub begun : (start : State D) (live : List ℕ) (before : List Entry)
+      → IsBegun history start live before
+      → Grows (store_of history start) (store_of history old)
+      → IsBegun history (undone_to 0 0 new) live before
+  pub turn : (start : State D) (live : List ℕ) (before : List Entry)
+      → IsBegun history start live before
+      → (root : ℕ) (pages : List ℕ) (after : List Entry)
+      → IsTurn history start old root live pages after
+      → KeepsWord (pager_history history new)
+      → IsTurn history (undone_to 0 0 new) new root live pages after
+
+-- The turn's tree below this page was pinned, or nothing changed.
+pub record Pins {D : Type 0} (history : D → History) (root : ℕ)
+    {E : Type 0} (result : Result Version E) (old new : State D) : Type 0 where
+  pub pinned : let generation = (durable_root old.store).generation in
+      OnOk result (new ≡ record old { book = pinned generation old.book })
+  pub version : let generation = (durable_root old.store).generation in
+      IfOk result (λ version. version ≡ record { generation = generation; root = root })
+  pub err : OnErr result (new ≡ old)
+  -- a turn that began with some entries has made the tree
+  pub keeps : (start : State D) (live : List ℕ) (before : List Entry)
+      → IsBegun history start live before
+      → (pages : List ℕ) (after : List Entry)
+      → (KeepsWord (pager_history history old) → IsTurn history start old root live pages after)
+      → IfOk result (λ version. KeepsVersion history version pages after new)
+  pub others : KeepsEach history old new
+  pub goes_on : TurnGoesOn history old new
+
+-- One pin of the version ended.
+pub record Unpins {D : Type 0} (history : D → History) (version : Version)
+    (old new : State D) : Type 0 where
+  pub unpinned : new ≡ record old { book = unpinned version.generation old.book }
+  -- what is pinned still is kept
+  pub others : (other : Version) (pages : List ℕ) (entries : List Entry)
+      → KeepsVersion history other pages entries old → IsPinned other new
+      → KeepsVersion history other pages entries new
+  pub goes_on : TurnGoesOn history old new
