@@ -11,7 +11,7 @@ use Rattle.page.specs.Format.{Sheet}
 use Rattle.page.specs.History.{History, KeepsWord, now, reads}
 use Rattle.page.specs.declared.page_fault.PageFault.{PageFault}
 use Rattle.page.proofs.Moments.{reads_nothing}
-use Rattle.btree.specs.Keys.{Each, Entry, times}
+use Rattle.btree.specs.Keys.{Entry, times}
 use Rattle.btree.specs.Store.{Frame, Grows, IsAt, Stays, flag}
 use Rattle.btree.proofs.ReachLemmas.{Moves, map_moved}
 use Rattle.freelist.specs.Book.{Book, CanRewind, is_free, is_free_state, is_in_use, rewind, undone}
@@ -30,9 +30,10 @@ use Rattle.pager.specs.Pinning.{TurnGoesOn}
 use Rattle.pager.specs.State.{State}
 use Rattle.pager.specs.Turn.{IsBegun, undone_to}
 use Rattle.pager.specs.View.{pager_history, sheets_of, store_of}
-use Rattle.pager.proofs.BookLemmas.{LeavesUse, booked_leaves, flag_most, flag_some, no_time, one_time, others_of, taken_use}
+use Rattle.pager.proofs.BookLemmas.{LeavesUse, booked_leaves, flag_most, flag_some, no_time, others_of, taken_use}
+use Rattle.pager.proofs.CapacityLemmas.{each_there}
 use Rattle.pager.proofs.ListLemmas.{made_joined, made_none}
-use Rattle.pager.proofs.MemberLemmas.{IsMember, all_among, member, more_times, times_append, times_reverse}
+use Rattle.pager.proofs.MemberLemmas.{IsMember, all_among, member, times_append, times_reverse}
 use Rattle.pager.proofs.OrderLemmas.{all_drop}
 use Rattle.pager.proofs.ReturnLemmas.{not_free_used, same_start}
 use Rattle.pager.proofs.TakeLemmas.{base_with}
@@ -274,22 +275,14 @@ module _ {D : Type 0} (history : D → History) (p : State D) (booked : IsBookFo
       live_part true b is = refl
       live_part false b is = absurd cc
 
-  moved_all : (some pages : List ℕ) → ((n : ℕ) → times n some ≤ times n pages)
-      → ((n : ℕ) → 1 ≤ times n pages → n < length p.book.states → is_in_use p.book.states n ≡ true)
-      → Each (Moves (store_of history p) (store_of history with_book)) some
-  moved_all [] pages less used = tt
-  moved_all (n ∷ rest) pages less used = (
-    moved_page n (used n (omega (arith, less n, one_time n n rest refl))),
-    moved_all rest pages (λ m. omega (arith, less m, more_times m n rest)) used,
-  )
-
   pub turn_again : (start : State D) (live : List ℕ) (before : List Entry) → IsBegun history start live before → (root : ℕ) (pages : List ℕ)
       (after : List Entry) → IsTurn history start p root live pages after → KeepsWord (pager_history history p)
       → IsTurn history begin with_book root live pages after
   turn_again start live before begun root pages after turn k = record {
     grows = undone_grows history with_book booked_with positive 0 0;
     holds = map_moved (store_of history p) (store_of history with_book) root pages after
-        (moved_all pages pages (λ n. omega arith) (tree_in_use history p start live before begun booked root pages after turn k)) turn.holds;
+        (each_there (Moves (store_of history p) (store_of history with_book)) pages
+        (λ n some. moved_page n (tree_in_use history p start live before begun booked root pages after turn k n some))) turn.holds;
     account = turn.account;
   }
 

@@ -247,6 +247,9 @@ unpin_leaves v b sound =
       sound = (stays_sound b sound).unpinned v;
     }
 
+pub nothing_leaves : (b : Book) → IsSound b → LeavesUse b b
+nothing_leaves b sound = record { turn = refl; long = refl; used = λ n. refl; full = refl; sound = sound }
+
 pub booked_leaves : (made : List Sheet) (old new : Book) → LeavesUse old new → IsBookFor made old → IsBookFor made new
 booked_leaves made old new leaves booked = record {
   sound = leaves.sound;
@@ -266,6 +269,12 @@ freed_kept pins (r ∷ rs) n pages d all = elim (cases_Bool (is_pinned pins r.ve
     | inr ne ↦ freed_kept pins rs n (set pages r.page states.Free) d all.1 ∙ get_or-set_other pages r.page n states.Free d ne
   ])
 ]
+
+-- where all is pinned, nothing is freed
+pub freed_none : (pins : List ℕ) (rs : List Retirement) (pages : List PageState) → AllByRecursion (λ (r : Retirement). is_pinned pins r.version ≡ true) rs
+    → freed pins rs pages ≡ pages
+freed_none pins [] pages all = refl
+freed_none pins (r ∷ rs) pages all = rw all.0 (freed_none pins rs pages all.1)
 
 -- each that is listed is counted
 pub each_listed : (rs : List Retirement) → AllByRecursion (λ (r : Retirement). 1 ≤ listed r.page rs) rs

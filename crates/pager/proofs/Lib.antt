@@ -8,6 +8,7 @@ pub mod CommitLemmas
 pub mod CountLemmas
 pub mod EndLemmas
 pub mod FindLemmas
+pub mod KeepingLemmas
 pub mod ListLemmas
 pub mod ListedLemmas
 pub mod MemberLemmas
