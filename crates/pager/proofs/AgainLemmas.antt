@@ -13,6 +13,7 @@ use Rattle.page.specs.declared.page_fault.PageFault.{PageFault}
 use Rattle.page.proofs.Moments.{reads_nothing}
 use Rattle.btree.specs.Keys.{Entry, times}
 use Rattle.btree.specs.Store.{Frame, Grows, IsAt, Stays, flag}
+use Rattle.btree.proofs.OnceLemmas.{map_live}
 use Rattle.btree.proofs.ReachLemmas.{Moves, map_moved}
 use Rattle.freelist.specs.Book.{Book, CanRewind, is_free, is_free_state, is_in_use, rewind, undone}
 use Rattle.freelist.specs.FreeList.{pages_of}
@@ -26,18 +27,20 @@ use Rattle.roots.specs.Store.{durable_root}
 use Rattle.roots.specs.Turn.{made_or, numbers_of}
 use Rattle.pager.specs.Commit.{IsTurn}
 use Rattle.pager.specs.Kept.{IsBookFor, takes_of}
-use Rattle.pager.specs.Pinning.{TurnGoesOn}
+use Rattle.pager.specs.Pinning.{IsPinned, KeepsVersion, TurnGoesOn}
 use Rattle.pager.specs.State.{State}
 use Rattle.pager.specs.Turn.{IsBegun, undone_to}
 use Rattle.pager.specs.View.{pager_history, sheets_of, store_of}
+use Rattle.pager.specs.declared.version.Version.{Version}
 use Rattle.pager.proofs.BookLemmas.{LeavesUse, booked_leaves, flag_most, flag_some, no_time, others_of, taken_use}
-use Rattle.pager.proofs.CapacityLemmas.{each_there}
+use Rattle.pager.proofs.CapacityLemmas.{each_there, has_times}
 use Rattle.pager.proofs.ListLemmas.{made_joined, made_none}
 use Rattle.pager.proofs.MemberLemmas.{IsMember, all_among, member, times_append, times_reverse}
 use Rattle.pager.proofs.OrderLemmas.{all_drop}
 use Rattle.pager.proofs.ReturnLemmas.{not_free_used, same_start}
 use Rattle.pager.proofs.TakeLemmas.{base_with}
 use Rattle.pager.proofs.TurnLemmas.{committed_still, in_use_then, states_then, used_with}
+use Rattle.pager.proofs.StayLemmas.{versions_stay}
 use Rattle.pager.proofs.UndoLemmas.{drop_takes, length_takes}
 
 -- ---- takes that are undone
@@ -188,6 +191,24 @@ module _ {D : Type 0} (history : D → History) (p : State D) (booked : IsBookFo
   pub undone_grows : Grows (store_of history q) (store_of history p)
   undone_grows = record { stays = stays; frame = frame }
 
+  -- a version that reaches none of the pages that were made since
+  module _ (version : Version) (reached : List ℕ) (entries : List Entry) (keeps : KeepsVersion history version reached entries p)
+      (older : KeepsWord (pager_history history p) → (n : ℕ) → 1 ≤ times n reached → times n (numbers_of later) ≡ 0) where
+    older_page : KeepsWord (pager_history history p) → (n : ℕ) → 1 ≤ times n reached → Moves (store_of history p) (store_of history q) n
+    older_page k n there content at = elim (member later n) [
+      | inl none ↦ record { number = at.number; live = left_live n none ∙ at.live; holds = ap content_in (left_sheet n none) ∙ at.holds }
+      | inr r ↦ absurd (omega (arith, r.count, older k n there))
+    ]
+
+    pub undone_keeps : KeepsVersion history version reached entries q
+    undone_keeps = record {
+      pinned = keeps.pinned;
+      since = keeps.since;
+      waits = keeps.waits;
+      holds = λ k. map_moved (store_of history p) (store_of history q) version.root reached entries
+          (each_there (Moves (store_of history p) (store_of history q)) reached (older_page k)) (keeps.holds k);
+    }
+
 -- ---- the pages of a turn's tree are in use
 
 module _ {D : Type 0} (history : D → History) (p start : State D) (live : List ℕ) (before : List Entry) (begun : IsBegun history start live before)
@@ -286,5 +307,31 @@ module _ {D : Type 0} (history : D → History) (p : State D) (booked : IsBookFo
     account = turn.account;
   }
 
-  pub goes_on_with : TurnGoesOn history p with_book
-  goes_on_with = record { begun = begin_again; turn = turn_again }
+  -- a version that was kept when the turn began
+  none_since : (start : State D) → start.made ≡ [] → Grows (store_of history start) (store_of history p) → (version : Version) (reached : List ℕ)
+      (entries : List Entry) → KeepsVersion history version reached entries start → KeepsWord (pager_history history p)
+      → (n : ℕ) → 1 ≤ times n reached → times n (numbers_of p.made) ≡ 0
+  none_since start empty grows version reached entries keeps k n some =
+      let frame = grows.frame k in
+      let lived : (store_of history start).live n ≡ true =
+      has_times (λ m. (store_of history start).live m ≡ true) n reached
+      (map_live (store_of history start) version.root reached entries (keeps.holds frame.word)) some in
+      omega (
+        arith,
+        frame.made n,
+        ap flag lived,
+        flag_most ((store_of history p).live n),
+        times_reverse n (numbers_of p.made),
+        ap (λ (made : List Sheet). times n (reverse (numbers_of made))) empty,
+      )
+
+  pub goes_on_with : ((version : Version) (reached : List ℕ) (entries : List Entry) → KeepsVersion history version reached entries p
+      → IsPinned version with_book → KeepsVersion history version reached entries with_book) → TurnGoesOn history p with_book
+  goes_on_with each = record {
+    begun = begin_again;
+    turn = turn_again;
+    versions = λ start empty grows version reached entries keeps still.
+        undone_keeps history with_book booked_with positive 0 0 version reached entries
+        (each version reached entries ((versions_stay history start p grows).each version reached entries keeps) still)
+        (none_since start empty grows version reached entries keeps);
+  }

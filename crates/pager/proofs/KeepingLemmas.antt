@@ -49,7 +49,7 @@ use Rattle.pager.proofs.OrderLemmas.{all_at, in_order}
 use Rattle.pager.proofs.PlanLemmas.{all, all_lie, all_new, all_sheets, free_then, planned, tree, wide}
 use Rattle.pager.proofs.TakeLemmas.{not_free, others_free}
 use Rattle.pager.proofs.TreeLemmas.{IsOfTree, map_pages}
-use Rattle.pager.proofs.VersionLemmas.{map_at, pinned_since}
+use Rattle.pager.proofs.StayLemmas.{map_at, pinned_since}
 
 -- ---- what a commit makes of the book
 

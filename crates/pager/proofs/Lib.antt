@@ -19,6 +19,7 @@ pub mod PlanLemmas
 pub mod ReadLemmas
 pub mod RefusalLemmas
 pub mod ReturnLemmas
+pub mod StayLemmas
 pub mod TakeLemmas
 pub mod TreeLemmas
 pub mod TurnLemmas

@@ -1,4 +1,4 @@
--- A version that is pinned is kept.
+-- A version is pinned, and kept while others are pinned and unpinned.
 use Rattle.std.proofs.Common.{◌≡◌, ℕ, ◌+◌, ◌<◌, ◌≤◌, Bool, true, false, List, [], ◌∷◌, ◌++◌, length, get_or, refl, sym, ◌∙◌, ap, subst, arith, inl, inr}
 use Rattle.std.specs.Prelude.{◌||◌, ◌&&◌, is_ok, nat_le, nat_lt, not, IsErr, Result, Ok, Err}
 use Rattle.std.specs.List.{AllByRecursion}
@@ -12,7 +12,6 @@ use Rattle.page.specs.declared.page_cache.PageCache.{PageCache}
 use Rattle.btree.specs.Keys.{Each, Entry, times}
 use Rattle.btree.specs.Reach.{HasMap}
 use Rattle.btree.specs.Store.{Grows, IsAt, Store as Pages}
-use Rattle.btree.proofs.OnceLemmas.{old_trees_stay}
 use Rattle.btree.proofs.ReachLemmas.{Moves, map_moved}
 use Rattle.freelist.specs.Book.{Book, is_free_state, is_pinned, pinned, unpinned, without}
 use Rattle.freelist.specs.Sound.{retired_count, times as listed}
@@ -34,51 +33,7 @@ use Rattle.pager.proofs.CapacityLemmas.{each_there}
 use Rattle.pager.proofs.ListLemmas.{all_weaker}
 use Rattle.pager.proofs.MemberLemmas.{all_filter, times_append}
 use Rattle.pager.proofs.OrderLemmas.{all_positive}
-use Rattle.pager.proofs.TurnLemmas.{same_book, same_root}
-
--- ---- trees in other stores
-
-each_of : (P : ℕ → Type 0) → ((n : ℕ) → P n) → (pages : List ℕ) → Each P pages
-each_of P all [] = tt
-each_of P all (n ∷ pages) = (all n, each_of P all pages)
-
--- a tree, where all that is live stays
-pub map_at : (s t : Pages) (root : ℕ) (pages : List ℕ) (entries : List Entry) → ((n : ℕ) (content : Content) → IsAt s n content → IsAt t n content)
-    → HasMap s root pages entries → HasMap t root pages entries
-map_at s t root pages entries to = map_moved s t root pages entries (each_of (Moves s t) to pages)
-
--- ---- pins
-
--- what is retired at a version that is pinned, or later, is kept
-pub pinned_since : (generation version : ℕ) (pins : List ℕ) → 1 ≤ times generation pins → generation ≤ version → is_pinned pins version ≡ true
-pinned_since generation version [] some le = absurd (omega (arith, some))
-pinned_since generation version (pin ∷ pins) some le = elim (cases_eq generation pin) [
-  | inl is ↦
-      let test : nat_le pin version ≡ true = grind (arith, nat_tests, le, is) in
-      ap (λ (b : Bool). b || is_pinned pins version) test
-  | inr ne ↦ later (nat_le pin version) (pinned_since generation version pins (omega (arith, some, no_time generation pin pins ne)) le)
-]
-  where
-    later : (b : Bool) {c : Bool} → c ≡ true → (b || c) ≡ true
-    later true is = refl
-    later false is = is
-
--- ---- what only reads, makes and retires pages
-
-pub versions_stay : {D : Type 0} (history : D → History) → VersionsStay history
-versions_stay history old new grows =
-    let same = same_book new old grows.stays.base in
-    record {
-      pins = same.pins;
-      each = λ version pages entries keeps. record {
-        pinned = subst (λ (pins : List ℕ). 1 ≤ times version.generation pins) (sym same.pins) keeps.pinned;
-        since = subst (λ (root : Root). version.generation ≤ root.generation) (sym (same_root new old grows.stays.base)) keeps.since;
-        waits = λ k. subst (WaitSince version.generation pages) (sym same.waiting) (keeps.waits (grows.frame k).word);
-        holds = λ k.
-            let frame = grows.frame k in
-            old_trees_stay (store_of history old) (store_of history new) version.root pages entries frame (keeps.holds frame.word);
-      };
-    }
+use Rattle.pager.proofs.StayLemmas.{map_at, pinned_since}
 
 -- ---- a pin
 
@@ -215,7 +170,8 @@ module _ {D : Type 0} {listed places : List ℕ} (history : D → History) (stor
     keeps = pin_keeps history (now_with book) so.booked root;
     others = pin_each history (now_with book) so.booked;
     goes_on = goes_on_with history (now_with book) so.booked positive (pinned (durable_root store).generation book)
-        (pin_leaves (durable_root store).generation book so.booked.sound);
+        (pin_leaves (durable_root store).generation book so.booked.sound)
+        (λ version pages entries keeps still. pin_each history (now_with book) so.booked version pages entries keeps);
   }
 
   pub pins_done : {E : Type 0} (root generation : ℕ) (other : Book) (old : State D) → now_with book ≡ old → generation ≡ (durable_root store).generation
@@ -234,7 +190,8 @@ module _ {D : Type 0} {listed places : List ℕ} (history : D → History) (stor
     err = refl;
     keeps = λ start live before begun pages after turn. tt;
     others = λ version pages entries keeps. keeps;
-    goes_on = goes_on_with history (now_with book) so.booked positive book (nothing_leaves book so.booked.sound);
+    goes_on = goes_on_with history (now_with book) so.booked positive book (nothing_leaves book so.booked.sound)
+        (λ version pages entries keeps still. keeps);
   }
 
   pub pins_failed : {E : Type 0} (root : ℕ) (result : Result Version E) (other : Book) (old : State D) → now_with book ≡ old → IsErr result → other ≡ book
@@ -248,7 +205,7 @@ module _ {D : Type 0} {listed places : List ℕ} (history : D → History) (stor
     unpinned = refl;
     others = unpin_each history (now_with book) version.generation;
     goes_on = goes_on_with history (now_with book) so.booked positive (unpinned version.generation book)
-        (unpin_leaves version.generation book so.booked.sound);
+        (unpin_leaves version.generation book so.booked.sound) (unpin_each history (now_with book) version.generation);
   }
 
   pub unpins_done : (version : Version) (other : Book) (old : State D) → now_with book ≡ old → other ≡ unpinned version.generation book

@@ -1,5 +1,5 @@
 -- Versions of the tree that are pinned, and what keeps them.
-use Rattle.std.specs.Prelude.{◌≡◌, ℕ, ◌≤◌, List, Result, IfOk, OnErr, OnOk}
+use Rattle.std.specs.Prelude.{◌≡◌, ℕ, ◌≤◌, List, [], drop, Result, IfOk, OnErr, OnOk}
 use Rattle.std.specs.List.{AllByRecursion}
 use Rattle.page.specs.History.{History, KeepsWord}
 use Rattle.btree.specs.Keys.{Entry, times}
@@ -8,6 +8,7 @@ use Rattle.btree.specs.Store.{Grows}
 use Rattle.freelist.specs.Book.{pinned, unpinned}
 use Rattle.freelist.specs.declared.turns.Retirement.{Retirement}
 use Rattle.roots.specs.Store.{durable_root}
+use Rattle.roots.specs.Turn.{numbers_of}
 use Rattle.pager.specs.Commit.{IsTurn}
 use Rattle.pager.specs.State.{State}
 use Rattle.pager.specs.Turn.{IsBegun, undone_to}
@@ -52,8 +53,17 @@ VersionsStay {D = D} history =
     (old new : State D) → Grows (store_of history old) (store_of history new)
     → KeepsVersions history old new
 
--- A pin and the end of one are no calls that a turn's beginning stays the same in. The turn goes
--- on as one that began where undoing all of it would lead to now.
+-- Undoing the pages that were made behind so many keeps each version that reaches none of them.
+abbrev pub KeepsOlder : {D : Type 0} → (D → History) → ℕ → State D → State D → Type 0
+KeepsOlder {D = D} history made old new =
+    (version : Version) (pages : List ℕ) (entries : List Entry)
+    → KeepsVersion history version pages entries old
+    → (KeepsWord (pager_history history old)
+    → (n : ℕ) → 1 ≤ times n pages → times n (numbers_of (drop made old.made)) ≡ 0)
+    → KeepsVersion history version pages entries new
+
+-- A pin and the end of one change what a turn began with. It goes on as one that began where
+-- undoing all of it leads to now.
 pub record TurnGoesOn {D : Type 0} (history : D → History) (old new : State D) : Type 0 where
   pub begun : (start : State D) (live : List ℕ) (before : List Entry)
       → IsBegun history start live before
@@ -65,6 +75,12 @@ pub record TurnGoesOn {D : Type 0} (history : D → History) (old new : State D)
       → IsTurn history start old root live pages after
       → KeepsWord (pager_history history new)
       → IsTurn history (undone_to 0 0 new) new root live pages after
+  -- what was kept then is kept there, where it is pinned still
+  pub versions : (start : State D) → start.made ≡ []
+      → Grows (store_of history start) (store_of history old)
+      → (version : Version) (pages : List ℕ) (entries : List Entry)
+      → KeepsVersion history version pages entries start → IsPinned version new
+      → KeepsVersion history version pages entries (undone_to 0 0 new)
 
 -- The turn's tree below this page was pinned, or nothing changed.
 pub record Pins {D : Type 0} (history : D → History) (root : ℕ)

@@ -56,7 +56,7 @@ impl<D: Disk> Pager<D> {
     ghost use Rattle.pager.specs.Commit.{Commits, CountsTakes, MovesTurns};
     ghost use Rattle.pager.specs.Counting.{CountsPages};
     ghost use Rattle.pager.specs.Opening.{HasLimit, IsOpened, IsRefused};
-    ghost use Rattle.pager.specs.Pinning.{KeepsVersions, Pins, Unpins, VersionsStay};
+    ghost use Rattle.pager.specs.Pinning.{KeepsOlder, KeepsVersions, Pins, Unpins, VersionsStay};
     ghost use Rattle.pager.specs.State.{State};
     ghost use Rattle.pager.specs.Turn.{IsOrderly, LeadsBack, Returns, is_changed, undone_to};
     ghost use Rattle.pager.specs.View.{pager_history};
@@ -160,6 +160,7 @@ impl<D: Disk> Pager<D> {
         ensures undone { self.new ≡ undone_to mark.made mark.retired self.old }
         ensures begun { LeadsBack D.history mark.made mark.retired self.old self.new }
         ensures returns { Returns D.history mark.made mark.retired self.old self.new }
+        ensures versions { KeepsOlder D.history mark.made self.old self.new }
     {
         self.book.undo_to(mark.book);
         self.made.truncate(mark.made);

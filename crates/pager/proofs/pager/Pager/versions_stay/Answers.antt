@@ -1,4 +1,4 @@
-use Rattle.pager.proofs.VersionLemmas.{versions_stay}
+use Rattle.pager.proofs.StayLemmas.{versions_stay}
 use Rattle.pager.proofs.pager.Pager.versions_stay.Goals as goal
 
 pub returns : goal.returns
