@@ -1,6 +1,6 @@
 -- A turn goes on once a version was pinned or unpinned in it: it is one that began where undoing all of it would lead to.
-use Rattle.std.proofs.Common.{◌≡◌, ◌≢◌, ℕ, zero, suc, ◌+◌, ◌<◌, ◌≤◌, Bool, true, false, List, [], ◌∷◌, ◌++◌, length, take, drop, set, get_or, refl, sym, ◌∙◌, ap}
-use Rattle.std.proofs.Common.{subst, arith, inl, inr}
+use Rattle.std.proofs.Common.{◌≡◌, ◌≢◌, ℕ, zero, suc, ◌+◌, ◌<◌, ◌≤◌, Bool, true, false, List, [], ◌∷◌, ◌++◌, length, take, drop, set, get_or}
+use Rattle.std.proofs.Common.{refl, sym, ◌∙◌, ap, subst, arith, inl, inr}
 use Rattle.std.specs.Prelude.{◌&&◌, nat_lt, not, reverse, is_ok, Result}
 use Rattle.std.specs.List.{AllByRecursion}
 use Rattle.std.proofs.lemmas.Bool.{cases_eq, cases_lt}
@@ -149,7 +149,9 @@ module _ {D : Type 0} (history : D → History) (p : State D) (booked : IsBookFo
     | inr r ↦ let never : true ≡ false = sym at.live ∙ gone_dead n r in absurd cc
   ]
 
-  counted : (n : ℕ) → times n (store_of history p).made + flag ((store_of history q).live n) ≡ times n (store_of history q).made + flag ((store_of history p).live n)
+  counted : (n : ℕ)
+      → times n (store_of history p).made + flag ((store_of history q).live n)
+      ≡ times n (store_of history q).made + flag ((store_of history p).live n)
   counted n =
       let all : times n (reverse (numbers_of p.made)) ≡ times n (numbers_of p.made) = times_reverse n (numbers_of p.made) in
       let front : times n (reverse (numbers_of first)) ≡ times n (numbers_of first) = times_reverse n (numbers_of first) in
@@ -290,7 +292,11 @@ module _ {D : Type 0} (history : D → History) (p : State D) (booked : IsBookFo
             ap (λ (s : PageState). nat_lt 0 n && is_free_state s) (get_or_past book.states n states.Retired (omega (arith, past, leaves.long)))
             ∙ and_false (nat_lt 0 n)
       ] in
-      record { number = at.number; live = (λ i. is_ok (sheets_of history p n) && not (not_free i)) ∙ live_part (is_ok (sheets_of history p n)) _ at.live; holds = at.holds }
+      record {
+        number = at.number;
+        live = (λ i. is_ok (sheets_of history p n) && not (not_free i)) ∙ live_part (is_ok (sheets_of history p n)) _ at.live;
+        holds = at.holds;
+      }
     where
       live_part : (a b : Bool) → (a && b) ≡ true → (a && true) ≡ true
       live_part true b is = refl

@@ -1,5 +1,5 @@
 -- The pages of a file are counted by reads of its disk alone.
-use Rattle.std.proofs.Common.{◌≡◌, ℕ, ◌≤◌, max, List, ◌∷◌, ◌++◌, length, map, refl, sym, ap, subst, arith}
+use Rattle.std.proofs.Common.{◌≡◌, ℕ, ◌≤◌, max, List, ◌∷◌, ◌++◌, length, refl, sym, ap, subst, arith}
 use Rattle.std.specs.Prelude.{◌&&◌, is_ok, not, Result}
 use Rattle.std.specs.List.{AllByRecursion}
 use Rattle.page.specs.Format.{Sheet}

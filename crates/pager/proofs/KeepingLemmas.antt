@@ -1,16 +1,16 @@
 -- A commit keeps each version that is pinned.
-use Rattle.std.proofs.Common.{◌≡◌, ◌≢◌, ℕ, ◌+◌, ◌<◌, ◌≤◌, Bool, true, false, List, [], ◌∷◌, ◌++◌, length, refl, sym, ◌∙◌, ap, subst, arith, inl, inr, None}
+use Rattle.std.proofs.Common.{◌≡◌, ◌≢◌, ℕ, ◌+◌, ◌≤◌, Bool, true, false, List, [], ◌∷◌, length, refl, sym, ◌∙◌, ap, subst, arith, inl, inr, None}
 use Rattle.std.specs.Prelude.{◌&&◌, ◌||◌, is_ok, not, Result, Ok, Err}
 use Rattle.std.specs.List.{AllByRecursion}
 use Rattle.std.proofs.lemmas.Bool.{cases_Bool, cases_eq}
 use Rattle.page.specs.Cache.{kept}
-use Rattle.page.specs.Content.{Content, IsContent, is_of_tree}
+use Rattle.page.specs.Content.{IsContent, is_of_tree}
 use Rattle.page.specs.Format.{Sheet}
 use Rattle.page.specs.History.{History, KeepsWord, now, reads}
 use Rattle.page.specs.PageLaws.{IsSheet}
 use Rattle.page.specs.declared.page_cache.PageCache.{PageCache}
 use Rattle.page.specs.declared.page_fault.PageFault.{PageFault}
-use Rattle.btree.specs.Keys.{Each, Entry, times}
+use Rattle.btree.specs.Keys.{Entry, times}
 use Rattle.btree.specs.Reach.{HasMap}
 use Rattle.btree.proofs.ListLemmas.{each_map}
 use Rattle.btree.proofs.ReachLemmas.{Moves, map_moved}
@@ -18,7 +18,6 @@ use Rattle.freelist.specs.Book.{Book, committed, is_free, is_in_use, is_pinned, 
 use Rattle.freelist.specs.FreeList.{first_page, written}
 use Rattle.freelist.specs.ListWriting.{IsMade, TakesAll}
 use Rattle.freelist.specs.declared.states.PageState.{PageState}
-use Rattle.freelist.specs.declared.turns.Change.{Change}
 use Rattle.freelist.specs.declared.turns.Retirement.{Retirement}
 use Rattle.freelist.proofs.SoundBooks.{retired_in_retired, retired_in_taken}
 use Rattle.roots.specs.declared.root.Root.{Root}
@@ -33,10 +32,10 @@ use Rattle.roots.specs.Turn.{LieBehind, next_root}
 use Rattle.roots.proofs.WalkLemmas.{IsFound, found_at}
 use Rattle.pager.specs.Kept.{IsKept, IsNew, takes_of}
 use Rattle.pager.specs.Order.{pages_at}
-use Rattle.pager.specs.Pinning.{KeepsEach, KeepsVersion, KeepsVersions, WaitSince}
+use Rattle.pager.specs.Pinning.{KeepsVersion, KeepsVersions, WaitSince}
 use Rattle.pager.specs.Planning.{PlanFails, next_generation, pages_with}
 use Rattle.pager.specs.State.{State}
-use Rattle.pager.specs.View.{pager_history, sheets_of, store_of}
+use Rattle.pager.specs.View.{sheets_of, store_of}
 use Rattle.pager.specs.Writing.{IsAmong, KeepsAll, retired_all}
 use Rattle.pager.specs.declared.version.Version.{Version}
 use Rattle.pager.proofs.AfterLemmas.{each_there, next_is, still_failed, still_there}

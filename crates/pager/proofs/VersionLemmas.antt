@@ -1,34 +1,30 @@
 -- A version is pinned, and kept while others are pinned and unpinned.
-use Rattle.std.proofs.Common.{◌≡◌, ℕ, ◌+◌, ◌<◌, ◌≤◌, Bool, true, false, List, [], ◌∷◌, ◌++◌, length, get_or, refl, sym, ◌∙◌, ap, subst, arith, inl, inr}
-use Rattle.std.specs.Prelude.{◌||◌, ◌&&◌, is_ok, nat_le, nat_lt, not, IsErr, Result, Ok, Err}
+use Rattle.std.proofs.Common.{◌≡◌, ℕ, ◌<◌, ◌≤◌, true, List, [], ◌∷◌, length, get_or, refl, sym, ◌∙◌, ap, subst, arith, inl, inr}
+use Rattle.std.specs.Prelude.{◌&&◌, is_ok, nat_lt, not, IsErr, Result, Ok, Err}
 use Rattle.std.specs.List.{AllByRecursion}
-use Rattle.std.proofs.lemmas.Bool.{cases_eq, cases_lt}
-use Rattle.std.proofs.lemmas.Bool.Decides.{nat_tests}
+use Rattle.std.proofs.lemmas.Bool.{cases_lt}
 use Rattle.std.proofs.lemmas.List.{get_or_past}
-use Rattle.page.specs.Content.{Content}
 use Rattle.page.specs.Format.{Sheet}
 use Rattle.page.specs.History.{History, KeepsWord}
 use Rattle.page.specs.declared.page_cache.PageCache.{PageCache}
-use Rattle.btree.specs.Keys.{Each, Entry, times}
+use Rattle.btree.specs.Keys.{Entry, times}
 use Rattle.btree.specs.Reach.{HasMap}
-use Rattle.btree.specs.Store.{Grows, IsAt, Store as Pages}
 use Rattle.btree.proofs.ReachLemmas.{Moves, map_moved}
 use Rattle.freelist.specs.Book.{Book, is_free_state, is_pinned, pinned, unpinned, without}
 use Rattle.freelist.specs.Sound.{retired_count, times as listed}
 use Rattle.freelist.specs.declared.states.PageState.TheVariants as states
 use Rattle.freelist.specs.declared.turns.Retirement.{Retirement}
 use Rattle.roots.specs.Store.{durable_root}
-use Rattle.roots.specs.declared.root.Root.{Root}
 use Rattle.roots.specs.declared.store.Store.{Store}
 use Rattle.pager.specs.Commit.{IsTurn}
 use Rattle.pager.specs.Kept.{IsBookFor, IsKept}
-use Rattle.pager.specs.Pinning.{IsPinned, KeepsEach, KeepsVersion, Pins, Unpins, VersionsStay, WaitSince}
+use Rattle.pager.specs.Pinning.{IsPinned, KeepsEach, KeepsVersion, Pins, Unpins, WaitSince}
 use Rattle.pager.specs.State.{State}
 use Rattle.pager.specs.Turn.{IsBegun}
 use Rattle.pager.specs.View.{pager_history, sheets_of, store_of}
 use Rattle.pager.specs.declared.version.Version.{Version}
 use Rattle.pager.proofs.AgainLemmas.{goes_on_with, tree_in_use}
-use Rattle.pager.proofs.BookLemmas.{LeavesUse, booked_leaves, each_listed, freed_kept, no_time, nothing_leaves, one_time, pin_leaves, unpin_leaves, used_unlisted}
+use Rattle.pager.proofs.BookLemmas.{LeavesUse, booked_leaves, each_listed, freed_kept, nothing_leaves, one_time, pin_leaves, unpin_leaves, used_unlisted}
 use Rattle.pager.proofs.CapacityLemmas.{each_there}
 use Rattle.pager.proofs.ListLemmas.{all_weaker}
 use Rattle.pager.proofs.MemberLemmas.{all_filter, times_append}

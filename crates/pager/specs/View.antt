@@ -42,7 +42,8 @@ book_numbers book pages =
     (map state_number pages)))
 
 -- What no call but a commit, a pin and the end of one changes: whether the store has stopped, the
--- root that is committed, what is pinned and what waits, and what each page was when the turn began.
+-- root that is committed, what is pinned and what waits, and what each page was when the turn
+-- began.
 abbrev pub base_of : {D : Type 0} → State D → List ℕ
 base_of p = flag (is_stopped p.store) ∷ root_numbers (durable_root p.store)
     ++ book_numbers p.book (rewind p.book.turn p.book.states)
