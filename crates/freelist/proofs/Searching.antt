@@ -10,7 +10,7 @@ use Rattle.std.proofs.lemmas.List.{drop-drop, get_or-drop, get_or-take, get_or-s
 use Rattle.std.proofs.Math.Nat.{mod-add-div'}
 use Rattle.std.proofs.Math.Seq.{take-append_seam}
 use Rattle.freelist.specs.Book.{is_free_state, first_free, least_free, without, IsStart}
-use Rattle.freelist.specs.Search.{AreMarked, IsFirst, NoneFits, fits, marks_after}
+use Rattle.freelist.specs.Search.{MarksHold, IsFirst, NoneFits, fits, marks_after, marks_passed}
 use Rattle.freelist.specs.declared.states.PageState.{PageState}
 use Rattle.freelist.specs.declared.states.PageState.TheVariants as states
 use Rattle.freelist.specs.declared.states.Sought.{Sought}
@@ -66,38 +66,41 @@ starts_at start page pages is first = record {
 
 module _ (sought : Sought) (pages : List PageState) where
   -- what was found of a part of the pages
-  pub in_part : (first : ℕ) → first + 256 ≤ length pages
-      → NoneFits sought 0 (length (take (first + 256 - first) (drop first pages))) (take (first + 256 - first) (drop first pages))
-      → NoneFits sought first (first + 256) pages
-  in_part first inside none k after below =
-      let at : first + (k - first) ≡ k = omega (arith, after) in
-      let all : length (take (first + 256 - first) (drop first pages)) ≡ first + 256 - first =
-      length-take-le (first + 256 - first) (drop first pages) (omega (arith, inside, length-drop first pages)) in
-      ap (λ (j : ℕ). fits sought (get_or pages j states.InUse)) (sym at)
-      ∙ ap (fits sought) (sym (get_or-drop first pages (k - first) states.InUse))
-      ∙ ap (fits sought) (sym (get_or-take (first + 256 - first) (drop first pages) (k - first) states.InUse (omega (arith, after, below))))
-      ∙ none (k - first) (omega arith) (omega (arith, all, after, below))
+  pub place_within : (from to at : ℕ) → to ≤ length pages → IsFirst sought 0 at (take (to - from) (drop from pages)) → at ≤ to - from
+  place_within from to at inside first =
+      omega (arith, first.within, length-take-le (to - from) (drop from pages) (omega (arith, inside, length-drop from pages)))
 
-  -- a block of which it was found out is marked so
-  pub marks_block : (marks : List Bool) (block : ℕ) (found : Bool) → AreMarked sought marks pages
-      → (found ≡ true → NoneFits sought (block * 256) (block * 256 + 256) pages) → AreMarked sought (set marks block found) pages
-  marks_block marks block found are none = record { none = there; whole = omega (arith, are.whole, length-set marks block found) }
+  pub none_in_part : (from to at : ℕ) → to ≤ length pages → IsFirst sought 0 at (take (to - from) (drop from pages))
+      → NoneFits sought from (from + at) pages
+  none_in_part from to at inside first k after below =
+      let there : from + (k - from) ≡ k = omega (arith, after) in
+      let within : k - from < to - from = omega (arith, after, below, place_within from to at inside first) in
+      ap (λ (j : ℕ). fits sought (get_or pages j states.InUse)) (sym there)
+      ∙ ap (fits sought) (sym (get_or-drop from pages (k - from) states.InUse))
+      ∙ ap (fits sought) (sym (get_or-take (to - from) (drop from pages) (k - from) states.InUse within))
+      ∙ first.passed (k - from) (omega arith) (omega (arith, after, below))
+
+  -- a block that was passed over is marked
+  pub marks_block : (marks : List Bool) (block from passed : ℕ) → MarksHold sought marks pages → NoneFits sought from (from + passed) pages
+      → (passed ≡ 256 → from ≡ block * 256) → MarksHold sought (marks_passed block passed marks) pages
+  marks_block marks block from passed are none begins = elim (cases_eq passed 256) [
+    | inl all ↦ subst (λ (ms : List Bool). MarksHold sought ms pages) (sym (now all)) (record {
+      none = there all;
+      whole = omega (arith, are.whole, length-set marks block true);
+    })
+    | inr some ↦ subst (λ (ms : List Bool). MarksHold sought ms pages) (sym (still some)) are
+  ]
     where
-      at_block : (j : ℕ) → j ≡ block → get_or (set marks block found) j false ≡ true → NoneFits sought (j * 256) (j * 256 + 256) pages
-      at_block j same marked = elim (cases_lt block (length marks)) [
-        | inl inside ↦
-            let so : found ≡ true = sym (get_or-set_at marks block j found false same inside) ∙ marked in
-            subst (λ (i : ℕ). NoneFits sought (i * 256) (i * 256 + 256) pages) (sym same) (none so)
-        | inr past ↦
-            let no : get_or (set marks block found) j false ≡ false =
-            get_or_past (set marks block found) j false (omega (arith, same, past, length-set marks block found)) in
-            absurd (let never : true ≡ false = sym marked ∙ no in cc)
-      ]
+      now : passed ≡ 256 → marks_passed block passed marks ≡ set marks block true
+      now all = (let eq : (passed == 256) ≡ true = grind (arith, nat_tests) in rw eq refl)
 
-      there : (j : ℕ) → get_or (set marks block found) j false ≡ true → NoneFits sought (j * 256) (j * 256 + 256) pages
-      there j marked = elim (cases_eq j block) [
-        | inl same ↦ at_block j same marked
-        | inr other ↦ are.none j (sym (get_or-set_other marks block j found false other) ∙ marked)
+      still : passed ≢ 256 → marks_passed block passed marks ≡ marks
+      still some = (let eq : (passed == 256) ≡ false = grind (arith, nat_tests) in rw eq refl)
+
+      there : passed ≡ 256 → (j : ℕ) → get_or (set marks block true) j false ≡ true → NoneFits sought (j * 256) (j * 256 + 256) pages
+      there all j marked = elim (cases_eq j block) [
+        | inl same ↦ λ k after below. none k (omega (arith, after, same, begins all)) (omega (arith, below, same, begins all, all))
+        | inr other ↦ are.none j (sym (get_or-set_other marks block j true false other) ∙ marked)
       ]
 
 used_never_fits : (sought : Sought) → fits sought states.InUse ≡ false
@@ -123,10 +126,10 @@ mark_is_gone (m ∷ marks) zero = refl
 mark_is_gone (m ∷ marks) (suc block) = mark_is_gone marks block
 
 -- a block that is marked still was, and isn't that of a page which is sought now
-pub stays_marked : (sought : Sought) (pages : List PageState) (marks : List Bool) (page : ℕ) (state : PageState) → AreMarked sought marks pages
-    → AreMarked sought (marks_after sought page state marks) (set pages page state)
+pub stays_marked : (sought : Sought) (pages : List PageState) (marks : List Bool) (page : ℕ) (state : PageState) → MarksHold sought marks pages
+    → MarksHold sought (marks_after sought page state marks) (set pages page state)
 stays_marked sought pages marks page state are = elim (cases_Bool (fits sought state)) [
-  | inl so ↦ subst (λ (ms : List Bool). AreMarked sought ms (set pages page state)) (sym (taken so)) (record {
+  | inl so ↦ subst (λ (ms : List Bool). MarksHold sought ms (set pages page state)) (sym (taken so)) (record {
     none = λ j marked k after below. elim (cases_eq j (page / 256)) [
       | inl same ↦ absurd (let never : true ≡ false =
           sym marked ∙ ap (λ (i : ℕ). get_or (set marks (page / 256) false) i false) same ∙ mark_is_gone marks (page / 256) in cc)
@@ -135,7 +138,7 @@ stays_marked sought pages marks page state are = elim (cases_Bool (fits sought s
     ];
     whole = omega (arith, are.whole, length-set marks (page / 256) false, length-set pages page state);
   })
-  | inr not_so ↦ subst (λ (ms : List Bool). AreMarked sought ms (set pages page state)) (sym (left not_so)) (record {
+  | inr not_so ↦ subst (λ (ms : List Bool). MarksHold sought ms (set pages page state)) (sym (left not_so)) (record {
     none = λ j marked k after below. fits_no_more sought pages page k state (λ same. not_so) (are.none j marked k after below);
     whole = omega (arith, are.whole, length-set pages page state);
   })

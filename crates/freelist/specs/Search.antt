@@ -1,6 +1,6 @@
 -- What a search among a file's pages knows: where it begins, and which blocks it passes over.
 use Rattle.std.specs.Prelude.{◌≡◌, ℕ, ◌+◌, ◌*◌, ◌^◌, ◌<◌, ◌≤◌, Bool, true, false, not, max}
-use Rattle.std.specs.Prelude.{if◌then◌else◌, List, length, get_or, slice_set, ◌/◌}
+use Rattle.std.specs.Prelude.{if◌then◌else◌, List, length, get_or, slice_set, ◌/◌, ◌==◌}
 use Rattle.freelist.specs.Book.{is_free_state, is_used_state, IsStart}
 use Rattle.freelist.specs.ListWriting.{is_unused, unused_below}
 use Rattle.freelist.specs.declared.states.PageState.{PageState}
@@ -19,10 +19,14 @@ NoneFits sought from to pages =
     (k : ℕ) → from ≤ k → k < to → fits sought (get_or pages k states.InUse) ≡ false
 
 -- In a block that is marked none of the 256 pages is sought.
-pub record AreMarked (sought : Sought) (marks : List Bool) (pages : List PageState) : Type 0 where
+pub record MarksHold (sought : Sought) (marks : List Bool) (pages : List PageState) : Type 0 where
   pub none : (block : ℕ) → get_or marks block false ≡ true
       → NoneFits sought (block * 256) (block * 256 + 256) pages
   pub whole : length marks * 256 ≤ length pages
+
+-- A block of which all 256 pages were passed over is marked.
+abbrev pub marks_passed : ℕ → ℕ → List Bool → List Bool
+marks_passed block passed marks = if passed == 256 then slice_set marks block true else marks
 
 -- A page's block isn't marked any more where the page is sought in its new state.
 abbrev pub marks_after : Sought → ℕ → PageState → List Bool → List Bool
@@ -47,5 +51,5 @@ pub record IsNextUnused (from end page : ℕ) (pages : List PageState) : Type 0 
 -- What is known of the pages: where the next free one may be, and of two marks a block what they say.
 pub record IsSearch (start : ℕ) (full used : List Bool) (pages : List PageState) : Type 0 where
   pub starts : IsStart start pages
-  pub full_blocks : AreMarked soughts.Free full pages
-  pub used_blocks : AreMarked soughts.Unused used pages
+  pub full_blocks : MarksHold soughts.Free full pages
+  pub used_blocks : MarksHold soughts.Unused used pages

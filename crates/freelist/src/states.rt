@@ -2,7 +2,7 @@
 ghost use Rattle.std.specs.Prelude.{◌≡◌, ◌<◌, ◌≤◌, ◌+◌, ◌*◌, true, false, IfOk, replicate, slice_set, get_or, List, length, max};
 ghost use Rattle.freelist.specs.Book.{IsStart, is_in_use, least_free};
 ghost use Rattle.freelist.specs.ListWriting.{unused_below};
-ghost use Rattle.freelist.specs.Search.{AreMarked, IsFirst, IsNextUnused, NoneFits, fits, marks_after};
+ghost use Rattle.freelist.specs.Search.{MarksHold, IsFirst, IsNextUnused, NoneFits, fits, marks_after, marks_passed};
 ghost use Rattle.freelist.specs.declared.states.PageState.{PageState};
 ghost use Rattle.freelist.specs.declared.states.PageState.TheVariants as states;
 
@@ -45,51 +45,50 @@ impl Sought {
     }
 }
 
-/// Whether none of these pages is sought.
-fn none_fits(sought: Sought, pages: &[PageState]) -> bool
-    ensures { result ≡ true → NoneFits sought 0 (length pages.now) pages.now }
+/// Where the first sought one of these pages stands. Their number where there is none.
+fn place_of(sought: Sought, pages: &[PageState]) -> usize
+    ensures { IsFirst sought 0 result pages.now }
 {
-    pages.iter().all(|state| !sought.fits(*state))
+    pages
+        .iter()
+        .position(|state| sought.fits(*state))
+        .unwrap_or(pages.len())
 }
 
-/// Whether none of a block's 256 pages is sought, which is then marked.
-fn is_passed(sought: Sought, block: usize, pages: &[PageState], marks: &mut [bool]) -> bool
-    requires marked { AreMarked sought marks.old pages.now }
-    ensures marked { AreMarked sought marks.new pages.now }
-    ensures none { result ≡ true → NoneFits sought (block * 256) (block * 256 + 256) pages.now }
-    ensures inside { result ≡ true → block * 256 + 256 ≤ length pages.now }
+/// Marks a block of which so many pages were passed over, if that is all of it.
+#[tactic(auto, using(std::proofs::lemmas::List::set_past))]
+fn mark_block(block: usize, passed: usize, marks: &mut [bool])
+    ensures { marks.new ≡ marks_passed block passed marks.old }
 {
-    if marks.len() <= block {
-        return false;
+    if passed == BLOCK && block < marks.len() {
+        marks[block] = true;
     }
-    if !marks[block] {
-        let first = block * BLOCK;
-        marks[block] = none_fits(sought, &pages[first..first + BLOCK]);
-    }
-    marks[block]
 }
 
-/// The next page at which a search looks, behind one that isn't sought.
+/// The next page at which a search looks, behind one that isn't sought: a sought one of its block, or the block's end.
 fn behind(sought: Sought, page: usize, pages: &[PageState], marks: &mut [bool]) -> usize
-    requires marked { AreMarked sought marks.old pages.now }
+    requires marked { MarksHold sought marks.old pages.now }
     requires inside { page < length pages.now }
     requires other { fits sought (get_or pages.now page states.InUse) ≡ false }
-    ensures marked { AreMarked sought marks.new pages.now }
+    ensures marked { MarksHold sought marks.new pages.now }
     ensures rises { page < result }
     ensures inside { result ≤ length pages.now }
     ensures passed { NoneFits sought page result pages.now }
 {
-    if page % BLOCK == 0 && is_passed(sought, page / BLOCK, pages, marks) {
-        page + BLOCK
-    } else {
-        page + 1
+    let block = page / BLOCK;
+    let end = page + (BLOCK - page % BLOCK).min(pages.len() - page);
+    if block < marks.len() && marks[block] {
+        return end;
     }
+    let passed = place_of(sought, &pages[page..end]);
+    mark_block(block, passed, marks);
+    page + passed
 }
 
 /// The first sought page from this one on. A page past the limit where there is none.
 fn first_from(sought: Sought, from: usize, pages: &[PageState], marks: &mut [bool]) -> usize
-    requires marked { AreMarked sought marks.old pages.now }
-    ensures marked { AreMarked sought marks.new pages.now }
+    requires marked { MarksHold sought marks.old pages.now }
+    ensures marked { MarksHold sought marks.new pages.now }
     ensures first { IsFirst sought from result pages.now }
 {
     let mut page = from;
@@ -104,7 +103,7 @@ fn first_from(sought: Sought, from: usize, pages: &[PageState], marks: &mut [boo
 
 /// Takes the mark from a page's block, where the page is sought in its new state.
 #[tactic(auto, using(std::proofs::lemmas::List::set_past))]
-fn unmark(sought: Sought, page: usize, state: PageState, marks: &mut [bool])
+fn unmark_block(sought: Sought, page: usize, state: PageState, marks: &mut [bool])
     ensures { marks.new ≡ marks_after sought page state marks.old }
 {
     let block = page / BLOCK;
@@ -240,7 +239,7 @@ impl PageStates {
             *place = state;
         }
         self.start = start_after(self.start, at, state);
-        unmark(Sought::Free, at, state, &mut self.full);
-        unmark(Sought::Unused, at, state, &mut self.used);
+        unmark_block(Sought::Free, at, state, &mut self.full);
+        unmark_block(Sought::Unused, at, state, &mut self.used);
     }
 }

@@ -148,8 +148,8 @@ kept_unpinned {listed = listed} {places = places} history store cache made book 
     subst (λ (b : Book). IsKept history store cache made b listed places) (sym is)
     (kept_with history store cache made book (unpinned generation book) (unpin_leaves generation book so.booked.sound) so)
 
-module _ {D : Type 0} {listed places : List ℕ} (history : D → History) (store : Store D) (cache : PageCache) (made : List Sheet) (retired : List ℕ) (book : Book)
-    (so : IsKept history store cache made book listed places) where
+module _ {D : Type 0} {listed places : List ℕ} (history : D → History) (store : Store D) (cache : PageCache) (made : List Sheet) (retired : List ℕ)
+    (book : Book) (so : IsKept history store cache made book listed places) where
   abbrev now_with : Book → State D
   now_with other = record { store = store; made = made; retired = retired; book = other }
 

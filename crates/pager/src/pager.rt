@@ -168,8 +168,8 @@ impl<D: Disk> Pager<D> {
         keep_lower(&mut self.places, mark.made);
     }
 
-    /// Pins the tree below this page as it is now: what it reaches isn't free before it is unpinned, whatever is committed meanwhile.
-    /// A version may be pinned several times. An `Err` leaves all as it was.
+    /// Pins the tree below this page as it is now: what it reaches isn't free before it is unpinned, whatever is committed
+    /// meanwhile. A version may be pinned several times. An `Err` leaves all as it was.
     pub fn pin(&mut self, root: u32) -> Result<Version, AllocError>
         ensures pins { Pins D.history root result self.old self.new }
     {
