@@ -334,6 +334,7 @@ module _ {D : Type 0} (history : D → History) (p : State D) (booked : IsBookFo
   pub goes_on_with : ((version : Version) (reached : List ℕ) (entries : List Entry) → KeepsVersion history version reached entries p
       → IsPinned version with_book → KeepsVersion history version reached entries with_book) → TurnGoesOn history p with_book
   goes_on_with each = record {
+    grows = undone_grows history with_book booked_with positive 0 0;
     begun = begin_again;
     turn = turn_again;
     versions = λ start empty grows version reached entries keeps still.

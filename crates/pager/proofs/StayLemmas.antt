@@ -1,6 +1,6 @@
 -- A version that is pinned stays while pages are only read, made and retired.
 use Rattle.std.proofs.Common.{◌≡◌, ℕ, ◌≤◌, Bool, true, false, List, [], ◌∷◌, refl, sym, ap, subst, arith, inl, inr}
-use Rattle.std.specs.Prelude.{◌||◌, nat_le}
+use Rattle.std.specs.Prelude.{◌==◌, ◌||◌, nat_le}
 use Rattle.std.proofs.lemmas.Bool.{cases_eq}
 use Rattle.std.proofs.lemmas.Bool.Decides.{nat_tests}
 use Rattle.page.specs.Content.{Content}
@@ -10,7 +10,7 @@ use Rattle.btree.specs.Reach.{HasMap}
 use Rattle.btree.specs.Store.{IsAt, Store as Pages}
 use Rattle.btree.proofs.OnceLemmas.{old_trees_stay}
 use Rattle.btree.proofs.ReachLemmas.{Moves, map_moved}
-use Rattle.freelist.specs.Book.{is_pinned}
+use Rattle.freelist.specs.Book.{is_pinned, without}
 use Rattle.roots.specs.declared.root.Root.{Root}
 use Rattle.pager.specs.Pinning.{VersionsStay, WaitSince}
 use Rattle.pager.specs.View.{store_of}
@@ -43,6 +43,20 @@ pinned_since generation version (pin ∷ pins) some le = elim (cases_eq generati
     later : (b : Bool) {c : Bool} → c ≡ true → (b || c) ≡ true
     later true is = refl
     later false is = is
+
+-- one pin less
+pub times_without : (generation : ℕ) (pins : List ℕ) → 1 ≤ times generation pins → (n : ℕ)
+    → times n pins ≡ times n (generation ∷ without generation pins)
+times_without generation [] some n = absurd (omega (arith, some))
+times_without generation (pin ∷ pins) some n = elim (cases_eq pin generation) [
+  | inl is ↦
+      let test : (pin == generation) ≡ true = grind (arith, nat_tests, is) in
+      rw test (ap (λ (m : ℕ). times n (m ∷ pins)) is)
+  | inr ne ↦
+      let test : (pin == generation) ≡ false = grind (arith, nat_tests, ne) in
+      let later = times_without generation pins (omega (arith, some, no_time generation pin pins (λ is. ne (sym is)))) n in
+      rw test (omega (arith, later))
+]
 
 -- ---- what only reads, makes and retires pages
 

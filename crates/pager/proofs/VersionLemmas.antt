@@ -29,7 +29,7 @@ use Rattle.pager.proofs.CapacityLemmas.{each_there}
 use Rattle.pager.proofs.ListLemmas.{all_weaker}
 use Rattle.pager.proofs.MemberLemmas.{all_filter, times_append}
 use Rattle.pager.proofs.OrderLemmas.{all_positive}
-use Rattle.pager.proofs.StayLemmas.{map_at, pinned_since}
+use Rattle.pager.proofs.StayLemmas.{map_at, pinned_since, times_without}
 
 -- ---- a pin
 
@@ -162,6 +162,7 @@ module _ {D : Type 0} {listed places : List ℕ} (history : D → History) (stor
   pins_now root = record {
     pinned = refl;
     version = refl;
+    counts = λ n. omega (arith, times_append n book.pins ((durable_root store).generation ∷ []));
     err = tt;
     keeps = pin_keeps history (now_with book) so.booked root;
     others = pin_each history (now_with book) so.booked;
@@ -183,6 +184,7 @@ module _ {D : Type 0} {listed places : List ℕ} (history : D → History) (stor
   pins_nothing root (Err e) is = record {
     pinned = tt;
     version = tt;
+    counts = tt;
     err = refl;
     keeps = λ start live before begun pages after turn. tt;
     others = λ version pages entries keeps. keeps;
@@ -199,6 +201,7 @@ module _ {D : Type 0} {listed places : List ℕ} (history : D → History) (stor
   unpins_now : (version : Version) → Unpins history version (now_with book) (now_with (unpinned version.generation book))
   unpins_now version = record {
     unpinned = refl;
+    counts = times_without version.generation book.pins;
     others = unpin_each history (now_with book) version.generation;
     goes_on = goes_on_with history (now_with book) so.booked positive (unpinned version.generation book)
         (unpin_leaves version.generation book so.booked.sound) (unpin_each history (now_with book) version.generation);

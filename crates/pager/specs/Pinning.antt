@@ -1,5 +1,5 @@
 -- Versions of the tree that are pinned, and what keeps them.
-use Rattle.std.specs.Prelude.{◌≡◌, ℕ, ◌≤◌, List, [], drop, Result, IfOk, OnErr, OnOk}
+use Rattle.std.specs.Prelude.{◌≡◌, ℕ, ◌≤◌, List, [], ◌∷◌, drop, Result, IfOk, OnErr, OnOk}
 use Rattle.std.specs.List.{AllByRecursion}
 use Rattle.page.specs.History.{History, KeepsWord}
 use Rattle.btree.specs.Keys.{Entry, times}
@@ -65,6 +65,7 @@ KeepsOlder {D = D} history made old new =
 -- A pin and the end of one change what a turn began with. It goes on as one that began where
 -- undoing all of it leads to now.
 pub record TurnGoesOn {D : Type 0} (history : D → History) (old new : State D) : Type 0 where
+  pub grows : Grows (store_of history (undone_to 0 0 new)) (store_of history new)
   pub begun : (start : State D) (live : List ℕ) (before : List Entry)
       → IsBegun history start live before
       → Grows (store_of history start) (store_of history old)
@@ -89,6 +90,8 @@ pub record Pins {D : Type 0} (history : D → History) (root : ℕ)
       OnOk result (new ≡ record old { book = pinned generation old.book })
   pub version : let generation = (durable_root old.store).generation in
       IfOk result (λ version. version ≡ record { generation = generation; root = root })
+  pub counts : let generation = (durable_root old.store).generation in
+      OnOk result ((n : ℕ) → times n new.book.pins ≡ times n (generation ∷ old.book.pins))
   pub err : OnErr result (new ≡ old)
   -- a turn that began with some entries has made the tree
   pub keeps : (start : State D) (live : List ℕ) (before : List Entry)
@@ -103,6 +106,8 @@ pub record Pins {D : Type 0} (history : D → History) (root : ℕ)
 pub record Unpins {D : Type 0} (history : D → History) (version : Version)
     (old new : State D) : Type 0 where
   pub unpinned : new ≡ record old { book = unpinned version.generation old.book }
+  pub counts : IsPinned version old
+      → (n : ℕ) → times n old.book.pins ≡ times n (version.generation ∷ new.book.pins)
   -- what is pinned still is kept
   pub others : (other : Version) (pages : List ℕ) (entries : List Entry)
       → KeepsVersion history other pages entries old → IsPinned other new
