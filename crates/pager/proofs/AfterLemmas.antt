@@ -120,12 +120,16 @@ module _ {D : Type 0} (history : D → History) (store : Store D) (cache : PageC
         (λ (m : Sheet). sheet_at behind next m.page ≡ Ok m) (λ m there some. now_read k m.page some ∙ there) all
         (made_there (λ m. sheet_at before next m) 0 all lie) (above 0 all lie)
 
+    -- and so is each that was there and isn't written
+    pub still_there : KeepsWord (disk_history history new) → (n : ℕ) (found : Sheet) → sheet_at before (durable_root store) n ≡ Ok found
+        → AllByRecursion (λ (m : Sheet). m.page ≢ n) all → sheet_at behind next n ≡ Ok found
+    still_there k n found there none =
+        now_read k n (some_number before (durable_root store) n found there) ∙ made_none all n (sheet_at before next n) none
+        ∙ still_read before (durable_root store) next n found (omega arith) (omega arith) there
+
     agrees_next : KeepsWord (disk_history history new) → (n : ℕ) (found : Sheet) → kept after n ≡ Some found → sheet_at behind next n ≡ Ok found
     agrees_next k n found is = elim (keeps n found is) [
-      | inl earlier ↦
-          let there : sheet_at before (durable_root store) n ≡ Ok found = cached (on k) n found earlier in
-          now_read k n (some_number before (durable_root store) n found there) ∙ made_none all n (sheet_at before next n) (none_written n found earlier)
-          ∙ still_read before (durable_root store) next n found (omega arith) (omega arith) there
+      | inl earlier ↦ still_there k n found (cached (on k) n found earlier) (none_written n found earlier)
       | inr (at, among) ↦
           subst (λ (m : ℕ). sheet_at behind next m ≡ Ok found) at
           (all_among (λ (m : Sheet). sheet_at behind next m.page ≡ Ok m) all found (each_there k) among)
@@ -134,22 +138,29 @@ module _ {D : Type 0} (history : D → History) (store : Store D) (cache : PageC
     pub agrees_after : Agrees history new after
     agrees_after k n found is = ap (λ (r : Root). sheet_at behind r n) next_is ∙ agrees_next k n found is
 
-  -- a commit that failed: the pages that it wrote aren't in the cache
-  pub agrees_failed : (new : Store D) (tree free_list free_count : ℕ) (fault : CommitFault)
-      → LeavesPages history all tree free_list free_count (Err fault) store new
-      → (KeepsWord (disk_history history new) → KeepsWord (disk_history history store)) → Agrees history new cache
-  agrees_failed new tree free_list free_count fault leaves on k n found is =
-      let there : sheet_at (reads (now (disk_history history store))) (durable_root store) n ≡ Ok found = cached (on k) n found is in
+  -- a commit that failed: what it didn't write is there still
+  pub still_failed : (new : Store D) (tree free_list free_count : ℕ) (fault : CommitFault)
+      → LeavesPages history all tree free_list free_count (Err fault) store new → KeepsWord (disk_history history new) → (n : ℕ) (found : Sheet)
+      → sheet_at (reads (now (disk_history history store))) (durable_root store) n ≡ Ok found → AllByRecursion (λ (m : Sheet). m.page ≢ n) all
+      → sheet_at (reads (now (disk_history history new))) (durable_root new) n ≡ Ok found
+  still_failed new tree free_list free_count fault leaves k n found there none =
       let some : 0 < n = some_number (reads (now (disk_history history store))) (durable_root store) n found there in
       ap (λ (r : Root). sheet_at (reads (now (disk_history history new))) r n) leaves.still
       ∙ sheet_same (reads (now (disk_history history store))) (reads (now (disk_history history new))) (durable_root store) n
-      (λ j here. leaves.others k j (omega (arith, some, here.0)) (off_written n j here all (none_written n found is)))
+      (λ j here. leaves.others k j (omega (arith, some, here.0)) (off_written n j here all none))
       ∙ there
     where
       off_written : (n j : ℕ) → IsSectorOf n j → (ms : List Sheet) → AllByRecursion (λ (m : Sheet). m.page ≢ n) ms → IsOnPages (numbers_of ms) j → ⊥
       off_written n j here [] ne on_it = on_it
       off_written n j here (m ∷ ms) ne (inl there) = ne.0 (omega (arith, here.0, here.1, there.0, there.1))
       off_written n j here (m ∷ ms) ne (inr later) = off_written n j here ms ne.1 later
+
+  -- and the pages that it wrote aren't in the cache
+  pub agrees_failed : (new : Store D) (tree free_list free_count : ℕ) (fault : CommitFault)
+      → LeavesPages history all tree free_list free_count (Err fault) store new
+      → (KeepsWord (disk_history history new) → KeepsWord (disk_history history store)) → Agrees history new cache
+  agrees_failed new tree free_list free_count fault leaves on k n found is =
+      still_failed new tree free_list free_count fault leaves k n found (cached (on k) n found is) (none_written n found is)
 
 -- ---- what every pager keeps
 

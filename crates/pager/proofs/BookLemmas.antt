@@ -3,6 +3,7 @@ use Rattle.std.proofs.Common.{◌≡◌, ◌≢◌, ℕ, zero, suc, ◌+◌, ◌
 use Rattle.std.proofs.Common.{sym, ◌∙◌, ap, subst}
 use Rattle.std.proofs.Common.{arith, inl, inr, length-append}
 use Rattle.std.specs.Prelude.{◌==◌, ◌&&◌, not, nat_lt, if◌then◌else◌, Result, Ok, Err, OnOk}
+use Rattle.std.specs.List.{AllByRecursion}
 use Rattle.std.proofs.lemmas.Bool.{cases_Bool, cases_eq}
 use Rattle.std.proofs.lemmas.Bool.Decides.{nat_tests}
 use Rattle.std.proofs.lemmas.List.{get_or-set_other, get_or-set_same, get_or_default, length-set, take_more}
@@ -10,7 +11,8 @@ use Rattle.page.specs.Format.{Sheet}
 use Rattle.btree.specs.Keys.{times}
 use Rattle.btree.specs.Reach.{AreOnce}
 use Rattle.btree.specs.Store.{flag}
-use Rattle.freelist.specs.Book.{Book, CanRewind, committed, freed, is_free, is_in_use, is_pinned, is_used_state, retired, retired_in, rewind, undone}
+use Rattle.freelist.specs.Book.{Book, CanRewind, committed, freed, is_free, is_in_use, is_pinned, is_used_state, pinned, retired, retired_in, rewind, undone}
+use Rattle.freelist.specs.Book.{unpinned, without}
 use Rattle.freelist.specs.Sound.{IsSound, retired_count, times as listed, waits}
 use Rattle.freelist.specs.Undone.{Call, after, retire}
 use Rattle.freelist.specs.declared.states.PageState.{PageState}
@@ -24,6 +26,7 @@ use Rattle.freelist.proofs.Undoing.{undone-undone, undoing_leads_back}
 use Rattle.roots.specs.Turn.{numbers_of}
 use Rattle.pager.specs.Kept.{IsBookFor, takes_of}
 use Rattle.pager.specs.Writing.{retired_all}
+use Rattle.pager.proofs.ListLemmas.{all_weaker}
 
 -- ---- counting
 
@@ -165,7 +168,7 @@ lost_use v (p ∷ pages) n b some = elim (cases_eq n p) [
 
 -- ---- the end of a turn
 
--- a step of what is freed, where the page is another or isn't in use
+-- a page that isn't listed is what it was
 freed_other : (pins : List ℕ) (rs : List Retirement) (n : ℕ) (pages : List PageState) (d : PageState) → listed n rs ≡ 0
     → get_or (freed pins rs pages) n d ≡ get_or pages n d
 freed_other pins [] n pages d none = refl
@@ -192,7 +195,7 @@ freed_unused pins (r ∷ rs) n pages h = elim (cases_Bool (is_pinned pins r.vers
   | inr not_so ↦ rw not_so (freed_unused pins rs n (set pages r.page states.Free) (set_free pages r.page n h))
 ]
 
-length_freed : (pins : List ℕ) (rs : List Retirement) (pages : List PageState) → length (freed pins rs pages) ≡ length pages
+pub length_freed : (pins : List ℕ) (rs : List Retirement) (pages : List PageState) → length (freed pins rs pages) ≡ length pages
 length_freed pins [] pages = refl
 length_freed pins (r ∷ rs) pages = elim (cases_Bool (is_pinned pins r.version)) [
   | inl so ↦ rw so (length_freed pins rs pages)
@@ -202,17 +205,84 @@ length_freed pins (r ∷ rs) pages = elim (cases_Bool (is_pinned pins r.version)
 pub committed_length : (v : ℕ) (b : Book) → length (committed v b).states ≡ length b.states
 committed_length v b = length_freed b.pins (retired_in b.turn) b.states
 
+-- a page in use is listed nowhere
+pub used_unlisted : (b : Book) → IsSound b → (n : ℕ) → is_in_use b.states n ≡ true → listed n b.waiting + listed n (retired_in b.turn) ≡ 0
+used_unlisted b sound n used =
+    let here : get_or b.states n states.Retired ≡ states.InUse = used_is (get_or b.states n states.Retired) used in
+    let within : n < length b.states = below b.states n states.InUse here (λ e. cc) in
+    sound.listed n ∙ ap retired_count (get_or_default b.states n states.Free states.Retired within ∙ here)
+
 -- what is in use stays so, and nothing else comes to be
-pub committed_use : (v : ℕ) (b : Book) → IsSound b → (n : ℕ) → is_in_use (committed v b).states n ≡ is_in_use b.states n
-committed_use v b sound n = elim (cases_Bool (is_in_use b.states n)) [
-  | inl so ↦
-      let here : get_or b.states n states.Retired ≡ states.InUse = used_is (get_or b.states n states.Retired) so in
-      let within : n < length b.states = below b.states n states.InUse here (λ e. cc) in
-      let count : retired_count (get_or b.states n states.Free) ≡ 0 = ap retired_count (get_or_default b.states n states.Free states.Retired within ∙ here) in
-      let none : listed n (retired_in b.turn) ≡ 0 = omega (arith, sound.listed n, count) in
-      ap is_used_state (freed_other b.pins (retired_in b.turn) n b.states states.Retired none)
-  | inr not_so ↦ freed_unused b.pins (retired_in b.turn) n b.states not_so ∙ sym not_so
+freed_use : (pins : List ℕ) (rs : List Retirement) (n : ℕ) (pages : List PageState) → (is_in_use pages n ≡ true → listed n rs ≡ 0)
+    → is_in_use (freed pins rs pages) n ≡ is_in_use pages n
+freed_use pins rs n pages unlisted = elim (cases_Bool (is_in_use pages n)) [
+  | inl so ↦ ap is_used_state (freed_other pins rs n pages states.Retired (unlisted so))
+  | inr not_so ↦ freed_unused pins rs n pages not_so ∙ sym not_so
 ]
+
+pub committed_use : (v : ℕ) (b : Book) → IsSound b → (n : ℕ) → is_in_use (committed v b).states n ≡ is_in_use b.states n
+committed_use v b sound n = freed_use b.pins (retired_in b.turn) n b.states (λ used. omega (arith, used_unlisted b sound n used))
+
+-- ---- a pin, and its end
+
+-- What both leave of a book: what is in use, and the turn.
+pub record LeavesUse (old new : Book) : Type 0 where
+  pub turn : new.turn ≡ old.turn
+  pub long : length new.states ≡ length old.states
+  pub used : (n : ℕ) → is_in_use new.states n ≡ is_in_use old.states n
+  pub full : new.full_takes ≡ old.full_takes
+  pub sound : IsSound new
+
+pub pin_leaves : (v : ℕ) (b : Book) → IsSound b → LeavesUse b (pinned v b)
+pin_leaves v b sound = record { turn = refl; long = refl; used = λ n. refl; full = refl; sound = (stays_sound b sound).pinned v }
+
+pub unpin_leaves : (v : ℕ) (b : Book) → IsSound b → LeavesUse b (unpinned v b)
+unpin_leaves v b sound =
+    let pins = without v b.pins in
+    record {
+      turn = refl;
+      long = length_freed pins b.waiting b.states;
+      used = λ n. freed_use pins b.waiting n b.states (λ used. omega (arith, used_unlisted b sound n used));
+      full = refl;
+      sound = (stays_sound b sound).unpinned v;
+    }
+
+pub nothing_leaves : (b : Book) → IsSound b → LeavesUse b b
+nothing_leaves b sound = record { turn = refl; long = refl; used = λ n. refl; full = refl; sound = sound }
+
+pub booked_leaves : (made : List Sheet) (old new : Book) → LeavesUse old new → IsBookFor made old → IsBookFor made new
+booked_leaves made old new leaves booked = record {
+  sound = leaves.sound;
+  turn = leaves.turn ∙ booked.turn;
+  limit = omega (arith, leaves.long, booked.limit);
+  count = omega (arith, leaves.full, booked.count);
+}
+
+-- what isn't freed, since all that is listed of it is pinned
+pub freed_kept : (pins : List ℕ) (rs : List Retirement) (n : ℕ) (pages : List PageState) (d : PageState)
+    → AllByRecursion (λ (r : Retirement). r.page ≡ n → is_pinned pins r.version ≡ true) rs → get_or (freed pins rs pages) n d ≡ get_or pages n d
+freed_kept pins [] n pages d all = refl
+freed_kept pins (r ∷ rs) n pages d all = elim (cases_Bool (is_pinned pins r.version)) [
+  | inl so ↦ rw so (freed_kept pins rs n pages d all.1)
+  | inr not_so ↦ rw not_so (elim (cases_eq n r.page) [
+    | inl is ↦ let never : true ≡ false = sym (all.0 (sym is)) ∙ not_so in absurd cc
+    | inr ne ↦ freed_kept pins rs n (set pages r.page states.Free) d all.1 ∙ get_or-set_other pages r.page n states.Free d ne
+  ])
+]
+
+-- where all is pinned, nothing is freed
+pub freed_none : (pins : List ℕ) (rs : List Retirement) (pages : List PageState) → AllByRecursion (λ (r : Retirement). is_pinned pins r.version ≡ true) rs
+    → freed pins rs pages ≡ pages
+freed_none pins [] pages all = refl
+freed_none pins (r ∷ rs) pages all = rw all.0 (freed_none pins rs pages all.1)
+
+-- each that is listed is counted
+pub each_listed : (rs : List Retirement) → AllByRecursion (λ (r : Retirement). 1 ≤ listed r.page rs) rs
+each_listed [] = tt
+each_listed (r ∷ rs) = (
+  omega (arith, one_same r.page r refl),
+  all_weaker (λ (s : Retirement). 1 ≤ listed s.page rs) (λ (s : Retirement). 1 ≤ listed s.page (r ∷ rs)) (λ s some. omega (arith, some)) rs (each_listed rs),
+)
 
 -- ---- what isn't in use is free or waits
 

@@ -1,5 +1,5 @@
 -- What a read of a pager gives, and what it leaves.
-use Rattle.std.proofs.Common.{◌≡◌, ◌≢◌, ℕ, ◌+◌, ◌<◌, ◌≤◌, max, Bool, true, false, List, ◌∷◌, ◌++◌, length, map, refl, sym, ◌∙◌, ap, subst, Option, Some, None}
+use Rattle.std.proofs.Common.{◌≡◌, ◌≢◌, ℕ, ◌+◌, ◌<◌, ◌≤◌, max, Bool, true, false, List, ◌∷◌, ◌++◌, length, refl, sym, ◌∙◌, ap, subst, Option, Some, None}
 use Rattle.std.specs.Prelude.{◌&&◌, is_ok, not, Result, Ok, Err, IfOk, IfErr}
 use Rattle.std.specs.List.{AllByRecursion}
 use Rattle.page.specs.Cache.{kept}
@@ -11,7 +11,6 @@ use Rattle.btree.specs.Store.{HasCause, IsAt, KeepsWord, Stays, Store as Pages, 
 use Rattle.btree.specs.declared.pages.TreeFault.{TreeFault}
 use Rattle.btree.specs.declared.pages.TreeFault.TheVariants as faults
 use Rattle.freelist.specs.Book.{Book, is_free, rewind}
-use Rattle.freelist.specs.Coding.{state_number}
 use Rattle.roots.specs.declared.root.Root.{Root}
 use Rattle.roots.specs.declared.store.Store.{Store}
 use Rattle.roots.specs.Image.{content_in}
@@ -20,7 +19,7 @@ use Rattle.roots.proofs.WalkLemmas.{IsFound, found_at}
 use Rattle.pager.specs.Calls.{HasReadCause, ReadsPage}
 use Rattle.pager.specs.Kept.{IsKept, IsNew}
 use Rattle.pager.specs.State.{State}
-use Rattle.pager.specs.View.{root_numbers, sheets_of, store_of}
+use Rattle.pager.specs.View.{book_numbers, root_numbers, sheets_of, store_of}
 use Rattle.pager.proofs.ListLemmas.{all_both, made_none}
 use Rattle.pager.proofs.ReadLemmas.{sheet_in, still_listed}
 
@@ -71,7 +70,7 @@ pub read_stays : {D : Type 0} (history : D → History) (store new : Store D) (c
 read_stays {D = D} history store new cache after made retired book page result old view_is read =
     let last : State D = record { store = new; made = made; retired = retired; book = book } in
     subst (λ (p : State D). Stays (store_of history p) (store_of history last)) view_is (record {
-      base = (λ i. flag (read.only.stopped i) ∷ root_numbers (read.only.root i) ++ map state_number (rewind book.turn book.states));
+      base = (λ i. flag (read.only.stopped i) ∷ root_numbers (read.only.root i) ++ book_numbers book (rewind book.turn book.states));
       reads = read.only.reads;
     })
 

@@ -43,7 +43,7 @@ has_times P n (x ∷ xs) all some = elim (cases_eq n x) [
   | inr ne ↦ has_times P n xs all.1 (omega (arith, some, no_time n x xs ne))
 ]
 
-each_there : (P : ℕ → Type 0) (xs : List ℕ) → ((n : ℕ) → 1 ≤ times n xs → P n) → Each P xs
+pub each_there : (P : ℕ → Type 0) (xs : List ℕ) → ((n : ℕ) → 1 ≤ times n xs → P n) → Each P xs
 each_there P [] there = tt
 each_there P (x ∷ xs) there =
     (there x (omega (arith, one_time x x xs refl)), each_there P xs (λ n some. there n (omega (arith, some, more_times n x xs))))

@@ -18,6 +18,7 @@ use Rattle.roots.specs.declared.store.Store.{Store}
 use Rattle.pager.specs.Commit.{Commits, MovesTurns}
 use Rattle.pager.specs.Kept.{IsKept}
 use Rattle.pager.specs.Order.{pages_at}
+use Rattle.pager.specs.Pinning.{KeepsVersions}
 use Rattle.pager.specs.Planning.{IsPlanned, pages_with}
 use Rattle.pager.specs.State.{State}
 use Rattle.pager.specs.Writing.{Forgets, KeepsAll}
@@ -25,6 +26,7 @@ use Rattle.pager.specs.declared.planning.Plan.{Plan}
 use Rattle.pager.proofs.AfterLemmas.{gone_then, kept_after, kept_failed, kept_forgotten, list_now, root_is}
 use Rattle.pager.proofs.BookLemmas.{all_full, all_longer, back_all, back_both}
 use Rattle.pager.proofs.EndLemmas.{moves_done, moves_failed}
+use Rattle.pager.proofs.KeepingLemmas.{done_keeps, failed_keeps}
 use Rattle.pager.proofs.PlanLemmas.{all, count_is as count_of_plan, named_few, names_free, planned, tree, tree_inside, wide}
 
 -- what was planned for the parts that a call was handed is planned for those of the pager
@@ -103,6 +105,12 @@ module _ {D : Type 0} {listed places : List ℕ} (history : D → History) (stor
         moves_failed history store cache made retired book so pages is.named final list root fault new commits
         (recast (λ sheets free_list free_count. MovesMaps history sheets root free_list free_count (Err fault) store new) moves) is.content
 
+    pub failed_versions : LeavesPages history plan.written.items root plan.free_list plan.free_count (Err fault) store new
+        → KeepsVersions history p (record { store = new; made = made; retired = retired; book = book })
+    failed_versions leaves =
+        failed_keeps history store cache made retired (retired ++ listed) book so pages is.named final list gone new root first (length is.named) fault
+        (recast (λ sheets free_list free_count. LeavesPages history sheets root free_list free_count (Err fault) store new) leaves) commits.on.kept
+
   -- ---- it was done
 
   module _ (root : ℕ) (new : Store D) (commits : CommitsRoot history root (Ok tt) store new)
@@ -126,6 +134,11 @@ module _ {D : Type 0} {listed places : List ℕ} (history : D → History) (stor
         (recast (λ sheets free_list free_count. MovesMaps history sheets root free_list free_count (Ok tt) store new) moves) is.content
         (list_now history store cache made (retired ++ listed) book so pages is.named final list gone new after root leaves_all is.content keeps_all
         commits.on.kept) last
+
+    pub done_versions : KeepsVersions history p (record { store = new; made = []; retired = []; book = committed last final })
+    done_versions =
+        done_keeps history store cache made retired (retired ++ listed) book so pages is.named final list gone new after root leaves_all is.content keeps_all
+        commits.on.kept (omega (arith, commits.version)) last
 
     pub done_commits : Commits history root (Ok tt) p (record { store = new; made = []; retired = []; book = committed last final })
     done_commits = record {

@@ -1,5 +1,5 @@
 -- The pages of a file are counted by reads of its disk alone.
-use Rattle.std.proofs.Common.{◌≡◌, ℕ, ◌≤◌, max, List, ◌∷◌, ◌++◌, length, map, refl, sym, ap, subst, arith}
+use Rattle.std.proofs.Common.{◌≡◌, ℕ, ◌≤◌, max, List, ◌∷◌, ◌++◌, length, refl, sym, ap, subst, arith}
 use Rattle.std.specs.Prelude.{◌&&◌, is_ok, not, Result}
 use Rattle.std.specs.List.{AllByRecursion}
 use Rattle.page.specs.Format.{Sheet}
@@ -8,7 +8,6 @@ use Rattle.page.specs.declared.page_cache.PageCache.{PageCache}
 use Rattle.btree.specs.Store.{IsSame, Stays, flag}
 use Rattle.btree.proofs.StoreLemmas.{grows_same}
 use Rattle.freelist.specs.Book.{Book, is_free, rewind}
-use Rattle.freelist.specs.Coding.{state_number}
 use Rattle.roots.specs.Counting.{CountsPages as CountsStore}
 use Rattle.roots.specs.Image.{content_in}
 use Rattle.roots.specs.Store.{disk_history}
@@ -22,7 +21,7 @@ use Rattle.pager.specs.Calls.{OnlyRead}
 use Rattle.pager.specs.Counting.{CountsPages}
 use Rattle.pager.specs.Kept.{IsKept, IsNew}
 use Rattle.pager.specs.State.{State}
-use Rattle.pager.specs.View.{pager_history, root_numbers, sheets_of, store_of}
+use Rattle.pager.specs.View.{book_numbers, pager_history, root_numbers, sheets_of, store_of}
 use Rattle.pager.proofs.ReadLemmas.{still_agrees, still_listed, still_there}
 use Rattle.pager.proofs.TurnLemmas.{committed_still}
 
@@ -47,7 +46,7 @@ module _ {D : Type 0} (history : D → History) (store new : Store D) (only : On
 
     stays_read : Stays (store_of history before) (store_of history after)
     stays_read = record {
-      base = (λ i. flag (only.stopped i) ∷ root_numbers (only.root i) ++ map state_number (rewind book.turn book.states));
+      base = (λ i. flag (only.stopped i) ∷ root_numbers (only.root i) ++ book_numbers book (rewind book.turn book.states));
       reads = only.reads;
     }
 

@@ -1,4 +1,5 @@
 pub mod AfterLemmas
+pub mod AgainLemmas
 pub mod BeginLemmas
 pub mod BookLemmas
 pub mod CallLemmas
@@ -7,6 +8,7 @@ pub mod CommitLemmas
 pub mod CountLemmas
 pub mod EndLemmas
 pub mod FindLemmas
+pub mod KeepingLemmas
 pub mod ListLemmas
 pub mod ListedLemmas
 pub mod MemberLemmas
@@ -17,8 +19,10 @@ pub mod PlanLemmas
 pub mod ReadLemmas
 pub mod RefusalLemmas
 pub mod ReturnLemmas
+pub mod StayLemmas
 pub mod TakeLemmas
 pub mod TreeLemmas
 pub mod TurnLemmas
 pub mod UndoLemmas
+pub mod VersionLemmas
 pub mod WrittenLemmas

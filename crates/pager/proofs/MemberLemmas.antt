@@ -43,7 +43,7 @@ all_among P (y ∷ ys) x all (inr later) = all_among P ys x all.1 later
 
 -- ---- those that pass a test
 
-pub all_filter : (P : Sheet → Type 0) (p : Sheet → Bool) (xs : List Sheet) → AllByRecursion P xs → AllByRecursion P (filter p xs)
+pub all_filter : {X : Type 0} (P : X → Type 0) (p : X → Bool) (xs : List X) → AllByRecursion P xs → AllByRecursion P (filter p xs)
 all_filter P p [] all = tt
 all_filter P p (x ∷ xs) all = elim (cases_Bool (p x)) [
   | inl so ↦ rw so (all.0, all_filter P p xs all.1)

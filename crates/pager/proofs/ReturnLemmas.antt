@@ -67,7 +67,7 @@ rewound_once (m ∷ ms) one other can could same =
     (sym (put_back (rewind (takes_of ms) one) m.page states.InUse states.Free can.0) ∙ ap (λ (pages : List PageState). set pages m.page states.InUse) same
     ∙ put_back (rewind (takes_of ms) other) m.page states.InUse states.Free could.0)
 
-not_free_used : (pages : List PageState) (n : ℕ) → is_in_use pages n ≡ true → is_free pages n ≡ false
+pub not_free_used : (pages : List PageState) (n : ℕ) → is_in_use pages n ≡ true → is_free pages n ≡ false
 not_free_used pages n used = ap (λ (s : PageState). nat_lt 0 n && is_free_state s) (used_is (get_or pages n states.Retired) used) ∙ never (nat_lt 0 n)
   where
     never : (some : Bool) → (some && false) ≡ false
@@ -75,7 +75,7 @@ not_free_used pages n used = ap (λ (s : PageState). nat_lt 0 n && is_free_state
     never false = refl
 
 -- undoing some of the turn's changes leads on to where it began
-same_start : (n : ℕ) (b : Book) → rewind (undone n b).turn (undone n b).states ≡ rewind b.turn b.states
+pub same_start : (n : ℕ) (b : Book) → rewind (undone n b).turn (undone n b).states ≡ rewind b.turn b.states
 same_start n b = sym (rewind-append (take n b.turn) (drop n b.turn) b.states) ∙ ap (λ (turn : List Change). rewind turn b.states) (take-append-drop n b.turn)
 
 -- ---- the pages
@@ -88,7 +88,7 @@ module _ {D : Type 0} (history : D → History) (earlier old : State D) (orderly
   last = undone_to some few old
 
   base_same : base_of last ≡ base_of earlier
-  base_same = (λ i. base_with old.store (same_start some old.book i)) ∙ grows.stays.base
+  base_same = (λ i. base_with old.store old.book (same_start some old.book i)) ∙ grows.stays.base
 
   stays_back : Stays (store_of history earlier) (store_of history last)
   stays_back = record { base = base_same; reads = grows.stays.reads }

@@ -1,5 +1,5 @@
 -- A page is taken and made.
-use Rattle.std.proofs.Common.{◌≡◌, ◌≢◌, ℕ, ◌+◌, ◌-◌, ◌^◌, ◌<◌, ◌≤◌, Bool, true, false, List, [], ◌∷◌, ◌++◌, length, map, set, refl, sym, ◌∙◌, ap, subst, arith}
+use Rattle.std.proofs.Common.{◌≡◌, ◌≢◌, ℕ, ◌+◌, ◌-◌, ◌^◌, ◌<◌, ◌≤◌, Bool, true, false, List, [], ◌∷◌, ◌++◌, length, set, refl, sym, ◌∙◌, ap, subst, arith}
 use Rattle.std.proofs.Common.{inl, inr, Option, Some, None}
 use Rattle.std.specs.Prelude.{◌&&◌, ◌==◌, not, nat_lt, min, get_or, reverse, if◌then◌else◌, is_ok, Result, Ok, Err, MatchResult}
 use Rattle.std.specs.List.{AllByRecursion, insert}
@@ -17,7 +17,6 @@ use Rattle.btree.specs.Store.{HasFailed, HasNoPage, IsAt, IsMade, IsSame, KeepsW
 use Rattle.btree.specs.declared.pages.TreeFault.{TreeFault}
 use Rattle.btree.specs.declared.pages.TreeFault.TheVariants as faults
 use Rattle.freelist.specs.Book.{Book, Takes, is_free, is_free_state, is_used_state, least_free, rewind, taken, undone}
-use Rattle.freelist.specs.Coding.{state_number}
 use Rattle.freelist.specs.Undone.{after, given, take as asks}
 use Rattle.freelist.specs.declared.states.PageState.{PageState}
 use Rattle.freelist.specs.declared.states.PageState.TheVariants as states
@@ -35,14 +34,14 @@ use Rattle.pager.specs.Calls.{Refuses}
 use Rattle.pager.specs.Kept.{Agrees, IsKept, IsNew}
 use Rattle.pager.specs.Order.{StandsAt}
 use Rattle.pager.specs.State.{State}
-use Rattle.pager.specs.View.{pager_history, root_numbers, sheets_of, store_of}
+use Rattle.pager.specs.View.{book_numbers, pager_history, root_numbers, sheets_of, store_of}
 use Rattle.pager.proofs.BookLemmas.{made_once}
 use Rattle.pager.proofs.ListLemmas.{all_both, all_more, all_weaker, made_last, made_others}
 use Rattle.pager.proofs.MemberLemmas.{free_not_made}
 use Rattle.pager.proofs.OrderLemmas.{few_made, order_more}
 
-abbrev pub base_with : {D : Type 0} → Store D → List PageState → List ℕ
-base_with store pages = flag (is_stopped store) ∷ root_numbers (durable_root store) ++ map state_number pages
+abbrev pub base_with : {D : Type 0} → Store D → Book → List PageState → List ℕ
+base_with store book pages = flag (is_stopped store) ∷ root_numbers (durable_root store) ++ book_numbers book pages
 
 -- a take that is taken back
 pub taken_back : (b mid new : Book) (page mark : ℕ) → Takes (Some page) b mid → mark ≡ length b.turn → new ≡ undone mark mid → new ≡ b
@@ -158,7 +157,7 @@ module _ {D : Type 0} {listed places : List ℕ} (history : D → History) (stor
       ∙ ap (rewind book.turn) (put_back book.states sheet.page states.Free states.InUse (free_state book sheet.page least))
 
   pub one_stays : Stays (store_of history before) (store_of history afterwards)
-  one_stays = record { base = (λ i. base_with store (same_states i)); reads = reads_nothing (pager_history history before) }
+  one_stays = record { base = (λ i. base_with store book (same_states i)); reads = reads_nothing (pager_history history before) }
 
   pub one_made : KeepsWord (store_of history afterwards) → IsMade (store_of history before) (store_of history afterwards) sheet.page sheet.content
   one_made word = record {
@@ -249,10 +248,10 @@ module _ {D : Type 0} (history : D → History) (store : Store D) (made : List S
     full_takes = more;
   }
 
-  -- the turn, and what each page is
-  refused_same : (fault : TreeFault) → Refuses fault book new_book → (new_book.states ≡ book.states) × (new_book.turn ≡ book.turn)
-  refused_same faults.Memory is = (ap (λ (b : Book). b.states) is, ap (λ (b : Book). b.turn) is)
-  refused_same faults.Full (none, is) = (ap (λ (b : Book). b.states) is, ap (λ (b : Book). b.turn) is)
+  -- what else the book has
+  refused_same : (fault : TreeFault) → Refuses fault book new_book → new_book ≡ record book { full_takes = new_book.full_takes }
+  refused_same faults.Memory is = let back = sym is in is ∙ (λ i. record book { full_takes = (back i).full_takes })
+  refused_same faults.Full (none, is) = let back = sym is in is ∙ (λ i. record book { full_takes = (back i).full_takes })
   refused_same faults.Device is = absurd is
   refused_same faults.Kind is = absurd is
   refused_same faults.Number is = absurd is
@@ -262,7 +261,7 @@ module _ {D : Type 0} (history : D → History) (store : Store D) (made : List S
   pub refused_stays : (fault : TreeFault) → Refuses fault book new_book → Stays (store_of history start) (store_of history stop)
   refused_stays fault refuses =
       let same = refused_same fault refuses in
-      record { base = (λ i. base_with store (rewind (same.1 i) (same.0 i))); reads = reads_nothing (pager_history history start) }
+      record { base = ap (λ (b : Book). base_with store b (rewind b.turn b.states)) same; reads = reads_nothing (pager_history history start) }
 
   counted_full : new_book.full_takes ≡ min (book.full_takes + 1) (2 ^ 64 - 1) → HasNoPage (store_of history start) (store_of history stop)
   counted_full is = elim (cases_lt book.full_takes (2 ^ 64 - 1)) [

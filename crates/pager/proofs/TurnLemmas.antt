@@ -1,21 +1,23 @@
 -- What is known of a pager whose turn began with committed entries.
-use Rattle.std.proofs.Common.{◌≡◌, ℕ, ◌+◌, ◌<◌, ◌≤◌, Bool, true, false, List, [], ◌∷◌, length, drop, map, get_or, refl, sym, ◌∙◌, ap}
+use Rattle.std.proofs.Common.{◌≡◌, ℕ, ◌+◌, ◌<◌, ◌≤◌, Bool, true, false, List, [], ◌∷◌, ◌++◌, length, take, drop, map, get_or, refl, sym, ◌∙◌, ap}
 use Rattle.std.proofs.Common.{subst, arith, inl}
 use Rattle.std.proofs.Common.{inr}
 use Rattle.std.specs.List.{AllByRecursion}
 use Rattle.std.proofs.lemmas.Bool.{cases_lt}
 use Rattle.std.proofs.lemmas.List.{length-set}
+use Rattle.std.proofs.Math.Seq.{drop-append_seam, take-append_seam}
 use Rattle.page.specs.Format.{Sheet}
 use Rattle.page.specs.History.{History, Sector, KeepsWord, now, reads}
 use Rattle.page.specs.Crash.{IsDurable}
 use Rattle.btree.specs.Keys.{Entry, times}
 use Rattle.btree.specs.Store.{Stays, flag}
-use Rattle.freelist.specs.Book.{CanRewind, is_in_use, rewind}
+use Rattle.freelist.specs.Book.{Book, CanRewind, is_in_use, rewind}
 use Rattle.freelist.specs.FreeList.{Part, pages_of}
 use Rattle.freelist.specs.Coding.{number_state, number_state-state_number, state_number}
 use Rattle.freelist.specs.declared.states.PageState.{PageState}
 use Rattle.freelist.specs.declared.states.PageState.TheVariants as states
 use Rattle.freelist.specs.declared.turns.Change.{Change}
+use Rattle.freelist.specs.declared.turns.Retirement.{Retirement}
 use Rattle.roots.specs.declared.root.Root.{Root}
 use Rattle.roots.specs.Image.{HoldsMap, OpensAs, reached_by, sheet_at}
 use Rattle.roots.specs.Store.{IsCommitted, durable_root, is_stopped}
@@ -23,7 +25,7 @@ use Rattle.roots.specs.Turn.{numbers_of}
 use Rattle.pager.specs.Kept.{AreListed, IsBookFor, takes_of}
 use Rattle.pager.specs.State.{State}
 use Rattle.pager.specs.Turn.{AreInUse, IsBegun}
-use Rattle.pager.specs.View.{base_of, pager_history, store_of}
+use Rattle.pager.specs.View.{base_of, counted, pager_history, store_of}
 use Rattle.pager.proofs.BookLemmas.{flag_most, made_below, taken_use}
 use Rattle.pager.proofs.ListLemmas.{all_weaker}
 use Rattle.pager.proofs.MemberLemmas.{each_counted, times_append}
@@ -59,8 +61,44 @@ same_root p start same =
     let five : (durable_root p.store).free_count ≡ (durable_root start.store).free_count = ap (λ (numbers : List ℕ). get_or numbers 5 0) same in
     (λ i. record { generation = one i; tree = two i; pages = three i; free_list = four i; free_count = five i })
 
+-- two lists behind their counts, each with a rest
+counted_same : (xs ys rest other : List ℕ) → counted xs rest ≡ counted ys other → (xs ≡ ys) × (rest ≡ other)
+counted_same xs ys rest other same =
+    let long : length xs ≡ length ys = ap (λ (numbers : List ℕ). get_or numbers 0 0) same in
+    let joined : xs ++ rest ≡ ys ++ other = ap (drop 1) same in (
+      sym (take-append_seam xs rest) ∙ (λ i. take (long i) (joined i)) ∙ take-append_seam ys other,
+      sym (drop-append_seam xs rest) ∙ (λ i. drop (long i) (joined i)) ∙ drop-append_seam ys other,
+    )
+
+retirements_same : (one other : List Retirement) → map (λ (r : Retirement). r.page) one ≡ map (λ (r : Retirement). r.page) other
+    → map (λ (r : Retirement). r.version) one ≡ map (λ (r : Retirement). r.version) other → one ≡ other
+retirements_same [] [] pages versions = refl
+retirements_same [] (s ∷ other) pages versions = absurd (omega (arith, ap length pages))
+retirements_same (r ∷ one) [] pages versions = absurd (omega (arith, ap length pages))
+retirements_same (r ∷ one) (s ∷ other) pages versions =
+    let page : r.page ≡ s.page = ap (λ (numbers : List ℕ). get_or numbers 0 0) pages in
+    let version : r.version ≡ s.version = ap (λ (numbers : List ℕ). get_or numbers 0 0) versions in
+    (λ i. record { page = page i; version = version i } ∷ retirements_same one other (ap (drop 1) pages) (ap (drop 1) versions) i)
+
+-- What the numbers say of the book.
+pub record IsSameBook (one other : Book) : Type 0 where
+  pub pins : one.pins ≡ other.pins
+  pub waiting : one.waiting ≡ other.waiting
+  pub states : rewind one.turn one.states ≡ rewind other.turn other.states
+
+pub same_book : {D : Type 0} (p start : State D) → base_of p ≡ base_of start → IsSameBook p.book start.book
+same_book p start same =
+    let pins = counted_same p.book.pins start.book.pins _ _ (ap (drop 6) same) in
+    let pages = counted_same (map (λ (r : Retirement). r.page) p.book.waiting) (map (λ (r : Retirement). r.page) start.book.waiting) _ _ pins.1 in
+    let versions = counted_same (map (λ (r : Retirement). r.version) p.book.waiting) (map (λ (r : Retirement). r.version) start.book.waiting) _ _ pages.1 in
+    record {
+      pins = pins.0;
+      waiting = retirements_same p.book.waiting start.book.waiting pages.0 versions.0;
+      states = same_states (rewind p.book.turn p.book.states) (rewind start.book.turn start.book.states) versions.1;
+    }
+
 pub same_beginning : {D : Type 0} (p start : State D) → base_of p ≡ base_of start → rewind p.book.turn p.book.states ≡ rewind start.book.turn start.book.states
-same_beginning p start same = same_states (rewind p.book.turn p.book.states) (rewind start.book.turn start.book.states) (ap (drop 6) same)
+same_beginning p start same = (same_book p start same).states
 
 module _ {D : Type 0} (history : D → History) (p start : State D) (stays : Stays (store_of history start) (store_of history p))
     (word : KeepsWord (pager_history history p)) (live : List ℕ) (before : List Entry) (begun : IsBegun history start live before) where

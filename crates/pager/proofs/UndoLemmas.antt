@@ -28,12 +28,12 @@ take_takes zero made = refl
 take_takes (suc n) [] = refl
 take_takes (suc n) (m ∷ ms) = ap (λ (l : List Change). changes.Taken m.page ∷ l) (take_takes n ms)
 
-drop_takes : (n : ℕ) (made : List Sheet) → drop n (takes_of made) ≡ takes_of (drop n made)
+pub drop_takes : (n : ℕ) (made : List Sheet) → drop n (takes_of made) ≡ takes_of (drop n made)
 drop_takes zero made = refl
 drop_takes (suc n) [] = refl
 drop_takes (suc n) (m ∷ ms) = drop_takes n ms
 
-length_takes : (made : List Sheet) (pages : List PageState) → length (rewind (takes_of made) pages) ≡ length pages
+pub length_takes : (made : List Sheet) (pages : List PageState) → length (rewind (takes_of made) pages) ≡ length pages
 length_takes [] pages = refl
 length_takes (m ∷ made) pages = length-set (rewind (takes_of made) pages) m.page states.Free ∙ length_takes made pages
 

@@ -1,5 +1,5 @@
 -- What holds of every pager: its cache agrees with its disk, and its turn with its book.
-use Rattle.std.specs.Prelude.{◌≡◌, ℕ, ◌+◌, ◌<◌, ◌≤◌, ◌^◌, List, [], length, map, Some, None}
+use Rattle.std.specs.Prelude.{◌≡◌, ℕ, ◌+◌, ◌<◌, ◌≤◌, ◌^◌, List, length, map, Some, None}
 use Rattle.std.specs.Prelude.{Ok, max}
 use Rattle.std.specs.List.{AllByRecursion}
 use Rattle.page.specs.Cache.{kept}

@@ -5,6 +5,7 @@ pub mod Counting
 pub mod Kept
 pub mod Opening
 pub mod Order
+pub mod Pinning
 pub mod Planning
 pub mod State
 pub mod Turn

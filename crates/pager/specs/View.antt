@@ -1,10 +1,13 @@
 -- The pages of a pager, as the calls of a tree see them.
-use Rattle.std.specs.Prelude.{ℕ, ◌&&◌, not, List, [], ◌∷◌, ◌++◌, reverse, map, Result, is_ok}
+use Rattle.std.specs.Prelude.{ℕ, ◌&&◌, not, List, [], ◌∷◌, ◌++◌, length, reverse, map, Result}
+use Rattle.std.specs.Prelude.{is_ok}
 use Rattle.page.specs.History.{History, now, reads}
 use Rattle.page.specs.Format.{Sheet}
 use Rattle.page.specs.declared.page_fault.PageFault.{PageFault}
-use Rattle.freelist.specs.Book.{is_free, rewind}
+use Rattle.freelist.specs.Book.{Book, is_free, rewind}
 use Rattle.freelist.specs.Coding.{state_number}
+use Rattle.freelist.specs.declared.states.PageState.{PageState}
+use Rattle.freelist.specs.declared.turns.Retirement.{Retirement}
 use Rattle.btree.specs.Store.{Store, flag}
 use Rattle.roots.specs.declared.root.Root.{Root}
 use Rattle.roots.specs.Image.{content_in, sheet_at}
@@ -26,11 +29,24 @@ abbrev pub root_numbers : Root → List ℕ
 root_numbers root =
     root.generation ∷ root.tree ∷ root.pages ∷ root.free_list ∷ root.free_count ∷ []
 
--- What no call but a commit changes: whether the store has stopped, the root that is committed, and
--- what each page was when the turn began.
+-- these numbers behind their count, and then the rest
+abbrev pub counted : List ℕ → List ℕ → List ℕ
+counted numbers rest = length numbers ∷ numbers ++ rest
+
+-- what is pinned, and what waits at which versions; and what these pages are
+abbrev pub book_numbers : Book → List PageState → List ℕ
+book_numbers book pages =
+    counted book.pins
+    (counted (map (λ (r : Retirement). r.page) book.waiting)
+    (counted (map (λ (r : Retirement). r.version) book.waiting)
+    (map state_number pages)))
+
+-- What no call but a commit, a pin and the end of one changes: whether the store has stopped, the
+-- root that is committed, what is pinned and what waits, and what each page was when the turn
+-- began.
 abbrev pub base_of : {D : Type 0} → State D → List ℕ
 base_of p = flag (is_stopped p.store) ∷ root_numbers (durable_root p.store)
-    ++ map state_number (rewind p.book.turn p.book.states)
+    ++ book_numbers p.book (rewind p.book.turn p.book.states)
 
 -- A page is live where it is one and isn't free. What the turn made and retired comes newest first.
 abbrev pub store_of : {D : Type 0} → (D → History) → State D → Store

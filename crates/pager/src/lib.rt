@@ -9,7 +9,9 @@ mod pager;
 mod planning;
 mod reading;
 mod taking;
+mod version;
 mod writing;
 
 pub use mark::Mark;
 pub use pager::Pager;
+pub use version::Version;

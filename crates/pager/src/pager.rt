@@ -6,12 +6,13 @@ use crate::mark::Mark;
 use crate::planning::plan_commit;
 use crate::reading::read_page;
 use crate::taking::{keep_lower, take_page};
+use crate::version::Version;
 use crate::writing::{forget_all, keep_all};
 use btree::{Pages, TreeFault};
 use freelist::FreePages;
 use page::{Disk, PageCache, PageContent, SharedPage};
 use roots::{CommitFault, MAX_PAGES, OpenFault, PageCounts, Store};
-use std::alloc::Global;
+use std::alloc::{AllocError, Global};
 use std::marker::Model;
 
 /// The pages of a database file: those of the tree that is committed, read through a cache, and those that the running turn has made
@@ -55,6 +56,7 @@ impl<D: Disk> Pager<D> {
     ghost use Rattle.pager.specs.Commit.{Commits, CountsTakes, MovesTurns};
     ghost use Rattle.pager.specs.Counting.{CountsPages};
     ghost use Rattle.pager.specs.Opening.{HasLimit, IsOpened, IsRefused};
+    ghost use Rattle.pager.specs.Pinning.{KeepsOlder, KeepsVersions, Pins, Unpins, VersionsStay};
     ghost use Rattle.pager.specs.State.{State};
     ghost use Rattle.pager.specs.Turn.{IsOrderly, LeadsBack, Returns, is_changed, undone_to};
     ghost use Rattle.pager.specs.View.{pager_history};
@@ -158,12 +160,35 @@ impl<D: Disk> Pager<D> {
         ensures undone { self.new ≡ undone_to mark.made mark.retired self.old }
         ensures begun { LeadsBack D.history mark.made mark.retired self.old self.new }
         ensures returns { Returns D.history mark.made mark.retired self.old self.new }
+        ensures versions { KeepsOlder D.history mark.made self.old self.new }
     {
         self.book.undo_to(mark.book);
         self.made.truncate(mark.made);
         self.retired.truncate(mark.retired);
         keep_lower(&mut self.places, mark.made);
     }
+
+    /// Pins the tree below this page as it is now: what it reaches isn't free before it is unpinned, whatever is committed
+    /// meanwhile. A version may be pinned several times. An `Err` leaves all as it was.
+    pub fn pin(&mut self, root: u32) -> Result<Version, AllocError>
+        ensures pins { Pins D.history root result self.old self.new }
+    {
+        let generation = self.store.root().generation;
+        self.book.pin(generation)?;
+        Ok(Version { generation, root })
+    }
+
+    /// Ends a pin of a version, in the middle of a turn too. The pages that waited for it alone are free.
+    pub fn unpin(&mut self, version: Version)
+        ensures unpins { Unpins D.history version self.old self.new }
+    {
+        self.book.unpin(version.generation);
+    }
+
+    /// What only reads, makes and retires pages keeps each version that is pinned.
+    pub fn versions_stay()
+        ensures { VersionsStay D.history }
+    {}
 
     /// Makes the tree below this page the committed one, with a list of the pages that are free then: the pages that the turn
     /// made and didn't retire are written, then those of the list, then the root. What it retired is free from then on, and so are
@@ -173,6 +198,7 @@ impl<D: Disk> Pager<D> {
         ensures commits { Commits D.history root result self.old self.new }
         ensures takes { CountsTakes result self.old self.new }
         ensures moves { MovesTurns D.history root result self.old self.new }
+        ensures versions { KeepsVersions D.history self.old self.new }
     {
         if self.store.is_stopped() {
             return Err(CommitFault::Device);

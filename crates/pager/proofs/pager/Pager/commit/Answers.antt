@@ -6,10 +6,12 @@ use Rattle.roots.specs.declared.store.CommitFault.{CommitFault}
 use Rattle.roots.specs.Commit.{CommitsRoot, LeavesPages, MovesMaps}
 use Rattle.pager.specs.Commit.{Commits, CountsTakes, MovesTurns}
 use Rattle.pager.specs.Kept.{IsKept}
+use Rattle.pager.specs.Pinning.{KeepsVersions}
 use Rattle.pager.specs.State.{State}
 use Rattle.pager.specs.Writing.{Forgets, KeepsAll}
-use Rattle.pager.proofs.CommitLemmas.{done_commits, done_kept, done_moves, failed_kept, failed_moves, full_same, goes_back_all, told}
+use Rattle.pager.proofs.CommitLemmas.{done_commits, done_kept, done_moves, done_versions, failed_kept, failed_moves, failed_versions, full_same, goes_back_all, told}
 use Rattle.pager.proofs.EndLemmas.{commits_failed, moves_nothing, ok_of}
+use Rattle.pager.proofs.KeepingLemmas.{planned_versions}
 use Rattle.pager.proofs.pager.Pager.commit.Goals as goal
 
 -- a count that is as it was
@@ -213,3 +215,66 @@ returns-clause-moves g c =
     (λ j. after (sym c.clear.ensures.items j) (sym c.clear-2.ensures.items j) (sym c.commit-2.ensures j))
     (done_moves history i.store i.cache cache i.made.items i.retired.items i.book last c.self.invariant plan is forgets c.args.root new commits
     leaves c.keep_all.new.cache keeps version moves))
+
+pub returns-in-Err-clause-versions : goal.returns-in-Err-clause-versions
+returns-in-Err-clause-versions g c =
+    let D = g.row.D.Denot in
+    let history = g.D.Disk.history in
+    let i = c.self.inside in
+    let after : State D = record { store = i.store; made = i.made.items; retired = i.retired.items; book = c.plan_commit.new.book } in
+    subst (λ (s : State D). KeepsVersions history s after) c.self.view_is
+    (planned_versions history i.store i.made.items i.retired.items i.book c.plan_commit.new.book c.in-Err.fault c.in-Err.ensures.err)
+
+pub returns-in-Err-commit-clause-versions : goal.returns-in-Err-commit-clause-versions
+returns-in-Err-commit-clause-versions g c =
+    let D = g.row.D.Denot in
+    let history = g.D.Disk.history in
+    let i = c.self.inside in
+    let fault = c.in-Err-commit.fault in
+    let new = c.commit.new.self in
+    let cache = c.forget_all.new.cache in
+    let plan = c.in-Ok.plan in
+    let last = c.plan_commit.new.book in
+    let is =
+    told plan i.book last c.root.ensures c.deref.ensures.value c.deref-2.ensures.value c.deref-3.ensures.value c.deref-4.ensures.value c.in-Ok.ensures.plan in
+    let forgets = subst (λ (pages : List ℕ). Forgets pages i.cache cache) c.deref-5.ensures.value c.forget_all.ensures in
+    let back : c.undo_to.new.self ≡ i.book =
+    c.undo_to.ensures ∙ ap (λ (n : ℕ). undone n last) c.mark-mark.ensures
+    ∙ goes_back_all history i.store i.cache cache i.made.items i.retired.items i.book last c.self.invariant plan is forgets in
+    let leaves =
+    subst (λ (w : List Sheet). LeavesPages history w c.args.root plan.free_list plan.free_count (Err fault) i.store new) c.deref-6.ensures.value
+    c.in-Err-commit.ensures.pages in
+    let start : State D = record { store = i.store; made = i.made.items; retired = i.retired.items; book = i.book } in
+    let after : Book → State D = λ b. record { store = new; made = i.made.items; retired = i.retired.items; book = b } in
+    subst (λ (s : State D). KeepsVersions history s (after c.undo_to.new.self)) c.self.view_is
+    (subst (λ (b : Book). KeepsVersions history start (after b)) (sym back)
+    (failed_versions history i.store i.cache cache i.made.items i.retired.items i.book last c.self.invariant plan is forgets c.args.root fault new
+    c.in-Err-commit.ensures.commits leaves))
+
+pub returns-clause-versions : goal.returns-clause-versions
+returns-clause-versions g c =
+    let D = g.row.D.Denot in
+    let history = g.D.Disk.history in
+    let i = c.self.inside in
+    let new = c.commit.new.self in
+    let cache = c.forget_all.new.cache in
+    let plan = c.in-Ok.plan in
+    let last = c.plan_commit.new.book in
+    let is =
+    told plan i.book last c.root.ensures c.deref.ensures.value c.deref-2.ensures.value c.deref-3.ensures.value c.deref-4.ensures.value c.in-Ok.ensures.plan in
+    let forgets = subst (λ (pages : List ℕ). Forgets pages i.cache cache) c.deref-5.ensures.value c.forget_all.ensures in
+    let ok = ok_of c.commit.result c.in_default.not-Err in
+    let commits = subst (λ (r : Result (Unit {0}) CommitFault). CommitsRoot history c.args.root r i.store new) ok c.commit.ensures.commits in
+    let leaves =
+    subst (λ (w : List Sheet). LeavesPages history w c.args.root plan.free_list plan.free_count (Ok tt) i.store new) c.deref-6.ensures.value
+    (subst (λ (r : Result (Unit {0}) CommitFault). LeavesPages history c.deref-6.result.now c.args.root plan.free_list plan.free_count r i.store new) ok
+    c.commit.ensures.pages) in
+    let version = c.root-2.result.generation in
+    let keeps = subst (λ (w : List Sheet). KeepsAll w cache c.keep_all.new.cache) c.deref-7.ensures.value c.keep_all.ensures in
+    let start : State D = record { store = i.store; made = i.made.items; retired = i.retired.items; book = i.book } in
+    let after : List Sheet → List ℕ → Book → State D = λ m r b. record { store = new; made = m; retired = r; book = b } in
+    subst (λ (s : State D). KeepsVersions history s (after c.clear.new.self.items c.clear-2.new.self.items c.commit-2.new.self)) c.self.view_is
+    (subst (KeepsVersions history start)
+    (λ j. after (sym c.clear.ensures.items j) (sym c.clear-2.ensures.items j) (sym c.commit-2.ensures j))
+    (done_versions history i.store i.cache cache i.made.items i.retired.items i.book last c.self.invariant plan is forgets c.args.root new commits
+    leaves c.keep_all.new.cache keeps version))

@@ -2,8 +2,10 @@ use Rattle.std.proofs.Common.{◌≡◌, ℕ, List, take, sym, subst, ap, ◌∙
 use Rattle.page.specs.Format.{Sheet}
 use Rattle.freelist.specs.Book.{Book, undone}
 use Rattle.pager.specs.Kept.{IsKept}
+use Rattle.pager.specs.Pinning.{KeepsOlder}
 use Rattle.pager.specs.State.{State}
 use Rattle.pager.specs.Turn.{LeadsBack, Returns}
+use Rattle.pager.proofs.AgainLemmas.{undone_keeps}
 use Rattle.pager.proofs.OrderLemmas.{all_positive, lower_than}
 use Rattle.pager.proofs.ReturnLemmas.{returns_back}
 use Rattle.pager.proofs.UndoLemmas.{kept_undone, leads_back}
@@ -49,3 +51,17 @@ returns-clause-returns g c =
     subst (λ (s : State D). Returns history made retired s (after c.truncate.new.self.items c.truncate-2.new.self.items c.undo_to.new.self)) c.self.view_is
     (subst (Returns history made retired p) (λ j. after (sym c.truncate.ensures.items j) (sym c.truncate-2.ensures.items j) (sym book j))
     (returns_back history p c.self.invariant.booked (all_positive i.made.items i.places.items c.self.invariant.order) made retired))
+
+pub returns-clause-versions : goal.returns-clause-versions
+returns-clause-versions g c =
+    let D = g.row.D.Denot in
+    let history = g.D.Disk.history in
+    let i = c.self.inside in
+    let made = c.args.mark.made in
+    let retired = c.args.mark.retired in
+    let book : c.undo_to.new.self ≡ undone made i.book = c.undo_to.ensures ∙ ap (λ (n : ℕ). undone n i.book) c.args.mark.same in
+    let after : List Sheet → List ℕ → Book → State D = λ m r b. record { store = i.store; made = m; retired = r; book = b } in
+    let p : State D = after i.made.items i.retired.items i.book in
+    subst (λ (s : State D). KeepsOlder history made s (after c.truncate.new.self.items c.truncate-2.new.self.items c.undo_to.new.self)) c.self.view_is
+    (subst (KeepsOlder history made p) (λ j. after (sym c.truncate.ensures.items j) (sym c.truncate-2.ensures.items j) (sym book j))
+    (undone_keeps history p c.self.invariant.booked (all_positive i.made.items i.places.items c.self.invariant.order) made retired))
