@@ -229,8 +229,8 @@ fn list_page(alloc: Global, (page, next, named): &Listed) -> Result<[u8; 4096], 
             front.extend_from_slice(&number.to_le_bytes())?;
         }
     }
-    let count = (front.len() / 4).saturating_sub(5) as u16;
-    Ok(page_of(&front, 2, &count.to_le_bytes()))
+    let count = (front.len() / 4).saturating_sub(5).to_le_bytes();
+    Ok(page_of(&front, 2, &count[..2]))
 }
 
 fn listed_file(alloc: Global, numbers: &[u32; 3], list: &[Listed]) -> Result<MemDisk, Fail> {
