@@ -215,18 +215,27 @@ def serving():
     want("a service acknowledges three inserts", [True] * 3, [client.insert(number) for number in (1, 2, 3)])
     ran = service.ended(is_killed=True)
     want("its calls", f"make folder sync prints {COMMIT} replies {COMMIT} replies {COMMIT} replies", ran.words)
-    steps = f"open folder sync prints {COMMIT} replies {COMMIT}".split()
-    places = [place for place, step in enumerate(steps) if step not in ("open", "prints", "replies")]
-    for number, place in enumerate(places, 1):
-        service = Service("served", fail=number)
+
+    def serve_anew(fail):
+        """What becomes of two more inserts into the same file: whether each is acknowledged, whether the service listened, and its run."""
+        shutil.copy(path("served"), path("served_anew"))
+        service = Service("served_anew", fail=fail)
         acknowledged = []
         if service.port:
             client = Client(service.port)
-            acknowledged = [client.insert(10 * number + i) for i in (0, 1)]
-        ran = service.ended(is_killed=False)
+            acknowledged = [client.insert(number) for number in (4, 5)]
+        return acknowledged, bool(service.port), service.ended(is_killed=not fail)
+    acknowledged, _, ran = serve_anew(0)
+    want("a service acknowledges two more", [True] * 2, acknowledged)
+    want("its calls", f"open folder sync prints {COMMIT} replies {COMMIT} replies", ran.words)
+    # each call, since pages that don't lie side by side are written by several
+    steps = steps_of(ran.calls, path("served_anew"))[:-1]
+    places = [place for place, step in enumerate(steps) if step not in ("open", "prints", "replies")]
+    for number, place in enumerate(places, 1):
+        acknowledged, has_listened, ran = serve_anew(number)
         what = f"call {number} of a service is refused"
         want(what, told(steps[:place] + [steps[place] + "!"]), ran.words)
-        want(f"{what}, and it says", (1, "docpage: Stopped\n" if service.port else "docpage: Device\n"), (ran.status, ran.said))
+        want(f"{what}, and it says", (1, "docpage: Stopped\n" if has_listened else "docpage: Device\n"), (ran.status, ran.said))
         want(f"{what}; how many inserts are acknowledged", steps[:place].count("replies"), acknowledged.count(True))
 
 
