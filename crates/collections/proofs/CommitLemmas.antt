@@ -5,17 +5,18 @@ use Rattle.std.proofs.lemmas.Bool.{cases_lt}
 use Rattle.page.specs.Crash.{ReadsOnly}
 use Rattle.page.specs.History.{History, KeepsWord}
 use Rattle.page.proofs.Moments.{reads_nothing}
-use Rattle.btree.specs.Store.{IsSame, Stays}
-use Rattle.btree.proofs.StoreLemmas.{grows_same}
+use Rattle.btree.specs.Store.{IsSame, Store as Pages}
+use Rattle.btree.proofs.StoreLemmas.{grows_itself, grows_same}
 use Rattle.roots.specs.declared.store.CommitFault.{CommitFault}
 use Rattle.roots.specs.Image.{StandsFor}
 use Rattle.roots.specs.Store as stores
 use Rattle.roots.specs.declared.root.Root.{Root}
 use Rattle.pager.specs.Commit.{Commits as CommitsPages, CountsTakes, FindsNoRoom as FindsNoRoomFor, MovesTurns, Moves as MovesPages}
 use Rattle.pager.specs.State.{State as PagerState}
-use Rattle.pager.specs.View.{base_of, pager_history, store_of}
+use Rattle.pager.specs.View.{pager_history, store_of}
 use Rattle.index.specs.State.{Collection}
 use Rattle.collections.specs.State.{State}
+use Rattle.collections.specs.Calls.{GoesFrom}
 use Rattle.collections.specs.Committing.{Commits, FindsNoRoom}
 use Rattle.collections.specs.Holding.{Holds}
 use Rattle.collections.specs.Standing.{HasState, IsTurnOf}
@@ -49,33 +50,48 @@ module _ {D : Type 0} (history : D → History) (old : State D) (pager : PagerSt
     moved k = moves (turn k).began (turn k).live (turn k).before (turn k).begun (turn k).pages (turn k).after (λ _. (turn k).turn)
 
   -- The pages are as they were, but for the count.
-  finds_no_room : old.pager.book.full_takes ≤ pager.book.full_takes → FindsNoRoomFor old.pager pager → FindsNoRoom history old new
+  abbrev IsCounted : Type 0
+  IsCounted = store_of history pager ≡ record (store_of history old.pager) { full_takes = pager.book.full_takes }
+
+  module _ (more : old.pager.book.full_takes ≤ pager.book.full_takes) (is : IsCounted) where
+    counted_same : KeepsWord (disk_history history new) → IsSame (pages_of history old) (pages_of history new)
+    counted_same k = record {
+      word = subst KeepsWord (ap (λ (s : Pages). s.history) is) k;
+      page = ap (λ (s : Pages). s.page) is;
+      live = ap (λ (s : Pages). s.live) is;
+      made = ap (λ (s : Pages). s.made) is;
+      retired = ap (λ (s : Pages). s.retired) is;
+      failures = omega (arith, ap (λ (s : Pages). s.history.failures) is);
+      full_takes = more;
+    }
+
+    counted_on : GoesFrom history old new
+    counted_on =
+        grows_same (pages_of history old) (pages_of history new) (record {
+          base = ap (λ (s : Pages). s.base) is;
+          reads = subst (ReadsOnly (disk_history history old)) (sym (ap (λ (s : Pages). s.history) is)) (reads_nothing (disk_history history old));
+        }) counted_same
+
+  abbrev counted : PagerState D → Pages
+  counted p = record (store_of history p) { full_takes = pager.book.full_takes }
+
+  pub goes_full : old.pager.book.full_takes ≤ pager.book.full_takes → FindsNoRoomFor history old.pager pager → GoesFrom history old new
+  goes_full more (inl (most, same)) =
+      subst (λ (p : PagerState D). GoesFrom history old (record old { pager = p })) (sym same) (grows_itself (store_of history old.pager))
+  goes_full more (inr (lacks, is)) = counted_on more (ap counted is)
+
+  finds_no_room : old.pager.book.full_takes ≤ pager.book.full_takes → FindsNoRoomFor history old.pager pager → FindsNoRoom history old new
   finds_no_room more (inl (most, same)) = inl (most, ap (λ (p : PagerState D). record old { pager = p }) same)
-  finds_no_room more (inr is) =
-      let disk : disk_history history new ≡ disk_history history old = ap (λ (p : PagerState D). pager_history history p) is in
-      let stays : Stays (pages_of history old) (pages_of history new) = record {
-        base = ap (λ (p : PagerState D). base_of p) is;
-        reads = subst (ReadsOnly (disk_history history old)) (sym disk) (reads_nothing (disk_history history old));
-      } in
-      let same : KeepsWord (disk_history history new) → IsSame (pages_of history old) (pages_of history new) = λ k. record {
-        word = subst KeepsWord disk k;
-        page = ap (λ (p : PagerState D). (store_of history p).page) is;
-        live = ap (λ (p : PagerState D). (store_of history p).live) is;
-        made = ap (λ (p : PagerState D). (store_of history p).made) is;
-        retired = ap (λ (p : PagerState D). (store_of history p).retired) is;
-        failures = omega (arith, ap (λ (h : History). h.failures) disk);
-        full_takes = more;
-      } in
+  finds_no_room more (inr (lacks, is)) =
+      let same = counted_same more (ap counted is) in
       inr (record {
         counted = counted_once old.pager.book.full_takes pager.book.full_takes (ap (λ (p : PagerState D). p.book.full_takes) is);
         untouched = record {
-          disk = disk;
+          disk = ap (λ (p : PagerState D). pager_history history p) is;
           stopped = ap (λ (p : PagerState D). stores.is_stopped p.store) is;
           version = ap (λ (p : PagerState D). (stores.durable_root p.store).generation) is;
         };
-        state = λ start now has. state_stays history old new start now
-            (grows_same (pages_of history old) (pages_of history new) stays same) refl
-            (λ k. (same k).made) (λ k. (same k).retired) has;
+        state = λ start now has. state_stays history old new start now (goes_full more (inr (lacks, is))) refl (λ k. (same k).made) (λ k. (same k).retired) has;
       })
 
   pub committed : CommitsPages history old.root (Ok tt) old.pager pager → CountsTakes (Ok tt) old.pager pager

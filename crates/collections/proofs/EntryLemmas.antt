@@ -27,13 +27,12 @@ use Rattle.path.specs.declared.refusal.Refusal.{Refusal}
 use Rattle.path.specs.declared.refusal.Refusal.TheVariants as refusals
 use Rattle.pager.specs.State.{State as PagerState}
 use Rattle.pager.specs.View.{store_of}
-use Rattle.collections.specs.Applying.{refusal_of}
 use Rattle.collections.specs.Calls.{HasCause}
 use Rattle.collections.specs.Entries.{AreNextEntries, HasEntries, ReadsTree, entries_from}
 use Rattle.collections.specs.Reading.{LooksUp}
 use Rattle.collections.specs.State.{State}
 use Rattle.collections.specs.View.{is_stopped, pages_of}
-use Rattle.collections.proofs.ReadingLemmas.{cause_there, stays_there, unchanged_there}
+use Rattle.collections.proofs.ReadingLemmas.{AnswersAs, cause_there, stays_there, unchanged_there}
 
 -- ---- the keys of a tree rise
 
@@ -193,18 +192,13 @@ next_entries_are from limit entries batch rise holds = record {
 
 -- ---- what reading them does
 
-abbrev pub AnswersSo : {X : Type 0} → Result X TreeFault → Result X Refusal → Type 0
-AnswersSo (Ok x) (Ok y) = x ≡ y
-AnswersSo (Err f) (Err e) = e ≡ refusal_of f
-AnswersSo _ _ = ⊥
-
 module _ {D X : Type 0} (history : D → History) (P Q : List Entry → X → Type 0) (old : State D) (pager : PagerState D) (result : Result X TreeFault)
     (looks : LooksUp history old.root P result old.pager pager) (on : (entries : List Entry) (x : X) → Rises (entry_keys entries) → P entries x
     → Q entries x) where
   abbrev new : State D
   new = record old { pager = pager }
 
-  answer : (entries : List Entry) → Rises (entry_keys entries) → (result : Result X TreeFault) (r : Result X Refusal) → AnswersSo result r
+  answer : (entries : List Entry) → Rises (entry_keys entries) → (result : Result X TreeFault) (r : Result X Refusal) → AnswersAs result r
       → MatchResult result (P entries) (HasTreeCause (store_of history old.pager) (store_of history pager))
       → MatchResult r (Q entries) (HasCause history old new)
   answer entries rise (Ok x) (Ok y) same right = subst (Q entries) same (on entries x rise right)
@@ -212,7 +206,7 @@ module _ {D X : Type 0} (history : D → History) (P Q : List Entry → X → Ty
   answer entries rise (Err f) (Ok y) same cause = absurd same
   answer entries rise (Err f) (Err e) same cause = subst (HasCause history old new) (sym same) (cause_there history P old pager result looks f cause)
 
-  pub tree_there : (r : Result X Refusal) → AnswersSo result r → ReadsTree history Q r old new
+  pub tree_there : (r : Result X Refusal) → AnswersAs result r → ReadsTree history Q r old new
   tree_there r as_read = record {
     on = looks.grows;
     unchanged = unchanged_there history P old pager result looks;

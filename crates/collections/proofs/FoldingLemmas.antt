@@ -1,6 +1,6 @@
 -- What entries make of a fold to which they are lent as documents.
 use Rattle.std.proofs.Common.{◌≡◌, ℕ, suc, ◌<◌, ◌^◌, List, [], ◌∷◌, ◌++◌, length, map, refl, sym, ◌∙◌, ap, subst, arith, inl, inr}
-use Rattle.std.specs.Prelude.{true, false, Option, Some, None, is_some, All, Result, Ok, Err, IfErr, OnOk, MatchOption, MatchResult}
+use Rattle.std.specs.Prelude.{true, false, Option, Some, None, is_some, All, Result, Ok, Err, IfErr, OnOk, MatchOption}
 use Rattle.std.specs.Option.{option_map}
 use Rattle.std.specs.Result.{result_err}
 use Rattle.std.proofs.lemmas.List.{map-append}
@@ -8,7 +8,7 @@ use Rattle.std.proofs.lemmas.List.Elements.{All-cons, All-filter, All-head, All-
 use Rattle.bson.specs.Spelling.{Spells, frame_of, pairs_bytes}
 use Rattle.bson.specs.Tree.{Pairs}
 use Rattle.bson.proofs.RawLaws.{document_spelled-is}
-use Rattle.page.specs.History.{History, KeepsWord}
+use Rattle.page.specs.History.{History}
 use Rattle.value_order.specs.KeyText.{tree_text}
 use Rattle.btree.specs.Calls.{IsAnswer, Yields}
 use Rattle.btree.specs.Fold.{between}
@@ -27,17 +27,17 @@ use Rattle.index.proofs.HomeLemmas.{number_fits}
 use Rattle.pager.specs.Capacity.{TreesFit}
 use Rattle.pager.specs.State.{State as PagerState}
 use Rattle.pager.specs.View.{store_of}
+use Rattle.pager.specs.declared.version.Version.{Version}
 use Rattle.path.specs.declared.refusal.Refusal.{Refusal}
 use Rattle.path.specs.declared.refusal.Refusal.TheVariants as refusals
-use Rattle.collections.specs.Calls.{HasCause, Reads}
+use Rattle.collections.specs.Below.{IsNothing, ReadsBelow}
 use Rattle.collections.specs.Folding.{IsFolded, IsOfStored, IsRefusedAmong, Lends, document_in, documents_within, end_under, lies_within}
-use Rattle.collections.specs.Reading.{IsInTree, IsNumbered, LooksUp, ReadsOf}
-use Rattle.collections.specs.Standing.{HasState}
+use Rattle.collections.specs.Reading.{IsInTree, IsNumbered, LooksUp, OrMemory, ReadsOf}
 use Rattle.collections.specs.State.{State}
-use Rattle.collections.specs.View.{disk_history, is_stopped}
+use Rattle.collections.specs.Versions.{ReadsVersion}
 use Rattle.collections.specs.declared.folding.Lending.{Lending}
-use Rattle.collections.proofs.CauseLemmas.{word_before}
-use Rattle.collections.proofs.WalkLemmas.{few_documents}
+use Rattle.collections.proofs.BelowLemmas.{asks_turn, asks_version, below_on}
+use Rattle.collections.proofs.WalkLemmas.{few_documents, no_more_documents}
 use Rattle.collections.proofs.WithinLemmas.{not_before, window_within, within_shorter}
 
 -- ---- a document that may be stored
@@ -129,11 +129,11 @@ abbrev pub AnswersWith : {F : Type 0} → Lending F → Result F Refusal → Typ
 AnswersWith now (Ok done) = (now.refused ≡ None) × (done ≡ now.fold)
 AnswersWith now (Err e) = now.refused ≡ Some e
 
-module _ {D F : Type 0} (history : D → History) (makes : F → List Pairs → F → Type 0) (start now : Lending F) (bounds texts : Bounds) (number : ℕ)
+module _ {D F : Type 0} (history : D → History) (makes : F → List Pairs → F → Type 0) (start now : Lending F) (bounds texts : Bounds) (number root : ℕ)
     (old new : State D) (from : bounds.from.now ≡ key_under number 0 texts.from.now)
     (to : option_map (λ b. b.now) bounds.to ≡ Some (end_under number (option_map (λ b. b.now) texts.to)))
-    (fits : TreesFit history old.pager) (running : is_stopped old ≡ false)
-    (reads : Reads history (IsInTree (λ entries (u : Unit {0}). Lends makes start (between bounds entries) now)) (Ok tt) old new) where
+    (reads : ReadsBelow history root IsNothing
+    (λ cs asked. IsInTree (λ entries (u : Unit {0}). Lends makes start (between bounds entries) now) cs) (Ok tt) old new) where
   module _ (cs : List Collection) (c : Collection) (numbered : IsNumbered cs c number)
       (p : IsInTree (λ entries (u : Unit {0}). Lends makes start (between bounds entries) now) cs tt) where
     kept : IsKept c
@@ -168,27 +168,56 @@ module _ {D F : Type 0} (history : D → History) (makes : F → List Pairs → 
         by_refused (Some e) why = why (all_stored c.number asked storable)
 
   pub folded : (r : Result F Refusal) → AnswersWith now r
-      → ReadsOf history (λ cs c. IsNumbered cs c number) (λ cs c done. IsFolded makes start.fold (documents_within texts c.documents) done) r old new
-  folded r is = record {
-    on = reads.on;
-    unchanged = reads.unchanged;
-    same = reads.same;
-    answers = λ k first cs has c numbered.
-        by_answer first cs has c numbered k r is (lent cs c numbered (reads.answers k first cs has));
-  }
+      → ReadsBelow history root (λ cs c. IsNumbered cs c number) (λ cs c done. makes start.fold (documents_within texts c.documents) done) r old new
+  folded r is =
+      below_on history root IsNothing (λ cs c. IsNumbered cs c number)
+      (λ cs asked. IsInTree (λ entries (u : Unit {0}). Lends makes start (between bounds entries) now) cs)
+      (λ cs c done. makes start.fold (documents_within texts c.documents) done) old new tt r reads
+      (λ cs c numbered. (tt, tt, λ p. by_answer c r is (lent cs c numbered p)))
     where
-      by_answer : (first cs : List Collection) → HasState history old first cs → (c : Collection) → IsNumbered cs c number
-          → KeepsWord (disk_history history new) → (r : Result F Refusal) → AnswersWith now r
+      by_answer : (c : Collection) (r : Result F Refusal) → AnswersWith now r
           → MatchOption now.refused (makes start.fold (documents_within texts c.documents) now.fold) (λ e. e ≡ refusals.OutOfMemory)
-          → MatchResult r (λ done. IsFolded makes start.fold (documents_within texts c.documents) done) (HasCause history old new)
-      by_answer first cs has c numbered k (Ok done) is told = record {
-        made = subst (makes start.fold (documents_within texts c.documents)) (sym is.1)
-            (subst (λ o. MatchOption o (makes start.fold (documents_within texts c.documents) now.fold) (λ e. e ≡ refusals.OutOfMemory)) is.0 told);
+          → OrMemory (λ done. makes start.fold (documents_within texts c.documents) done) r
+      by_answer c (Ok done) is told =
+          subst (makes start.fold (documents_within texts c.documents)) (sym is.1)
+          (subst (λ o. MatchOption o (makes start.fold (documents_within texts c.documents) now.fold) (λ e. e ≡ refusals.OutOfMemory)) is.0 told)
+      by_answer c (Err e) is told =
+          subst (λ o. MatchOption o (makes start.fold (documents_within texts c.documents) now.fold) (λ e. e ≡ refusals.OutOfMemory)) is told
+
+-- ---- they are few
+
+module _ {D F : Type 0} (history : D → History) (makes : F → List Pairs → F → Type 0) (start : F) (texts : Bounds) (number : ℕ) (old new : State D)
+    (r : Result F Refusal) where
+  abbrev Asked : List Collection → Collection → Type 0
+  Asked cs c = IsNumbered cs c number
+
+  abbrev Folded : List Collection → Collection → F → Type 0
+  Folded cs c done = makes start (documents_within texts c.documents) done
+
+  pub folds_turn : (root : ℕ) → ReadsBelow history root Asked Folded r old new → root ≡ old.root → TreesFit history old.pager
+      → ReadsOf history Asked (λ cs c done. IsFolded makes start (documents_within texts c.documents) done) r old new
+  folds_turn root reads is fits =
+      asks_turn history Asked Folded old new r root reads (λ cs c done. IsFolded makes start (documents_within texts c.documents) done) is
+      (λ running k first cs has c numbered done made. record {
+        made = made;
         few = omega (
           arith,
           within_shorter texts c.documents,
-          few_documents history old number fits running (word_before history old new reads.on k) first cs c has numbered,
+          few_documents history old number fits running k first cs c has numbered,
         );
-      }
-      by_answer first cs has c numbered k (Err e) is told =
-          inl (subst (λ o. MatchOption o (makes start.fold (documents_within texts c.documents) now.fold) (λ e. e ≡ refusals.OutOfMemory)) is told)
+      })
+
+  pub folds_version : (version : Version) → ReadsBelow history version.root Asked Folded r old new
+      → ReadsVersion history version Asked (λ cs c done. IsFolded makes start (documents_within texts c.documents) done) r old new
+  folds_version version reads =
+      asks_version history Asked Folded old new r version.root reads (λ cs c done. IsFolded makes start (documents_within texts c.documents) done)
+      version refl
+      (λ cs h c numbered done made. record {
+        made = made;
+        few = omega (
+          arith,
+          within_shorter texts c.documents,
+          no_more_documents h.entries cs c number (record { lawful = h.state; spells = h.spells }) numbered,
+          h.few,
+        );
+      })

@@ -1,9 +1,9 @@
 -- The texts that a range of entries tells of an index are those of its documents.
-use Rattle.std.proofs.Common.{◌≡◌, ℕ, suc, ◌+◌, ◌<◌, ◌≤◌, ◌^◌, Bool, true, false, not, ◌&&◌, List, [], ◌∷◌, ◌++◌, length, map, take, drop, Option, Some, None}
+use Rattle.std.proofs.Common.{◌≡◌, ℕ, ◌+◌, ◌<◌, ◌≤◌, ◌^◌, Bool, true, false, not, ◌&&◌, List, [], ◌∷◌, ◌++◌, length, map, take, drop, Option, Some, None}
 use Rattle.std.proofs.Common.{◌⊎◌, inl, inr, ⊎_elim, refl, sym, ap, subst, ◌∙◌, arith, append_assoc, append-nil}
-use Rattle.std.specs.Prelude.{Result, Ok, Err, nat_eq, if◌then◌else◌, is_some, Contains}
+use Rattle.std.specs.Prelude.{nat_eq, if◌then◌else◌, is_some, Contains}
 use Rattle.std.specs.Int.{w32, to_be_bytes}
-use Rattle.std.specs.List.{flat_map, starts_with}
+use Rattle.std.specs.List.{starts_with}
 use Rattle.std.specs.Option.{option_map, option_to_list}
 use Rattle.std.specs.Ordering.{is_gt, is_lt, nat_cmp, ordering_then}
 use Rattle.std.specs.declared.cmp.Ordering.{Ordering}
@@ -34,10 +34,9 @@ use Rattle.index.proofs.FrontLemmas.{starts_so, starts_there}
 use Rattle.index.proofs.FoundLawLemmas.{found_collection}
 use Rattle.index.proofs.HomeLemmas.{listed_of, number_fits}
 use Rattle.index.proofs.ListingLaws.{lists_index}
-use Rattle.index.proofs.MemberLemmas.{Among, among_append, among_each, among_flat, among_front, among_image, among_map, among_of, contains_of}
-use Rattle.index.proofs.WindowLemmas.{among_window, inside_there, is_inside, under_cmp, window_among, window_rises}
+use Rattle.index.proofs.MemberLemmas.{Among, among_append, among_each, among_flat, among_front, among_map, among_of, contains_of}
+use Rattle.index.proofs.WindowLemmas.{among_window, inside_there, is_inside, window_among, window_rises}
 use Rattle.collections.specs.IndexTexts.{AreFirstTexts, AreTextsBetween, Indexed, IsEntryText, IsNumberedIndex, LiesBetween, text_behind, texts_behind}
-use Rattle.path.specs.declared.refusal.Refusal.{Refusal}
 use Rattle.collections.specs.Reading.{IsBatchOf, IsInTree}
 use Rattle.collections.proofs.ReadingLemmas.{next_same}
 

@@ -1,5 +1,5 @@
 -- What follows where collections have a state.
-use Rattle.std.proofs.Common.{rules, arith, ◌≡◌, ℕ, List, [], inl, refl, sym, ◌∙◌, subst}
+use Rattle.std.proofs.Common.{rules, arith, ◌≡◌, ℕ, false, List, [], inl, refl, sym, ◌∙◌, subst}
 use Rattle.std.specs.Prelude.{replicate, Ok}
 use Rattle.page.specs.History.{History, KeepsWord, now, reads}
 use Rattle.btree.specs.Keys.{Entry}
@@ -22,7 +22,7 @@ use Rattle.index.specs.StateEntries.{Spells}
 use Rattle.collections.specs.State.{State}
 use Rattle.collections.specs.Laws.{GoesFromItself, GoesFurther, HasOneState, HoldsOne, LeavesStart, RestsAtStart, ZerosHoldNothing}
 use Rattle.collections.specs.Standing.{IsTurnOf}
-use Rattle.collections.specs.View.{disk_history}
+use Rattle.collections.specs.View.{disk_history, is_changed}
 use Rattle.collections.proofs.StandingLemmas.{is_at, tree_same}
 
 -- what the turn began with is committed still
@@ -40,9 +40,10 @@ leaves_start history c start now running has k image is =
       state = t.start_state;
     }
 
-pub rests_at_start : {D : Type 0} (history : D → History) → RestsAtStart history
-rests_at_start history c start now running k has rests =
-    let t : IsTurnOf history c start now = has running k in
+-- The tree of a turn that has changed nothing is the one that it began with.
+pub rested_tree : {D : Type 0} (history : D → History) (c : State D) (start now : List Collection) (t : IsTurnOf history c start now)
+    → KeepsWord (disk_history history c) → is_changed c ≡ false → (t.after ≡ t.before) × (t.pages ≡ t.live)
+rested_tree history c start now t k rests =
     let frame = t.turn.grows.frame k in
     let then_map : HasMap (store_of history t.began) (durable_root t.began.store).tree t.live t.before =
     begun_map history t.began t.live t.before t.begun frame.word in
@@ -51,7 +52,13 @@ rests_at_start history c start now running k has rests =
     let old_map : HasMap (store_of history c.pager) c.root t.live t.before =
     subst (λ (root : ℕ). HasMap (store_of history c.pager) root t.live t.before) same
     (old_trees_stay (store_of history t.began) (store_of history c.pager) (durable_root t.began.store).tree t.live t.before frame then_map) in
-    let entries : t.after ≡ t.before = (one_map (store_of history c.pager) c.root t.pages t.live t.after t.before t.turn.holds old_map).entries_are in
+    let one = one_map (store_of history c.pager) c.root t.pages t.live t.after t.before t.turn.holds old_map in
+    (one.entries_are, one.pages_are)
+
+pub rests_at_start : {D : Type 0} (history : D → History) → RestsAtStart history
+rests_at_start history c start now running k has rests =
+    let t : IsTurnOf history c start now = has running k in
+    let entries : t.after ≡ t.before = (rested_tree history c start now t k rests).0 in
     spells_one t.after now start t.now_state t.start_state t.spells_now (subst (λ (es : List Entry). Spells es start) (sym entries) t.spells_start)
 
 pub has_one_state : {D : Type 0} (history : D → History) → HasOneState history

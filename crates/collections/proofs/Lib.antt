@@ -1,4 +1,5 @@
 pub mod ApplyLemmas
+pub mod BelowLemmas
 pub mod CommitLemmas
 pub mod CountLemmas
 pub mod EntryLemmas
@@ -14,6 +15,8 @@ pub mod AnyLemmas
 pub mod TakenLemmas
 pub mod ReadingLemmas
 pub mod StandingLemmas
+pub mod TrustLemmas
+pub mod VersionLemmas
 pub mod WalkLemmas
 pub mod TreeReadLemmas
 pub mod WithinLemmas

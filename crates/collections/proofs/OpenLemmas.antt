@@ -1,13 +1,10 @@
 -- What opening gives.
-use Rattle.std.proofs.Common.{◌≡◌, ℕ, sym, ◌∙◌, subst}
+use Rattle.std.proofs.Common.{◌≡◌, sym, ◌∙◌, subst}
 use Rattle.std.specs.Prelude.{Ok}
 use Rattle.page.specs.History.{History, now, reads}
 use Rattle.roots.specs.declared.opening.OpenFault.{OpenFault}
 use Rattle.roots.specs.declared.root.Root.{Root}
-use Rattle.btree.specs.Reach.{HasMap}
-use Rattle.roots.specs.Image.{HoldsMap, StandsFor, sheet_at}
-use Rattle.pager.proofs.BeginLemmas.{turn_begins}
-use Rattle.collections.specs.View.{pages_of}
+use Rattle.roots.specs.Image.{HoldsMap, sheet_at}
 use Rattle.roots.specs.Store.{durable_root}
 use Rattle.pager.specs.Opening.{IsOpened as IsPagerOpened, IsRefused as IsPagerRefused}
 use Rattle.pager.specs.Turn.{IsBegun}
@@ -24,21 +21,6 @@ opened_so history disk c opened is =
       running = opened.running;
       rests = rests_at c.root (durable_root c.pager.store).tree is;
       on = opened.on;
-      stands = λ k.
-          let there = opened.stands k in
-          let h : StandsFor image there.0 = there.1 in
-          let both : Ok h.root ≡ Ok (durable_root c.pager.store) = sym h.opens ∙ opened.opens k in
-          let same : h.root ≡ durable_root c.pager.store = cc in
-          let begun : IsBegun history c.pager h.pages there.0 =
-          opened.begun h.pages there.0 (λ _. subst (λ (r : Root). HoldsMap (sheet_at image r) r h.pages there.0) same h.holds) in
-          record {
-            entries = there.0;
-            image = h;
-            tree = record {
-              pages = h.pages;
-              map = subst (λ (root : ℕ). HasMap (pages_of history c) root h.pages there.0) (sym is) (turn_begins history c.pager h.pages there.0 begun k).holds;
-            };
-          };
       begun = λ collections holds running k.
           let h : Holds image collections = holds k in
           let both : Ok h.stands.root ≡ Ok (durable_root c.pager.store) = sym h.stands.opens ∙ opened.opens k in

@@ -23,8 +23,8 @@ use Rattle.index.specs.State.{Collection}
 use Rattle.collections.specs.Applying.{refusal_of}
 use Rattle.collections.specs.Calls.{HasCause, Reads}
 use Rattle.collections.specs.Entries.{ReadsEntries}
-use Rattle.collections.specs.Reading.{IsInTree, LooksUp, OrMemory, ReadsOf}
-use Rattle.collections.specs.Standing.{HasState, IsTurnOf}
+use Rattle.collections.specs.Reading.{LooksUp, OrMemory, ReadsOf}
+use Rattle.collections.specs.Standing.{HasState}
 use Rattle.collections.specs.State.{State}
 use Rattle.collections.specs.View.{is_changed, is_stopped}
 use Rattle.collections.proofs.FoundLemmas.{whole_batch}
@@ -69,8 +69,14 @@ module _ {D A X : Type 0} (history : D → History) (Is : List Collection → A 
 
 -- ---- a look at the tree
 
-module _ {D X : Type 0} (history : D → History) (IsRight : List Entry → X → Type 0) (old : State D) (pager : PagerState D) (result : Result X TreeFault)
-    (looks : LooksUp history old.root IsRight result old.pager pager) where
+-- what a command says of what was looked up
+abbrev pub AnswersAs : {X : Type 0} → Result X TreeFault → Result X Refusal → Type 0
+AnswersAs (Ok x) (Ok y) = x ≡ y
+AnswersAs (Err f) (Err e) = e ≡ refusal_of f
+AnswersAs _ _ = ⊥
+
+module _ {D X : Type 0} {root : ℕ} (history : D → History) (IsRight : List Entry → X → Type 0) (old : State D) (pager : PagerState D)
+    (result : Result X TreeFault) (looks : LooksUp history root IsRight result old.pager pager) where
   abbrev new : State D
   new = record old { pager = pager }
 
@@ -89,42 +95,7 @@ module _ {D X : Type 0} (history : D → History) (IsRight : List Entry → X �
   cause_there faults.Order cause = absurd cause
   cause_there faults.Length cause = absurd cause
 
-  pub reads_there : (x : X) → result ≡ Ok x → is_stopped old ≡ false → Reads history (IsInTree IsRight) (Ok x) old new
-  reads_there x is running = record {
-    on = looks.grows;
-    unchanged = unchanged_there;
-    same = stays_there;
-    answers = λ k start now has.
-        let t : IsTurnOf history old start now = has running (looks.grows.frame k).word in
-        let right : IsRight t.after x = subst_result x is t.after (looks.yields t.pages t.after t.turn.holds k) in
-        record { entries = t.after; spells = t.spells_now; state = t.now_state; right = right };
-  }
-    where
-      subst_result : (x : X) → result ≡ Ok x → (entries : List Entry)
-          → MatchResult result (IsRight entries) (HasTreeCause (store_of history old.pager) (store_of history pager)) → IsRight entries x
-      subst_result x is entries answer = rw is at answer
-
-  pub reads_failed : {Y : Type 0} (Q : List Collection → Y → Type 0) (e : TreeFault) → result ≡ Err e → is_stopped old ≡ false
-      → Reads history Q (Err (refusal_of e)) old new
-  reads_failed Q e is running = record {
-    on = looks.grows;
-    unchanged = unchanged_there;
-    same = stays_there;
-    answers = λ k start now has.
-        let t : IsTurnOf history old start now = has running (looks.grows.frame k).word in
-        cause_there e (cause_of (IsRight t.after) (looks.yields t.pages t.after t.turn.holds k));
-  }
-    where
-      cause_of : (P : X → Type 0) → MatchResult result P (HasTreeCause (store_of history old.pager) (store_of history pager))
-          → HasTreeCause (store_of history old.pager) (store_of history pager) e
-      cause_of P answer = rw is at answer
-
 -- ---- all entries
-
-abbrev pub AnswersAs : Result (Vec OwnEntry) TreeFault → Result (Vec OwnEntry) Refusal → Type 0
-AnswersAs (Ok x) (Ok y) = x ≡ y
-AnswersAs (Err f) (Err e) = e ≡ refusal_of f
-AnswersAs _ _ = ⊥
 
 module _ {D X Y : Type 0} (history : D → History) (root : ℕ) (P : List Entry → X → Type 0) (Q : List Entry → Y → Type 0) (old new : PagerState D) where
   pub looks_refused : (e : TreeFault) → LooksUp history root P (Err e) old new → LooksUp history root Q (Err e) old new

@@ -23,6 +23,7 @@ use Rattle.index.specs.Batches.{documents_at}
 use Rattle.index.specs.LawfulState.{IsKept, IsStorable}
 use Rattle.index.specs.State.{Collection}
 use Rattle.index.specs.StateEntries.{document_entry, key_under}
+use Rattle.index.specs.StateReads.{SpellsLawful}
 use Rattle.index.proofs.BatchLaws.{all_documents, goes_on_behind, lists_documents_from}
 use Rattle.index.proofs.FoundLawLemmas.{found_collection}
 use Rattle.pager.specs.Capacity.{TreesFit}
@@ -132,21 +133,30 @@ shorter_window from to (x ∷ xs) = by_test (not (is_lt (key_cmp x.key from)) &&
     by_test true less = omega (arith, less)
     by_test false less = omega (arith, less)
 
--- The documents of a collection are few, since its tree finds room in a file.
-pub few_documents : {D : Type 0} (history : D → History) (c : State D) (number : ℕ) → TreesFit history c.pager → is_stopped c ≡ false
-    → KeepsWord (disk_history history c) → (start now : List Collection) (of : Collection) → HasState history c start now → IsNumbered now of number
-    → length of.documents ≤ 680 * 1048576
-few_documents history c number fit running k start now of has numbered =
-    let t : IsTurnOf history c start now = has running k in
+-- A collection has no more documents than its tree has entries,
+pub no_more_documents : (entries : List Entry) (now : List Collection) (of : Collection) (number : ℕ) → SpellsLawful entries now → IsNumbered now of number
+    → length of.documents ≤ length entries
+no_more_documents entries now of number stands numbered =
     let key : List ℕ = key_under of.number 0 [] in
-    let listed : window key (Some (key_under of.number 1 [])) t.after ≡ map (document_entry of.number) of.documents =
-    lists_documents_from t.after now of key (record { lawful = t.now_state; spells = t.spells_now }) numbered.found (not_under_itself key)
+    let listed : window key (Some (key_under of.number 1 [])) entries ≡ map (document_entry of.number) of.documents =
+    lists_documents_from entries now of key stands numbered.found (not_under_itself key)
     ∙ ap (map (document_entry of.number)) (all_documents of.number of.documents) in
     omega (
       arith,
       ap length listed,
       length-map of.documents (document_entry of.number),
-      shorter_window key (Some (key_under of.number 1 [])) t.after,
+      shorter_window key (Some (key_under of.number 1 [])) entries,
+    )
+
+-- which are few, since it finds room in a file.
+pub few_documents : {D : Type 0} (history : D → History) (c : State D) (number : ℕ) → TreesFit history c.pager → is_stopped c ≡ false
+    → KeepsWord (disk_history history c) → (start now : List Collection) (of : Collection) → HasState history c start now → IsNumbered now of number
+    → length of.documents ≤ 680 * 1048576
+few_documents history c number fit running k start now of has numbered =
+    let t : IsTurnOf history c start now = has running k in
+    omega (
+      arith,
+      no_more_documents t.after now of number (record { lawful = t.now_state; spells = t.spells_now }) numbered,
       (fit t.began t.live t.before t.begun c.root t.pages t.after t.turn k).few,
     )
 

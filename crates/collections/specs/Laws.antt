@@ -4,11 +4,13 @@ use Rattle.page.specs.History.{History, KeepsWord}
 use Rattle.page.specs.Crash.{LeavesNow}
 use Rattle.roots.specs.declared.counting.PageCounts.{PageCounts}
 use Rattle.index.specs.State.{Collection}
+use Rattle.pager.specs.declared.version.Version.{Version}
 use Rattle.collections.specs.State.{State}
 use Rattle.collections.specs.Calls.{GoesFrom}
 use Rattle.collections.specs.Counting.{HasCounts}
 use Rattle.collections.specs.Holding.{Holds}
 use Rattle.collections.specs.Standing.{HasState}
+use Rattle.collections.specs.Versions.{HasVersion}
 use Rattle.collections.specs.View.{disk_history, is_changed, is_stopped}
 
 -- Until the commit, a crash leaves the collections as the turn began.
@@ -29,6 +31,12 @@ HasOneState {D = D} history = (c : State D) (start now start' now' : List Collec
     → is_stopped c ≡ false → KeepsWord (disk_history history c)
     → HasState history c start now → HasState history c start' now'
     → (start ≡ start') × (now ≡ now')
+
+-- A version has one list of collections at most.
+abbrev pub HasOneVersion : {D : Type 0} → (D → History) → Type 0
+HasOneVersion {D = D} history = (c : State D) (version : Version) (a b : List Collection)
+    → KeepsWord (disk_history history c)
+    → HasVersion history c version a → HasVersion history c version b → a ≡ b
 
 -- An image holds one list of collections at most.
 abbrev pub HoldsOne : Type 0

@@ -1,4 +1,5 @@
 pub mod Applying
+pub mod Below
 pub mod Calls
 pub mod Committing
 pub mod Counting
@@ -14,5 +15,7 @@ pub mod OtherKeys
 pub mod Reading
 pub mod Standing
 pub mod State
+pub mod Trusting
+pub mod Versions
 pub mod View
 pub mod Walk

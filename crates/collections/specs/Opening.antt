@@ -2,23 +2,14 @@
 use Rattle.std.specs.Prelude.{◌≡◌, ◌≢◌, ◌<◌, false, List, Err}
 use Rattle.page.specs.History.{History, KeepsWord, IsImage, now, reads}
 use Rattle.page.specs.Crash.{GoesOn, LeavesNow, LeavesOnly}
-use Rattle.btree.specs.Keys.{Entry}
 use Rattle.roots.specs.Root.{root_of}
-use Rattle.roots.specs.Image.{StandsFor}
 use Rattle.roots.specs.declared.opening.OpenFault.{OpenFault}
 use Rattle.roots.specs.declared.opening.OpenFault.TheVariants as faults
 use Rattle.index.specs.State.{Collection}
 use Rattle.collections.specs.State.{State}
-use Rattle.collections.specs.Entries.{HasEntries}
 use Rattle.collections.specs.Holding.{Holds}
 use Rattle.collections.specs.Standing.{HasState}
 use Rattle.collections.specs.View.{disk_history, is_changed, is_stopped}
-
--- What reads gave stands for some entries, which the tree has.
-pub record HasRead {D : Type 0} (history : D → History) (disk : D) (c : State D) : Type 0 where
-  pub entries : List Entry
-  pub image : StandsFor (reads (now (history disk))) entries
-  pub tree : HasEntries history c entries
 
 -- The disk was opened, by reads and a sync alone.
 pub record IsOpened {D : Type 0} (history : D → History) (disk : D)
@@ -26,8 +17,6 @@ pub record IsOpened {D : Type 0} (history : D → History) (disk : D)
   pub running : is_stopped c ≡ false
   pub rests : is_changed c ≡ false
   pub on : GoesOn (history disk) (disk_history history c)
-  -- what was read stands for some entries, and its tree has them
-  pub stands : KeepsWord (disk_history history c) → HasRead history disk c
   -- a turn begins with what was read
   pub begun : (collections : List Collection)
       → (KeepsWord (disk_history history c) → Holds (reads (now (history disk))) collections)

@@ -8,6 +8,7 @@ use pager::Pager;
 use roots::{CommitFault, OpenFault, PageCounts};
 use std::alloc::Global;
 use std::marker::Model;
+use trusted_disk::TrustedDisk;
 
 /// The collections of a database file: a turn begins with those that are committed, changes them by edits of the tree, and is made
 /// durable or taken back as a whole.
@@ -34,15 +35,17 @@ impl<D: Disk> Model for Collections<D> {
 }
 
 impl<D: Disk> Collections<D> {
-    ghost use Rattle.std.specs.Prelude.{IfErr, IfOk};
+    ghost use Rattle.std.specs.Prelude.{Bool, IfErr, IfOk};
     ghost use Rattle.collections.specs.Committing.{Commits};
     ghost use Rattle.collections.specs.Counting.{CountsPages};
     ghost use Rattle.collections.specs.Marks.{IsMarkOf, ReturnsTo, Undoes};
     ghost use Rattle.collections.specs.Opening.{IsOpened, IsRefused};
+    ghost use Rattle.collections.specs.Trusting.{trusting_state};
+    ghost use Rattle.collections.specs.Versions.{CommitsVersions, KeepsSinceStart, KeepsThen};
     ghost use Rattle.collections.specs.View.{disk_history, generation, is_changed, is_stopped};
 
-    /// Opens a disk that a crash may have left, as a file of at most so many pages, or those that it has. It reads each page of
-    /// the tree once. An `Err` hands the disk back.
+    /// Opens a disk that a crash may have left, as a file of at most so many pages, or those that it has. It reads the list of free
+    /// pages, and of the tree the root page alone; each page of the tree where the file has no list. An `Err` hands the disk back.
     pub fn open(alloc: Global, disk: D, limit: u32) -> Result<Collections<D>, (D, OpenFault)>
         ensures opened { IfOk result (IsOpened D.history disk) }
         ensures refused { IfErr result (λ e. IsRefused D.history disk e.0 e.1) }
@@ -61,9 +64,22 @@ impl<D: Disk> Collections<D> {
 
     /// Hands the disk back as it is.
     pub fn into_disk(self) -> D
-        ensures { D.history result ≡ disk_history D.history self }
+        ensures { result ≡ self.pager.store.disk }
     {
         self.pager.into_disk()
+    }
+
+    /// The same collections on the same disk, whose word counts from now on only where what the caller chooses is true.
+    pub fn trusting(self) -> Collections<TrustedDisk<D>>
+        ghost trusted: { Bool }
+        ensures { result ≡ trusting_state trusted self }
+    {
+        Collections {
+            alloc: self.alloc,
+            pager: self.pager.trusting(),
+            root: self.root,
+            begun: self.begun,
+        }
     }
 
     /// Whether a write or a sync has failed. What has stopped commits nothing any more.
@@ -110,7 +126,8 @@ impl<D: Disk> Collections<D> {
 
     /// Takes back what the turn has done since a mark of it.
     pub fn undo_to(&mut self, mark: Mark)
-        ensures { ReturnsTo D.history mark self.old self.new }
+        ensures returns { ReturnsTo D.history mark self.old self.new }
+        ensures versions { KeepsThen D.history mark self.old self.new }
     {
         self.pager.undo_to(mark.pages);
         self.root = mark.root;
@@ -118,7 +135,8 @@ impl<D: Disk> Collections<D> {
 
     /// Takes back the whole turn.
     pub fn undo(&mut self)
-        ensures { Undoes D.history self.old self.new }
+        ensures undoes { Undoes D.history self.old self.new }
+        ensures versions { KeepsSinceStart D.history self.old self.new }
     {
         self.pager.undo_to(self.begun);
         self.root = self.pager.root();
@@ -126,7 +144,8 @@ impl<D: Disk> Collections<D> {
 
     /// Makes the turn durable; the next one begins with what it leaves. An `Err` leaves the turn, to be undone. It reads nothing.
     pub fn commit(&mut self) -> Result<(), CommitFault>
-        ensures { Commits D.history result self.old self.new }
+        ensures commits { Commits D.history result self.old self.new }
+        ensures versions { CommitsVersions D.history result self.old self.new }
     {
         self.pager.commit(self.root)
     }

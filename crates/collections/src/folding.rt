@@ -1,16 +1,15 @@
 //! The documents of a collection, lent one after the other while their page is borrowed: nothing of them is copied.
 
-ghost use Rattle.std.specs.Prelude.{◌≡◌, ◌++◌, ◌∷◌, [], true, false, List, IfErr, IfOk, IfSome, OnOk, Some, None};
+ghost use Rattle.std.specs.Prelude.{◌≡◌, ◌++◌, ◌∷◌, [], true, List, IfErr, IfOk, IfSome, OnOk, Some, None};
 ghost use Rattle.std.specs.Option.{option_map};
 ghost use Rattle.bson.specs.Raw.{document_spelled};
 ghost use Rattle.bson.specs.Spelling.{frame_of, pairs_bytes};
 ghost use Rattle.bson.specs.Tree.{Pairs};
 ghost use Rattle.btree.specs.Fold.{HasTaken as HasTakenEntries, between};
 ghost use Rattle.index.specs.LawfulState.{IsStorable};
-ghost use Rattle.collections.specs.Calls.{Reads};
+ghost use Rattle.collections.specs.Below.{IsNothing, ReadsBelow};
 ghost use Rattle.collections.specs.Folding.{HasTaken, IsFolded, Lends, documents_within, end_under};
 ghost use Rattle.collections.specs.Reading.{IsInTree, IsNumbered, LooksUp, ReadsOf};
-ghost use Rattle.collections.specs.View.{is_stopped};
 
 use crate::applying::refusal_of;
 use crate::collections::Collections;
@@ -128,25 +127,57 @@ fn end_key(alloc: Global, number: u32, text: Option<&[u8]>) -> Result<Vec<u8>, N
 }
 
 impl<D: Disk> Collections<D> {
-    /// Lends the entries between bounds of the turn's tree.
-    fn lend_all<F: DocumentFold>(
+    /// Lends the entries between bounds of the tree below a root page.
+    fn lend_from<F: DocumentFold>(
         &mut self,
+        root: u32,
         bounds: Bounds<'_>,
         lending: &mut Lending<F>,
     ) -> Result<(), Refusal>
         requires { Lends F.makes lending.old [] lending.old }
-        ensures reads { Reads D.history (IsInTree
-            (λ entries _. Lends F.makes lending.old (between bounds.entry entries) lending.new))
+        ensures reads { ReadsBelow D.history root IsNothing (λ now asked. IsInTree
+            (λ entries _. Lends F.makes lending.old (between bounds.entry entries) lending.new) now)
             result self.old self.new }
         ensures taken { OnOk result (HasTakenEntries (Lends F.makes) lending.old lending.new) }
-        ensures running { OnOk result (is_stopped self.old ≡ false) }
     {
         if self.pager.is_stopped() {
             return Err(Refusal::StorageFailed);
         }
-        match lend_below(self.alloc, &mut self.pager, self.root, bounds, lending) {
+        match lend_below(self.alloc, &mut self.pager, root, bounds, lending) {
             Ok(()) => Ok(()),
             Err(fault) => Err(refusal_of(fault)),
+        }
+    }
+
+    /// Lends the documents of the collection of a number, in the tree below a root page, whose `_id`s' key texts lie within bounds to
+    /// a fold.
+    pub(crate) fn fold_from<F: DocumentFold + Drop>(
+        &mut self,
+        root: u32,
+        number: u32,
+        texts: Bounds<'_>,
+        fold: F,
+    ) -> Result<F, Refusal>
+        requires { F.makes fold [] fold }
+        ensures reads { ReadsBelow D.history root (λ now c. IsNumbered now c number)
+            (λ now c done. F.makes fold (documents_within texts.entry c.documents) done)
+            result self.old self.new }
+        ensures taken { IfOk result (HasTaken F.makes fold) }
+    {
+        let from = document_key(self.alloc, number, texts.from)?;
+        let to = end_key(self.alloc, number, texts.to)?;
+        let mut lending = Lending {
+            fold,
+            refused: None,
+        };
+        let bounds = Bounds {
+            from: &from,
+            to: Some(&to),
+        };
+        self.lend_from(root, bounds, &mut lending)?;
+        match lending.refused {
+            None => Ok(lending.fold),
+            Some(refusal) => Err(refusal),
         }
     }
 
@@ -165,20 +196,6 @@ impl<D: Disk> Collections<D> {
         ensures taken { IfOk result (HasTaken F.makes fold) }
     {
         self.pager.trees_fit();
-        let from = document_key(self.alloc, number, texts.from)?;
-        let to = end_key(self.alloc, number, texts.to)?;
-        let mut lending = Lending {
-            fold,
-            refused: None,
-        };
-        let bounds = Bounds {
-            from: &from,
-            to: Some(&to),
-        };
-        self.lend_all(bounds, &mut lending)?;
-        match lending.refused {
-            None => Ok(lending.fold),
-            Some(refusal) => Err(refusal),
-        }
+        self.fold_from(self.root, number, texts, fold)
     }
 }

@@ -1,6 +1,8 @@
 //! Laws of turns, each the contract of a function that does nothing.
 
-ghost use Rattle.collections.specs.Laws.{GoesFromItself, GoesFurther, HasOneCount, HasOneState, HoldsOne, LeavesStart, RestsAtStart, ZerosHoldNothing};
+ghost use Rattle.collections.specs.Laws.{GoesFromItself, GoesFurther, HasOneCount, HasOneState, HasOneVersion, HoldsOne, LeavesStart, RestsAtStart, ZerosHoldNothing};
+ghost use Rattle.collections.specs.Trusting.{TrustingKeepsState};
+ghost use Rattle.collections.specs.Versions.{SinceStartStays, VersionsStay};
 
 use page::Disk;
 
@@ -42,4 +44,24 @@ pub fn goes_from_itself<D: Disk>()
 /// What goes on from where a turn has come goes on from where it was.
 pub fn goes_further<D: Disk>()
     ensures { GoesFurther D.history }
+{}
+
+/// A state that collections have where something is true they have on a disk whose word counts only there.
+pub fn trusting_keeps_state<D: Disk>()
+    ensures { TrustingKeepsState D.history }
+{}
+
+/// What reads, and takes and retires pages, keeps what each version has.
+pub fn versions_stay<D: Disk>()
+    ensures { VersionsStay D.history }
+{}
+
+/// It keeps also what each version has had since the turn began.
+pub fn since_start_stays<D: Disk>()
+    ensures { SinceStartStays D.history }
+{}
+
+/// A version has one list of collections at most.
+pub fn has_one_version<D: Disk>()
+    ensures { HasOneVersion D.history }
 {}

@@ -11,6 +11,7 @@ pub mod laws;
 mod mark;
 mod other_keys;
 mod reading;
+mod versions;
 mod walk;
 
 pub use collections::Collections;

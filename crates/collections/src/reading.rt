@@ -8,6 +8,7 @@ ghost use Rattle.btree.specs.Scan.{entry_in};
 ghost use Rattle.index.specs.LawfulState.{IsKept, IsStorable};
 ghost use Rattle.index.specs.State.{Collection, find_collection};
 ghost use Rattle.index.specs.StateEntries.{catalogue_entry};
+ghost use Rattle.collections.specs.Below.{IsNothing, ReadsBelow};
 ghost use Rattle.collections.specs.Calls.{Reads};
 ghost use Rattle.collections.specs.Entries.{AreNextEntries, ReadsEntries, ReadsTree};
 ghost use Rattle.collections.specs.Reading.{AreBytesAt, AreEach, IsBatchOf, IsInTree, IsNameOf, IsOfCollection, IsOfDocument, IsPlaceOf, IsValueAt, IsWithinLimits, LooksUp, OrMemory, ReadsOf, catalogued_in, catalogued_of, name_in, name_of, stored_at};
@@ -170,17 +171,25 @@ fn names_at(alloc: Global, entries: &[Entry]) -> Result<Vec<Name>, Refusal>
 }
 
 impl<D: Disk> Collections<D> {
-    /// The value at a key of the turn's tree.
-    pub(crate) fn value_at(&mut self, key: &[u8]) -> Result<Option<Vec<u8>>, Refusal>
-        ensures { Reads D.history (IsInTree (IsValueAt key.now)) result self.old self.new }
+    /// The value at a key of the tree below a root page.
+    fn value_from(&mut self, root: u32, key: &[u8]) -> Result<Option<Vec<u8>>, Refusal>
+        ensures { ReadsBelow D.history root IsNothing
+            (λ now asked. IsInTree (IsValueAt key.now) now) result self.old self.new }
     {
         if self.pager.is_stopped() {
             return Err(Refusal::StorageFailed);
         }
-        match value_below(self.alloc, &mut self.pager, self.root, key) {
+        match value_below(self.alloc, &mut self.pager, root, key) {
             Ok(found) => Ok(found),
             Err(fault) => Err(refusal_of(fault)),
         }
+    }
+
+    /// The value at a key of the turn's tree.
+    pub(crate) fn value_at(&mut self, key: &[u8]) -> Result<Option<Vec<u8>>, Refusal>
+        ensures { Reads D.history (IsInTree (IsValueAt key.now)) result self.old self.new }
+    {
+        self.value_from(self.root, key)
     }
 
     /// The entries of a range of the turn's tree.
@@ -271,13 +280,29 @@ impl<D: Disk> Collections<D> {
         names_at(self.alloc, &batch.entries)
     }
 
-    /// The bytes of a document in the collection of a number, by the key text of its `_id`.
-    fn bytes_at(&mut self, number: u32, id: &[u8]) -> Result<Option<Vec<u8>>, Refusal>
-        ensures { ReadsOf D.history (IsPlaceOf number id.now)
+    /// The bytes of a document in the collection of a number, by the key text of its `_id`, in the tree below a root page.
+    fn bytes_from(&mut self, root: u32, number: u32, id: &[u8]) -> Result<Option<Vec<u8>>, Refusal>
+        ensures { ReadsBelow D.history root (IsPlaceOf number id.now)
             (λ now place found. AreBytesAt place found) result self.old self.new }
     {
         let key = document_key(self.alloc, number, id)?;
-        self.value_at(&key)
+        self.value_from(root, &key)
+    }
+
+    /// The document of that `_id` in the tree below a root page, if there is one, kept as its bytes: nothing of it is copied or built.
+    pub(crate) fn document_from(
+        &mut self,
+        root: u32,
+        number: u32,
+        id: &[u8],
+    ) -> Result<Option<SpelledDocument>, Refusal>
+        ensures { ReadsBelow D.history root (IsPlaceOf number id.now)
+            (λ now place found. found ≡ stored_at place) result self.old self.new }
+    {
+        let Some(bytes) = self.bytes_from(root, number, id)? else {
+            return Ok(None);
+        };
+        Ok(Some(spelled_in(bytes)?))
     }
 
     /// The document of that `_id`, if there is one, kept as its bytes: nothing of it is copied or built.
@@ -285,10 +310,7 @@ impl<D: Disk> Collections<D> {
         ensures { ReadsOf D.history (IsPlaceOf number id.now)
             (λ now place found. found ≡ stored_at place) result self.old self.new }
     {
-        let Some(bytes) = self.bytes_at(number, id)? else {
-            return Ok(None);
-        };
-        Ok(Some(spelled_in(bytes)?))
+        self.document_from(self.root, number, id)
     }
 
     /// Whether there is a document of that `_id`. It isn't decoded.
@@ -296,6 +318,6 @@ impl<D: Disk> Collections<D> {
         ensures { ReadsOf D.history (IsPlaceOf number id.now)
             (λ now place found. found ≡ is_some (stored_at place)) result self.old self.new }
     {
-        Ok(self.bytes_at(number, id)?.is_some())
+        Ok(self.bytes_from(self.root, number, id)?.is_some())
     }
 }

@@ -1,27 +1,42 @@
 -- What opening a disk gives.
-use Rattle.std.specs.Prelude.{◌≡◌, false, []}
+use Rattle.std.specs.Prelude.{◌≡◌, false, true, Bool, List, []}
 use Rattle.page.specs.History.{History, KeepsWord, now, reads, IsImage}
 use Rattle.page.specs.Crash.{GoesOn, LeavesOnly, LeavesNow}
+use Rattle.trusted_disk.specs.Trusting.{trusted_history}
+use Rattle.trusted_disk.specs.declared.disk.TrustedDisk.{TrustedDisk}
+use Rattle.index.specs.State.{Collection}
+use Rattle.collections.specs.Trusting as files
 use Rattle.opening.specs.Holding.{Holds}
 use Rattle.engine.specs.View.{world, turn_start}
-use Rattle.engine.specs.Durable.{disk_history, has_changes, IsRunning, IsSound}
+use Rattle.engine.specs.Durable.{disk_history, file_of, has_changes, IsRunning, IsSound}
 use Rattle.engine.specs.declared.engine.Engine.{Engine}
 
--- The disk was opened as this engine.
+-- each moment of the disk itself so far
+abbrev pub inner_history : {D : Type 0} → (D → History) → Engine (TrustedDisk D) → History
+inner_history history engine = files.inner_history history (file_of engine)
+
+-- whether the disk held collections when it was opened
+abbrev pub is_trusted : {D : Type 0} → Engine (TrustedDisk D) → Bool
+is_trusted engine = files.is_trusted (file_of engine)
+
+-- The disk was opened as this engine, by reads and a sync alone.
 pub record IsOpened {D : Type 0} (history : D → History) (disk : D)
-    (engine : Engine D) : Type 0 where
-  pub sound : IsSound history engine
+    (engine : Engine (TrustedDisk D)) : Type 0 where
+  pub sound : IsSound (trusted_history history) engine
   pub running : IsRunning engine
   pub idle : turn_start engine ≡ (world engine).collections
   pub cursors : ((world engine).cursors ≡ []) × ((world engine).next ≡ 1)
   pub rests : has_changes engine ≡ false
-  pub on : GoesOn (history disk) (disk_history history engine)
-  -- it gives what was read, and from then on every image holds that alone
-  pub holds : KeepsWord (disk_history history engine)
+  pub on : GoesOn (history disk) (inner_history history engine)
+  -- where the disk holds collections it is trusted, and these are the engine's
+  pub trusted : (cs : List Collection) → Holds (reads (now (history disk))) cs
+      → (is_trusted engine ≡ true) × ((world engine).collections ≡ cs)
+  -- it is trusted nowhere else, and from then on every image holds these alone
+  pub holds : KeepsWord (disk_history (trusted_history history) engine)
       → Holds (reads (now (history disk))) (world engine).collections
-  pub alone : LeavesNow (disk_history history engine)
+  pub alone : LeavesNow (disk_history (trusted_history history) engine)
       (λ image. Holds image (world engine).collections)
   -- where reads give one of the images, the images during the call and after it are among those
   -- from before
   pub any_moment : IsImage (now (history disk)) (reads (now (history disk)))
-      → LeavesOnly (history disk) (disk_history history engine) (IsImage (now (history disk)))
+      → LeavesOnly (history disk) (inner_history history engine) (IsImage (now (history disk)))

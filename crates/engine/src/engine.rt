@@ -26,6 +26,7 @@ use path::Refusal;
 use replies::{Answer, ConnId, Cursors, FIRST_BATCH, built, ping_reply, spelled};
 use roots::{CommitFault, Config, OpenFault};
 use std::alloc::Global;
+use trusted_disk::TrustedDisk;
 
 /// What a command is answered.
 #[derive(Drop)]
@@ -50,8 +51,12 @@ pub struct Engine<D: Disk> {
 
 impl<D: Disk> Engine<D> {
     /// Opens the database on a disk that a crash may have left; a disk of zeros holds the empty one. It writes nothing, and
-    /// syncs before it answers. An `Err` hands the disk back.
-    pub fn open(alloc: Global, disk: D, config: Config) -> Result<Engine<D>, (D, OpenFault)>
+    /// syncs before it answers. The disk is trusted where it holds collections. An `Err` hands it back.
+    pub fn open(
+        alloc: Global,
+        disk: D,
+        config: Config,
+    ) -> Result<Engine<TrustedDisk<D>>, (D, OpenFault)>
         ensures opened { IfOk result (IsOpened D.history disk) }
         ensures refused { IfErr result (λ e. IsRefused D.history disk e.0 e.1) }
     {
@@ -70,7 +75,7 @@ impl<D: Disk> Engine<D> {
 
     /// Hands the disk back as it is.
     pub fn into_disk(self) -> D
-        ensures { D.history result ≡ disk_history D.history self }
+        ensures { result ≡ (file_of self).pager.store.disk }
     {
         self.file.into_disk()
     }

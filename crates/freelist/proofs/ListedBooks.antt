@@ -81,6 +81,32 @@ not_zero k xs =
     let eq : (suc k == 0) ≡ false = grind (arith, nat_tests) in
     rw eq (omega arith)
 
+-- ---- how long an opened book is
+
+abbrev used_then_free : ℕ → ℕ → List PageState
+used_then_free page_count limit = replicate page_count states.InUse ++ replicate (limit - page_count) states.Free
+
+length-used_then_free : (page_count limit : ℕ) → page_count ≤ limit → length (used_then_free page_count limit) ≡ limit
+length-used_then_free page_count limit large = omega (
+  arith,
+  large,
+  length-append (replicate page_count states.InUse) (replicate (limit - page_count) states.Free),
+  length-replicate page_count states.InUse,
+  length-replicate (limit - page_count) states.Free,
+)
+
+pub length-opened : (in_use : List ℕ) (limit version : ℕ) → length (opened in_use limit version).states ≡ limit
+length-opened in_use limit version =
+    let base : List PageState = replicate limit states.Free in
+    ap length (used_is in_use base) ∙ length_with states.InUse in_use base ∙ length-replicate limit states.Free
+
+pub length-opened_by : (named : List ℕ) (page_count limit version : ℕ) → page_count ≤ limit → length (opened_by named page_count limit version).states ≡ limit
+length-opened_by named page_count limit version large =
+    let base : List PageState = used_then_free page_count limit in
+    ap length (free_is (0 ∷ named) base) ∙ length_with states.Free (0 ∷ named) base ∙ length-used_then_free page_count limit large
+
+-- ---- the two books are one
+
 module _ (page_count limit version : ℕ) (in_use : List ℕ) (parts : List Part) (all : IsPartition page_count in_use parts)
     (large : page_count ≤ limit) where
   abbrev used : List PageState
@@ -128,18 +154,13 @@ module _ (page_count limit version : ℕ) (in_use : List ℕ) (parts : List Part
       ∙ complement page within
 
   abbrev base : List PageState
-  base = replicate page_count states.InUse ++ replicate (limit - page_count) states.Free
+  base = used_then_free page_count limit
 
   abbrev listed : List PageState
   listed = with_state states.Free (0 ∷ named_by parts) base
 
   length-base : length base ≡ limit
-  length-base = omega (
-    arith,
-    length-append (replicate page_count states.InUse) (replicate (limit - page_count) states.Free),
-    length-replicate page_count states.InUse,
-    length-replicate (limit - page_count) states.Free,
-  )
+  length-base = length-used_then_free page_count limit large
 
   base_front : (p : ℕ) (d : PageState) → p < page_count → get_or base p d ≡ states.InUse
   base_front p d within =

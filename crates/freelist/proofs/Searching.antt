@@ -1,16 +1,16 @@
 -- The search for the least free page, and for a pin.
 use Rattle.std.proofs.Common.{◌≡◌, ◌<◌, ◌≤◌, ◌+◌, ◌-◌, ◌*◌, ◌/◌, ℕ, zero, suc, Bool, true, false, List, [], ◌∷◌, ◌++◌, length, drop, sym, ap, ◌∙◌, arith, Some, None, refl}
-use Rattle.std.proofs.Common.{inl, inr, set, subst, take}
+use Rattle.std.proofs.Common.{inl, inr, set, subst, take, replicate, ◌^◌}
 use Rattle.std.specs.Prelude.{◌≢◌, ◌==◌, get_or}
 use Rattle.std.specs.List.{remove}
 use Rattle.std.proofs.lemmas.Bool.Decides.{nat_tests}
 use Rattle.std.proofs.lemmas.Bool.{cases_Bool, cases_eq, cases_lt}
 use Rattle.std.proofs.lemmas.Grind.{get_or-set_at}
-use Rattle.std.proofs.lemmas.List.{drop-drop, get_or-drop, get_or-take, get_or-set_other, get_or_past, drop_more, drop_all, length-drop, length-set, length-take-le}
+use Rattle.std.proofs.lemmas.List.{drop-drop, get_or-drop, get_or-take, get_or-set_other, get_or_past, drop_more, drop_all, length-drop, length-replicate, length-set, length-take-le}
 use Rattle.std.proofs.Math.Nat.{mod-add-div'}
 use Rattle.std.proofs.Math.Seq.{take-append_seam}
 use Rattle.freelist.specs.Book.{is_free_state, first_free, least_free, without, IsStart}
-use Rattle.freelist.specs.Search.{MarksHold, IsFirst, NoneFits, fits, marks_after, marks_passed}
+use Rattle.freelist.specs.Search.{MarksHold, IsFirst, IsSearch, NoneFits, fits, marks_after, marks_passed}
 use Rattle.freelist.specs.declared.states.PageState.{PageState}
 use Rattle.freelist.specs.declared.states.PageState.TheVariants as states
 use Rattle.freelist.specs.declared.states.Sought.{Sought}
@@ -61,6 +61,34 @@ starts_at start page pages is first = record {
       | inl front ↦ is.passed k from front
       | inr behind ↦ free_past pages k ∙ first.passed k behind below
     ]
+
+-- ---- where a search begins
+
+none_marked : (n k : ℕ) → get_or (replicate n false) k false ≡ false
+none_marked zero k = refl
+none_marked (suc n) zero = refl
+none_marked (suc n) (suc k) = none_marked n k
+
+-- no block is marked yet
+begins_with : (sought : Sought) (count : ℕ) (marks : List Bool) (pages : List PageState) → length pages ≡ count
+    → marks ≡ replicate (count / 256) false → MarksHold sought marks pages
+begins_with sought count marks pages many are = subst (λ (ms : List Bool). MarksHold sought ms pages) (sym are) (record {
+  none = λ block marked. absurd (let never : true ≡ false = sym marked ∙ none_marked (count / 256) block in cc);
+  whole = omega (arith, many, length-replicate (count / 256) false, mod-add-div' count 256);
+})
+
+pub search_begins : (count : ℕ) (full used : List Bool) (pages : List PageState) → length pages ≡ count → 1 ≤ count → count < 2 ^ 32
+    → full ≡ replicate (count / 256) false → used ≡ replicate (count / 256) false → IsSearch 1 full used pages
+search_begins count full used pages many some few full_are used_are = record {
+  starts = record {
+    after = omega arith;
+    within = omega (arith, many, some);
+    few = omega (arith, many, few);
+    passed = λ k from below. absurd (omega (arith, from, below));
+  };
+  full_blocks = begins_with soughts.Free count full pages many full_are;
+  used_blocks = begins_with soughts.Unused count used pages many used_are;
+}
 
 -- ---- the marks
 

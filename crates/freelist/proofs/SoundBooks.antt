@@ -1,5 +1,5 @@
 -- What each call keeps of a sound book.
-use Rattle.std.proofs.Common.{◌≡◌, ◌<◌, ◌≤◌, ◌+◌, ℕ, zero, suc, Bool, true, false, List, [], ◌∷◌, ◌++◌, length, sym, ap, ◌∙◌, arith, refl, inl, inr, set}
+use Rattle.std.proofs.Common.{◌≡◌, ◌<◌, ◌≤◌, ◌+◌, ◌-◌, ℕ, zero, suc, Bool, true, false, List, [], ◌∷◌, ◌++◌, length, sym, ap, ◌∙◌, arith, refl, inl, inr, set}
 use Rattle.std.proofs.Common.{replicate}
 use Rattle.std.specs.Prelude.{◌&&◌, get_or, not, nat_lt}
 use Rattle.std.specs.List.{list_all}
@@ -8,10 +8,12 @@ use Rattle.std.proofs.lemmas.Bool.{cases_eq, cases_Bool}
 use Rattle.std.proofs.lemmas.List.{get_or-set_other, get_or-set_same, get_or_default, get_or_past, append-nil, append_assoc, take-append-drop}
 use Rattle.std.proofs.lemmas.List.Folds.{list_any-append, list_all-append}
 use Rattle.freelist.proofs.LeastLaws.{least_is_free}
+use Rattle.freelist.proofs.ListedBooks.{with_state, used_is as all_used, free_is as all_free}
 use Rattle.std.proofs.Common.{subst, take, drop}
 use Rattle.freelist.proofs.Rewinding.{free_is, used_is, below, one_same, one_other, put_back, CanRewind-push, CanRewind-pop, untouched}
 use Rattle.freelist.specs.Book.{undo, rewind, undone, CanRewind, Book, with_used, opened, is_free, is_in_use, is_free_state, is_used_state, is_pinned}
 use Rattle.freelist.specs.Book.{retired_in, kept, freed, taken, retired, committed, without}
+use Rattle.freelist.specs.FreeList.{opened_by, with_free}
 use Rattle.freelist.specs.Sound.{one_of, times, is_free_by_definition, retired_count, IsSound, StaysSound}
 use Rattle.freelist.specs.declared.states.PageState.{PageState}
 use Rattle.freelist.specs.declared.states.PageState.TheVariants as states
@@ -301,30 +303,50 @@ stays_sound b sound = record {
 
 -- ---- opening
 
-none_retired : (n page : ℕ) → retired_count (get_or (replicate n states.Free) page states.Free) ≡ 0
-none_retired zero page = refl
-none_retired (suc n) zero = refl
-none_retired (suc n) (suc page) = none_retired n page
+abbrev IsUnretired : List PageState → Type 0
+IsUnretired pages = (page : ℕ) → retired_count (get_or pages page states.Free) ≡ 0
 
-used_not_retired : (pages : List PageState) (p page : ℕ) → retired_count (get_or pages page states.Free) ≡ 0
-    → retired_count (get_or (set pages p states.InUse) page states.Free) ≡ 0
-used_not_retired [] p page h = refl
-used_not_retired (s ∷ pages) zero zero h = refl
-used_not_retired (s ∷ pages) zero (suc page) h = h
-used_not_retired (s ∷ pages) (suc p) zero h = h
-used_not_retired (s ∷ pages) (suc p) (suc page) h = used_not_retired pages p page h
+unretired_front : (s : PageState) → retired_count s ≡ 0 → (n : ℕ) (rest : List PageState) → IsUnretired rest → IsUnretired (replicate n s ++ rest)
+unretired_front s none zero rest behind page = behind page
+unretired_front s none (suc n) rest behind zero = none
+unretired_front s none (suc n) rest behind (suc page) = unretired_front s none n rest behind page
 
-with_used_listed : (in_use : List ℕ) (pages : List PageState) (page : ℕ) → retired_count (get_or pages page states.Free) ≡ 0
-    → retired_count (get_or (with_used in_use pages) page states.Free) ≡ 0
-with_used_listed [] pages page h = h
-with_used_listed (p ∷ in_use) pages page h = with_used_listed in_use (set pages p states.InUse) page (used_not_retired pages p page h)
+unretired_all : (n : ℕ) → IsUnretired (replicate n states.Free)
+unretired_all zero page = refl
+unretired_all (suc n) zero = refl
+unretired_all (suc n) (suc page) = unretired_all n page
 
-pub opens_sound : (in_use : List ℕ) (count version : ℕ) → IsSound (opened in_use count version)
-opens_sound in_use count version = record {
-  listed = λ page. omega (arith, with_used_listed in_use (replicate count states.Free) page (none_retired count page));
+unretired_set : (s : PageState) → retired_count s ≡ 0 → (pages : List PageState) (p : ℕ) → IsUnretired pages → IsUnretired (set pages p s)
+unretired_set s none [] p are page = refl
+unretired_set s none (x ∷ pages) zero are zero = none
+unretired_set s none (x ∷ pages) zero are (suc page) = are (suc page)
+unretired_set s none (x ∷ pages) (suc p) are zero = are 0
+unretired_set s none (x ∷ pages) (suc p) are (suc page) = unretired_set s none pages p (λ k. are (suc k)) page
+
+unretired_with : (s : PageState) → retired_count s ≡ 0 → (ps : List ℕ) (pages : List PageState) → IsUnretired pages → IsUnretired (with_state s ps pages)
+unretired_with s none [] pages are = are
+unretired_with s none (p ∷ ps) pages are = unretired_with s none ps (set pages p s) (unretired_set s none pages p are)
+
+new_sound : (pages other : List PageState) (version : ℕ) → pages ≡ other → IsUnretired other
+    → IsSound (record { states = pages; waiting = []; turn = []; pins = []; version = version; full_takes = 0 })
+new_sound pages other version same are = record {
+  listed = λ page. omega (arith, are page, ap (λ (ps : List PageState). retired_count (get_or ps page states.Free)) same);
   needed = refl;
   undoable = tt;
 }
+
+pub opens_sound : (in_use : List ℕ) (count version : ℕ) → IsSound (opened in_use count version)
+opens_sound in_use count version =
+    let base : List PageState = replicate count states.Free in
+    new_sound (with_used in_use base) (with_state states.InUse in_use base) version (all_used in_use base)
+    (unretired_with states.InUse refl in_use base (unretired_all count))
+
+pub listed_is_sound : (named : List ℕ) (page_count limit version : ℕ) → IsSound (opened_by named page_count limit version)
+listed_is_sound named page_count limit version =
+    let base : List PageState = replicate page_count states.InUse ++ replicate (limit - page_count) states.Free in
+    new_sound (with_free (0 ∷ named) base) (with_state states.Free (0 ∷ named) base) version (all_free (0 ∷ named) base)
+    (unretired_with states.Free refl (0 ∷ named) base
+    (unretired_front states.InUse refl page_count (replicate (limit - page_count) states.Free) (unretired_all (limit - page_count))))
 
 -- ---- the definition
 

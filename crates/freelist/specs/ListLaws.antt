@@ -55,6 +55,11 @@ BookOfPartition = (page_count limit version : ℕ) (in_use : List ℕ) (parts : 
     → opened (in_use ++ pages_of parts) limit version
     ≡ opened_by (named_by parts) page_count limit version
 
+-- the book that a list tells is sound
+abbrev pub ListedIsSound : Type 0
+ListedIsSound = (named : List ℕ) (page_count limit version : ℕ)
+    → IsSound (opened_by named page_count limit version)
+
 -- ---- a list that was made
 
 -- the pages in use below a page count, in ascending order

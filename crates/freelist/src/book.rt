@@ -1,6 +1,7 @@
 //! The book of a file's pages.
 ghost use Rattle.std.specs.Prelude.{◌≡◌, ◌-◌, IfOk, OnOk, OnErr, max, length};
 ghost use Rattle.freelist.specs.Book.{Takes, is_in_use, is_pinned, retired, committed, pinned, unpinned, undone, opened};
+ghost use Rattle.freelist.specs.FreeList.{opened_by};
 ghost use Rattle.freelist.specs.ListWriting.{DraftsList, FindsRoom, GoesBack, WritesList};
 
 use crate::draft::Draft;
@@ -67,6 +68,34 @@ impl FreePages {
         let mut pages = PageStates::new(alloc, limit)?;
         'pages: for page in in_use {
             pages.set(*page, PageState::InUse);
+        }
+        Ok(FreePages {
+            pages,
+            waiting: Vec::new(alloc),
+            turn: Vec::new(alloc),
+            pins: Vec::new(alloc),
+            version,
+            full_takes: 0,
+        })
+    }
+
+    /// The book of a file with so many pages, whose list names these, that was committed at this version. The others of its pages
+    /// are in use, and those from there to the limit are free.
+    pub fn open_listed(
+        alloc: Global,
+        named: &[u32],
+        page_count: u32,
+        limit: u32,
+        version: u64,
+    ) -> Result<FreePages, NoMemory>
+        ensures { IfOk result (λ book. book
+            ≡ opened_by named.now page_count (max (max limit page_count) 1) version) }
+    {
+        let mut pages = PageStates::filled(alloc, page_count, limit)?;
+        // page 0 holds the roots, and is never taken
+        pages.set(0, PageState::Free);
+        'pages: for page in named {
+            pages.set(*page, PageState::Free);
         }
         Ok(FreePages {
             pages,

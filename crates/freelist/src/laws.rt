@@ -1,6 +1,6 @@
 //! Laws of the definitions, each the contract of a function that does nothing.
 
-ghost use Rattle.freelist.specs.ListLaws.{WrittenIsRead, PagesSuffice, ReadingIsExact, FreeIsComplement, BookOfPartition, ListRows};
+ghost use Rattle.freelist.specs.ListLaws.{WrittenIsRead, PagesSuffice, ReadingIsExact, FreeIsComplement, BookOfPartition, ListedIsSound, ListRows};
 ghost use Rattle.freelist.specs.ListLaws.{MadeIsPartition, MadeIsRead, MadeStaysSound, MadeTellsTheBook, MadeRows};
 ghost use Rattle.freelist.specs.Sound.{TakesLeast, NoneIsFree, IsFreeByDefinition, OpensSound, CallsStaySound};
 ghost use Rattle.freelist.specs.Undone.{UndoingLeadsBack};
@@ -60,6 +60,11 @@ pub fn free_is_complement()
 /// That book is told by the list alone.
 pub fn book_of_partition()
     ensures { BookOfPartition }
+{}
+
+/// The book that a list tells is sound, whatever the list names.
+pub fn listed_is_sound()
+    ensures { ListedIsSound }
 {}
 
 /// Lists worked by hand.

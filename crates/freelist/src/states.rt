@@ -1,5 +1,5 @@
 //! What each page of a file is.
-ghost use Rattle.std.specs.Prelude.{◌≡◌, ◌<◌, ◌≤◌, ◌+◌, ◌*◌, true, false, IfOk, replicate, slice_set, get_or, List, length, max};
+ghost use Rattle.std.specs.Prelude.{◌≡◌, ◌<◌, ◌≤◌, ◌+◌, ◌-◌, ◌*◌, ◌++◌, true, false, IfOk, replicate, slice_set, get_or, List, length, max};
 ghost use Rattle.freelist.specs.Book.{IsStart, is_in_use, least_free};
 ghost use Rattle.freelist.specs.ListWriting.{unused_below};
 ghost use Rattle.freelist.specs.Search.{MarksHold, IsFirst, IsNextUnused, NoneFits, fits, marks_after, marks_passed};
@@ -162,6 +162,22 @@ impl PageStates {
         let count = limit.max(1) as usize;
         Ok(PageStates {
             list: vec![in alloc; PageState::Free; count]?,
+            start: 1,
+            full: vec![in alloc; false; count / BLOCK]?,
+            used: vec![in alloc; false; count / BLOCK]?,
+        })
+    }
+
+    /// So many pages in use, and free ones behind them up to a limit, if it isn't reached yet. There is page 0 at least.
+    pub(crate) fn filled(alloc: Global, in_use: u32, limit: u32) -> Result<PageStates, NoMemory>
+        ensures { IfOk result (λ pages. pages ≡ replicate in_use states.InUse
+            ++ replicate (max (max limit in_use) 1 - in_use) states.Free) }
+    {
+        let count = limit.max(in_use).max(1) as usize;
+        let mut list = vec![in alloc; PageState::InUse; in_use as usize]?;
+        list.resize(count, PageState::Free)?;
+        Ok(PageStates {
+            list,
             start: 1,
             full: vec![in alloc; false; count / BLOCK]?,
             used: vec![in alloc; false; count / BLOCK]?,

@@ -1,112 +1,72 @@
--- A file is opened, and its entries are read.
-use Rattle.std.proofs.Common.{◌≡◌, ◌<◌, arith, false, true, ℕ, List, inl, inr, refl, sym, ap, ◌∙◌, subst}
-use Rattle.std.specs.Prelude.{All, Ok, Err}
-use Rattle.page.specs.History.{History, Sector, KeepsWord, IsImage, now, reads}
-use Rattle.page.specs.Crash.{GoesOn, LeavesOnly}
-use Rattle.page.proofs.Moments.{goes_further, leaves_further, leaves_now, reads_moments}
-use Rattle.btree.specs.Keys.{Entry}
+-- A file is opened: it has what the bytes of its disk hold.
+use Rattle.std.proofs.Common.{◌≡◌, Bool, ℕ, List, refl, sym, subst}
+use Rattle.std.specs.Prelude.{IsTrue}
+use Rattle.page.specs.History.{History, KeepsWord, now, reads}
 use Rattle.roots.specs.declared.opening.OpenFault.{OpenFault}
-use Rattle.roots.proofs.OneMap.{one_state}
 use Rattle.index.specs.State.{Collection}
-use Rattle.index.specs.StateEntries.{Spells}
-use Rattle.collections.specs.Calls.{GoesFrom, HasFailed}
+use Rattle.trusted_disk.specs.Trusting.{trusting}
+use Rattle.trusted_disk.specs.declared.disk.TrustedDisk.{TrustedDisk}
+use Rattle.trusted_disk.proofs.TrustingLemmas.{tells_word}
+use Rattle.collections.specs.Holding as collections
 use Rattle.collections.specs.Opening as files
 use Rattle.collections.specs.State.{State}
-use Rattle.collections.specs.View.{disk_history, is_stopped}
-use Rattle.collections.proofs.EntryLemmas.{tree_rises}
-use Rattle.collections.proofs.StandingLemmas.{stopped_same}
-use Rattle.opening.specs.Holding.{Holds}
-use Rattle.opening.specs.FileOpening.{IsFileOpened, LoadsFile}
+use Rattle.collections.specs.Trusting.{trusting_state}
+use Rattle.collections.specs.View.{disk_history}
+use Rattle.collections.proofs.TrustLemmas.{trusting_keeps_state}
+use Rattle.file_state.specs.HoldingTests.{holds_some}
+use Rattle.file_state.specs.Laws.{AreStored}
+use Rattle.file_state.specs.StoredTests.{stored_in}
+use Rattle.file_state.proofs.HoldingTested.{some_tested, stored_is_held}
+use Rattle.file_state.proofs.StoredTested.{gives_stored, stored_is_lawful}
+use Rattle.opening.specs.FileOpening.{IsFileOpened}
 use Rattle.opening.specs.Known.{Known}
-use Rattle.database_model.specs.Lawful.{IsStored}
-use Rattle.opening.specs.Loading.{progress_of}
 use Rattle.opening.specs.Refusing.{IsRefused}
-use Rattle.opening.specs.declared.loading.Loading.{Loading}
-use Rattle.opening.proofs.FileEntries.{made_spell}
-use Rattle.opening.proofs.RefusingLemmas.{none_unmade}
+use Rattle.opening.proofs.HoldLemmas.{held_stored, stored_held}
 use Rattle.opening.proofs.TakingLemmas.{loaded_lawful}
 
-module _ {D : Type 0} (history : D → History) (disk : D) (old new : State D) (opened : files.IsOpened history disk old) where
-  word_before : GoesFrom history old new → KeepsWord (disk_history history new) → KeepsWord (disk_history history old)
-  word_before goes k = (goes.frame k).word
+module _ {D : Type 0} (history : D → History) (disk : D) (c : State D) (opened : files.IsOpened history disk c) where
+  abbrev image : ℕ → List ℕ
+  image = reads (now (history disk))
 
-  stays_running : GoesFrom history old new → is_stopped new ≡ false
-  stays_running goes = stopped_same history old.pager new.pager goes.stays ∙ opened.running
+  abbrev held : List Collection
+  held = stored_in image
 
-  goes_there : GoesFrom history old new → GoesOn (history disk) (disk_history history new)
-  goes_there goes = goes_further (history disk) (disk_history history old) (disk_history history new) opened.on goes.stays.reads.on
+  abbrev trusted : Bool
+  trusted = holds_some image
 
-  moments_there : GoesFrom history old new → IsImage (now (history disk)) (reads (now (history disk)))
-      → LeavesOnly (history disk) (disk_history history new) (IsImage (now (history disk)))
-  moments_there goes readable =
-      let h0 = history disk in
-      let h1 = disk_history history old in
-      let h2 = disk_history history new in
-      leaves_further h0 h1 h2 (IsImage (now h0)) goes.stays.reads.on (opened.any_moment readable)
-      (λ k image left. leaves_now h0 h1 (IsImage (now h0)) opened.on (opened.any_moment readable) (goes.stays.reads.on.kept k) image
-      (reads_moments h1 h2 goes.stays.reads k image left))
+  stored : AreStored held
+  stored = (stored_is_lawful image).1
 
-  holds_there : (l : Loading) (last : List Collection) → LoadsFile history (Ok l) last old new → KeepsWord (disk_history history new)
-      → Holds (reads (now (history disk))) last
-  holds_there l last loads k =
-      let read = opened.stands (word_before loads.judges.read.on k) in record {
-        lawful = loaded_lawful last loads.loaded.loaded;
-        file = record {
-          entries = read.entries;
-          stands = read.image;
-          spells = (made_spell read.entries (progress_of l last) (tree_rises history old read.entries read.tree)
-              (loads.judges.answers k read.entries read.tree)).spells;
-          state = loads.loaded.loaded.lawful;
-        };
-      }
+  inner_word : KeepsWord (trusting trusted (disk_history history c)) → KeepsWord (disk_history history c) × IsTrue trusted
+  inner_word k = (tells_word trusted (disk_history history c)).0 k
 
-  opened_with : (l : Loading) (last : List Collection) → LoadsFile history (Ok l) last old new
-      → IsFileOpened history disk (record { start = last; now = last }) new
-  opened_with l last loads = record {
-    lawful = loaded_lawful last loads.loaded.loaded;
+  there : IsTrue trusted → collections.Holds image held
+  there is = stored_is_held image is
+
+  opened_with : IsFileOpened history disk (record { start = held; now = held }) (trusting_state trusted c)
+  opened_with = record {
+    lawful = loaded_lawful held (record { lawful = (stored_is_lawful image).0; stored = stored });
     idle = refl;
-    running = stays_running loads.judges.read.on;
-    on = goes_there loads.judges.read.on;
-    file = λ running k. loads.judges.read.same last last (opened.begun last (λ _. (holds_there l last loads k).file)) running k;
-    holds = holds_there l last loads;
-    alone = λ k image is.
-        let h : Holds (reads (now (history disk))) last = holds_there l last loads k in
-        record {
-          lawful = h.lawful;
-          file = opened.alone last h.file (word_before loads.judges.read.on k) image
-              (subst (λ (s : ℕ → Sector). IsImage s image) (loads.judges.read.on.stays.reads.same k) is);
-        };
-    any_moment = moments_there loads.judges.read.on;
+    running = opened.running;
+    on = opened.on;
+    trusted = λ cs h.
+        ((some_tested image).1 (cs, h.file, held_stored image cs h), gives_stored image cs h.file (held_stored image cs h));
+    file = trusting_keeps_state history trusted c held held (λ is. opened.begun held (λ _. there is));
+    holds = λ k. stored_held image held (there (inner_word k).1) stored;
+    alone = λ k left is.
+        stored_held left held (opened.alone held (there (inner_word k).1) (inner_word k).0 left is) stored;
+    any_moment = opened.any_moment;
   }
 
-  pub file_opened : (l : Loading) (last : List Collection) (known : Known) → LoadsFile history (Ok l) last old new
-      → known ≡ record { start = last; now = last } → IsFileOpened history disk known new
-  file_opened l last known loads is = subst (λ (k : Known). IsFileOpened history disk k new) (sym is) (opened_with l last loads)
-
-  pub file_refused : (back : D) (fault : OpenFault) (last : List Collection) → history back ≡ disk_history history new
-      → LoadsFile history (Err fault) last old new → IsRefused history disk back fault
-  file_refused back fault last is loads = record {
-    on = subst (GoesOn (history disk)) (sym is) (goes_there loads.judges.read.on);
-    any_moment =
-        λ readable. subst (λ (h : History). LeavesOnly (history disk) h (IsImage (now (history disk)))) (sym is) (moments_there loads.judges.read.on readable);
-    damaged = λ no_device no_memory k cs h.
-        let k2 : KeepsWord (disk_history history new) = subst KeepsWord is k in
-        let read = opened.stands (word_before loads.judges.read.on k2) in
-        let one : h.file.entries ≡ read.entries = one_state (reads (now (history disk))) h.file.entries read.entries h.file.stands read.image in
-        let stored : All (λ c. All IsStored c.documents) cs = λ i c below. (h.lawful.kept i c below).lawful.stored in
-        none_unmade read.entries cs (subst (λ (es : List Entry). Spells es cs) one h.file.spells) h.file.state stored
-        ((loads.judges.answers k2 read.entries read.tree).damaged no_device no_memory);
-    foreign = λ foreign. absurd (loads.judges.kinds.0 foreign);
-    later = λ newer. absurd (loads.judges.kinds.1 newer);
-    device = λ device k.
-        let k2 : KeepsWord (disk_history history new) = subst KeepsWord is k in
-        let read = opened.stands (word_before loads.judges.read.on k2) in
-        by_failures (word_before loads.judges.read.on k2) ((loads.judges.answers k2 read.entries read.tree).device device);
-  }
-    where
-      by_failures : KeepsWord (disk_history history old) → HasFailed history old new → (history disk).failures < (history back).failures
-      by_failures k (inl stopped) = let never : true ≡ false = sym stopped ∙ opened.running in absurd cc
-      by_failures k (inr failed) = omega (arith, opened.on.failures k, failed, ap (λ (h : History). h.failures) is)
+  -- by whatever image is the disk's
+  pub file_opened : (same : ℕ → List ℕ) (kept : State (TrustedDisk D)) (known : Known) → kept ≡ trusting_state (holds_some same) c
+      → known ≡ record { start = stored_in same; now = stored_in same } → same ≡ image → IsFileOpened history disk known kept
+  file_opened same kept known is are one =
+      let kept_is : kept ≡ trusting_state trusted c = subst (λ (i : ℕ → List ℕ). kept ≡ trusting_state (holds_some i) c) one is in
+      let known_is : known ≡ record { start = held; now = held } =
+      subst (λ (i : ℕ → List ℕ). known ≡ record { start = stored_in i; now = stored_in i }) one are in
+      subst (λ (s : State (TrustedDisk D)). IsFileOpened history disk known s) (sym kept_is)
+      (subst (λ (k : Known). IsFileOpened history disk k (trusting_state trusted c)) (sym known_is) opened_with)
 
 pub open_refused : {D : Type 0} (history : D → History) (disk back : D) (fault : OpenFault) → files.IsRefused history disk back fault
     → IsRefused history disk back fault

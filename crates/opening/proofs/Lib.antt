@@ -4,6 +4,7 @@ pub mod EntryLoops
 pub mod FileBatches
 pub mod FileEntries
 pub mod FileLemmas
+pub mod HoldLemmas
 pub mod JudgingLemmas
 pub mod LoadingLemmas
 pub mod OnceLists

@@ -12,7 +12,6 @@ use Rattle.value_order.specs.KeyText.{tree_text}
 use Rattle.value_order.specs.declared.texts.Direction.TheVariants as directions
 use Rattle.value_order.proofs.KeyLaws.{texts_order}
 use Rattle.btree.specs.Keys.{Entry, key_cmp}
-use Rattle.path.specs.declared.refusal.Refusal.TheVariants as refusals
 use Rattle.index.specs.LawfulState.{AreNamedApart, AreNumberedApart, IsIndexOf}
 use Rattle.index.specs.State.{Collection, words}
 use Rattle.index.specs.StateEntries.{catalogue_entry}

@@ -13,10 +13,9 @@ use Rattle.outcome.specs.Outcome.{unless}
 use Rattle.bson.specs.Spelling.{frame_of, pairs_bytes}
 use Rattle.bson.proofs.TreeLaws.{one_spelling}
 use Rattle.bson.specs.Tree.{Pairs}
-use Rattle.value_order.specs.Order.{compare, value}
+use Rattle.value_order.specs.Order.{compare}
 use Rattle.value_order.specs.KeyText.{tree_text}
 use Rattle.value_order.specs.TotalLaws.{compare_total}
-use Rattle.value_order.specs.declared.texts.Direction.TheVariants as directions
 use Rattle.btree.specs.Keys.{Each, Entry, IsUnder, Rises, key_cmp, value_at}
 use Rattle.btree.proofs.KeyLemmas.{not_both, not_under_itself}
 use Rattle.path.specs.declared.refusal.Refusal.{Refusal}

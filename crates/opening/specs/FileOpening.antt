@@ -1,5 +1,5 @@
 -- What opening a file gives.
-use Rattle.std.specs.Prelude.{◌≡◌, ◌≢◌, ℕ, false, List, ◌++◌, map, Option, Some, Result, IfErr}
+use Rattle.std.specs.Prelude.{◌≡◌, ◌≢◌, ℕ, false, true, List, ◌++◌, map, Option, Some, Result, IfErr}
 use Rattle.std.specs.Prelude.{IfOk, MatchResult}
 use Rattle.std.specs.Global.{Vec}
 use Rattle.std.specs.Option.{option_map}
@@ -13,7 +13,10 @@ use Rattle.collections.specs.Calls.{GoesFrom, HasFailed}
 use Rattle.collections.specs.Entries.{HasEntries, entries_from}
 use Rattle.collections.specs.State.{State}
 use Rattle.collections.specs.Standing.{HasState}
+use Rattle.collections.specs.Trusting.{inner_history, is_trusted}
 use Rattle.collections.specs.View.{disk_history, is_stopped}
+use Rattle.trusted_disk.specs.Trusting.{trusted_history}
+use Rattle.trusted_disk.specs.declared.disk.TrustedDisk.{TrustedDisk}
 use Rattle.opening.specs.Holding.{Holds}
 use Rattle.opening.specs.Judging.{IsLoadingAs, Makes, MakesNone, Progress, RefusesOne, TakesAll}
 use Rattle.opening.specs.Judging.{nothing_read}
@@ -81,15 +84,21 @@ pub record LoadsFile {D : Type 0} (history : D → History) (result : Result Loa
 
 -- ---- the file
 
--- The disk was opened, by reads and a sync alone, and the file has these collections.
+-- The disk was opened, by reads and a sync alone. What the file has is told by what the disk's bytes
+-- hold, of which no entry was read: its disk is trusted where they hold collections, and these are
+-- the file's.
 pub record IsFileOpened {D : Type 0} (history : D → History) (disk : D)
-    (known : Known) (kept : State D) : Type 0 where
+    (known : Known) (kept : State (TrustedDisk D)) : Type 0 where
   pub lawful : IsLawfulState known.now
   pub idle : known.start ≡ known.now
   pub running : is_stopped kept ≡ false
-  pub on : GoesOn (history disk) (disk_history history kept)
-  pub file : HasState history kept known.now known.now
-  pub holds : KeepsWord (disk_history history kept) → Holds (reads (now (history disk))) known.now
-  pub alone : LeavesNow (disk_history history kept) (λ image. Holds image known.now)
+  pub on : GoesOn (history disk) (inner_history history kept)
+  pub trusted : (cs : List Collection) → Holds (reads (now (history disk))) cs
+      → (is_trusted kept ≡ true) × (known.now ≡ cs)
+  pub file : HasState (trusted_history history) kept known.now known.now
+  pub holds : KeepsWord (disk_history (trusted_history history) kept)
+      → Holds (reads (now (history disk))) known.now
+  pub alone : LeavesNow (disk_history (trusted_history history) kept)
+      (λ image. Holds image known.now)
   pub any_moment : IsImage (now (history disk)) (reads (now (history disk)))
-      → LeavesOnly (history disk) (disk_history history kept) (IsImage (now (history disk)))
+      → LeavesOnly (history disk) (inner_history history kept) (IsImage (now (history disk)))

@@ -1,5 +1,5 @@
-//! A file that is opened: each entry of its tree is read once and judged, so that it has collections and nothing else, and what
-//! contracts know of these.
+//! A file that is opened, what contracts know of its collections, and a check that reads each entry of its tree once and judges it, so
+//! that the file has collections and nothing else.
 #![tactic(auto)]
 
 mod judging;

@@ -1,7 +1,9 @@
-//! The collections of a file that is opened. Each entry of its tree is read once and judged, and none is kept but what the catalogue
-//! tells. Each key of a document is looked up, and the entries of indexes are counted.
+//! The collections of a file. It is opened with what its bytes hold, of which no entry is read then; a check reads each entry of its tree
+//! once and judges it, and keeps none but what the catalogue tells. Each key of a document is looked up, and the entries of indexes are
+//! counted.
 
-ghost use Rattle.std.specs.Prelude.{◌≡◌, ◌≢◌, ◌+◌, ◌≤◌, ◌⊎◌, [], List, Some, IfErr, IfOk, OnOk, map};
+ghost use Rattle.std.specs.Prelude.{◌≡◌, ◌≢◌, ◌+◌, ◌≤◌, ◌⊎◌, [], List, ℕ, Some, IfErr, IfOk, OnOk, map};
+ghost use Rattle.page.specs.History.{now, reads};
 ghost use Rattle.btree.specs.Scan.{entry_in};
 ghost use Rattle.bson.specs.Tree.{Pairs};
 ghost use Rattle.opening.specs.FileOpening.{IsFileOpened, Judges, LoadsBatch, LoadsEntries, LoadsFile};
@@ -21,6 +23,7 @@ use page::Disk;
 use path::Refusal;
 use roots::OpenFault;
 use std::alloc::Global;
+use trusted_disk::TrustedDisk;
 
 /// How many entries are read at a time.
 const BATCH: usize = 64;
@@ -290,25 +293,34 @@ pub fn load_file<D: Disk>(
     Ok(loading)
 }
 
-/// Opens a disk that a crash may have left, as a file of at most so many pages, or those that it has. Each entry of its tree is
-/// read once and judged: the file has collections, and nothing else. An `Err` hands the disk back.
+/// Opens a disk. The collections that are told of it are those that an image holds, which the caller chooses; where it holds none
+/// the disk isn't trusted.
+fn open_told<D: Disk>(
+    alloc: Global,
+    disk: D,
+    limit: u32,
+) -> Result<(FileCollections<TrustedDisk<D>>, Told), (D, OpenFault)>
+    ghost image: { ℕ → List ℕ }
+    ensures opened { IfOk result (λ r. image ≡ reads (now (D.history disk))
+        → IsFileOpened D.history disk r.1.value r.0) }
+    ensures refused { IfErr result (λ e. IsRefused D.history disk e.0 e.1) }
+{
+    match FileCollections::open(alloc, disk, limit) {
+        Ok(file) => Ok((file.trusting(), Told::of(&()))),
+        Err((disk, fault)) => Err((disk, fault)),
+    }
+}
+
+/// Opens a disk that a crash may have left, as a file of at most so many pages, or those that it has. No entry of its tree is read:
+/// the collections that are told of it are those that the disk's bytes hold, and where they hold none the disk isn't trusted. An
+/// `Err` hands the disk back.
 pub fn open_file<D: Disk>(
     alloc: Global,
     disk: D,
     limit: u32,
-) -> Result<(FileCollections<D>, Told), (D, OpenFault)>
+) -> Result<(FileCollections<TrustedDisk<D>>, Told), (D, OpenFault)>
     ensures opened { IfOk result (λ r. IsFileOpened D.history disk r.1.value r.0) }
     ensures refused { IfErr result (λ e. IsRefused D.history disk e.0 e.1) }
 {
-    let mut file = match FileCollections::open(alloc, disk, limit) {
-        Ok(file) => file,
-        Err((disk, fault)) => return Err((disk, fault)),
-    };
-    let mut told = Told::of(&());
-    match load_file(alloc, &mut file, &mut told) {
-        Ok(_) => {}
-        Err(fault) => return Err((file.into_disk(), fault)),
-    }
-    told.keep();
-    Ok((file, told))
+    open_told(alloc, disk, limit)
 }

@@ -1,25 +1,27 @@
 -- A commit, by what was planned for it.
-use Rattle.std.proofs.Common.{◌≡◌, ℕ, ◌≤◌, true, false, List, [], ◌++◌, length, refl, sym, ◌∙◌, ap, subst, arith, None}
+use Rattle.std.proofs.Common.{◌≡◌, ℕ, ◌≤◌, true, false, List, [], ◌++◌, length, refl, sym, ◌∙◌, ap, subst, arith, inr, None}
 use Rattle.std.specs.Prelude.{Ok, Err}
 use Rattle.page.specs.Cache.{kept}
 use Rattle.page.specs.Format.{Sheet}
 use Rattle.page.specs.History.{History}
 use Rattle.page.specs.declared.page_cache.PageCache.{PageCache}
+use Rattle.page.proofs.Moments.{goes_nowhere}
 use Rattle.btree.specs.Keys.{times}
 use Rattle.freelist.specs.Book.{Book, committed, undone}
 use Rattle.freelist.specs.FreeList.{first_page, written}
 use Rattle.freelist.specs.ListWriting.{IsMade}
 use Rattle.freelist.proofs.TakenPages.{goes_back}
 use Rattle.roots.specs.Commit.{CommitsRoot, LeavesPages, MovesMaps}
-use Rattle.roots.specs.Store.{durable_root}
+use Rattle.roots.specs.Store.{IsRunning, disk_history, durable_root}
 use Rattle.roots.specs.declared.root.Root.{Root}
 use Rattle.roots.specs.declared.store.CommitFault.{CommitFault}
+use Rattle.roots.specs.declared.store.CommitFault.TheVariants as faults
 use Rattle.roots.specs.declared.store.Store.{Store}
 use Rattle.pager.specs.Commit.{Commits, MovesTurns}
 use Rattle.pager.specs.Kept.{IsKept}
 use Rattle.pager.specs.Order.{pages_at}
 use Rattle.pager.specs.Pinning.{KeepsVersions}
-use Rattle.pager.specs.Planning.{IsPlanned, pages_with}
+use Rattle.pager.specs.Planning.{IsPlanned, PlanFails, pages_with}
 use Rattle.pager.specs.State.{State}
 use Rattle.pager.specs.Writing.{Forgets, KeepsAll}
 use Rattle.pager.specs.declared.planning.Plan.{Plan}
@@ -27,17 +29,71 @@ use Rattle.pager.proofs.AfterLemmas.{gone_then, kept_after, kept_failed, kept_fo
 use Rattle.pager.proofs.BookLemmas.{all_full, all_longer, back_all, back_both}
 use Rattle.pager.proofs.EndLemmas.{moves_done, moves_failed}
 use Rattle.pager.proofs.KeepingLemmas.{done_keeps, failed_keeps}
-use Rattle.pager.proofs.PlanLemmas.{all, count_is as count_of_plan, named_few, names_free, planned, tree, tree_inside, wide}
+use Rattle.pager.proofs.PlanLemmas.{all, count_is as count_of_plan, named_few, none_unused, planned, tree, tree_inside, wide}
 
--- what was planned for the parts that a call was handed is planned for those of the pager
+-- what is told of the parts that a call was handed is told of those of the pager
+pub told_of : {root then : Root} {one made : List Sheet} {those places gone retired other listed : List ℕ} (P : Root → List Sheet → List ℕ → Type 0)
+    → root ≡ then → one ≡ made → those ≡ places → gone ≡ retired → other ≡ listed → P root (pages_at one those) (gone ++ other)
+    → P then (pages_at made places) (retired ++ listed)
+told_of {root = root} {one = one} {made = made} {those = those} {places = places} {retired = retired} {listed = listed} P root_is made_is places_is
+    retired_is listed_is so =
+    subst (λ (r : Root). P r (pages_at made places) (retired ++ listed)) root_is
+    (subst (λ (m : List Sheet). P root m (retired ++ listed)) (λ j. pages_at (made_is j) (places_is j))
+    (subst (P root (pages_at one those)) (λ j. retired_is j ++ listed_is j) so))
+
 pub told : {root then : Root} {one made : List Sheet} {those places gone retired other listed : List ℕ} (plan : Plan) (book final : Book) → root ≡ then
     → one ≡ made → those ≡ places → gone ≡ retired → other ≡ listed → IsPlanned root (pages_at one those) (gone ++ other) plan book final
     → IsPlanned then (pages_at made places) (retired ++ listed) plan book final
-told {root = root} {one = one} {made = made} {those = those} {places = places} {retired = retired} {listed = listed} plan book final root_is made_is places_is
-    retired_is listed_is so =
-    subst (λ (r : Root). IsPlanned r (pages_at made places) (retired ++ listed) plan book final) root_is
-    (subst (λ (m : List Sheet). IsPlanned root m (retired ++ listed) plan book final) (λ j. pages_at (made_is j) (places_is j))
-    (subst (λ (pages : List ℕ). IsPlanned root (pages_at one those) pages plan book final) (λ j. retired_is j ++ listed_is j) so))
+told plan book final = told_of (λ root made pages. IsPlanned root made pages plan book final)
+
+-- nothing was planned
+module _ {D : Type 0} {listed places : List ℕ} (history : D → History) (store : Store D) (cache : PageCache) (made : List Sheet) (retired : List ℕ)
+    (book : Book) (so : IsKept history store cache made book listed places) (running : IsRunning store) where
+  abbrev old : State D
+  old = record { store = store; made = made; retired = retired; book = book }
+
+  pub unplanned : (root : ℕ) (fault : CommitFault) (new : Book) → PlanFails (durable_root store) (pages_at made places) (retired ++ listed) fault book new
+      → Commits history root (Err fault) old (record old { book = new })
+  unplanned root faults.Memory new same = record {
+    on = goes_nowhere (disk_history history store);
+    running = tt;
+    version = tt;
+    still = refl;
+    tree = tt;
+    listed = tt;
+    made = tt;
+    retired = tt;
+    memory = λ _. ap (λ (b : Book). record old { book = b }) same;
+    full = λ e. absurd cc;
+    device = λ e. absurd cc;
+    stops = λ e. absurd cc;
+    idle = λ stopped. let never : true ≡ false = sym stopped ∙ running in absurd cc;
+  }
+  unplanned root faults.Full new (lacks, is) = record {
+    on = goes_nowhere (disk_history history store);
+    running = tt;
+    version = tt;
+    still = refl;
+    tree = tt;
+    listed = tt;
+    made = tt;
+    retired = tt;
+    memory = λ e. absurd cc;
+    full = λ _. inr (
+      record {
+        listed = listed;
+        are = so.listed;
+        places = places;
+        order = so.order;
+        short = lacks (tree_inside history store cache made (retired ++ listed) book so);
+      },
+      ap (λ (b : Book). record old { book = b }) is,
+    );
+    device = λ e. absurd cc;
+    stops = λ e. absurd cc;
+    idle = λ stopped. let never : true ≡ false = sym stopped ∙ running in absurd cc;
+  }
+  unplanned root faults.Device new none = absurd none
 
 module _ {D : Type 0} {listed places : List ℕ} (history : D → History) (store : Store D) (before cache : PageCache) (made : List Sheet) (retired : List ℕ)
     (book final : Book) (so_before : IsKept history store before made book listed places) (plan : Plan)
@@ -147,18 +203,14 @@ module _ {D : Type 0} {listed places : List ℕ} (history : D → History) (stor
       version = commits.version;
       still = tt;
       tree = commits.tree;
-      listed = λ none n free.
+      listed = λ none n inside below.
           let root_now = root_is history store cache made (retired ++ listed) book so pages is.named final list gone new after root leaves_all is.content
           keeps_all
           commits.on.kept in
           let count = count_of_plan history store cache made (retired ++ listed) book so pages is.named final list in
           let first_none : first ≡ 0 = sym (ap (λ (r : Root). r.free_list) root_now) ∙ none in
-          omega (
-            arith,
-            ap (λ (r : Root). r.pages) root_now,
-            count,
-            names_free history store cache made (retired ++ listed) book so pages is.named final list last first_none n free,
-          );
+          none_unused history store cache made (retired ++ listed) book so pages is.named final list last first_none n inside
+          (omega (arith, ap (λ (r : Root). r.pages) root_now, count, below));
       made = refl;
       retired = refl;
       memory = λ e. absurd cc;

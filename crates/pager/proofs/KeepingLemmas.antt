@@ -121,18 +121,19 @@ module _ {D : Type 0} (history : D → History) (store : Store D) (made : List S
     };
   }
 
-planned_same : (fault : CommitFault) (old new : Book) → PlanFails fault old new → new ≡ record old { full_takes = new.full_takes }
-planned_same faults.Memory old new is = let back = sym is in is ∙ (λ i. record old { full_takes = (back i).full_takes })
-planned_same faults.Full old new is = let back = sym is in is ∙ (λ i. record old { full_takes = (back i).full_takes })
-planned_same faults.Device old new is = absurd is
+planned_same : (root : Root) (made : List Sheet) (pages : List ℕ) (fault : CommitFault) (old new : Book) → PlanFails root made pages fault old new
+    → new ≡ record old { full_takes = new.full_takes }
+planned_same root made pages faults.Memory old new is = let back = sym is in is ∙ (λ i. record old { full_takes = (back i).full_takes })
+planned_same root made pages faults.Full old new (lacks, is) = let back = sym is in is ∙ (λ i. record old { full_takes = (back i).full_takes })
+planned_same root made pages faults.Device old new is = absurd is
 
 pub planned_versions : {D : Type 0} (history : D → History) (store : Store D) (made : List Sheet) (retired_now : List ℕ) (book other : Book)
-    (fault : CommitFault) → PlanFails fault book other
+    (root : Root) (written : List Sheet) (pages : List ℕ) (fault : CommitFault) → PlanFails root written pages fault book other
     → KeepsVersions history (record { store = store; made = made; retired = retired_now; book = book })
     (record { store = store; made = made; retired = retired_now; book = other })
-planned_versions history store made retired_now book other fault fails =
+planned_versions history store made retired_now book other root written pages fault fails =
     subst (λ (b : Book). KeepsVersions history (record { store = store; made = made; retired = retired_now; book = book })
-    (record { store = store; made = made; retired = retired_now; book = b })) (sym (planned_same fault book other fails))
+    (record { store = store; made = made; retired = retired_now; book = b })) (sym (planned_same root written pages fault book other fails))
     (counted_versions history store made retired_now book other.full_takes)
 
 -- ---- what is written and what isn't

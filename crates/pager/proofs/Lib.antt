@@ -22,6 +22,7 @@ pub mod ReturnLemmas
 pub mod StayLemmas
 pub mod TakeLemmas
 pub mod TreeLemmas
+pub mod TrustLemmas
 pub mod TurnLemmas
 pub mod UndoLemmas
 pub mod VersionLemmas

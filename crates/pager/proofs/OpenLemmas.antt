@@ -18,15 +18,13 @@ use Rattle.btree.specs.Store.{flag}
 use Rattle.freelist.specs.Book.{Book, is_in_use, is_used_state, opened, with_used}
 use Rattle.freelist.specs.declared.states.PageState.{PageState}
 use Rattle.freelist.specs.declared.states.PageState.TheVariants as states
-use Rattle.freelist.specs.FreeList.{pages_of}
-use Rattle.freelist.proofs.SoundBooks.{opens_sound}
-use Rattle.freelist.proofs.WrittenLists.{reading_is_exact}
+use Rattle.freelist.proofs.ListedBooks.{length-opened}
 use Rattle.roots.specs.declared.root.Root.{Root}
 use Rattle.roots.specs.declared.store.Store.{Store}
-use Rattle.roots.specs.Image.{HasList, HoldsMap, OpensAs, list_in, reached_by, sheet_at}
+use Rattle.roots.specs.Image.{HasList, HoldsMap, OpensAs, reached_by, sheet_at}
 use Rattle.roots.specs.Opening.{IsOpened as IsStoreOpened}
 use Rattle.roots.specs.Store.{IsCommitted, disk_history, durable_root}
-use Rattle.roots.specs.Walk.{FindsFree, HasMapThere}
+use Rattle.roots.specs.Walk.{FindsFree}
 use Rattle.roots.proofs.CountLemmas.{reached_once, room_most}
 use Rattle.pager.specs.Kept.{AreListed, IsBookFor, IsKept}
 use Rattle.pager.specs.Opening.{IsOpened}
@@ -34,10 +32,6 @@ use Rattle.pager.specs.Turn.{IsBegun}
 use Rattle.pager.proofs.BookLemmas.{no_time, one_time, others_of}
 use Rattle.pager.proofs.OrderLemmas.{order_none}
 use Rattle.pager.proofs.ReadLemmas.{HasListIn, IsListIn, of_same}
-
-length_used : (in_use : List ℕ) (pages : List PageState) → length (with_used in_use pages) ≡ length pages
-length_used [] pages = refl
-length_used (p ∷ rest) pages = length_used rest (set pages p states.InUse) ∙ length-set pages p states.InUse
 
 none_used : (count n : ℕ) → is_in_use (replicate count states.Free) n ≡ false
 none_used zero n = refl
@@ -75,17 +69,9 @@ used_all (p ∷ rest) pages n within once = elim (cases_eq n p) [
 opened_used : (live : List ℕ) (count generation : ℕ) → AreOnce live → (n : ℕ) → n < length (opened live count generation).states
     → times n live ≡ flag (is_in_use (opened live count generation).states n)
 opened_used live count generation once n within =
-    let low : n < length (replicate count states.Free) = omega (arith, within, length_used live (replicate count states.Free)) in
+    let low : n < length (replicate count states.Free) = omega (arith, within, length-opened live count generation, length-replicate count states.Free) in
     let none : flag (is_in_use (replicate count states.Free) n) ≡ 0 = ap flag (none_used count n) in
     omega (arith, used_all live (replicate count states.Free) n low (omega (arith, none, once n)), none)
-
-booked_new : (in_use : List ℕ) (count generation : ℕ) → count ≤ 1048576 → IsBookFor [] (opened in_use count generation)
-booked_new in_use count generation few = record {
-  sound = opens_sound in_use count generation;
-  turn = refl;
-  limit = omega (arith, length_used in_use (replicate count states.Free), length-replicate count states.Free, few);
-  count = omega arith;
-}
 
 module _ {D : Type 0} (history : D → History) (disk : D) (mid new : Store D) (found : Book × Vec ℕ) (limit : ℕ) (few : limit ≤ 1048576)
     (first : IsStoreOpened history disk mid)
@@ -94,17 +80,17 @@ module _ {D : Type 0} (history : D → History) (disk : D) (mid new : Store D) (
   book = found.0
 
   booked : IsBookFor [] book
-  booked = subst (IsBookFor []) (sym finds.some.is) (booked_new finds.some.in_use _ (durable_root mid).generation (omega (arith, few, first.known.pages)))
-
-  long_opened : length book.states ≡ max (max limit (durable_root mid).pages) 1
-  long_opened =
-      let count = max (max limit (durable_root mid).pages) 1 in
-      ap (λ (b : Book). length b.states) finds.some.is ∙ length_used finds.some.in_use (replicate count states.Free) ∙ length-replicate count states.Free
+  booked = record {
+    sound = finds.some.sound;
+    turn = finds.some.turn;
+    limit = omega (arith, finds.some.count, few, first.known.pages);
+    count = omega (arith, finds.some.full_takes);
+  }
 
   pub limit_opened : (asked : ℕ) → limit ≡ min asked 1048576 → length book.states ≡ max (min asked 1048576) (durable_root new).pages
   limit_opened asked is =
       let most : length book.states ≡ max limit (durable_root new).pages = omega
-      (arith, long_opened, first.known.tree, ap (λ (r : Root). r.pages) finds.root) in
+      (arith, finds.some.count, first.known.tree, ap (λ (r : Root). r.pages) finds.root) in
       most ∙ ap (λ (n : ℕ). max n (durable_root new).pages) is
 
   -- entries that the disk's root has when it is opened are committed in the store
@@ -123,18 +109,7 @@ module _ {D : Type 0} (history : D → History) (disk : D) (mid new : Store D) (
 
   -- the pages beside the book are those of the root's list
   listed_opened : AreListed history new found.1.items
-  listed_opened running k parts list =
-      let root = durable_root mid in
-      let image = reads (now (disk_history history mid)) in
-      let there : HasMapThere image root = finds.stands k in
-      let live = there.0 in
-      let held = there.1.1.listed in
-      let committed = committed_then live there.1.0
-      (subst (λ (read : ℕ → List ℕ). HoldsMap (sheet_at read root) root live there.1.0) (reads_mid k) there.1.1) in
-      let list_now = list_then k (IsListIn parts) list in
-      (finds.book k live there.1.0 committed held.0 held.1).1
-      ∙ ap pages_of (reading_is_exact (list_in (sheet_at image root)) root.pages root.free_list root.free_count root.free_count held.0 parts held.1.list
-      list_now)
+  listed_opened running k parts list = finds.listed k parts (list_then k (IsListIn parts) list)
 
   pub kept_opened : (cache : PageCache) (made : List Sheet) (places : List ℕ) → made ≡ [] → places ≡ [] → ((n : ℕ) → kept cache n ≡ None)
       → IsKept history new cache made book found.1.items places
@@ -145,7 +120,7 @@ module _ {D : Type 0} (history : D → History) (disk : D) (mid new : Store D) (
         each = tt;
         booked = booked;
         listed = listed_opened;
-        wide = omega (arith, long_opened, ap (λ (r : Root). r.pages) finds.root);
+        wide = omega (arith, finds.some.count, ap (λ (r : Root). r.pages) finds.root);
       }))
 
   begins : (live : List ℕ) (entries : List Entry)
@@ -190,17 +165,6 @@ module _ {D : Type 0} (history : D → History) (disk : D) (mid new : Store D) (
         retired = refl;
         on = goes_further h0 h1 h2 first.on only.on;
         opens = λ k. subst (OpensAs (reads (now h0))) (sym finds.root) (first.opens (only.on.kept k));
-        stands = λ k.
-            let same : reads (now h1) ≡ reads (now h0) = reads_mid k in
-            let there : HasMapThere (reads (now h1)) (durable_root mid) = finds.stands k in (
-              there.1.0,
-              record {
-                root = durable_root mid;
-                pages = there.0;
-                opens = first.opens (only.on.kept k);
-                holds = subst (λ (image : ℕ → List ℕ). HoldsMap (sheet_at image (durable_root mid)) (durable_root mid) there.0 there.1.0) same there.1.1;
-              },
-            );
         begun = begins;
         alone = λ entries stands k image is. first.alone entries stands (only.on.kept k) image (subst (λ (s : ℕ → Sector). IsImage s image) (only.same k) is);
         any_moment = λ readable.

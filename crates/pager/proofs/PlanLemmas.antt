@@ -2,7 +2,7 @@
 use Rattle.std.proofs.Common.{◌≡◌, ℕ, ◌+◌, ◌<◌, ◌≤◌, max, false, List, [], ◌∷◌, ◌++◌, ◌≢◌, length, get_or, inl, inr, sym, refl, ◌∙◌, ap, arith, None}
 use Rattle.std.specs.Prelude.{Bool, true, ◌&&◌, ◌||◌, nat_lt, not}
 use Rattle.std.specs.List.{AllByRecursion}
-use Rattle.std.proofs.lemmas.Bool.{cases_lt}
+use Rattle.std.proofs.lemmas.Bool.{cases_Bool}
 use Rattle.std.proofs.lemmas.Bool.Decides.{nat_tests}
 use Rattle.std.proofs.lemmas.List.{get_or_default}
 use Rattle.page.specs.Cache.{kept}
@@ -180,15 +180,14 @@ module _ {D : Type 0} {listed places : List ℕ} (history : D → History) (stor
     none_in n [] none = refl
     none_in n (x ∷ xs) none = absurd (omega (arith, none))
 
-    -- has no free page in its file
-    pub names_free : (last : ℕ) → first_page (written pages named) ≡ 0 → (n : ℕ) → is_free (committed last final).states n ≡ true → count ≤ n
-    names_free last none n free = elim (cases_lt n count) [
-      | inl below ↦
-          let inside = free_inside (committed last final).states n free in
-          let within : n < length final.states = omega (arith, inside.1, committed_length last final) in
-          let unused : is_in_use final.states n ≡ false =
-          sym (committed_use last final final_sound n) ∙ free_unused (committed last final).states n free in
-          let positive : nat_lt 0 n ≡ true = grind (arith, nat_tests, inside.0) in
+    -- has no page that isn't in use
+    pub none_unused : (last : ℕ) → first_page (written pages named) ≡ 0 → (n : ℕ) → 0 < n → n < count → is_in_use (committed last final).states n ≡ true
+    none_unused last none n inside below = elim (cases_Bool (is_in_use (committed last final).states n)) [
+      | inl used ↦ used
+      | inr not_used ↦
+          let within : n < length final.states = omega (arith, below, fits, wide.long) in
+          let unused : is_in_use final.states n ≡ false = sym (committed_use last final final_sound n) ∙ not_used in
+          let positive : nat_lt 0 n ≡ true = grind (arith, nat_tests, inside) in
           let test : nat_lt n count ≡ true = grind (arith, nat_tests, below) in
           let state : is_used_state (get_or final.states n states.InUse) ≡ false =
           ap is_used_state (get_or_default final.states n states.InUse states.Retired within) ∙ unused in
@@ -196,5 +195,4 @@ module _ {D : Type 0} {listed places : List ℕ} (history : D → History) (stor
           ap (times_in n) list.names ∙ times_unused n count final.states ∙ (λ i. flag (test i && (positive i && not (state i)))) in
           let no_pages : length pages ≡ 0 = no_first pages named (λ m some. (free_inside book.states m (free_then m some)).0) none in
           absurd (omega (arith, there, none_in n named (omega (arith, list.room, no_pages))))
-      | inr past ↦ omega (arith, past)
     ]

@@ -66,7 +66,7 @@ module _ {D : Type 0} (history : D → History) (disk : D) (mid : Store D) (firs
       by_others faults.NotADatabase a b c d = absurd (c refl)
       by_others faults.NewerFormat a b c d = absurd (d refl)
 
-  -- in the walk over the tree's pages
+  -- where the free pages are to be found
   pub refused_walking : (limit : ℕ) (new : Store D) (back : D) (fault : OpenFault) → history back ≡ disk_history history new
       → ReadsOnly (disk_history history mid) (disk_history history new)
       → HasCause (disk_history history mid) (disk_history history new) fault → FindsFree history limit (Err fault) mid new → IsRefused history disk back fault

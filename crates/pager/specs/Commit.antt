@@ -1,9 +1,10 @@
 -- What the commit of a turn does.
-use Rattle.std.specs.Prelude.{◌≡◌, ◌≢◌, ◌⊎◌, ℕ, ◌+◌, ◌-◌, ◌≤◌, ◌^◌, true, List, [], Result, Err}
-use Rattle.std.specs.Prelude.{OnOk, OnErr}
+use Rattle.std.specs.Prelude.{◌≡◌, ◌≢◌, ◌⊎◌, ℕ, ◌+◌, ◌-◌, ◌<◌, ◌≤◌, ◌^◌, true, List, [], ◌++◌, Result}
+use Rattle.std.specs.Prelude.{Err, OnOk, OnErr}
 use Rattle.page.specs.History.{History, KeepsWord}
 use Rattle.page.specs.Crash.{GoesOn, LeavesOnly, LeavesNow}
-use Rattle.freelist.specs.Book.{Book, is_free, refused}
+use Rattle.freelist.specs.Book.{Book, is_in_use, refused}
+use Rattle.freelist.specs.ListWriting.{HasNoRoom}
 use Rattle.btree.specs.Keys.{Entry, times}
 use Rattle.btree.specs.Reach.{HasMap}
 use Rattle.btree.specs.Store.{Grows}
@@ -12,21 +13,39 @@ use Rattle.roots.specs.Store.{HasDeviceCause, IsRunning, durable_root, is_stoppe
 use Rattle.roots.specs.declared.root.Root.{Root}
 use Rattle.roots.specs.declared.store.CommitFault.{CommitFault}
 use Rattle.roots.specs.declared.store.CommitFault.TheVariants as faults
+use Rattle.pager.specs.Kept.{AreListed}
+use Rattle.pager.specs.Order.{IsOrderOf, pages_at}
+use Rattle.pager.specs.Planning.{pages_with}
 use Rattle.pager.specs.State.{State}
 use Rattle.pager.specs.Turn.{IsBegun}
 use Rattle.pager.specs.View.{pager_history, store_of}
+use Rattle.pager.specs.Writing.{retired_all, written_of}
 
--- Why a commit finds no room: no greater generation is left, or no page is free for its list of
--- free pages, which is counted.
-abbrev pub FindsNoRoom : {D : Type 0} → State D → State D → Type 0
-FindsNoRoom old new =
+-- The list that a turn's commit is to write lacks room on all pages that are free: it is to name
+-- what the turn retired, and the own pages of the committed root's list.
+pub record LacksListRoom {D : Type 0} (history : D → History) (p : State D) : Type 0 where
+  pub listed : List ℕ
+  pub are : AreListed history p.store listed
+  -- the pages that the turn made, in ascending order
+  pub places : List ℕ
+  pub order : IsOrderOf p.made places
+  pub short : let root = durable_root p.store in
+      let mid = retired_all root.generation (p.retired ++ listed) p.book in
+      let tree = written_of root.generation mid (pages_at p.made places) in
+      HasNoRoom (pages_with root tree) mid
+
+-- Why a commit finds no room: no greater generation is left, or too few pages are free for its list
+-- of free pages, which is counted.
+abbrev pub FindsNoRoom : {D : Type 0} → (D → History) → State D → State D → Type 0
+FindsNoRoom history old new =
     (((durable_root old.store).generation ≡ 2 ^ 64 - 1) × (new ≡ old))
-    ⊎ (new ≡ record old { book = refused old.book })
+    ⊎ (LacksListRoom history old × (new ≡ record old { book = refused old.book }))
 
--- A root that names no list of free pages is that of a file in which no page is free.
-abbrev pub ListsFree : Root → Book → Type 0
-ListsFree root book =
-    root.free_list ≡ 0 → (n : ℕ) → is_free book.states n ≡ true → root.pages ≤ n
+-- A root that names no list of free pages is that of a file in which each page is in use: none is
+-- free, and none waits.
+abbrev pub ListsUnused : Root → Book → Type 0
+ListsUnused root book =
+    root.free_list ≡ 0 → (n : ℕ) → 0 < n → n < root.pages → is_in_use book.states n ≡ true
 
 -- How often a page was asked for and none was free: never fewer, and more often only at Full.
 pub record CountsTakes {D : Type 0} (result : Result (Unit {0}) CommitFault)
@@ -44,13 +63,13 @@ pub record Commits {D : Type 0} (history : D → History) (root : ℕ)
   -- what isn't committed leaves the root that is
   pub still : OnErr result (durable_root new.store ≡ durable_root old.store)
   pub tree : OnOk result ((durable_root new.store).tree ≡ root)
-  pub listed : OnOk result (ListsFree (durable_root new.store) new.book)
+  pub listed : OnOk result (ListsUnused (durable_root new.store) new.book)
   -- no turn runs
   pub made : OnOk result (new.made ≡ [])
   pub retired : OnOk result (new.retired ≡ [])
   -- nothing changed
   pub memory : result ≡ Err faults.Memory → new ≡ old
-  pub full : result ≡ Err faults.Full → FindsNoRoom old new
+  pub full : result ≡ Err faults.Full → FindsNoRoom history old new
   pub device : result ≡ Err faults.Device → KeepsWord (pager_history history new)
       → HasDeviceCause history old.store new.store
   -- the turn is still there, to be undone

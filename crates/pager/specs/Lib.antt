@@ -8,6 +8,7 @@ pub mod Order
 pub mod Pinning
 pub mod Planning
 pub mod State
+pub mod Trusting
 pub mod Turn
 pub mod View
 pub mod Writing

@@ -27,9 +27,6 @@ pub record IsOpened {D : Type 0} (history : D → History) (disk : D) (pager : S
   -- its root is the one that the disk's sectors give
   pub opens : KeepsWord (pager_history history pager)
       → OpensAs (reads (now (history disk))) (durable_root pager.store)
-  -- which names a tree in that image
-  pub stands : KeepsWord (pager_history history pager)
-      → (entries : List Entry) × StandsFor (reads (now (history disk))) entries
   -- a turn may begin with whatever entries this root has
   pub begun : (live : List ℕ) (entries : List Entry)
       → (KeepsWord (pager_history history pager) → let image = reads (now (history disk)) in

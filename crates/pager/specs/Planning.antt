@@ -5,7 +5,7 @@ use Rattle.page.specs.Content.{IsContent}
 use Rattle.page.specs.Format.{Sheet}
 use Rattle.freelist.specs.Book.{Book, refused}
 use Rattle.freelist.specs.FreeList.{first_page, written}
-use Rattle.freelist.specs.ListWriting.{GoesBack, IsMade}
+use Rattle.freelist.specs.ListWriting.{GoesBack, HasNoRoom, IsMade}
 use Rattle.roots.specs.Listed.{list_sheets}
 use Rattle.roots.specs.Turn.{end_behind}
 use Rattle.roots.specs.declared.root.Root.{Root}
@@ -44,15 +44,24 @@ pub record IsPlanned (root : Root) (made : List Sheet) (pages : List ℕ) (plan 
   pub first : plan.free_list ≡ first_page (written plan.listed.items named)
   pub count : plan.free_count ≡ min (length named) (2 ^ 32 - 1)
 
+-- Once these pages are retired, a list of what is free then lacks room on all pages that are free.
+abbrev pub LacksRoom : Root → List Sheet → List ℕ → Book → Type 0
+LacksRoom root made pages old =
+    let mid = retired_all root.generation pages old in
+    let tree = written_of root.generation mid made in
+    AllByRecursion (λ (sheet : Sheet). sheet.page < 1048576) tree
+    → HasNoRoom (pages_with root tree) mid
+
 -- No commit was planned: want of memory changes nothing, and that no page is free for the list is
 -- counted.
-abbrev pub PlanFails : CommitFault → Book → Book → Type 0
-PlanFails faults.Memory old new = new ≡ old
-PlanFails faults.Full old new = new ≡ refused old
-PlanFails faults.Device old new = ⊥
+abbrev pub PlanFails : Root → List Sheet → List ℕ → CommitFault → Book → Book → Type 0
+PlanFails root made pages faults.Memory old new = new ≡ old
+PlanFails root made pages faults.Full old new = LacksRoom root made pages old × (new ≡ refused old)
+PlanFails root made pages faults.Device old new = ⊥
 
 -- the same once all is taken back
-abbrev pub FallsBack : CommitFault → Book → Book → Type 0
-FallsBack faults.Memory old new = GoesBack old old new
-FallsBack faults.Full old new = GoesBack old (refused old) new
-FallsBack faults.Device old new = ⊥
+abbrev pub FallsBack : Root → List Sheet → List ℕ → CommitFault → Book → Book → Type 0
+FallsBack root made pages faults.Memory old new = GoesBack old old new
+FallsBack root made pages faults.Full old new =
+    LacksRoom root made pages old × GoesBack old (refused old) new
+FallsBack root made pages faults.Device old new = ⊥

@@ -14,6 +14,7 @@ use page::{Disk, PageCache, PageContent, SharedPage};
 use roots::{CommitFault, MAX_PAGES, OpenFault, PageCounts, Store};
 use std::alloc::{AllocError, Global};
 use std::marker::Model;
+use trusted_disk::TrustedDisk;
 
 /// The pages of a database file: those of the tree that is committed, read through a cache, and those that the running turn has made
 /// and retired since then.
@@ -50,7 +51,7 @@ impl<D: Disk> Model for Pager<D> {
 }
 
 impl<D: Disk> Pager<D> {
-    ghost use Rattle.std.specs.Prelude.{IfOk, IfErr, length};
+    ghost use Rattle.std.specs.Prelude.{Bool, IfOk, IfErr, length};
     ghost use Rattle.roots.specs.Store.{durable_root, is_stopped};
     ghost use Rattle.pager.specs.Capacity.{TreesFit};
     ghost use Rattle.pager.specs.Commit.{Commits, CountsTakes, MovesTurns};
@@ -58,11 +59,13 @@ impl<D: Disk> Pager<D> {
     ghost use Rattle.pager.specs.Opening.{HasLimit, IsOpened, IsRefused};
     ghost use Rattle.pager.specs.Pinning.{KeepsOlder, KeepsVersions, Pins, Unpins, VersionsStay};
     ghost use Rattle.pager.specs.State.{State};
+    ghost use Rattle.pager.specs.Trusting.{trusting_pager};
     ghost use Rattle.pager.specs.Turn.{IsOrderly, LeadsBack, Returns, is_changed, undone_to};
     ghost use Rattle.pager.specs.View.{pager_history};
 
-    /// Opens a disk that a crash may have left, as a file of at most so many pages, or those that it has. It reads each page of
-    /// the tree once, and of the list of free pages, if the root names one. An `Err` hands the disk back.
+    /// Opens a disk that a crash may have left, as a file of at most so many pages, or those that it has. It reads the list of free
+    /// pages, and of the tree the root page alone, where the root names a list; each page of the tree where it names none. An `Err`
+    /// hands the disk back.
     pub fn open(alloc: Global, disk: D, limit: u32) -> Result<Pager<D>, (D, OpenFault)>
         ensures opened { IfOk result (IsOpened D.history disk) }
         ensures limit { IfOk result (HasLimit limit) }
@@ -93,9 +96,26 @@ impl<D: Disk> Pager<D> {
 
     /// Hands the disk back as it is.
     pub fn into_disk(self) -> D
-        ensures { D.history result ≡ pager_history D.history self }
+        ensures { result ≡ self.store.disk }
     {
         self.store.into_disk()
+    }
+
+    /// The same pager over the same disk, whose word counts from now on only where what the caller chooses is true.
+    pub fn trusting(self) -> Pager<TrustedDisk<D>>
+        ghost trusted: { Bool }
+        ensures { result ≡ trusting_pager trusted self }
+    {
+        Pager {
+            alloc: self.alloc,
+            store: self.store.trusting(),
+            cache: self.cache,
+            book: self.book,
+            made: self.made,
+            places: self.places,
+            retired: self.retired,
+            listed: self.listed,
+        }
     }
 
     /// The root page of the committed tree, or 0 where it is empty.

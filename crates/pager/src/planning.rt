@@ -84,7 +84,9 @@ fn draft_commit(
     ensures plan { IfOk result (λ plan.
         IsPlanned root (pages_at made.now places.now) (retired.now ++ listed.now) plan
         book.old book.new) }
-    ensures back { IfErr result (λ fault. FallsBack fault book.old book.new) }
+    ensures back { let pages = retired.now ++ listed.now in
+        IfErr result (λ fault. FallsBack root (pages_at made.now places.now) pages fault
+        book.old book.new) }
 {
     if retire_both(book, retired, listed, root.generation).is_err() {
         return Err(CommitFault::Memory);
@@ -120,7 +122,9 @@ pub(crate) fn plan_commit(
     ensures plan { IfOk result (λ plan.
         IsPlanned root (pages_at made.now places.now) (retired.now ++ listed.now) plan
         book.old book.new) }
-    ensures err { IfErr result (λ fault. PlanFails fault book.old book.new) }
+    ensures err { let pages = retired.now ++ listed.now in
+        IfErr result (λ fault. PlanFails root (pages_at made.now places.now) pages fault
+        book.old book.new) }
 {
     let mark = book.mark();
     match draft_commit(alloc, book, made, places, retired, listed, root) {

@@ -9,7 +9,7 @@ use Rattle.page.specs.declared.page_fault.PageFault.{PageFault}
 use Rattle.btree.specs.Keys.{Entry, times}
 use Rattle.freelist.specs.Book.{opened}
 use Rattle.freelist.specs.FreeList.{Part, named_by, opened_by, pages_of, room_for, times_in}
-use Rattle.freelist.specs.ListReading.{AreAllBelow, IsListOn, ReadsList}
+use Rattle.freelist.specs.ListReading.{AreAllBelow, ReadsList}
 use Rattle.freelist.specs.declared.list.FreeList.{FreeList}
 use Rattle.freelist.specs.declared.list_fault.ListFault.{ListFault}
 use Rattle.freelist.specs.declared.list_fault.ListFault.TheVariants as lists
@@ -101,11 +101,6 @@ reached_decides image other root pages parts entries holds same = record {
 }
 
 -- ---- the list that is read
-
-pub none_read : (sheets : ℕ → Result Sheet PageFault) (root : Root) (pages named : List ℕ) → IsUnlisted root → pages ≡ [] → named ≡ []
-    → IsListOn (list_in sheets) root.pages root.free_list root.free_count pages named
-none_read sheets root pages named none pages_are named_are =
-    record { parts = []; list = (empty_list sheets root [] none).list; pages_are = pages_are; named_are = named_are }
 
 pub cause_of : {D : Type 0} (history : D → History) (old new : Store D) (fault : ListFault) → (fault ≡ lists.Device → HasFailed history old new)
     → HasCause (disk_history history old) (disk_history history new) (read_fault fault)

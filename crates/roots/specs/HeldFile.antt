@@ -1,11 +1,11 @@
 -- What a file holds whose root may name a list of free pages beside its tree.
-use Rattle.std.specs.Prelude.{◌≡◌, ◌≢◌, ℕ, ◌+◌, ◌≤◌, max, Bool, true, false, List, [], ◌++◌}
+use Rattle.std.specs.Prelude.{◌≡◌, ◌≢◌, ℕ, ◌+◌, ◌≤◌, Bool, true, false, List, [], ◌++◌}
 use Rattle.std.specs.Prelude.{Result, MatchResult}
 use Rattle.page.specs.Format.{Sheet}
 use Rattle.page.specs.History.{History, KeepsWord, now, reads}
 use Rattle.page.specs.declared.page_fault.PageFault.{PageFault}
 use Rattle.btree.specs.Keys.{Entry, times}
-use Rattle.freelist.specs.Book.{Book, opened}
+use Rattle.freelist.specs.Book.{opened}
 use Rattle.freelist.specs.FreeList.{Part, named_by, opened_by}
 use Rattle.freelist.specs.FreeList.{pages_of, room_for, times_in}
 use Rattle.freelist.specs.ListReading.{AreAllBelow}
@@ -109,10 +109,3 @@ abbrev pub HoldsNoFile : (ℕ → Result Sheet PageFault) → Root → Type 0
 HoldsNoFile sheets root =
     (pages : List ℕ) (parts : List Part) (entries : List Entry)
     → HoldsFile sheets root pages parts entries → ⊥
-
--- The book of a file: the pages that its root reaches are in use.
-pub record IsFileBook (sheets : ℕ → Result Sheet PageFault) (root : Root) (limit : ℕ)
-    (book : Book) : Type 0 where
-  pub live : List ℕ
-  pub reaches : Reaches sheets root live
-  pub is : book ≡ opened live (max (max limit root.pages) 1) root.generation

@@ -11,5 +11,6 @@ pub mod Opening
 pub mod Replace
 pub mod Root
 pub mod Store
+pub mod Trusting
 pub mod Turn
 pub mod Walk

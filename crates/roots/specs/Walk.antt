@@ -1,10 +1,12 @@
 -- What a walk over a tree's pages gives: those that it reaches, each once, in the order of its
 -- keys.
 use Rattle.std.specs.Global.{Vec}
-use Rattle.std.specs.Prelude.{◌≡◌, ◌≢◌, ℕ, ◌+◌, ◌<◌, ◌≤◌, false, if◌then◌else◌, List, ◌++◌, length}
-use Rattle.std.specs.Prelude.{get_or, max, Result, Ok, Err, IfErr, IfOk, OnOk, MatchResult}
+use Rattle.std.specs.Prelude.{◌≡◌, ◌≢◌, ℕ, ◌+◌, ◌<◌, ◌≤◌, Bool, false, true, if◌then◌else◌, List}
+use Rattle.std.specs.Prelude.{[], ◌++◌, length, get_or, max, Result, Ok, Err, IfErr, IfOk, OnOk}
+use Rattle.std.specs.Prelude.{MatchResult}
 use Rattle.page.specs.History.{History, KeepsWord, now, reads}
 use Rattle.page.specs.Crash.{ReadsOnly}
+use Rattle.page.specs.Content.{Content, leaf, branch, chain, free_list}
 use Rattle.page.specs.Format.{Sheet}
 use Rattle.page.specs.ImageView.{sheet_of}
 use Rattle.page.specs.declared.page_fault.PageFault.{PageFault}
@@ -12,9 +14,10 @@ use Rattle.page.specs.declared.page_image.PageImage.{PageImage}
 use Rattle.btree.specs.Keys.{Entry, times}
 use Rattle.btree.specs.Store.{Store as Pages}
 use Rattle.freelist.specs.Book.{Book, opened}
-use Rattle.freelist.specs.FreeList.{Part, pages_of}
-use Rattle.roots.specs.HeldFile.{HoldsNoFile, IsFileBook, Reaches as ReachesFile}
-use Rattle.roots.specs.Image.{HasList, HoldsMap, reached_by, sheet_at, store_of}
+use Rattle.freelist.specs.FreeList.{IsFreeList, Part, pages_of}
+use Rattle.freelist.specs.Sound.{IsSound}
+use Rattle.roots.specs.HeldFile.{HoldsNoFile, Reaches as ReachesFile}
+use Rattle.roots.specs.Image.{HasList, list_in, reached_by, sheet_at, store_of}
 use Rattle.roots.specs.Store.{IsCommitted, disk_history, durable_root, is_stopped}
 use Rattle.roots.specs.declared.opening.OpenFault.{OpenFault}
 use Rattle.roots.specs.declared.opening.OpenFault.TheVariants as faults
@@ -77,17 +80,23 @@ pub record ReadsSheet {D : Type 0} (history : D → History) (page : ℕ)
       (λ image. sheet ≡ Ok (sheet_of image))
       (λ fault. fault ≡ faults.Damaged → (found : Sheet) → sheet ≡ Ok found → ⊥)
 
+-- a page of a tree, and not of a value's chain or of a list
+abbrev pub is_of_tree : Content → Bool
+is_of_tree (leaf items) = true
+is_of_tree (branch arms) = true
+is_of_tree (chain next bytes) = false
+is_of_tree (free_list next pages) = false
+
 -- ---- the book of a file's pages
 
--- a book that was opened with some pages in use
-pub record IsBookOf (limit : ℕ) (root : Root) (book : Book) : Type 0 where
-  pub in_use : List ℕ
-  pub is : book ≡ opened in_use (max (max limit root.pages) 1) root.generation
-
--- the pages are those of a tree that this root names
-abbrev pub HasMapThere : (ℕ → List ℕ) → Root → Type 0
-HasMapThere image root =
-    (pages : List ℕ) × ((entries : List Entry) × HoldsMap (sheet_at image root) root pages entries)
+-- a book of so many pages in which no turn has begun, and nothing was pinned or waits
+pub record IsNewBook (page_count : ℕ) (book : Book) : Type 0 where
+  pub sound : IsSound book
+  pub count : length book.states ≡ page_count
+  pub turn : book.turn ≡ []
+  pub waiting : book.waiting ≡ []
+  pub pins : book.pins ≡ []
+  pub full_takes : book.full_takes ≡ 0
 
 -- The first are the pages that the root reaches, its list's own too; the second are these alone.
 pub record HasReached (sheets : ℕ → Result Sheet PageFault) (root : Root)
@@ -105,25 +114,26 @@ FindsFile history result old new =
     MatchResult result (HasReached sheets root)
     (λ fault. fault ≡ faults.Damaged → HoldsNoFile sheets root)
 
--- Nothing of the store has changed, and the root has a tree; where one is committed, the pages that
--- the root reaches are in use, and the fault isn't one of the pages. The second of the result are
--- the pages of the root's list.
+-- Nothing of the store has changed. Where a tree is committed, the pages that the root reaches are
+-- in use, and the fault isn't one of the pages. The second of the result are the pages of the root's
+-- list.
 pub record FindsFree {D : Type 0} (history : D → History) (limit : ℕ)
     (result : Result (Book × Vec ℕ) OpenFault) (old new : Store D) : Type 0 where
   pub root : durable_root new ≡ durable_root old
   pub stopped : is_stopped new ≡ is_stopped old
   pub committed : (live : List ℕ) (entries : List Entry) → IsCommitted history old live entries
       → IsCommitted history new live entries
-  pub some : IfOk result (λ found. IsBookOf limit (durable_root old) found.0)
-  pub stands : let image = reads (now (disk_history history old)) in
-      KeepsWord (disk_history history new)
-      → IfOk result (λ found. HasMapThere image (durable_root old))
-  -- and a list, if it names one, that fits the tree: the list's own pages are in use too
-  pub file : let root = durable_root old in
+  pub some : IfOk result (λ found. IsNewBook (max (max limit (durable_root old).pages) 1) found.0)
+  pub listed : let root = durable_root old in
       let sheets = sheet_at (reads (now (disk_history history old))) root in
-      KeepsWord (disk_history history new) → MatchResult result
-      (λ found. IsFileBook sheets root limit found.0)
-      (λ fault. fault ≡ faults.Damaged → HoldsNoFile sheets root)
+      KeepsWord (disk_history history new) → IfOk result (λ found. (parts : List Part)
+      → IsFreeList (list_in sheets) root.pages root.free_list root.free_count parts
+      → found.1.items ≡ pages_of parts)
+  -- damaged is only what holds no file
+  pub judged : let root = durable_root old in
+      let sheets = sheet_at (reads (now (disk_history history old))) root in
+      KeepsWord (disk_history history new)
+      → IfErr result (λ fault. fault ≡ faults.Damaged → HoldsNoFile sheets root)
   pub book : KeepsWord (disk_history history new) → (live : List ℕ) (entries : List Entry)
       → IsCommitted history old live entries → let root = durable_root old in
       let image = reads (now (disk_history history old)) in

@@ -101,7 +101,7 @@ impl<D: Disk> ListPages for Store<D> {
 }
 
 /// Why a file isn't opened whose list wasn't read.
-fn read_fault(fault: ListFault) -> OpenFault
+pub(crate) fn read_fault(fault: ListFault) -> OpenFault
     ensures { result ≡ read_fault fault }
 {
     match fault {
@@ -112,7 +112,10 @@ fn read_fault(fault: ListFault) -> OpenFault
 }
 
 /// The list that the committed root names: one without pages where it names none.
-fn read_named<D: Disk>(alloc: Global, store: &mut Store<D>) -> Result<FreeList, ListFault>
+pub(crate) fn read_named<D: Disk>(
+    alloc: Global,
+    store: &mut Store<D>,
+) -> Result<FreeList, ListFault>
     ensures reads { OnlyReads D.history store.old store.new }
     ensures list { let root = durable_root store.old in KeepsWord (disk_history D.history store.new)
         → ReadsList (listed_by D.history store.old) root.pages root.free_list root.free_count result }

@@ -1,5 +1,5 @@
 //! A store: its disk, and the root that it committed last.
-ghost use Rattle.std.specs.Prelude.{◌≡◌, ◌<◌, ◌≤◌, IfOk, IfErr, OnOk, OnErr, ℕ, max};
+ghost use Rattle.std.specs.Prelude.{◌≡◌, ◌≢◌, ◌<◌, ◌≤◌, Bool, IfOk, IfErr, OnOk, OnErr, ℕ, max};
 ghost use Rattle.std.specs.List.{AllByRecursion};
 ghost use Rattle.page.specs.History.{KeepsWord, now, reads};
 ghost use Rattle.page.specs.Crash.{GoesOn, LeavesOnly, IsImageOutside};
@@ -7,22 +7,25 @@ ghost use Rattle.page.specs.Format.{Sheet, page_bytes};
 ghost use Rattle.page.specs.Page.{IsSectorOf, page_at};
 ghost use Rattle.roots.specs.Counting.{CountsPages};
 ghost use Rattle.roots.specs.Commit.{CommitsRoot, LeavesPages, MovesDisk, MovesMaps};
-ghost use Rattle.roots.specs.Image.{IsOnPages};
+ghost use Rattle.roots.specs.HeldFile.{HoldsNoFile};
+ghost use Rattle.roots.specs.Image.{IsOnPages, sheet_at};
 ghost use Rattle.roots.specs.Opening.{IsOpened, IsRefused};
 ghost use Rattle.roots.specs.Store.{disk_history, durable_root, is_stopped, limit_in};
 ghost use Rattle.roots.specs.Listed.{OnlyReads};
 ghost use Rattle.roots.specs.Walk.{FindsFile, FindsFree, Looks, ReadsSheet};
+ghost use Rattle.roots.specs.Trusting.{trusting_store};
 ghost use Rattle.roots.specs.Turn.{AreWritten, LieBehind, end_behind, numbers_of};
 
 use crate::counting::{PageCounts, counts_of};
-use crate::listing::checked_list;
+use crate::listing::{checked_list, read_fault, read_named};
 use crate::opening::{OpenFault, read_root};
 use crate::replace::replace;
 use crate::root::{MAX_PAGES, Root};
-use crate::walk::{reached_pages, read_sheet};
+use crate::walk::{is_of_tree, reached_pages, read_sheet};
 use freelist::FreePages;
 use page::{DeviceFault, Disk, PageImage, SharedPage, write_page};
 use std::alloc::Global;
+use trusted_disk::TrustedDisk;
 
 /// The fewest pages that a limit leaves to a file.
 pub const LEAST_LIMIT: u32 = 16;
@@ -181,9 +184,21 @@ impl<D: Disk> Store<D> {
 
     /// Hands the disk back as it is.
     pub fn into_disk(self) -> D
-        ensures { D.history result ≡ disk_history D.history self }
+        ensures { result ≡ self.disk }
     {
         self.disk
+    }
+
+    /// The same store on the same disk, whose word counts from now on only where what the caller chooses is true.
+    pub fn trusting(self) -> Store<TrustedDisk<D>>
+        ghost trusted: { Bool }
+        ensures { result ≡ trusting_store trusted self }
+    {
+        Store {
+            disk: TrustedDisk::new(self.disk),
+            root: self.root,
+            stopped: self.stopped,
+        }
     }
 
     /// The root that was committed last.
@@ -225,10 +240,57 @@ impl<D: Disk> Store<D> {
         Ok((live, list.pages))
     }
 
-    /// The book of the file's pages, in which those that the committed root reaches are in use. The others below the limit, or
-    /// below the number of pages that the file has, are free. Beside it the own pages of the root's list, if it names one. It reads
-    /// each page of the tree and of the list once.
-    pub fn free_pages(
+    /// Reads the root page of the committed tree, if it has one. Damaged where that is no page of a tree.
+    fn check_tree_page(&mut self, alloc: Global) -> Result<(), OpenFault>
+        ensures looks { Looks result (disk_history D.history self.old)
+            (disk_history D.history self.new) }
+        ensures same { OnlyReads D.history self.old self.new }
+        ensures judged { let root = durable_root self.old in
+            let sheets = sheet_at (reads (now (disk_history D.history self.old))) root in
+            KeepsWord (disk_history D.history self.new)
+            → IfErr result (λ fault. fault ≡ OpenFault.Damaged → HoldsNoFile sheets root) }
+    {
+        let tree = self.root.tree;
+        if tree == 0 {
+            return Ok(());
+        }
+        let image = self.read(alloc, tree)?;
+        if is_of_tree(&image) {
+            Ok(())
+        } else {
+            Err(OpenFault::Damaged)
+        }
+    }
+
+    /// The book of a file whose root names a list of free pages, as the list tells it, and the list's own pages. It reads these, and
+    /// the root page of the tree. Damaged where that is no page of a tree, or where the list is none.
+    fn listed_pages(
+        &mut self,
+        alloc: Global,
+        limit: u32,
+    ) -> Result<(FreePages, Vec<u32>), OpenFault>
+        requires { (durable_root self.old).free_list ≢ 0 }
+        ensures looks { Looks result (disk_history D.history self.old)
+            (disk_history D.history self.new) }
+        ensures finds { FindsFree D.history limit result self.old self.new }
+    {
+        self.check_tree_page(alloc)?;
+        let list = match read_named(alloc, self) {
+            Ok(list) => list,
+            Err(fault) => return Err(read_fault(fault)),
+        };
+        let Root {
+            generation,
+            pages,
+            ..
+        } = self.root;
+        let book = FreePages::open_listed(alloc, &list.named, pages, limit, generation)?;
+        Ok((book, list.pages))
+    }
+
+    /// The same of any file, found by a walk that reads each page of the tree once, and of the list, if the root names one. Damaged
+    /// where they are no tree and no list that fits it.
+    fn walked_pages(
         &mut self,
         alloc: Global,
         limit: u32,
@@ -241,6 +303,26 @@ impl<D: Disk> Store<D> {
         let limit = greater(limit, self.root.pages);
         let book = FreePages::open(alloc, &in_use, limit, self.root.generation)?;
         Ok((book, listed))
+    }
+
+    /// The book of the file's pages, in which those that the committed root reaches are in use. The others below the limit, or
+    /// below the number of pages that the file has, are free. Beside it the own pages of the root's list. Where the root names a
+    /// list, it is read, and of the tree the root page alone; else each page of the tree is, as in a file of an earlier docpage.
+    /// Damaged where what is read is no such page.
+    pub fn free_pages(
+        &mut self,
+        alloc: Global,
+        limit: u32,
+    ) -> Result<(FreePages, Vec<u32>), OpenFault>
+        ensures looks { Looks result (disk_history D.history self.old)
+            (disk_history D.history self.new) }
+        ensures finds { FindsFree D.history limit result self.old self.new }
+    {
+        if self.root.free_list == 0 {
+            self.walked_pages(alloc, limit)
+        } else {
+            self.listed_pages(alloc, limit)
+        }
     }
 
     /// How many pages the file has, and how many of them nothing reaches: neither page 0 nor one that the committed root reaches

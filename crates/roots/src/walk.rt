@@ -12,7 +12,7 @@ ghost use Rattle.btree.specs.Tree.{Body, HasChain, HasLinks, Shows, item_of, nex
 ghost use Rattle.btree.specs.Reach.{AreOnce};
 ghost use Rattle.roots.specs.Found.{HasFoundChain, HasFoundPairs, HasFoundPart, HasFoundValue, ReachesDepth};
 ghost use Rattle.roots.specs.Image.{HoldsTree, sheet_at};
-ghost use Rattle.roots.specs.Walk.{CanReach, KeepsMarks, Looks, Reaches, pages_in, pages_so_far};
+ghost use Rattle.roots.specs.Walk.{is_of_tree, CanReach, KeepsMarks, Looks, Reaches, pages_in, pages_so_far};
 
 use crate::opening::OpenFault;
 use crate::root::Root;
@@ -75,6 +75,13 @@ pub(crate) fn read_sheet<D: Disk>(
         Err(PageFault::Memory) => Err(OpenFault::Memory),
         Err(_) => Err(OpenFault::Damaged),
     }
+}
+
+/// Whether a page is one of a tree, and not of a value's chain or of a list.
+pub(crate) fn is_of_tree(image: &PageImage) -> bool
+    ensures { result ≡ is_of_tree (sheet_of image.now).content }
+{
+    matches!(image.content, PageContent::Leaf(_) | PageContent::Branch(_))
 }
 
 /// Reaches the pages of a value's chain.

@@ -3,6 +3,7 @@ use Rattle.std.proofs.Common.{⊎_elim, inr, ap, ◌∙◌, ◌≡◌, ◌<◌, 
 use Rattle.std.specs.Prelude.{◌⊎◌}
 use Rattle.page.specs.History.{History, KeepsWord}
 use Rattle.page.specs.Crash.{GoesOn, LeavesOnly, LeavesNow}
+use Rattle.trusted_disk.specs.Trusting.{trusted_history}
 use Rattle.page.proofs.Moments.{goes_nowhere, goes_further, started, leaves_further, leaves_weaker, reads_moments}
 use Rattle.collections.specs.Calls.{GoesFrom}
 use Rattle.collections.specs.View as views
@@ -34,7 +35,7 @@ engine_holds history engine sound idle running =
 
 pub holds_now : {D : Type 0} (history : D → History) (core : Core D) → IsSound history core → IsRunning core
     → LeavesNow (disk_history history core) (λ image. Holds image (collections_of core))
-holds_now history core sound running = engine_holds history core.engine sound.engine sound.idle running
+holds_now history core sound running = engine_holds (trusted_history history) core.engine sound.engine sound.idle running
 
 -- as long as the disk stays as it is
 pub stays : {D : Type 0} (history : D → History) (old new : Engine D) (Q : (ℕ → List ℕ) → Type 0) → engines.IsSound history old
@@ -133,7 +134,7 @@ pub unmoved : {D : Type 0} (history : D → History) (old new : Core D) → IsSo
     → GoesSafely history old new
 unmoved history old new sound same = record {
   on = subst (λ (h : History). GoesOn (disk_history history old) h) (sym same) (goes_nowhere (disk_history history old));
-  any_moment = stays history old.engine new.engine (λ image. Holds image (collections_of new)) sound.engine sound.idle same;
+  any_moment = stays (trusted_history history) old.engine new.engine (λ image. Holds image (collections_of new)) sound.engine sound.idle same;
   idle = λ _. same;
 }
 
@@ -149,4 +150,4 @@ same_engine_moment history old new file = λ i. record {
 }
 
 pub same_moment : {D : Type 0} (history : D → History) (old new : Core D) → file_of new ≡ file_of old → moment_of history new ≡ moment_of history old
-same_moment history old new file = same_engine_moment history old.engine new.engine file
+same_moment history old new file = same_engine_moment (trusted_history history) old.engine new.engine file

@@ -275,6 +275,6 @@ finds_a_prefix history later first all out last disk drives running keeps left =
           (first_reached start all drives.given end keeps out.stopped drives.ends p.count within happens);
       cut = λ beyond. cut_reached start all drives.given end keeps out.stopped drives.ends p.count found refl p.within beyond happens;
       holds = p.holds;
-      found = λ core opened word. holds_one image (collections_of core) found (opened.engine.holds word).file p.holds.file;
+      found = λ core opened. opened.engine.trusted found p.holds;
       refused = λ back fault refused word. one_of_two fault (λ device memory. refused.damaged device memory word found p.holds);
     }

@@ -2,6 +2,8 @@
 use Rattle.std.specs.Prelude.{◌≡◌, ℕ, Bool, true, false, List}
 use Rattle.page.specs.History.{History}
 use Rattle.page.specs.Crash.{GoesOn, LeavesOnly}
+use Rattle.trusted_disk.specs.Trusting.{trusted_history}
+use Rattle.trusted_disk.specs.declared.disk.TrustedDisk.{TrustedDisk}
 use Rattle.collections.specs.State.{State}
 use Rattle.index.specs.State.{Collection}
 use Rattle.database_model.specs.World.{are_untouched}
@@ -13,9 +15,10 @@ use Rattle.server.specs.Moment.{Moment, Instant, HoldsEither}
 use Rattle.server.specs.View.{state}
 use Rattle.server.specs.declared.turn.Core.{Core}
 
--- each moment of the server's disk so far
+-- Each moment of the server's disk so far. What is said of a server holds while its disk keeps its
+-- word and is trusted: it held collections when it was opened.
 abbrev pub disk_history : {D : Type 0} → (D → History) → Core D → History
-disk_history history core = engines.disk_history history core.engine
+disk_history history core = engines.disk_history (trusted_history history) core.engine
 
 -- a write or a sync has failed, and nothing is committed any more
 abbrev pub is_stopped : {D : Type 0} → Core D → Bool
@@ -27,14 +30,14 @@ IsRunning core = engines.IsRunning core.engine
 -- Between calls no turn is open, and no cursor is touched; the connections ascend. Until the server
 -- stops, every image holds the collections as they are, and no others.
 pub record IsSound {D : Type 0} (history : D → History) (core : Core D) : Type 0 where
-  pub engine : engines.IsSound history core.engine
+  pub engine : engines.IsSound (trusted_history history) core.engine
   pub idle : turn_start core.engine ≡ (world core.engine).collections
   pub rested : are_untouched (world core.engine).cursors ≡ true
   pub rests : engines.has_changes core.engine ≡ false
   pub ascending : are_ascending core.connections.items ≡ true
 
 -- its file, with all that its commands have written
-abbrev pub file_of : {D : Type 0} → Core D → State D
+abbrev pub file_of : {D : Type 0} → Core D → State (TrustedDisk D)
 file_of core = engines.file_of core.engine
 
 -- the collections of the server
@@ -52,7 +55,7 @@ engine_moment history engine = record {
 }
 
 abbrev pub moment_of : {D : Type 0} → (D → History) → Core D → Moment
-moment_of history core = engine_moment history core.engine
+moment_of history core = engine_moment (trusted_history history) core.engine
 
 -- What one step does to the disk: a crash at any moment of it leaves the collections as they were
 -- or as they are after it.

@@ -1,7 +1,7 @@
 -- The headline, said once. However a run is cut, what the crash left holds the collections after
 -- some first turns of the run, and opening it finds these. Every turn that had answered at that
 -- moment is one of them, and at most one turn more.
-use Rattle.std.specs.Prelude.{◌≡◌, ◌⊎◌, ℕ, ◌+◌, ◌<◌, ◌≤◌, nat_le, List, [], ◌∷◌, ◌++◌, length, take}
+use Rattle.std.specs.Prelude.{◌≡◌, ◌⊎◌, ℕ, ◌+◌, ◌<◌, ◌≤◌, nat_le, true, List, [], ◌∷◌, ◌++◌, length, take}
 use Rattle.std.specs.Prelude.{filter, Option, Some, None}
 use Rattle.page.specs.History.{History, KeepsWord, now, reads, LeftSince}
 use Rattle.roots.specs.declared.opening.OpenFault.{OpenFault}
@@ -15,7 +15,7 @@ use Rattle.server.specs.Moment.{TurnEnd, Instant, end_at, last_collections, last
 use Rattle.server.specs.Causes.{IsCaused}
 use Rattle.server.specs.History.{Happens}
 use Rattle.server.specs.Durable.{disk_history, IsRunning, collections_of, clock_of, instant_of}
-use Rattle.server.specs.Opening.{IsOpened}
+use Rattle.server.specs.Opening.{IsOpened, is_trusted}
 use Rattle.server.specs.Headline.{Drives, TurnStandsAt}
 use Rattle.server.specs.declared.turn.Core.{Core}
 use Rattle.server.specs.declared.turn.TurnFault.TheVariants as turns
@@ -86,11 +86,11 @@ pub record FindsPrefix {D : Type 0} (history : D → History) (disk : D) (first 
   -- these turns are what happened at the first steps of the run
   pub happened : count ≤ length ends → Reaches first all (take count ends) collections
   pub cut : length ends < count → ReachesCut first all ends last collections
-  -- the disk holds these collections, and whoever opens it finds them, or is refused for the
-  -- device's fault or want of memory alone
+  -- the disk holds these collections, and whoever opens it finds them and trusts it, or is refused
+  -- for the device's fault or want of memory alone
   pub holds : Holds (reads (now (history disk))) collections
   pub found : (core : Core D) → IsOpened history disk core
-      → KeepsWord (disk_history history core) → collections_of core ≡ collections
+      → (is_trusted core ≡ true) × (collections_of core ≡ collections)
   pub refused : (back : D) (fault : OpenFault) → IsRefused history disk back fault
       → KeepsWord (history back) → (fault ≡ faults.Device) ⊎ (fault ≡ faults.Memory)
 

@@ -2,6 +2,7 @@
 use Rattle.std.specs.Prelude.{◌≡◌, ◌≢◌, ◌⊎◌, ◌+◌, ◌<◌, true, [], Result, Err, IfOk, IfErr, OnOk}
 use Rattle.page.specs.History.{History, KeepsWord}
 use Rattle.page.specs.Crash.{GoesOn, LeavesOnly, LeavesNow}
+use Rattle.trusted_disk.specs.Trusting.{trusted_history}
 use Rattle.collections.specs.Calls.{GoesFrom}
 use Rattle.opening.specs.Holding.{Holds}
 use Rattle.server.specs.Turn.{calls, connections_after, HandsOut, Turns, TurnFails, ChangesNothing}
@@ -62,4 +63,4 @@ pub record TakesTurn {D : Type 0} (history : D → History) (old : Core D)
   -- where its messages change nothing, it only reads the disk, and takes no page into its tree or
   -- out of it
   pub quiet : KeepsWord (disk_history history new) → ChangesNothing OfAnyCause (state old)
-      → GoesFrom history (file_of old) (file_of new)
+      → GoesFrom (trusted_history history) (file_of old) (file_of new)

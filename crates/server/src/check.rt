@@ -4,6 +4,7 @@ ghost use Rattle.std.specs.Prelude.{◌≡◌};
 ghost use Rattle.engine.specs.Checking.{ChecksFile};
 ghost use Rattle.server.specs.Durable.{IsSound};
 ghost use Rattle.server.specs.View.{state};
+ghost use Rattle.trusted_disk.specs.Trusting.{trusted_history};
 
 use crate::turn::Core;
 use engine::{CheckFault, Counts};
@@ -17,7 +18,8 @@ impl<D: Disk> Core<D> {
         requires sound { IsSound D.history self.old }
         ensures sound { IsSound D.history self.new }
         ensures same { state self.new ≡ state self.old }
-        ensures checks { ChecksFile D.history result self.old.engine self.new.engine }
+        ensures checks { ChecksFile (trusted_history D.history) result
+            self.old.engine self.new.engine }
     {
         self.engine.check()
     }

@@ -5,6 +5,7 @@ ghost use Rattle.engine.specs.Dump.{BeginsDump, GoesOnDumping};
 ghost use Rattle.server.specs.Dump.{Dumps, ListsRest, dump_line, lines_in};
 ghost use Rattle.server.specs.Durable.{IsSound};
 ghost use Rattle.server.specs.View.{state};
+ghost use Rattle.trusted_disk.specs.Trusting.{trusted_history};
 
 use crate::turn::Core;
 use bson::SpelledDocument;
@@ -21,7 +22,8 @@ impl<D: Disk> Core<D> {
         requires sound { IsSound D.history self.old }
         ensures sound { IsSound D.history self.new }
         ensures same { state self.new ≡ state self.old }
-        ensures dumps { Dumps D.history namespace.now result self.old.engine self.new.engine }
+        ensures dumps { Dumps (trusted_history D.history) namespace.now result
+            self.old.engine self.new.engine }
     {
         let walk = self.begin_dump(namespace)?;
         self.list_rest(walk)
@@ -32,7 +34,8 @@ impl<D: Disk> Core<D> {
         requires sound { IsSound D.history self.old }
         ensures sound { IsSound D.history self.new }
         ensures same { state self.new ≡ state self.old }
-        ensures lists { ListsRest D.history walk result self.old.engine self.new.engine }
+        ensures lists { ListsRest (trusted_history D.history) walk result
+            self.old.engine self.new.engine }
     {
         let alloc = self.allocator();
         let mut lines = Vec::new(alloc);
@@ -53,7 +56,8 @@ impl<D: Disk> Core<D> {
         requires sound { IsSound D.history self.old }
         ensures sound { IsSound D.history self.new }
         ensures same { state self.new ≡ state self.old }
-        ensures begins { BeginsDump D.history namespace.now result self.old.engine self.new.engine }
+        ensures begins { BeginsDump (trusted_history D.history) namespace.now result
+            self.old.engine self.new.engine }
     {
         self.engine.dump(namespace)
     }
@@ -63,7 +67,7 @@ impl<D: Disk> Core<D> {
         requires sound { IsSound D.history self.old }
         ensures sound { IsSound D.history self.new }
         ensures same { state self.new ≡ state self.old }
-        ensures goes_on { GoesOnDumping D.history walk.old walk.new result
+        ensures goes_on { GoesOnDumping (trusted_history D.history) walk.old walk.new result
             self.old.engine self.new.engine }
     {
         self.engine.next_dumped(walk)

@@ -12,6 +12,7 @@ use op_msg::FrameFault;
 use page::Disk;
 use roots::{Config, OpenFault};
 use std::alloc::{AllocError, Global};
+use trusted_disk::TrustedDisk;
 
 /// Why a turn answered no message.
 #[derive(Clone, Copy, Debug, PartialEq, Eq)]
@@ -57,7 +58,7 @@ pub struct TurnOut {
 /// The engine, with no turn open between calls, and the connections in ascending order of their numbers.
 #[derive(Drop)]
 pub struct Core<D: Disk> {
-    pub(crate) engine: Engine<D>,
+    pub(crate) engine: Engine<TrustedDisk<D>>,
     pub(crate) connections: Vec<Connection>,
 }
 
@@ -68,11 +69,12 @@ impl<D: Disk> Core<D> {
     ghost use Rattle.server.specs.Turn.{is_waiting_in};
     ghost use Rattle.server.specs.View.{state};
     ghost use Rattle.server.specs.Durable.{disk_history, is_stopped, file_of, IsSound};
-    ghost use Rattle.server.specs.Opening.{IsOpened};
+    ghost use Rattle.server.specs.Opening.{IsOpened, inner_history};
     ghost use Rattle.server.specs.Turning.{TakesTurn};
 
     /// Opens the database on a disk that a crash may have left; a disk of zeros holds the empty one. It writes nothing, and
-    /// syncs before it answers. An `Err` hands the disk back.
+    /// syncs before it answers. It doesn't look whether the file is sound: what isn't is a failure of the command that meets it, and
+    /// `check` looks at all. An `Err` hands the disk back.
     pub fn open(alloc: Global, disk: D, config: Config) -> Result<Core<D>, (D, OpenFault)>
         ensures opened { IfOk result (IsOpened D.history disk) }
         ensures refused { IfErr result (λ e. IsRefused D.history disk e.0 e.1) }
@@ -88,9 +90,9 @@ impl<D: Disk> Core<D> {
 
     /// Hands the disk back as it is.
     pub fn into_disk(self) -> D
-        ensures { D.history result ≡ disk_history D.history self }
+        ensures { D.history result ≡ inner_history D.history self }
     {
-        self.engine.into_disk()
+        self.engine.into_disk().into_inner()
     }
 
     /// Where its memory comes from.

@@ -7,6 +7,10 @@ use Rattle.trusted_disk.specs.declared.disk.TrustedDisk.{TrustedDisk}
 abbrev pub trusting : Bool → History → History
 trusting b h = record h { keeps_word = h.keeps_word && b }
 
+-- the disk as it is, and what is told at the making
+abbrev pub trusting_disk : {D : Type 0} → Bool → D → TrustedDisk D
+trusting_disk b disk = record { disk = disk; trusted = record { value = b } }
+
 -- what was told at the making
 abbrev pub is_trusted : {D : Type 0} → TrustedDisk D → Bool
 is_trusted t = t.trusted.value

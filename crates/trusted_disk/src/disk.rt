@@ -12,13 +12,12 @@ pub struct TrustedDisk<D> {
 
 impl<D: Disk> TrustedDisk<D> {
     ghost use Rattle.std.specs.Prelude.{◌≡◌, Bool};
-    ghost use Rattle.trusted_disk.specs.Trusting.{disk_history, is_trusted};
+    ghost use Rattle.trusted_disk.specs.Trusting.{disk_history, trusting_disk};
 
     /// The disk as it is. The caller chooses whether it is trusted, and may read the disk's history for it.
     pub fn new(disk: D) -> TrustedDisk<D>
         ghost trusted: { Bool }
-        ensures trusted { is_trusted result ≡ trusted }
-        ensures disk { disk_history D.history result ≡ D.history disk }
+        ensures { result ≡ trusting_disk trusted disk }
     {
         let trusted = Trusted::any();
         TrustedDisk { disk, trusted }

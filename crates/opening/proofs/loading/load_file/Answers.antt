@@ -1,4 +1,4 @@
-use Rattle.opening.proofs.FileBatches.{file_even, file_failed, file_uneven}
+use Rattle.opening.proofs.FileBatches.{file_even, file_failed}
 use Rattle.opening.proofs.loading.load_file.Goals as goal
 
 pub returns-in-Err : goal.returns-in-Err

@@ -1,14 +1,25 @@
 use Rattle.std.proofs.Common.{subst}
 use Rattle.collections.specs.Committing.{Commits}
 use Rattle.collections.specs.State.{State}
+use Rattle.collections.specs.Versions.{CommitsVersions}
 use Rattle.collections.proofs.CommitLemmas.{commits_so}
+use Rattle.collections.proofs.VersionLemmas.{commit_keeps}
 use Rattle.collections.proofs.collections.Collections.commit.Goals as goal
 
-pub returns : goal.returns
-returns g c =
+pub returns-clause-commits : goal.returns-clause-commits
+returns-clause-commits g c =
     let D = g.row.D.Denot in
     let history = g.D.Disk.history in
     let i = c.self.inside in
     subst (λ (s : State D). Commits history c.commit.result s (record { pager = c.commit.new.self; root = i.root })) c.self.view_is
     (commits_so history
     (record { pager = i.pager; root = i.root }) c.commit.new.self c.commit.result c.commit.ensures.commits c.commit.ensures.takes c.commit.ensures.moves)
+
+pub returns-clause-versions : goal.returns-clause-versions
+returns-clause-versions g c =
+    let D = g.row.D.Denot in
+    let history = g.D.Disk.history in
+    let i = c.self.inside in
+    subst (λ (s : State D). CommitsVersions history c.commit.result s (record { pager = c.commit.new.self; root = i.root })) c.self.view_is
+    (commit_keeps history
+    (record { pager = i.pager; root = i.root }) c.commit.new.self c.commit.ensures.versions c.commit.result c.commit.ensures.commits c.commit.ensures.takes)

@@ -1,15 +1,11 @@
-use Rattle.std.proofs.Common.{◌≡◌, List, ℕ, Option, None, Some, Ok, Err, map, sym, subst, ◌∙◌, ap}
-use Rattle.std.specs.Global.{Vec}
+use Rattle.std.proofs.Common.{List, ℕ, Ok, Err, sym, subst, ◌∙◌}
 use Rattle.std.specs.Option.{option_map}
 use Rattle.std.proofs.lemmas.Result.{err_from_is_err_and}
-use Rattle.btree.specs.Keys.{Entry}
-use Rattle.btree.specs.Scan.{entry_in}
 use Rattle.btree.specs.declared.scanning.Range.{Range}
 use Rattle.index.specs.OtherKeys.{IsEndOf}
-use Rattle.index.specs.State.{Collection}
 use Rattle.index.specs.StateEntries.{key_under}
 use Rattle.index.specs.View.{texts_of}
-use Rattle.collections.specs.IndexTexts.{AreFirstTexts, Indexed, IsNumberedIndex, texts_behind}
+use Rattle.collections.specs.IndexTexts.{AreFirstTexts, IsNumberedIndex}
 use Rattle.collections.specs.Reading.{IsBatchOf, IsInTree}
 use Rattle.collections.specs.declared.index_texts.FirstTexts.{FirstTexts}
 use Rattle.collections.proofs.IndexTextLemmas.{texts_asked}

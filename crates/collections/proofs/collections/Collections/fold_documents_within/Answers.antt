@@ -1,50 +1,13 @@
-use Rattle.std.proofs.Common.{◌≡◌, Ok, Err, None, Some, refl, ap, subst, ◌∙◌}
-use Rattle.std.specs.Option.{option_map}
-use Rattle.std.proofs.lemmas.Result.{err_from_is_err_and}
-use Rattle.btree.specs.Fold.{between}
-use Rattle.btree.specs.declared.folding.Bounds.{Bounds}
-use Rattle.index.specs.StateEntries.{key_under}
+use Rattle.std.proofs.Common.{ap, subst}
 use Rattle.pager.specs.Capacity.{TreesFit}
-use Rattle.collections.specs.Folding.{IsFolded, Lends, documents_within, end_under}
-use Rattle.collections.specs.Reading.{IsInTree, IsNumbered}
 use Rattle.collections.specs.State.{State}
-use Rattle.collections.specs.declared.folding.Lending.{Lending}
-use Rattle.collections.proofs.FoldingLemmas.{folded}
-use Rattle.collections.proofs.ReadingLemmas.{asks_refused}
+use Rattle.collections.proofs.FoldingLemmas.{folds_turn}
 use Rattle.collections.proofs.collections.Collections.fold_documents_within.Goals as goal
-
-pub returns-in_err-lend_all-clause-reads : goal.returns-in_err-lend_all-clause-reads
-returns-in_err-lend_all-clause-reads g c =
-    let makes = g.F.DocumentFold.makes in
-    let start : Lending g.row.F.Denot = record { fold = c.args.fold; refused = None } in
-    let bounds : Bounds = record { from = c.deref.result; to = Some c.deref-2.result } in
-    let e = err_from_is_err_and c.from_residual-in_err-lend_all.result c.from_residual-in_err-lend_all.ensures.1 in
-    rw (e.1, e.2)
-    (asks_refused g.D.Disk.history (λ now of. IsNumbered now of c.args.number)
-    (λ now of done. IsFolded makes c.args.fold (documents_within c.args.texts of.documents) done)
-    c.args.self.now c.lend_all.new.self (IsInTree (λ entries (u : Unit {0}). Lends makes start (between bounds entries) c.lend_all.new.lending))
-    c.in_err-lend_all.field-0.0 c.in_err-lend_all.ensures.reads)
-
-pub returns-in-None-clause-reads : goal.returns-in-None-clause-reads
-returns-in-None-clause-reads g c =
-    let history = g.D.Disk.history in
-    let start : Lending g.row.F.Denot = record { fold = c.args.fold; refused = None } in
-    let bounds : Bounds = record { from = c.deref.result; to = Some c.deref-2.result } in
-    let from : bounds.from.now ≡ key_under c.args.number 0 c.args.texts.from.now = c.deref.ensures.value ∙ c.in_ok-from.ensures in
-    let to : option_map (λ b. b.now) bounds.to ≡ Some (end_under c.args.number (option_map (λ b. b.now) c.args.texts.to)) =
-    ap Some (c.deref-2.ensures.value ∙ c.in_ok-to.ensures) in
-    folded history g.F.DocumentFold.makes start c.lend_all.new.lending bounds c.args.texts c.args.number c.args.self.now c.lend_all.new.self from to
-    (subst (λ (s : State g.row.D.Denot). TreesFit history s.pager) c.self.view_is c.trees_fit.ensures) c.in_ok-lend_all.ensures.running
-    c.in_ok-lend_all.ensures.reads (Ok c.lend_all.new.lending.fold) (c.in-None.is, refl)
 
 pub returns-clause-reads : goal.returns-clause-reads
 returns-clause-reads g c =
     let history = g.D.Disk.history in
-    let start : Lending g.row.F.Denot = record { fold = c.args.fold; refused = None } in
-    let bounds : Bounds = record { from = c.deref.result; to = Some c.deref-2.result } in
-    let from : bounds.from.now ≡ key_under c.args.number 0 c.args.texts.from.now = c.deref.ensures.value ∙ c.in_ok-from.ensures in
-    let to : option_map (λ b. b.now) bounds.to ≡ Some (end_under c.args.number (option_map (λ b. b.now) c.args.texts.to)) =
-    ap Some (c.deref-2.ensures.value ∙ c.in_ok-to.ensures) in
-    folded history g.F.DocumentFold.makes start c.lend_all.new.lending bounds c.args.texts c.args.number c.args.self.now c.lend_all.new.self from to
-    (subst (λ (s : State g.row.D.Denot). TreesFit history s.pager) c.self.view_is c.trees_fit.ensures) c.in_ok-lend_all.ensures.running
-    c.in_ok-lend_all.ensures.reads (Err c.in-Some.refusal) c.in-Some.is
+    let call = c.fold_from-2 in
+    folds_turn history g.F.DocumentFold.makes c.args.fold c.args.texts c.args.number c.args.self.now call.new.self call.result
+    c.fold_from.inside.root call.ensures.reads (ap (λ (s : State g.row.D.Denot). s.root) c.fold_from.view_is)
+    (subst (λ (s : State g.row.D.Denot). TreesFit history s.pager) c.self.view_is c.trees_fit.ensures)

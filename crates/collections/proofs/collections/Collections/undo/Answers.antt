@@ -1,11 +1,13 @@
 use Rattle.std.proofs.Common.{subst}
 use Rattle.collections.specs.Marks.{Undoes}
 use Rattle.collections.specs.State.{State}
+use Rattle.collections.specs.Versions.{KeepsSinceStart}
 use Rattle.collections.proofs.MarkLemmas.{undoes_so}
+use Rattle.collections.proofs.VersionLemmas.{undone_keeps}
 use Rattle.collections.proofs.collections.Collections.undo.Goals as goal
 
-pub returns : goal.returns
-returns g c =
+pub returns-clause-undoes : goal.returns-clause-undoes
+returns-clause-undoes g c =
     let D = g.row.D.Denot in
     let history = g.D.Disk.history in
     let i = c.self.inside in
@@ -14,3 +16,13 @@ returns g c =
     (undoes_so history
     (record { pager = i.pager; root = i.root }) c.undo_to.new.self root i.begun.made i.begun.retired c.undo_to.ensures.undone c.undo_to.ensures.begun
     c.self.invariant.0 c.self.invariant.1 c.root-self-inside.ensures)
+
+pub returns-clause-versions : goal.returns-clause-versions
+returns-clause-versions g c =
+    let D = g.row.D.Denot in
+    let history = g.D.Disk.history in
+    let i = c.self.inside in
+    let root = c.root-self-inside.result in
+    subst (λ (s : State D). KeepsSinceStart history s (record { pager = c.undo_to.new.self; root = root })) c.self.view_is
+    (undone_keeps history (record { pager = i.pager; root = i.root }) c.undo_to.new.self root i.begun.made i.begun.retired c.self.invariant.0
+    c.undo_to.ensures.undone c.undo_to.ensures.versions)

@@ -1,13 +1,25 @@
 use Rattle.std.proofs.Common.{subst}
 use Rattle.collections.specs.Marks.{ReturnsTo}
 use Rattle.collections.specs.State.{State}
+use Rattle.collections.specs.Versions.{KeepsThen}
 use Rattle.collections.proofs.MarkLemmas.{returns_so}
+use Rattle.collections.proofs.VersionLemmas.{older_keep}
 use Rattle.collections.proofs.collections.Collections.undo_to.Goals as goal
 
-pub returns : goal.returns
-returns g c =
+pub returns-clause-returns : goal.returns-clause-returns
+returns-clause-returns g c =
     let D = g.row.D.Denot in
     let history = g.D.Disk.history in
     let i = c.self.inside in
     subst (λ (s : State D). ReturnsTo history c.args.mark s (record { pager = c.undo_to.new.self; root = c.args.mark.root })) c.self.view_is
     (returns_so history c.args.mark (record { pager = i.pager; root = i.root }) c.undo_to.new.self c.undo_to.ensures.undone c.undo_to.ensures.returns)
+
+pub returns-clause-versions : goal.returns-clause-versions
+returns-clause-versions g c =
+    let D = g.row.D.Denot in
+    let history = g.D.Disk.history in
+    let i = c.self.inside in
+    let mark = c.args.mark in
+    subst (λ (s : State D). KeepsThen history mark s (record { pager = c.undo_to.new.self; root = mark.root })) c.self.view_is
+    (λ earlier is goes. older_keep history earlier (record { pager = i.pager; root = i.root }) c.undo_to.new.self mark.root mark.pages.made goes
+    is.made c.undo_to.ensures.versions)

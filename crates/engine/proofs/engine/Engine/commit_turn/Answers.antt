@@ -19,7 +19,7 @@ returns-in-Ok g c =
     let new = c.keep.new.self in
     let D = g.row.D.Denot in
     let saved = subst (λ (f : State D). files.Commits g.D.Disk.history (Ok tt) old.file f) (sym c.keep.ensures.file)
-    (subst (λ (r : Result (Unit {0}) CommitFault). files.Commits g.D.Disk.history r old.file c.commit-2.new.self) c.in-Ok.is c.commit-2.ensures) in
+    (subst (λ (r : Result (Unit {0}) CommitFault). files.Commits g.D.Disk.history r old.file c.commit-2.new.self) c.in-Ok.is c.commit-2.ensures.commits) in
     committed_now g.D.Disk.history old new c.requires.sound c.if-not-self.false c.keep.ensures.rests c.keep.ensures.world c.keep.ensures.turn_start saved
 
 pub returns-in-Err-Device : goal.returns-in-Err-Device
@@ -29,7 +29,7 @@ returns-in-Err-Device g c =
     let D = g.row.D.Denot in
     let saved = subst (λ (f : State D). files.Commits g.D.Disk.history (Err faults.Device) old.file f) (sym c.keep-in-Err-Device.ensures.file)
     (subst (λ (r : Result (Unit {0}) CommitFault). files.Commits g.D.Disk.history r old.file c.commit-2.new.self)
-    (c.in-Err-Device.is ∙ ap (λ (e : CommitFault). Err e) c.in-Err-Device.field-0-is) c.commit-2.ensures) in
+    (c.in-Err-Device.is ∙ ap (λ (e : CommitFault). Err e) c.in-Err-Device.field-0-is) c.commit-2.ensures.commits) in
     cut_now g.D.Disk.history old new c.requires.sound c.if-not-self.false c.keep-in-Err-Device.ensures.rests c.keep-in-Err-Device.ensures.world
     c.keep-in-Err-Device.ensures.turn_start saved
 
@@ -39,7 +39,7 @@ returns-in-Err-Memory g c =
     let new = c.take_back.new.self in
     let D = g.row.D.Denot in
     let result = c.in-Err-Memory.is ∙ ap (λ (e : CommitFault). Err e) c.in-Err-Memory.field-0-is in
-    let undoes = subst (λ (f : State D). Undoes g.D.Disk.history f new.file) (c.commit-2.ensures.memory result) c.take_back.ensures.file in
+    let undoes = subst (λ (f : State D). Undoes g.D.Disk.history f new.file) (c.commit-2.ensures.commits.memory result) c.take_back.ensures.file in
     undone_after g.D.Disk.history old new c.requires.sound c.take_back.ensures.rests c.take_back.ensures.world c.take_back.ensures.turn_start
     undoes.untouched undoes.state c.if-not-self.false faults.Memory (λ e. absurd cc) (λ e. absurd cc) (omega (arith, undoes.takes)) (λ e. undoes.takes)
 
@@ -50,9 +50,9 @@ returns-in-Err-Full g c =
     let new = c.take_back-in-Err-Full.new.self in
     let mid = c.commit-2.new.self in
     let result = c.in-Err-Full.is ∙ ap (λ (e : CommitFault). Err e) c.in-Err-Full.field-0-is in
-    let room = c.commit-2.ensures.full result in
+    let room = c.commit-2.ensures.commits.full result in
     let undoes = c.take_back-in-Err-Full.ensures.file in
     undone_after history old new c.requires.sound c.take_back-in-Err-Full.ensures.rests c.take_back-in-Err-Full.ensures.world
     c.take_back-in-Err-Full.ensures.turn_start (untouched_since history old new c.requires.sound mid undoes room)
     (state_since history old new c.requires.sound mid undoes room) c.if-not-self.false faults.Full (λ e. absurd cc)
-    (λ e. room_cause history old new c.requires.sound mid undoes room) (omega (arith, c.commit-2.ensures.takes, undoes.takes)) (λ e. absurd (e refl))
+    (λ e. room_cause history old new c.requires.sound mid undoes room) (omega (arith, c.commit-2.ensures.commits.takes, undoes.takes)) (λ e. absurd (e refl))

@@ -1,15 +1,19 @@
-use Rattle.std.proofs.Common.{◌≡◌, ℕ, List, [], ap, arith, sym, subst, ◌∙◌, Ok, Err}
+use Rattle.std.proofs.Common.{◌≡◌, ℕ, List, [], ◌++◌, ap, arith, rules, sym, subst, ◌∙◌, Ok, Err}
 use Rattle.std.specs.Prelude.{Result}
 use Rattle.page.specs.Format.{Sheet}
 use Rattle.freelist.specs.Book.{Book, undone}
 use Rattle.roots.specs.declared.store.CommitFault.{CommitFault}
+use Rattle.roots.specs.Store.{durable_root}
 use Rattle.roots.specs.Commit.{CommitsRoot, LeavesPages, MovesMaps}
 use Rattle.pager.specs.Commit.{Commits, CountsTakes, MovesTurns}
 use Rattle.pager.specs.Kept.{IsKept}
+use Rattle.pager.specs.Order.{pages_at}
 use Rattle.pager.specs.Pinning.{KeepsVersions}
+use Rattle.pager.specs.Planning.{PlanFails}
 use Rattle.pager.specs.State.{State}
 use Rattle.pager.specs.Writing.{Forgets, KeepsAll}
-use Rattle.pager.proofs.CommitLemmas.{done_commits, done_kept, done_moves, done_versions, failed_kept, failed_moves, failed_versions, full_same, goes_back_all, told}
+use Rattle.pager.proofs.CommitLemmas.{done_commits, done_kept, done_moves, done_versions, failed_kept, failed_moves, failed_versions, full_same}
+use Rattle.pager.proofs.CommitLemmas.{goes_back_all, told, told_of, unplanned}
 use Rattle.pager.proofs.EndLemmas.{commits_failed, moves_nothing, ok_of}
 use Rattle.pager.proofs.KeepingLemmas.{planned_versions}
 use Rattle.pager.proofs.pager.Pager.commit.Goals as goal
@@ -17,6 +21,20 @@ use Rattle.pager.proofs.pager.Pager.commit.Goals as goal
 -- a count that is as it was
 counted : {D : Type 0} (result : Result (Unit {0}) CommitFault) (old new : State D) → new.book.full_takes ≡ old.book.full_takes → CountsTakes result old new
 counted result old new same = record { grows = omega (arith, same); same = λ _. same }
+
+pub returns-in-Err-clause-commits : goal.returns-in-Err-clause-commits
+returns-in-Err-clause-commits g c =
+    let D = g.row.D.Denot in
+    let history = g.D.Disk.history in
+    let i = c.self.inside in
+    let fault = c.in-Err.fault in
+    let last = c.plan_commit.new.book in
+    let after : State D = record { store = i.store; made = i.made.items; retired = i.retired.items; book = last } in
+    let fails =
+    told_of (λ root made pages. PlanFails root made pages fault i.book last) c.root.ensures c.deref.ensures.value c.deref-2.ensures.value
+    c.deref-3.ensures.value c.deref-4.ensures.value c.in-Err.ensures.err in
+    subst (λ (s : State D). Commits history c.args.root (Err fault) s after) c.self.view_is
+    (unplanned history i.store i.cache i.made.items i.retired.items i.book c.self.invariant (search rules) c.args.root fault last fails)
 
 pub returns-in-Err-clause-moves : goal.returns-in-Err-clause-moves
 returns-in-Err-clause-moves g c =
@@ -221,9 +239,15 @@ returns-in-Err-clause-versions g c =
     let D = g.row.D.Denot in
     let history = g.D.Disk.history in
     let i = c.self.inside in
-    let after : State D = record { store = i.store; made = i.made.items; retired = i.retired.items; book = c.plan_commit.new.book } in
+    let fault = c.in-Err.fault in
+    let last = c.plan_commit.new.book in
+    let after : State D = record { store = i.store; made = i.made.items; retired = i.retired.items; book = last } in
+    let fails =
+    told_of (λ root made pages. PlanFails root made pages fault i.book last) c.root.ensures c.deref.ensures.value c.deref-2.ensures.value
+    c.deref-3.ensures.value c.deref-4.ensures.value c.in-Err.ensures.err in
     subst (λ (s : State D). KeepsVersions history s after) c.self.view_is
-    (planned_versions history i.store i.made.items i.retired.items i.book c.plan_commit.new.book c.in-Err.fault c.in-Err.ensures.err)
+    (planned_versions history i.store i.made.items i.retired.items i.book last (durable_root i.store) (pages_at i.made.items i.places.items)
+    (i.retired.items ++ i.listed.items) fault fails)
 
 pub returns-in-Err-commit-clause-versions : goal.returns-in-Err-commit-clause-versions
 returns-in-Err-commit-clause-versions g c =

@@ -1,4 +1,4 @@
-use Rattle.std.proofs.Common.{arith}
+use Rattle.std.proofs.Common.{ap, arith}
 use Rattle.pager.proofs.OpenLemmas.{kept_opened, limit_opened, opened_so}
 use Rattle.pager.proofs.RefusalLemmas.{refused_walking}
 use Rattle.pager.proofs.pager.Pager.open.Goals as goal
@@ -24,5 +24,5 @@ returns-clause-limit g c =
 pub returns-in-Err-free_pages-clause-refused : goal.returns-in-Err-free_pages-clause-refused
 returns-in-Err-free_pages-clause-refused g c =
     refused_walking g.D.Disk.history c.args.disk c.in-Ok.store c.in-Ok.ensures.opened c.min.result c.free_pages.new.self c.into_disk-in-Err-free_pages.result
-    c.in-Err-free_pages.fault c.into_disk-in-Err-free_pages.ensures
+    c.in-Err-free_pages.fault (ap g.D.Disk.history c.into_disk-in-Err-free_pages.ensures)
     c.in-Err-free_pages.ensures.looks.reads c.in-Err-free_pages.ensures.looks.cause c.in-Err-free_pages.ensures.finds

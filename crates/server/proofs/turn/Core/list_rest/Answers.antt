@@ -6,6 +6,7 @@ use Rattle.bson.specs.Tree.{Pairs}
 use Rattle.engine.specs.declared.check_fault.CheckFault.{CheckFault}
 use Rattle.engine.specs.declared.check_fault.CheckFault.TheVariants as faults
 use Rattle.engine.proofs.OnlyReading.{reads_on}
+use Rattle.trusted_disk.specs.Trusting.{trusted_history}
 use Rattle.server.specs.Dump.{ListsRest, dump_line, lines_in}
 use Rattle.server.proofs.Dumping.{HasListed, listed_none, list_on, list_ends, list_fails, list_memory}
 use Rattle.server.proofs.turn.Core.list_rest.Goals as goal
@@ -19,13 +20,13 @@ batches-init g c = record {
   same = refl;
   come =
       let none : lines_in c.new-lines.result ≡ [] = search rules in
-      subst (λ (lines : List (List ℕ)). HasListed g.D.Disk.history c.args.walk c.args.self.now.engine lines c.args.walk c.args.self.now.engine) (sym none)
-      (listed_none g.D.Disk.history c.args.walk c.args.self.now.engine c.requires.sound.engine);
+      subst (λ (lines : List (List ℕ)). HasListed (trusted_history g.D.Disk.history) c.args.walk c.args.self.now.engine lines c.args.walk c.args.self.now.engine) (sym none)
+      (listed_none (trusted_history g.D.Disk.history) c.args.walk c.args.self.now.engine c.requires.sound.engine);
 }
 
 pub returns-in_err-documents-clause-lists : goal.returns-in_err-documents-clause-lists
 returns-in_err-documents-clause-lists g c =
-    let history = g.D.Disk.history in
+    let history = trusted_history g.D.Disk.history in
     let old = c.args.self.now.engine in
     let new = c.next_dumped.new.self.engine in
     let fault = c.in_err-documents.field-0.0 in
@@ -38,13 +39,13 @@ returns-in_err-documents-clause-lists g c =
 pub returns-then-is_empty-clause-lists : goal.returns-then-is_empty-clause-lists
 returns-then-is_empty-clause-lists g c =
     let none : length c.in_ok-documents.documents.items ≡ 0 = search rules in
-    list_ends g.D.Disk.history c.args.walk c.args.self.now.engine
+    list_ends (trusted_history g.D.Disk.history) c.args.walk c.args.self.now.engine
     (lines_in c.batches.lines) c.batches.walk c.batches.self.engine c.batches.invariant.come c.next_dumped.new.walk c.next_dumped.new.self.engine
     c.in_ok-documents.documents c.in_ok-documents.ensures.goes_on (nil_from_length c.in_ok-documents.documents.items none) c.batches.lines refl
 
 pub returns-in_err-put_lines-clause-lists : goal.returns-in_err-put_lines-clause-lists
 returns-in_err-put_lines-clause-lists g c =
-    let history = g.D.Disk.history in
+    let history = trusted_history g.D.Disk.history in
     let old = c.args.self.now.engine in
     let new = c.next_dumped.new.self.engine in
     let is : c.from_residual-in_err-put_lines.result ≡ Err faults.Memory = search rules in
@@ -54,7 +55,7 @@ returns-in_err-put_lines-clause-lists g c =
 
 pub batches-preserved : goal.batches-preserved
 batches-preserved g c =
-    let history = g.D.Disk.history in
+    let history = trusted_history g.D.Disk.history in
     let old = c.args.self.now.engine in
     let new = c.next_dumped.new.self.engine in
     let before = lines_in c.batches.lines in
@@ -69,4 +70,4 @@ batches-preserved g c =
     }
 
 pub returns-clause-lists : goal.returns-clause-lists
-returns-clause-lists g c = list_memory g.D.Disk.history c.args.walk c.args.self.now.engine c.batches.self.engine c.batches.invariant.come.reads
+returns-clause-lists g c = list_memory (trusted_history g.D.Disk.history) c.args.walk c.args.self.now.engine c.batches.self.engine c.batches.invariant.come.reads

@@ -7,6 +7,8 @@ use Rattle.server.specs.Causes.{IsCaused}
 use Rattle.server.specs.History.{RoomRanOut}
 use Rattle.server.specs.Moment.{Moment, FollowsInTurn}
 use Rattle.page.specs.History.{KeepsWord}
+use Rattle.trusted_disk.specs.Trusting.{trusted_history}
+use Rattle.trusted_disk.specs.declared.disk.TrustedDisk.{TrustedDisk}
 use Rattle.collections.specs.Calls.{GoesFrom}
 use Rattle.collections.specs.State.{State}
 use Rattle.collections.specs.View as views
@@ -64,7 +66,7 @@ returns-then-is_stopped g c = record {
   moment = in_turn_itself (moment_of g.D.Disk.history c.args.self.now);
   commits = tt;
   void = λ _. refl;
-  quiet = λ _ _. goes_from_itself g.D.Disk.history (file_of c.args.self.now);
+  quiet = λ _ _. goes_from_itself (trusted_history g.D.Disk.history) (file_of c.args.self.now);
 }
 
 pub returns-in_err-refusals : goal.returns-in_err-refusals
@@ -76,7 +78,7 @@ returns-in_err-refusals g c = record {
   fails = search rules;
   on = search rules;
   any_moment = let engine = c.args.self.now.engine in
-      stays g.D.Disk.history engine engine (λ image. Holds image (world engine).collections) c.requires.sound.engine c.requires.sound.idle refl;
+      stays (trusted_history g.D.Disk.history) engine engine (λ image. Holds image (world engine).collections) c.requires.sound.engine c.requires.sound.idle refl;
   acknowledged = search rules;
   running = search rules;
   stops = search rules;
@@ -85,12 +87,12 @@ returns-in_err-refusals g c = record {
   moment = in_turn_itself (moment_of g.D.Disk.history c.args.self.now);
   commits = search rules;
   void = λ _. refl;
-  quiet = λ _ _. goes_from_itself g.D.Disk.history (file_of c.args.self.now);
+  quiet = λ _ _. goes_from_itself (trusted_history g.D.Disk.history) (file_of c.args.self.now);
 }
 
 pub returns-in_default : goal.returns-in_default
 returns-in_default g c =
-    let history = g.D.Disk.history in
+    let history = trusted_history g.D.Disk.history in
     let core = c.args.self.now in
     let ran = c.run_messages.ensures in
     let runs : is_stopped core ≡ false = sym c.is_stopped.ensures ∙ c.if-is_stopped.false in
@@ -131,7 +133,7 @@ returns-in_default g c =
 
 pub returns : goal.returns
 returns g c =
-    let history = g.D.Disk.history in
+    let history = trusted_history g.D.Disk.history in
     let core = c.args.self.now in
     let ran = c.run_messages.ensures in
     let forgot = c.forget_closed.ensures in
@@ -180,9 +182,9 @@ returns g c =
           (sym (same_engine_moment history c.run_messages.new.engine c.forget_closed.new.engine forgot.file)) ran.moment;
       commits = ⊎_elim
           (λ same. inl (ap (λ (w : World). w.collections) forgets ∙ forget_all_state (world c.run_messages.new.engine) prepared.closed.items ∙ same))
-          (λ committed. inr (ap (λ (f : State g.row.D.Denot). views.generation f) forgot.file ∙ committed))
+          (λ committed. inr (ap (λ (f : State (TrustedDisk g.row.D.Denot)). views.generation f) forgot.file ∙ committed))
           c.in-Some.ensures.commits;
       void = λ none. forgot.disk ∙ ran.void none;
-      quiet = λ k nothing. subst (λ (f : State g.row.D.Denot). GoesFrom history (file_of core) f) (sym forgot.file)
+      quiet = λ k nothing. subst (λ (f : State (TrustedDisk g.row.D.Denot)). GoesFrom history (file_of core) f) (sym forgot.file)
           (ran.quiet (subst KeepsWord forgot.disk k) nothing);
     }

@@ -1,14 +1,14 @@
 use Rattle.std.proofs.Common.{◌∙◌}
 use Rattle.collections.specs.Reading.{AreBytesAt, IsInTree, IsPlaceOf, IsValueAt}
+use Rattle.collections.proofs.BelowLemmas.{below_asked}
 use Rattle.collections.proofs.FoundLemmas.{bytes_there}
-use Rattle.collections.proofs.ReadingLemmas.{asks_same}
-use Rattle.collections.proofs.collections.Collections.bytes_at.Goals as goal
+use Rattle.collections.proofs.collections.Collections.bytes_from.Goals as goal
 
 pub returns : goal.returns
 returns g c =
     let number = c.args.number in
     let id = c.args.id.now in
     let key = c.deref.result.now in
-    asks_same g.D.Disk.history (IsPlaceOf number id) (IsInTree (IsValueAt key))
-    (λ now place found. AreBytesAt place found) c.args.self.now c.value_at.new.self c.value_at.result c.value_at.ensures
+    below_asked g.D.Disk.history c.args.root (IsPlaceOf number id) (IsInTree (IsValueAt key))
+    (λ now place found. AreBytesAt place found) c.args.self.now c.value_from.new.self c.value_from.result c.value_from.ensures
     (λ now place found at p. bytes_there now number id key (c.deref.ensures.value ∙ c.in_ok-key.ensures) place found at p)

@@ -1,0 +1,13 @@
+use Rattle.std.proofs.Common.{subst}
+use Rattle.collections.specs.State.{State}
+use Rattle.collections.specs.Versions.{PinsNow}
+use Rattle.collections.proofs.VersionLemmas.{pins_so}
+use Rattle.collections.proofs.collections.Collections.pin.Goals as goal
+
+pub returns : goal.returns
+returns g c =
+    let D = g.row.D.Denot in
+    let history = g.D.Disk.history in
+    let i = c.self.inside in
+    subst (λ (s : State D). PinsNow history c.pin.result s (record { pager = c.pin.new.self; root = i.root })) c.self.view_is
+    (pins_so history (record { pager = i.pager; root = i.root }) c.pin.new.self c.pin.result c.trees_fit.ensures c.pin.ensures.pins)
