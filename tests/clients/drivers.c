@@ -35,6 +35,81 @@ static int count(mongoc_collection_t *people, const bson_t *filter, int batch)
     return count;
 }
 
+/* A batch that stops at its first refusal: two of the four documents are taken, and taken away again. */
+static void stop_at_a_duplicate(mongoc_collection_t *people)
+{
+    bson_error_t error;
+    bson_t reply;
+    const int numbers[] = {501, 502, 1, 503};
+    mongoc_bulk_operation_t *bulk = mongoc_collection_create_bulk_operation_with_opts(people, NULL);
+    for (int i = 0; i < 4; i++) {
+        bson_t *document = BCON_NEW("_id", BCON_INT32(numbers[i]));
+        mongoc_bulk_operation_insert(bulk, document);
+        bson_destroy(document);
+    }
+    expect(!mongoc_bulk_operation_execute(bulk, &reply, &error) && error.code == 11000, "a duplicate was taken in order");
+    expect(number_at(&reply, "nInserted") == 2, "others of the batch in order are there");
+    expect(number_at(&reply, "writeErrors.0.index") == 2, "another one was refused");
+    bson_destroy(&reply);
+    mongoc_bulk_operation_destroy(bulk);
+    bson_t *late = BCON_NEW("_id", "{", "$gt", BCON_INT32(500), "}");
+    expect(mongoc_collection_delete_many(people, late, NULL, &reply, &error), error.message);
+    expect(number_at(&reply, "deletedCount") == 2, "others were deleted");
+    bson_destroy(&reply);
+    bson_destroy(late);
+}
+
+/* An index is made and told, and a find by what it serves gives the same. */
+static void make_an_index(mongoc_client_t *client, mongoc_collection_t *people)
+{
+    bson_error_t error;
+    bson_t reply;
+    bson_t *make = BCON_NEW("createIndexes", BCON_UTF8("people"), "indexes", "[", "{", "key", "{", "half", BCON_INT32(1), "}",
+                            "name", BCON_UTF8("half_1"), "}", "]");
+    expect(mongoc_client_write_command_with_opts(client, "c", make, NULL, &reply, &error), error.message);
+    expect(number_at(&reply, "numIndexesAfter") == 2, "no index was made");
+    bson_destroy(&reply);
+    bson_destroy(make);
+    mongoc_cursor_t *cursor = mongoc_collection_find_indexes_with_opts(people, NULL);
+    const bson_t *index;
+    int indexes = 0;
+    while (mongoc_cursor_next(cursor, &index))
+        indexes++;
+    expect(!mongoc_cursor_error(cursor, &error) && indexes == 2, "other indexes are told");
+    mongoc_cursor_destroy(cursor);
+    bson_t *late = BCON_NEW("half", "{", "$gte", BCON_INT32(149), "}");
+    expect(count(people, late, 2) == 3, "a find by an index gives others");
+    bson_destroy(late);
+}
+
+/* The greatest half, by a group of all. */
+static int64_t greatest_half(mongoc_collection_t *people)
+{
+    bson_error_t error;
+    bson_t *stages = BCON_NEW("pipeline", "[", "{", "$group", "{", "_id", BCON_NULL, "most", "{", "$max", BCON_UTF8("$half"), "}", "}", "}", "]");
+    mongoc_cursor_t *cursor = mongoc_collection_aggregate(people, MONGOC_QUERY_NONE, stages, NULL, NULL);
+    const bson_t *group;
+    expect(mongoc_cursor_next(cursor, &group), "no group came");
+    int64_t most = number_at(group, "most");
+    expect(!mongoc_cursor_next(cursor, &group) && !mongoc_cursor_error(cursor, &error), "more groups came");
+    mongoc_cursor_destroy(cursor);
+    bson_destroy(stages);
+    return most;
+}
+
+/* A document is changed where it is there, and none is made. */
+static void change_one(mongoc_collection_t *people)
+{
+    bson_error_t error;
+    bson_t reply;
+    bson_t *first = BCON_NEW("_id", BCON_INT32(1)), *change = BCON_NEW("$set", "{", "born", BCON_INT32(1815), "}");
+    expect(mongoc_collection_update_one(people, first, change, NULL, &reply, &error), error.message);
+    expect(number_at(&reply, "modifiedCount") == 1 && number_at(&reply, "matchedCount") == 1, "another number was changed");
+    bson_destroy(&reply);
+    bson_destroy(first);
+    bson_destroy(change);
+}
+
 int main(int argc, char **argv)
 {
     char address[64];
@@ -65,6 +140,11 @@ int main(int argc, char **argv)
 
     bson_t *all = bson_new(), *late = BCON_NEW("half", "{", "$gte", BCON_INT32(149), "}");
     expect(count(people, all, 7) == 300 && count(people, late, 2) == 3, "a find gives others");
+
+    stop_at_a_duplicate(people);
+    make_an_index(client, people);
+    expect(greatest_half(people) == 150, "another half is the greatest");
+    change_one(people);
 
     bson_t *grace = BCON_NEW("name", BCON_UTF8("Grace")), *born = BCON_NEW("$set", "{", "born", BCON_INT32(1906), "}");
     bson_t *upsert = BCON_NEW("upsert", BCON_BOOL(true));

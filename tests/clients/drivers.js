@@ -15,6 +15,9 @@ async function main() {
   const fault = await people.insertMany([{ _id: 301 }, { _id: 1 }, { _id: 302 }], { ordered: false }).catch((fault) => fault);
   assert.strictEqual(fault.code, 11000);
   assert.strictEqual(fault.result.nInserted, 2);
+  const first = await people.insertMany([{ _id: 303 }, { _id: 1 }, { _id: 304 }]).catch((fault) => fault);
+  assert.deepStrictEqual([first.code, first.result.nInserted], [11000, 1]);
+  assert.strictEqual((await people.deleteOne({ _id: 303 })).deletedCount, 1);
   assert.strictEqual((await people.updateOne({ name: "Ada" }, { $set: { born: 1815 } })).modifiedCount, 1);
   const made = (await people.updateOne({ name: "Grace" }, { $set: { born: 1906 } }, { upsert: true })).upsertedId._id;
   assert(made instanceof ObjectId);

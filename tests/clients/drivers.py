@@ -1,6 +1,6 @@
 """Drives `docpage listen --drivers` by pymongo, and by those of the drivers for Ruby, Perl, Node and C that are installed. Usage: drivers.py PROGRAM [CASE ..]
 Every wait has an end, and so has the whole. The last line is `N passed, M failed`."""
-import os, shutil, signal, socket, subprocess, sys, tempfile, threading, traceback
+import os, resource, shutil, signal, socket, subprocess, sys, tempfile, threading, traceback
 
 import bson
 import pymongo
@@ -406,8 +406,8 @@ def clients(server):
 
 
 def idle_sockets(server):
-    """900 sockets that say nothing, or half a message, and one that sends what is no message, beside a client."""
-    idle = [socket.create_connection(("127.0.0.1", server.port)) for _ in range(900)]
+    """1,000 sockets that say nothing, or half a message, and one that sends what is no message, beside a client."""
+    idle = [socket.create_connection(("127.0.0.1", server.port)) for _ in range(1_000)]
     for one in idle[::3]:
         one.sendall(b"\x40\0\0\0\1\0\0\0")
     client = server.client()
@@ -493,6 +493,8 @@ def main():
         shutil.rmtree(FOLDER, ignore_errors=True)
         os._exit(0 if len(passed) == len(chosen) else 1)
 
+    most = resource.getrlimit(resource.RLIMIT_NOFILE)[1]
+    resource.setrlimit(resource.RLIMIT_NOFILE, (most if most < 4_096 else 4_096, most))  # the server's too, which inherits it
     signal.signal(signal.SIGALRM, end)
     signal.alarm(int(os.environ.get("SECONDS_AT_MOST", 75)))
     server = Server("main.docpage")

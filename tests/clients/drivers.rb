@@ -21,6 +21,14 @@ rescue Mongo::Error::BulkWriteError => fault
   expect(fault.result["writeErrors"].map { |error| [error["index"], error["code"]] }, [[1, 11000]])
   expect(fault.result["n_inserted"], 2)
 end
+begin
+  people.insert_many([{ _id: 303 }, { _id: 1 }, { _id: 304 }])
+  raise "a duplicate was taken"
+rescue Mongo::Error::BulkWriteError => fault
+  expect(fault.result["writeErrors"].map { |error| [error["index"], error["code"]] }, [[1, 11000]])
+  expect(fault.result["n_inserted"], 1)
+end
+expect(people.delete_one(_id: 303).deleted_count, 1)
 expect(people.update_one({ name: "Ada" }, { "$set" => { born: 1815 } }).modified_count, 1)
 made = people.update_one({ name: "Grace" }, { "$set" => { born: 1906 } }, upsert: true).upserted_id
 expect(made.class, BSON::ObjectId)

@@ -1,4 +1,4 @@
-"""Runs `docpage import`, `export`, `dump` and `ask` as a person does: at a terminal (a pseudo-terminal), in pipes, and with a reader that goes away.
+"""Runs `docpage import`, `export`, `dump`, `check` and `ask` as a person does: at a terminal (a pseudo-terminal), in pipes, and with a reader that goes away.
 Usage: people.py PROGRAM. Every wait has an end, and so has the whole."""
 import json, os, pty, re, select, signal, struct, subprocess, sys, tempfile, time
 
@@ -118,8 +118,41 @@ def an_import_that_is_killed(documents):
     assert (errors, status) == ("", 0) and count % 1_000 == 0 and count <= COUNT, (output, errors, status)
 
 
+def bytes_in(name):
+    with open(name, "rb") as file:
+        return file.read()
+
+
+def a_check(_documents):
+    """The first commit's leaf is page 1; the second's is page 2, and page 3 is the list, which names page 1."""
+    for command in ('{"create": "c"}', '{"insert": "c", "documents": [{"_id": 1}]}'):
+        assert piped(["ask", path("e"), "--db", "t", command])[2] == 0
+    before = bytes_in(path("e"))
+    counts = "generation 2\ncollections 1\ndocuments 1\nindexes 1\npages 4\nfree 1\n"
+    assert piped(["check", path("e")]) == (counts, "", 0)
+    assert bytes_in(path("e")) == before, "a check wrote"
+
+
+def a_damaged_file(_documents):
+    """The root page of the tree is none."""
+    sound = bytes_in(path("e"))
+    damaged = sound[:8_192] + b"\xff" + sound[8_193:]
+    with open(path("f"), "wb") as file:
+        file.write(damaged)
+    for words in (["check", path("f")], ["dump", path("f"), "t.c"]):
+        assert piped(words) == ("", "docpage: Damaged\n", 1), words
+    assert bytes_in(path("f")) == damaged
+
+
+def a_missing_file(_documents):
+    for words in (["check", path("g")], ["dump", path("g"), "t.c"]):
+        assert piped(words) == ("", "docpage: Device\n", 1), words
+    assert not os.path.exists(path("g")), "a file was made"
+
+
 documents = lines_file()
-for case in (progress_of_a_file, progress_of_a_pipe, nothing_in_a_pipe, a_dump, a_reader_that_goes_away, an_import_that_is_killed):
+for case in (progress_of_a_file, progress_of_a_pipe, nothing_in_a_pipe, a_dump, a_reader_that_goes_away, an_import_that_is_killed,
+             a_check, a_damaged_file, a_missing_file):
     case(documents)
     print(f"{case.__name__}: ok", flush=True)
 for name in os.listdir(FOLDER):

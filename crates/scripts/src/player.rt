@@ -99,12 +99,12 @@ impl Player {
         }
     }
 
-    /// Opens a server over what a device holds.
+    /// Opens a server over what a device holds. Calls of the device are counted from here on.
     pub fn open(&mut self, memory: MemDisk) -> Result<(), Fault> {
+        let _calls = self.orders.take_calls();
         match self.try_open(memory) {
             Ok(session) => {
                 self.session = Some(session);
-                let _calls = self.orders.take_calls();
                 Ok(())
             }
             Err((memory, fault)) => {

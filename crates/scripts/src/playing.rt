@@ -181,7 +181,7 @@ impl Player {
         self.open_over(memory.image(mask)?)
     }
 
-    /// So many calls of the device at most since the last line that counted them, or since the opening.
+    /// So many calls of the device at most since the last line that counted them, or in the opening and since then.
     pub fn calls(&mut self, most: &str) -> Result<(), Fault> {
         let most: u64 = number_in(most)?;
         self.send()?;

@@ -3,7 +3,7 @@
 use crate::exchanges::{CONFIG, answer, frame, new_server, open};
 use engine::ConnId;
 use page::{Disk, MemDisk, StopDisk};
-use server::{OpenFault, Step, run_anew};
+use server::{CheckFault, OpenFault, Step, run_anew};
 use std::alloc::Global;
 use std::test::Fail;
 
@@ -72,55 +72,84 @@ fn an_insert_and_a_delete(rt: HostRuntime) -> Result<(), Fail> {
     Ok(())
 }
 
-/// Changes of the leaf after which it spells no collections: what it has then, a place in it, and the bytes there.
-const CHANGES: [(&str, usize, &[u8]); 24] = [
-    ("the catalogue's key in index 1", 29, b"\x01"),
-    ("a namespace that is no string", 30, b"\x41"),
-    ("a namespace that is no UTF-8", 31, b"\xff"),
-    ("a namespace that doesn't end", 35, b"\x01"),
-    ("an entry of another length", 36, b"\x13"),
-    ("an entry with a long", 40, b"\x12"),
-    ("an entry without a number", 41, b"m"),
-    ("the number 0", 43, b"\0"),
-    ("the number of another collection", 43, b"\x02"),
-    ("the number 1,001", 43, b"\xe9\x03"),
-    ("a number below 0", 43, b"\xff\xff\xff\xff"),
-    ("an entry without indexes", 48, b"y"),
-    ("indexes that are no array", 47, b"\x03"),
-    ("a document of no collection", 65, b"\x02"),
-    ("an entry of an index that there isn't", 69, b"\x01"),
-    ("a key of another class", 70, b"\x31"),
-    ("a key of a number past int64's middle", 71, b"\x81"),
-    ("a key of another number", 78, b"\x03"),
-    ("a document of another length", 79, b"\x0d"),
-    ("a type that there isn't", 83, b"\x13"),
-    ("a document without an _id", 84, b"a"),
-    ("another number than the key's", 88, b"\x03"),
-    ("a number past the key's", 91, b"\x01"),
-    ("a document that doesn't end", 92, b"\x01"),
+/// The reply to a find that read what is no document or no collection.
+const REFUSED: &str =
+    r#"{"ok": 0, "errmsg": "storage failed", "code": 9005, "codeName": "StorageFailed"}"#;
+
+const ONE: &str = r#"[{"_id": 1}]"#;
+
+/// Changes of the leaf after which it spells no collections: what it has then, a place in it, the bytes there, and what a find gives.
+const CHANGES: [(&str, usize, &[u8], &str); 24] = [
+    ("the catalogue's key in index 1", 29, b"\x01", "[]"),
+    ("a namespace that is no string", 30, b"\x41", "[]"),
+    ("a namespace that is no UTF-8", 31, b"\xff", "[]"),
+    ("a namespace that doesn't end", 35, b"\x01", "[]"),
+    ("an entry of another length", 36, b"\x13", "9005"),
+    ("an entry with a long", 40, b"\x12", "9005"),
+    ("an entry without a number", 41, b"m", "9005"),
+    ("the number 0", 43, b"\0", "9005"),
+    ("the number of another collection", 43, b"\x02", "[]"),
+    ("the number 1,001", 43, b"\xe9\x03", "9005"),
+    ("a number below 0", 43, b"\xff\xff\xff\xff", "9005"),
+    ("an entry without indexes", 48, b"y", "9005"),
+    ("indexes that are no array", 47, b"\x03", "9005"),
+    ("a document of no collection", 65, b"\x02", "[]"),
+    ("an entry of an index that there isn't", 69, b"\x01", "[]"),
+    ("a key of another class", 70, b"\x31", ONE),
+    ("a key of a number past int64's middle", 71, b"\x81", ONE),
+    ("a key of another number", 78, b"\x03", ONE),
+    ("a document of another length", 79, b"\x0d", "9005"),
+    ("a type that there isn't", 83, b"\x13", "9005"),
+    ("a document without an _id", 84, b"a", r#"[{"aid": 1}]"#),
+    ("not the key's number", 88, b"\x03", r#"[{"_id": 3}]"#),
+    ("a number past it", 91, b"\x01", r#"[{"_id": 16777217}]"#),
+    ("a document that doesn't end", 92, b"\x01", "9005"),
 ];
 
-/// Why the file with a change of its leaf isn't opened, or None.
-fn fault_of(alloc: Global, at: usize, bytes: &[u8]) -> Option<OpenFault> {
+/// A file whose tree is this leaf.
+fn file_of(alloc: Global, leaf: &[u8; 512]) -> Result<MemDisk, Fail> {
     let mut disk = MemDisk::new(alloc);
-    if disk.write(1, &sector_of(ROOT, 0, &[])).is_err() {
-        return Some(OpenFault::Device);
+    disk.write(1, &sector_of(ROOT, 0, &[])).map_err(|_| "root")?;
+    disk.write(8, leaf).map_err(|_| "leaf")?;
+    Ok(disk)
+}
+
+/// The reply to a find that gives these documents, or is refused.
+fn reply_of(alloc: Global, found: &str) -> Result<Vec<u8>, Fail> {
+    if found == "9005" {
+        return frame(alloc, 1, 7, REFUSED);
     }
-    if disk.write(8, &sector_of(LEAF, at, bytes)).is_err() {
-        return Some(OpenFault::Device);
-    }
-    open(alloc, disk).err()
+    let mut body = String::from_str(alloc, r#"{"cursor": {"firstBatch": "#)?;
+    body.push_str(found)?;
+    body.push_str(r#", "id": {"$numberLong": "0"}, "ns": "t.c"}, "ok": 1}"#)?;
+    frame(alloc, 1, 7, body.as_str())
+}
+
+/// Whether over a file whose tree is this leaf a find of all of `t.c` gives these documents, or is refused, and a check finds it sound,
+/// or damaged; or whether it isn't opened for this fault.
+pub fn is_told(alloc: Global, leaf: &[u8; 512], found: &str, is_sound: bool) -> Result<bool, Fail> {
+    let connection = ConnId::new(0).ok_or("connection 0")?;
+    let mut core = match open(alloc, file_of(alloc, leaf)?) {
+        Ok(core) => core,
+        Err(fault) => return Ok(found == "Damaged" && fault == OpenFault::Damaged),
+    };
+    let find = frame(alloc, 7, 0, r#"{"find": "c", "$db": "t"}"#)?;
+    let reply = answer(&mut core, connection, &find)?.ok_or("stopped")?;
+    let is_found = reply.as_slice() == reply_of(alloc, found)?.as_slice();
+    let fault = (!is_sound).then_some(CheckFault::Damaged);
+    Ok(is_found && core.check().err() == fault)
 }
 
 #[test]
-fn pairs_that_spell_no_collections(rt: HostRuntime) {
+fn pairs_that_spell_no_collections(rt: HostRuntime) -> Result<(), Fail> {
     // the leaf as it is, and with another name of the collection
-    assert!(rt; fault_of(rt.alloc(), 0, b"\x01").is_none());
-    assert!(rt; fault_of(rt.alloc(), 31, b"u").is_none());
-    for (what, at, bytes) in CHANGES {
-        let fault = fault_of(rt.alloc(), at, bytes);
-        assert!(rt; fault == Some(OpenFault::Damaged), "{what}");
+    assert!(rt; is_told(rt.alloc(), &sector_of(LEAF, 0, &[]), ONE, true)?);
+    assert!(rt; is_told(rt.alloc(), &sector_of(LEAF, 31, b"u"), "[]", true)?);
+    for (what, at, bytes, found) in CHANGES {
+        let leaf = sector_of(LEAF, at, bytes);
+        assert!(rt; is_told(rt.alloc(), &leaf, found, false)?, "{what}");
     }
+    Ok(())
 }
 
 /// A connection inserts and ends, over a new disk.

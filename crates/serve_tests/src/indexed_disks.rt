@@ -1,10 +1,8 @@
 //! Files with an index, byte by byte, and files whose entries and documents disagree.
 
-use crate::disks::{NEXT_ROOT, ROOT, holds, sector_of};
+use crate::disks::{NEXT_ROOT, ROOT, holds, is_told, sector_of};
 use crate::exchanges::{answer, frame, new_server, open};
 use engine::ConnId;
-use page::{Disk, MemDisk};
-use server::OpenFault;
 use std::alloc::Global;
 use std::test::Fail;
 
@@ -79,22 +77,6 @@ fn leaf_of(
     Ok(bytes)
 }
 
-/// Why a file whose tree is this leaf isn't opened, or None.
-fn fault_of(
-    alloc: Global,
-    cells: &[&[u8]],
-    at: usize,
-    byte: u8,
-) -> Result<Option<OpenFault>, Fail> {
-    let leaf = leaf_of(alloc, 1, cells, at, byte)?;
-    let mut disk = MemDisk::new(alloc);
-    disk.write(1, &sector_of(ROOT, 0, &[]))
-        .map_err(|_| "a root")?;
-    disk.write(8, &sector_of(&leaf, 0, &[]))
-        .map_err(|_| "a leaf")?;
-    Ok(open(alloc, disk).err())
-}
-
 #[test]
 fn an_index_and_a_document(rt: HostRuntime) -> Result<(), Fail> {
     let alloc = rt.alloc();
@@ -110,34 +92,36 @@ fn an_index_and_a_document(rt: HostRuntime) -> Result<(), Fail> {
     Ok(())
 }
 
-/// What a file is, its cells by their letters (`cell_of`), a place in the first and the byte there, and whether such a file is sound.
-const FILES: [(&str, &str, usize, u8, bool); 20] = [
-    ("as they are", "I1a", 0, 14, true),
-    ("two documents", "I12ab", 0, 14, true),
-    ("multikey, and no array left", "I1a", MULTI, 1, true),
-    ("multikey", "IAa", MULTI, 1, true),
-    ("unique", "I1a", UNIQUE, 1, true),
-    ("a document without its entry", "I1", 0, 14, false),
-    ("one of two without its entry", "I12a", 0, 14, false),
-    ("an entry without its document", "Ia", 0, 14, false),
-    ("one of two without its document", "I1ab", 0, 14, false),
-    ("an entry twice", "I1aa", 0, 14, false),
-    ("another key beside", "I1ac", 0, 14, false),
-    ("another key", "I1c", 0, 14, false),
-    ("an entry with a value", "I1v", 0, 14, false),
-    ("an entry of no index", "P1a", 0, 14, false),
-    ("an entry of index 1 of an index 2", "I1a", NUMBER, 2, false),
-    ("index 0", "I1a", NUMBER, 0, false),
-    ("a name that doesn't end", "I1a", NAME_END, 1, false),
-    ("the direction 2", "I1a", DIRECTION, 2, false),
-    ("an array, and not multikey", "IAa", 0, 14, false),
-    (
-        "unique, and two documents of one key",
-        "I12ab",
-        UNIQUE,
-        1,
-        false,
-    ),
+/// What a find gives: `{_id: 1, a: 7}`, that and `{_id: 2, a: 7}`, and `{_id: 1, a: [7]}`.
+const ONE: &str = r#"[{"_id": 1, "a": 7}]"#;
+
+const BOTH: &str = r#"[{"_id": 1, "a": 7}, {"_id": 2, "a": 7}]"#;
+
+const LISTED: &str = r#"[{"_id": 1, "a": [7]}]"#;
+
+/// What a file is, its cells by their letters (`cell_of`), a place in the first and the byte there, whether such a file is sound, and what
+/// a find of all documents gives (`is_told`): it reads no index. A key twice is a fault of the page, which is met at the opening.
+const FILES: [(&str, &str, usize, u8, bool, &str); 20] = [
+    ("as they are", "I1a", 0, 14, true, ONE),
+    ("two documents", "I12ab", 0, 14, true, BOTH),
+    ("multikey, and no array left", "I1a", MULTI, 1, true, ONE),
+    ("multikey", "IAa", MULTI, 1, true, LISTED),
+    ("unique", "I1a", UNIQUE, 1, true, ONE),
+    ("a document without its entry", "I1", 0, 14, false, ONE),
+    ("one of two without its entry", "I12a", 0, 14, false, BOTH),
+    ("an entry without its document", "Ia", 0, 14, false, "[]"),
+    ("one of two without its document", "I1ab", 0, 14, false, ONE),
+    ("an entry twice", "I1aa", 0, 14, false, "Damaged"),
+    ("another key beside", "I1ac", 0, 14, false, ONE),
+    ("another key", "I1c", 0, 14, false, ONE),
+    ("an entry with a value", "I1v", 0, 14, false, ONE),
+    ("an entry of no index", "P1a", 0, 14, false, ONE),
+    ("an entry of another index", "I1a", NUMBER, 2, false, ONE),
+    ("index 0", "I1a", NUMBER, 0, false, "9005"),
+    ("a name that doesn't end", "I1a", NAME_END, 1, false, "9005"),
+    ("the direction 2", "I1a", DIRECTION, 2, false, "9005"),
+    ("an array, and not multikey", "IAa", 0, 14, false, LISTED),
+    ("one key twice, and unique", "I12ab", UNIQUE, 1, false, BOTH),
 ];
 
 /// The cell that a letter stands for.
@@ -158,18 +142,13 @@ fn cell_of(letter: u8) -> &'static [u8] {
 
 #[test]
 fn entries_and_documents_agree(rt: HostRuntime) -> Result<(), Fail> {
-    for (what, letters, at, byte, is_sound) in FILES {
+    for (what, letters, at, byte, is_sound, found) in FILES {
         let mut cells = Vec::new(rt.alloc());
         for letter in letters.bytes() {
             cells.push(cell_of(letter))?;
         }
-        let fault = fault_of(rt.alloc(), &cells, at, byte)?;
-        let is_right = if is_sound {
-            fault.is_none()
-        } else {
-            fault == Some(OpenFault::Damaged)
-        };
-        assert!(rt; is_right, "{what}");
+        let leaf = sector_of(&leaf_of(rt.alloc(), 1, &cells, at, byte)?, 0, &[]);
+        assert!(rt; is_told(rt.alloc(), &leaf, found, is_sound)?, "{what}");
     }
     Ok(())
 }
