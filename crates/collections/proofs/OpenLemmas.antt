@@ -20,6 +20,7 @@ opened_so history disk c opened is =
     record {
       running = opened.running;
       rests = rests_at c.root (durable_root c.pager.store).tree is;
+      pins = opened.pins;
       on = opened.on;
       begun = λ collections holds running k.
           let h : Holds image collections = holds k in

@@ -33,8 +33,8 @@ use Rattle.collections.specs.Calls.{GoesFrom}
 use Rattle.collections.specs.Laws.{HasOneVersion}
 use Rattle.collections.specs.Standing.{IsTurnOf}
 use Rattle.collections.specs.State.{State}
-use Rattle.collections.specs.Versions.{CommitsVersions, HasSinceStart, HasVersion, KeepsEach, KeepsSinceStart, PinsNow, StaysInTurn, UnpinsVersion}
-use Rattle.collections.specs.Versions.{SinceStartStays, VersionsStay}
+use Rattle.collections.specs.Versions.{CommitsVersions, HasOnePinMore, HasSinceStart, HasVersion, KeepsEach, KeepsSinceStart, PinsNow, PinsStay}
+use Rattle.collections.specs.Versions.{SinceStartStays, StaysInTurn, UnpinsVersion, VersionsStay, pins_of}
 use Rattle.collections.specs.View.{disk_history, is_changed, is_stopped}
 use Rattle.collections.proofs.CommitLemmas.{goes_full}
 use Rattle.collections.proofs.LawLemmas.{goes_from_itself, goes_further, rested_tree}
@@ -57,6 +57,9 @@ has_one_version history c version a b k one two =
     let same : one.entries ≡ two.entries =
     (one_map (store_of history c.pager) version.root one.pages two.pages one.entries two.entries (one.keeps.holds k) (two.keeps.holds k)).entries_are in
     spells_one one.entries a b one.state two.state one.spells (subst (λ (es : List Entry). Spells es b) (sym same) two.spells)
+
+pub pins_stay : {D : Type 0} (history : D → History) → PinsStay history
+pins_stay history old new goes = (pages_stay history old.pager new.pager goes).pins
 
 pub since_start_stays : {D : Type 0} (history : D → History) → SinceStartStays history
 since_start_stays history old new goes version collections h =
@@ -229,6 +232,11 @@ module _ {D : Type 0} (history : D → History) (old : State D) (pager : PagerSt
       (omega (arith, pins.counts generation, one_time generation generation old.pager.book.pins refl))
   pinned_version (Err e) pins = tt
 
+  one_pin_more : {E : Type 0} (result : Result Version E) → Pins history old.root result old.pager pager
+      → IfOk result (λ version. HasOnePinMore version (pins_of old) (pins_of new))
+  one_pin_more (Ok version) pins = subst (λ (v : Version). HasOnePinMore v (pins_of old) (pins_of new)) (sym pins.version) pins.counts
+  one_pin_more (Err e) pins = tt
+
   store_of_pin : {E : Type 0} (result : Result Version E) → Pins history old.root result old.pager pager → pager.store ≡ old.pager.store
   store_of_pin (Ok version) pins = ap (λ (p : PagerState D). p.store) pins.pinned
   store_of_pin (Err e) pins = ap (λ (p : PagerState D). p.store) pins.err
@@ -247,6 +255,7 @@ module _ {D : Type 0} (history : D → History) (old : State D) (pager : PagerSt
         rested_so t k rests (omega (arith, (fits t.began t.live t.before t.begun old.root t.pages t.after t.turn k).few)) result pins
         (pins.keeps t.began t.live t.before t.begun t.pages t.after (λ _. t.turn));
     pinned = pinned_version result pins;
+    once = one_pin_more result pins;
     stays = stays_so (store_of_pin result pins) pins.goes_on;
     others = λ version collections h. version_on history old new version collections h (pins.others version h.pages h.entries h.keeps);
     err = old_of_pin result pins;
@@ -269,6 +278,7 @@ module _ {D : Type 0} (history : D → History) (old : State D) (pager : PagerSt
 
   pub unpins_so : (version : Version) → Unpins history version old.pager pager → UnpinsVersion history version old new
   unpins_so version unpins = record {
+    once = unpins.counts;
     stays = stays_so (ap (λ (p : PagerState D). p.store) unpins.unpinned) unpins.goes_on;
     others = λ other collections h pinned.
         version_on history old new other collections h (unpins.others other h.pages h.entries h.keeps pinned);

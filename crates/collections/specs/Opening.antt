@@ -1,5 +1,5 @@
 -- What opening a disk gives.
-use Rattle.std.specs.Prelude.{◌≡◌, ◌≢◌, ◌<◌, false, List, Err}
+use Rattle.std.specs.Prelude.{◌≡◌, ◌≢◌, ◌<◌, false, List, [], Err}
 use Rattle.page.specs.History.{History, KeepsWord, IsImage, now, reads}
 use Rattle.page.specs.Crash.{GoesOn, LeavesNow, LeavesOnly}
 use Rattle.roots.specs.Root.{root_of}
@@ -9,6 +9,7 @@ use Rattle.index.specs.State.{Collection}
 use Rattle.collections.specs.State.{State}
 use Rattle.collections.specs.Holding.{Holds}
 use Rattle.collections.specs.Standing.{HasState}
+use Rattle.collections.specs.Versions.{pins_of}
 use Rattle.collections.specs.View.{disk_history, is_changed, is_stopped}
 
 -- The disk was opened, by reads and a sync alone.
@@ -16,6 +17,7 @@ pub record IsOpened {D : Type 0} (history : D → History) (disk : D)
     (c : State D) : Type 0 where
   pub running : is_stopped c ≡ false
   pub rests : is_changed c ≡ false
+  pub pins : pins_of c ≡ []
   pub on : GoesOn (history disk) (disk_history history c)
   -- a turn begins with what was read
   pub begun : (collections : List Collection)

@@ -1,9 +1,9 @@
 -- Versions of the collections that are pinned: each can be read, whatever is changed and committed
 -- meanwhile.
-use Rattle.std.specs.Prelude.{◌≡◌, ◌≢◌, ℕ, ◌≤◌, false, List, [], length, Result, Err, IfOk, OnErr}
-use Rattle.std.specs.Prelude.{OnOk, MatchResult}
+use Rattle.std.specs.Prelude.{◌≡◌, ◌≢◌, ℕ, ◌≤◌, false, List, [], ◌∷◌, length, Result, Err, IfOk}
+use Rattle.std.specs.Prelude.{OnErr, OnOk, MatchResult}
 use Rattle.page.specs.History.{History, KeepsWord}
-use Rattle.btree.specs.Keys.{Entry}
+use Rattle.btree.specs.Keys.{Entry, times}
 use Rattle.index.specs.LawfulState.{IsLawfulState}
 use Rattle.index.specs.State.{Collection}
 use Rattle.index.specs.StateEntries.{Spells}
@@ -46,6 +46,20 @@ abbrev pub KeepsThen : {D : Type 0} → (D → History) → Mark → State D →
 KeepsThen {D = D} history mark old new =
     (earlier : State D) → IsMarkOf mark earlier → GoesFrom history earlier old
     → KeepsEach history earlier new
+
+-- ---- how often each is pinned
+
+-- the generations that are pinned, once for each pin
+abbrev pub pins_of : {D : Type 0} → State D → List ℕ
+pins_of c = c.pager.book.pins
+
+-- There is one pin of the version more.
+abbrev pub HasOnePinMore : Version → List ℕ → List ℕ → Type 0
+HasOnePinMore version fewer more = (n : ℕ) → times n more ≡ times n (version.generation ∷ fewer)
+
+-- law: only pins and their ends change what is pinned, of all that goes on in a turn
+abbrev pub PinsStay : {D : Type 0} → (D → History) → Type 0
+PinsStay {D = D} history = (old new : State D) → GoesFrom history old new → pins_of new ≡ pins_of old
 
 -- ---- what stays when the turn is taken back
 
@@ -103,6 +117,7 @@ pub record PinsNow {D E : Type 0} (history : D → History) (result : Result Ver
       → is_changed old ≡ false
       → IfOk result (λ version. HasSinceStart history new version now)
   pub pinned : IfOk result (λ version. IsPinned version new.pager)
+  pub once : IfOk result (λ version. HasOnePinMore version (pins_of old) (pins_of new))
   pub stays : StaysInTurn history old new
   pub others : KeepsEach history old new
   pub err : OnErr result (new ≡ old)
@@ -110,6 +125,7 @@ pub record PinsNow {D E : Type 0} (history : D → History) (result : Result Ver
 -- One pin of a version ended. What is pinned still has what it had.
 pub record UnpinsVersion {D : Type 0} (history : D → History) (version : Version)
     (old new : State D) : Type 0 where
+  pub once : IsPinned version old.pager → HasOnePinMore version (pins_of new) (pins_of old)
   pub stays : StaysInTurn history old new
   pub others : (other : Version) (collections : List Collection)
       → HasVersion history old other collections → IsPinned other new.pager

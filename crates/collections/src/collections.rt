@@ -41,7 +41,7 @@ impl<D: Disk> Collections<D> {
     ghost use Rattle.collections.specs.Marks.{IsMarkOf, ReturnsTo, Undoes};
     ghost use Rattle.collections.specs.Opening.{IsOpened, IsRefused};
     ghost use Rattle.collections.specs.Trusting.{trusting_state};
-    ghost use Rattle.collections.specs.Versions.{CommitsVersions, KeepsSinceStart, KeepsThen};
+    ghost use Rattle.collections.specs.Versions.{CommitsVersions, KeepsSinceStart, KeepsThen, pins_of};
     ghost use Rattle.collections.specs.View.{disk_history, generation, is_changed, is_stopped};
 
     /// Opens a disk that a crash may have left, as a file of at most so many pages, or those that it has. It reads the list of free
@@ -128,6 +128,7 @@ impl<D: Disk> Collections<D> {
     pub fn undo_to(&mut self, mark: Mark)
         ensures returns { ReturnsTo D.history mark self.old self.new }
         ensures versions { KeepsThen D.history mark self.old self.new }
+        ensures pins { pins_of self.new ≡ pins_of self.old }
     {
         self.pager.undo_to(mark.pages);
         self.root = mark.root;
@@ -137,6 +138,7 @@ impl<D: Disk> Collections<D> {
     pub fn undo(&mut self)
         ensures undoes { Undoes D.history self.old self.new }
         ensures versions { KeepsSinceStart D.history self.old self.new }
+        ensures pins { pins_of self.new ≡ pins_of self.old }
     {
         self.pager.undo_to(self.begun);
         self.root = self.pager.root();
@@ -146,6 +148,7 @@ impl<D: Disk> Collections<D> {
     pub fn commit(&mut self) -> Result<(), CommitFault>
         ensures commits { Commits D.history result self.old self.new }
         ensures versions { CommitsVersions D.history result self.old self.new }
+        ensures pins { pins_of self.new ≡ pins_of self.old }
     {
         self.pager.commit(self.root)
     }

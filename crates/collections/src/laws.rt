@@ -2,7 +2,7 @@
 
 ghost use Rattle.collections.specs.Laws.{GoesFromItself, GoesFurther, HasOneCount, HasOneState, HasOneVersion, HoldsOne, LeavesStart, RestsAtStart, ZerosHoldNothing};
 ghost use Rattle.collections.specs.Trusting.{TrustingKeepsState};
-ghost use Rattle.collections.specs.Versions.{SinceStartStays, VersionsStay};
+ghost use Rattle.collections.specs.Versions.{PinsStay, SinceStartStays, VersionsStay};
 
 use page::Disk;
 
@@ -54,6 +54,11 @@ pub fn trusting_keeps_state<D: Disk>()
 /// What reads, and takes and retires pages, keeps what each version has.
 pub fn versions_stay<D: Disk>()
     ensures { VersionsStay D.history }
+{}
+
+/// It pins nothing, and ends no pin.
+pub fn pins_stay<D: Disk>()
+    ensures { PinsStay D.history }
 {}
 
 /// It keeps also what each version has had since the turn began.

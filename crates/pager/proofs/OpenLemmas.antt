@@ -163,6 +163,7 @@ module _ {D : Type 0} (history : D → History) (disk : D) (mid new : Store D) (
         running = finds.stopped ∙ first.running;
         made = refl;
         retired = refl;
+        pins = finds.some.pins;
         on = goes_further h0 h1 h2 first.on only.on;
         opens = λ k. subst (OpensAs (reads (now h0))) (sym finds.root) (first.opens (only.on.kept k));
         begun = begins;

@@ -23,6 +23,7 @@ pub record IsOpened {D : Type 0} (history : D → History) (disk : D) (pager : S
   pub running : IsRunning pager.store
   pub made : pager.made ≡ []
   pub retired : pager.retired ≡ []
+  pub pins : pager.book.pins ≡ []
   pub on : GoesOn (history disk) (pager_history history pager)
   -- its root is the one that the disk's sectors give
   pub opens : KeepsWord (pager_history history pager)

@@ -1,7 +1,7 @@
-use Rattle.std.proofs.Common.{subst}
+use Rattle.std.proofs.Common.{ap, subst, ◌∙◌}
 use Rattle.collections.specs.Committing.{Commits}
 use Rattle.collections.specs.State.{State}
-use Rattle.collections.specs.Versions.{CommitsVersions}
+use Rattle.collections.specs.Versions.{CommitsVersions, pins_of}
 use Rattle.collections.proofs.CommitLemmas.{commits_so}
 use Rattle.collections.proofs.VersionLemmas.{commit_keeps}
 use Rattle.collections.proofs.collections.Collections.commit.Goals as goal
@@ -23,3 +23,6 @@ returns-clause-versions g c =
     subst (λ (s : State D). CommitsVersions history c.commit.result s (record { pager = c.commit.new.self; root = i.root })) c.self.view_is
     (commit_keeps history
     (record { pager = i.pager; root = i.root }) c.commit.new.self c.commit.ensures.versions c.commit.result c.commit.ensures.commits c.commit.ensures.takes)
+
+pub returns-clause-pins : goal.returns-clause-pins
+returns-clause-pins g c = c.commit.ensures.versions.pins ∙ ap (λ (s : State g.row.D.Denot). pins_of s) c.self.view_is

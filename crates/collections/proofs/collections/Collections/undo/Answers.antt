@@ -1,7 +1,8 @@
-use Rattle.std.proofs.Common.{subst}
+use Rattle.std.proofs.Common.{ap, subst, ◌∙◌}
+use Rattle.pager.specs.State.{State as PagerState}
 use Rattle.collections.specs.Marks.{Undoes}
 use Rattle.collections.specs.State.{State}
-use Rattle.collections.specs.Versions.{KeepsSinceStart}
+use Rattle.collections.specs.Versions.{KeepsSinceStart, pins_of}
 use Rattle.collections.proofs.MarkLemmas.{undoes_so}
 use Rattle.collections.proofs.VersionLemmas.{undone_keeps}
 use Rattle.collections.proofs.collections.Collections.undo.Goals as goal
@@ -26,3 +27,7 @@ returns-clause-versions g c =
     subst (λ (s : State D). KeepsSinceStart history s (record { pager = c.undo_to.new.self; root = root })) c.self.view_is
     (undone_keeps history (record { pager = i.pager; root = i.root }) c.undo_to.new.self root i.begun.made i.begun.retired c.self.invariant.0
     c.undo_to.ensures.undone c.undo_to.ensures.versions)
+
+pub returns-clause-pins : goal.returns-clause-pins
+returns-clause-pins g c =
+    ap (λ (p : PagerState g.row.D.Denot). p.book.pins) c.undo_to.ensures.undone ∙ ap (λ (s : State g.row.D.Denot). pins_of s) c.self.view_is

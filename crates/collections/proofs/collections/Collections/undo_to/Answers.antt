@@ -1,7 +1,8 @@
-use Rattle.std.proofs.Common.{subst}
+use Rattle.std.proofs.Common.{ap, subst, ◌∙◌}
+use Rattle.pager.specs.State.{State as PagerState}
 use Rattle.collections.specs.Marks.{ReturnsTo}
 use Rattle.collections.specs.State.{State}
-use Rattle.collections.specs.Versions.{KeepsThen}
+use Rattle.collections.specs.Versions.{KeepsThen, pins_of}
 use Rattle.collections.proofs.MarkLemmas.{returns_so}
 use Rattle.collections.proofs.VersionLemmas.{older_keep}
 use Rattle.collections.proofs.collections.Collections.undo_to.Goals as goal
@@ -23,3 +24,7 @@ returns-clause-versions g c =
     subst (λ (s : State D). KeepsThen history mark s (record { pager = c.undo_to.new.self; root = mark.root })) c.self.view_is
     (λ earlier is goes. older_keep history earlier (record { pager = i.pager; root = i.root }) c.undo_to.new.self mark.root mark.pages.made goes
     is.made c.undo_to.ensures.versions)
+
+pub returns-clause-pins : goal.returns-clause-pins
+returns-clause-pins g c =
+    ap (λ (p : PagerState g.row.D.Denot). p.book.pins) c.undo_to.ensures.undone ∙ ap (λ (s : State g.row.D.Denot). pins_of s) c.self.view_is
