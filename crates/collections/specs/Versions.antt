@@ -59,7 +59,8 @@ HasOnePinMore version fewer more = (n : ℕ) → times n more ≡ times n (versi
 
 -- law: only pins and their ends change what is pinned, of all that goes on in a turn
 abbrev pub PinsStay : {D : Type 0} → (D → History) → Type 0
-PinsStay {D = D} history = (old new : State D) → GoesFrom history old new → pins_of new ≡ pins_of old
+PinsStay {D = D} history =
+    (old new : State D) → GoesFrom history old new → pins_of new ≡ pins_of old
 
 -- ---- what stays when the turn is taken back
 

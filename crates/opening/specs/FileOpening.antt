@@ -1,6 +1,6 @@
 -- What opening a file gives.
-use Rattle.std.specs.Prelude.{◌≡◌, ◌≢◌, ℕ, false, true, List, ◌++◌, map, Option, Some, Result, IfErr}
-use Rattle.std.specs.Prelude.{IfOk, MatchResult}
+use Rattle.std.specs.Prelude.{◌≡◌, ◌≢◌, ℕ, false, true, List, ◌++◌, map, Option, Some, Result}
+use Rattle.std.specs.Prelude.{IfErr, IfOk, MatchResult}
 use Rattle.std.specs.Global.{Vec}
 use Rattle.std.specs.Option.{option_map}
 use Rattle.page.specs.History.{History, KeepsWord, now, reads, IsImage}
@@ -84,9 +84,9 @@ pub record LoadsFile {D : Type 0} (history : D → History) (result : Result Loa
 
 -- ---- the file
 
--- The disk was opened, by reads and a sync alone. What the file has is told by what the disk's bytes
--- hold, of which no entry was read: its disk is trusted where they hold collections, and these are
--- the file's.
+-- The disk was opened, by reads and a sync alone. What the file has is told by what the disk's
+-- bytes hold, of which no entry was read: its disk is trusted where they hold collections, and
+-- these are the file's.
 pub record IsFileOpened {D : Type 0} (history : D → History) (disk : D)
     (known : Known) (kept : State (TrustedDisk D)) : Type 0 where
   pub lawful : IsLawfulState known.now

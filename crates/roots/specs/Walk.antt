@@ -115,8 +115,8 @@ FindsFile history result old new =
     (λ fault. fault ≡ faults.Damaged → HoldsNoFile sheets root)
 
 -- Nothing of the store has changed. Where a tree is committed, the pages that the root reaches are
--- in use, and the fault isn't one of the pages. The second of the result are the pages of the root's
--- list.
+-- in use, and the fault isn't one of the pages. The second of the result are the pages of the
+-- root's list.
 pub record FindsFree {D : Type 0} (history : D → History) (limit : ℕ)
     (result : Result (Book × Vec ℕ) OpenFault) (old new : Store D) : Type 0 where
   pub root : durable_root new ≡ durable_root old

@@ -1,8 +1,8 @@
 -- The headline, said once. However a run is cut, what the crash left holds the collections after
 -- some first turns of the run, and opening it finds these. Every turn that had answered at that
 -- moment is one of them, and at most one turn more.
-use Rattle.std.specs.Prelude.{◌≡◌, ◌⊎◌, ℕ, ◌+◌, ◌<◌, ◌≤◌, nat_le, true, List, [], ◌∷◌, ◌++◌, length, take}
-use Rattle.std.specs.Prelude.{filter, Option, Some, None}
+use Rattle.std.specs.Prelude.{◌≡◌, ◌⊎◌, ℕ, ◌+◌, ◌<◌, ◌≤◌, nat_le, true, List, [], ◌∷◌, ◌++◌, length}
+use Rattle.std.specs.Prelude.{take, filter, Option, Some, None}
 use Rattle.page.specs.History.{History, KeepsWord, now, reads, LeftSince}
 use Rattle.roots.specs.declared.opening.OpenFault.{OpenFault}
 use Rattle.roots.specs.declared.opening.OpenFault.TheVariants as faults

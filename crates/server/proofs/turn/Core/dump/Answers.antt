@@ -19,5 +19,5 @@ returns-in_err-walk-clause-dumps g c =
 
 pub returns-clause-dumps : goal.returns-clause-dumps
 returns-clause-dumps g c =
-    all_listed (trusted_history g.D.Disk.history) c.args.namespace.now c.args.self.now.engine c.in_ok-walk.walk c.begin_dump.new.self.engine c.list_rest.new.self.engine
-    c.in_ok-walk.ensures.begins c.list_rest.result c.list_rest.ensures.lists
+    all_listed (trusted_history g.D.Disk.history) c.args.namespace.now c.args.self.now.engine c.in_ok-walk.walk c.begin_dump.new.self.engine
+    c.list_rest.new.self.engine c.in_ok-walk.ensures.begins c.list_rest.result c.list_rest.ensures.lists

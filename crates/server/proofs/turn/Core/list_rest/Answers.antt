@@ -20,7 +20,8 @@ batches-init g c = record {
   same = refl;
   come =
       let none : lines_in c.new-lines.result ≡ [] = search rules in
-      subst (λ (lines : List (List ℕ)). HasListed (trusted_history g.D.Disk.history) c.args.walk c.args.self.now.engine lines c.args.walk c.args.self.now.engine) (sym none)
+      subst (λ (lines : List (List ℕ)). HasListed (trusted_history g.D.Disk.history) c.args.walk c.args.self.now.engine lines c.args.walk
+      c.args.self.now.engine) (sym none)
       (listed_none (trusted_history g.D.Disk.history) c.args.walk c.args.self.now.engine c.requires.sound.engine);
 }
 
@@ -70,4 +71,5 @@ batches-preserved g c =
     }
 
 pub returns-clause-lists : goal.returns-clause-lists
-returns-clause-lists g c = list_memory (trusted_history g.D.Disk.history) c.args.walk c.args.self.now.engine c.batches.self.engine c.batches.invariant.come.reads
+returns-clause-lists g c =
+    list_memory (trusted_history g.D.Disk.history) c.args.walk c.args.self.now.engine c.batches.self.engine c.batches.invariant.come.reads

@@ -78,7 +78,8 @@ returns-in_err-refusals g c = record {
   fails = search rules;
   on = search rules;
   any_moment = let engine = c.args.self.now.engine in
-      stays (trusted_history g.D.Disk.history) engine engine (λ image. Holds image (world engine).collections) c.requires.sound.engine c.requires.sound.idle refl;
+      stays (trusted_history g.D.Disk.history) engine engine (λ image. Holds image (world engine).collections) c.requires.sound.engine
+      c.requires.sound.idle refl;
   acknowledged = search rules;
   running = search rules;
   stops = search rules;
