@@ -158,13 +158,15 @@ module _ {D : Type 0} (history : D → History) (old : State D) (pager : PagerSt
   new = record old { pager = pager }
 
   -- The turn goes on as one that began where undoing it leads to.
-  stays_so : pager.store ≡ old.pager.store → TurnGoesOn history old.pager pager → StaysInTurn history old new
-  stays_so same goes = record {
+  stays_so : pager.store ≡ old.pager.store → pager.book.full_takes ≡ old.pager.book.full_takes → TurnGoesOn history old.pager pager
+      → StaysInTurn history old new
+  stays_so same takes goes = record {
     untouched = record {
       disk = ap (λ (s : Store D). stores.disk_history history s) same;
       stopped = ap (λ (s : Store D). stores.is_stopped s) same;
       version = ap (λ (s : Store D). (stores.durable_root s).generation) same;
     };
+    takes = takes;
     unchanged = ap (λ (s : Store D). not (old.root == (stores.durable_root s).tree)) same;
     state = λ start now has running k.
         let t : IsTurnOf history old start now =
@@ -241,6 +243,11 @@ module _ {D : Type 0} (history : D → History) (old : State D) (pager : PagerSt
   store_of_pin (Ok version) pins = ap (λ (p : PagerState D). p.store) pins.pinned
   store_of_pin (Err e) pins = ap (λ (p : PagerState D). p.store) pins.err
 
+  takes_of_pin : {E : Type 0} (result : Result Version E) → Pins history old.root result old.pager pager
+      → pager.book.full_takes ≡ old.pager.book.full_takes
+  takes_of_pin (Ok version) pins = ap (λ (p : PagerState D). p.book.full_takes) pins.pinned
+  takes_of_pin (Err e) pins = ap (λ (p : PagerState D). p.book.full_takes) pins.err
+
   old_of_pin : {E : Type 0} (result : Result Version E) → Pins history old.root result old.pager pager → OnErr result (new ≡ old)
   old_of_pin (Ok version) pins = tt
   old_of_pin (Err e) pins = ap (λ (p : PagerState D). record old { pager = p }) pins.err
@@ -256,7 +263,7 @@ module _ {D : Type 0} (history : D → History) (old : State D) (pager : PagerSt
         (pins.keeps t.began t.live t.before t.begun t.pages t.after (λ _. t.turn));
     pinned = pinned_version result pins;
     once = one_pin_more result pins;
-    stays = stays_so (store_of_pin result pins) pins.goes_on;
+    stays = stays_so (store_of_pin result pins) (takes_of_pin result pins) pins.goes_on;
     others = λ version collections h. version_on history old new version collections h (pins.others version h.pages h.entries h.keeps);
     err = old_of_pin result pins;
   }
@@ -279,7 +286,8 @@ module _ {D : Type 0} (history : D → History) (old : State D) (pager : PagerSt
   pub unpins_so : (version : Version) → Unpins history version old.pager pager → UnpinsVersion history version old new
   unpins_so version unpins = record {
     once = unpins.counts;
-    stays = stays_so (ap (λ (p : PagerState D). p.store) unpins.unpinned) unpins.goes_on;
+    stays = stays_so (ap (λ (p : PagerState D). p.store) unpins.unpinned)
+        (ap (λ (p : PagerState D). p.book.full_takes) unpins.unpinned) unpins.goes_on;
     others = λ other collections h pinned.
         version_on history old new other collections h (unpins.others other h.pages h.entries h.keeps pinned);
   }

@@ -17,7 +17,7 @@ use Rattle.collections.specs.Marks.{IsMarkOf, IsUntouched}
 use Rattle.collections.specs.Standing.{HasState}
 use Rattle.collections.specs.State.{State}
 use Rattle.collections.specs.declared.mark.Mark.{Mark}
-use Rattle.collections.specs.View.{disk_history, is_changed, is_stopped}
+use Rattle.collections.specs.View.{disk_history, is_changed, is_stopped, pages_of}
 
 -- The version has these collections: the entries of its tree spell them, and it is pinned.
 pub record HasVersion {D : Type 0} (history : D → History) (c : State D) (version : Version)
@@ -98,6 +98,8 @@ pub record CommitsVersions {D : Type 0} (history : D → History)
 -- The turn goes on with the same collections, and nothing of it is durable or undone.
 pub record StaysInTurn {D : Type 0} (history : D → History) (old new : State D) : Type 0 where
   pub untouched : IsUntouched history old new
+  -- no page was asked for
+  pub takes : (pages_of history new).full_takes ≡ (pages_of history old).full_takes
   pub unchanged : is_changed new ≡ is_changed old
   pub state : (start now : List Collection) → HasState history old start now
       → HasState history new start now
