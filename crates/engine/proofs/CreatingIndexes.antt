@@ -33,6 +33,7 @@ use Rattle.database_model.specs.World.{World, collection_of, indexes_or_none}
 use Rattle.engine.specs.Writing.{Makes, planned_or, Writes}
 use Rattle.engine.specs.declared.create_indexes.PlannedIndexes.{PlannedIndexes}
 use Rattle.engine.specs.declared.engine.Engine.{Engine}
+use Rattle.engine.proofs.Continuing.{continues_of}
 use Rattle.engine.proofs.LookingLemmas.{performs_memory}
 use Rattle.engine.proofs.MakingLemmas.{lawful_now, leads_planned, makes_behind, makes_none, makes_written, performs_done, performs_refused, planned_is}
 use Rattle.engine.proofs.MakingLemmas.{with_reply}
@@ -302,7 +303,7 @@ module _ {D : Type 0} (history : D → History) (name : List ℕ) (ns : List New
           let makes = create_behind (Ok tt) m in
           record {
             sound = makes.sound;
-            goes = makes.goes;
+            goes = continues_of history old new makes.goes;
             start = makes.start;
             does = λ k.
                 let cs = (world old).collections in

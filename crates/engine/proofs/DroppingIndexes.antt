@@ -42,6 +42,7 @@ use Rattle.engine.specs.Writing.{Makes, planned_or, Writes}
 use Rattle.engine.specs.declared.engine.Engine.{Engine}
 use Rattle.engine.proofs.CataloguedLemmas.{IsCatalogueOf, has_home, not_catalogued, some_same}
 use Rattle.index_list.proofs.DroppedIndexLemmas.{all_remain, dropped_there, fewer_remain, remain_without}
+use Rattle.engine.proofs.Continuing.{continues_of}
 use Rattle.engine.proofs.LookingLemmas.{performs_memory}
 use Rattle.engine.proofs.MakingLemmas.{lawful_now, leads_planned, makes_behind, makes_none, makes_written, performs_done, performs_refused, planned_is}
 use Rattle.engine.proofs.MakingLemmas.{with_reply}
@@ -412,7 +413,7 @@ module _ {D : Type 0} (history : D → History) (name : List ℕ) (away : Droppe
           let makes = unlisted_behind (Ok tt) m in
           record {
             sound = makes.sound;
-            goes = makes.goes;
+            goes = continues_of history old new makes.goes;
             start = makes.start;
             does = λ k.
                 let t = home_of (word_before history mid.file new.file m.goes k) in

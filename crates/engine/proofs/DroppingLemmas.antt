@@ -39,6 +39,7 @@ use Rattle.database_model.specs.World.{World, indexes_or_none}
 use Rattle.engine.specs.Writing.{Makes, planned_or, Writes}
 use Rattle.engine.specs.declared.engine.Engine.{Engine}
 use Rattle.engine.proofs.CataloguedLemmas.{IsCatalogueOf, has_home, not_catalogued}
+use Rattle.engine.proofs.Continuing.{continues_of}
 use Rattle.engine.proofs.MakingLemmas.{lawful_now, leads_planned, makes_behind, makes_none, makes_written, performs_done, performs_refused, planned_is}
 use Rattle.engine.proofs.MakingLemmas.{with_reply}
 use Rattle.engine.proofs.OnlyReading.{cause_from, now_same, reads_file, reads_none, reads_on, word_before}
@@ -347,7 +348,7 @@ module _ {D : Type 0} (history : D → History) (name : List ℕ) (old mid : Eng
           let makes = drop_behind (Ok tt) m in
           record {
             sound = makes.sound;
-            goes = makes.goes;
+            goes = continues_of history old new makes.goes;
             start = makes.start;
             does = λ k.
                 let t = home_of (word_before history mid.file new.file m.goes k) in

@@ -2,6 +2,7 @@ pub mod Running
 pub mod Piping
 pub mod LawfulCollections
 pub mod LawfulSteps
+pub mod Continuing
 mod Sound
 pub mod Ending
 pub mod Growing

@@ -10,6 +10,7 @@ use Rattle.collections.specs.Calls.{GoesFrom, HasCause, Reads}
 use Rattle.collections.specs.Reading.{ReadsOf}
 use Rattle.collections.specs.Standing.{HasState}
 use Rattle.collections.specs.View.{disk_history}
+use Rattle.engine.specs.Continuing.{Continues}
 use Rattle.engine.specs.Durable.{file_of, has_changes, IsSound}
 use Rattle.opening.specs.Known.{Known}
 use Rattle.database_model.specs.Lawful.{IsLawfulState, AreLawfulCursors}
@@ -21,7 +22,9 @@ use Rattle.engine.specs.View.{world, world_of, turn_start}
 use Rattle.database_model.specs.World.{World, CursorTable}
 use Rattle.engine.specs.Writing.{FileCause}
 use Rattle.engine.specs.declared.engine.Engine.{Engine}
-use Rattle.queries.proofs.ReadingLemmas.{goes_itself, goes_on, of_file, widen_before, widen_write, word_before}
+use Rattle.queries.proofs.ReadingLemmas.{goes_itself, goes_on, of_file, widen_before, word_before}
+use Rattle.engine.proofs.Continuing.{continues_further, continues_of}
+use Rattle.engine.proofs.OnlyReading.{write_cause_from}
 
 -- ---- what was read of the file
 
@@ -128,7 +131,7 @@ module _ {D : Type 0} (history : D → History) (old new : Engine D) (planned : 
       → (KeepsWord (disk_history history (file_of new)) → HasCause history (file_of old) (file_of new) e) → Performs history planned (Err e) old new
   performs_refused e reads cause = record {
     sound = reads.sound;
-    goes = reads.goes;
+    goes = continues_of history old new reads.goes;
     start = start_same history old new reads;
     does = λ k. (world_same history old new reads, inr (of_file history (file_of old) (file_of new) e (cause k), λ k. inl (cause k)));
     left = world_same history old new reads;
@@ -140,7 +143,7 @@ module _ {D : Type 0} (history : D → History) (old new : Engine D) (planned : 
       → (KeepsWord (disk_history history (file_of new)) → DoesPlanned history planned r old new) → Performs history planned r old new
   performs_read r reads does = record {
     sound = reads.sound;
-    goes = reads.goes;
+    goes = continues_of history old new reads.goes;
     start = start_same history old new reads;
     does = does;
     left = on_err r (world_same history old new reads);
@@ -159,11 +162,11 @@ performs_memory history old new planned e is reads = performs_refused history ol
 module _ {D : Type 0} (history : D → History) (old mid new : Engine D) (reads : OnlyReads history old mid)
     (there planned : Result (World × Pairs) Refusal) where
   -- the cause of what came behind, from the beginning
-  cause_wider : (e : Refusal) → GoesFrom history (file_of mid) (file_of new) → FileCause history (file_of mid) (file_of new) (answered (world mid) there).0 e
+  cause_wider : (e : Refusal) → Continues history mid new → FileCause history (file_of mid) (file_of new) (answered (world mid) there).0 e
       → FileCause history (file_of old) (file_of new) (answered (world mid) there).0 e
   cause_wider e goes (kind, why) = (
     kind,
-    λ k. widen_write history (file_of old) (file_of mid) (file_of new) (file_of new) reads.goes goes (goes_itself history (file_of new)) k
+    λ k. write_cause_from history (file_of old) (file_of mid) (file_of new) reads.goes (goes.reads.on.kept k)
         (answered (world mid) there).0.collections e (why k),
   )
 
@@ -171,7 +174,7 @@ module _ {D : Type 0} (history : D → History) (old mid new : Engine D) (reads 
       → Performs history planned r old new
   performs_behind r done same = record {
     sound = done.sound;
-    goes = goes_on history (file_of old) (file_of mid) (file_of new) reads.goes done.goes;
+    goes = continues_further history old mid new (continues_of history old mid reads.goes) done.goes;
     start = done.start ∙ start_same history old mid reads;
     does = λ k. either r (same k) (done.does k);
     left = unchanged r done.left;

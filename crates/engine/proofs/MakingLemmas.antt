@@ -22,6 +22,7 @@ use Rattle.engine.specs.View.{world}
 use Rattle.database_model.specs.World.{World}
 use Rattle.engine.specs.Writing.{FileCause, Makes, planned_or, Writes}
 use Rattle.engine.specs.declared.engine.Engine.{Engine}
+use Rattle.engine.proofs.Continuing.{continues_itself, continues_of}
 use Rattle.engine.proofs.OnlyReading.{now_same, word_before, write_cause_from}
 
 -- what is refused by the file is one of its refusals
@@ -138,7 +139,7 @@ module _ {D : Type 0} (history : D → History) (reply : Pairs) (planned : Resul
   pub performs_none : IsSound history old → Performs history run (Err refusals.OutOfMemory) old old
   performs_none h = record {
     sound = h;
-    goes = laws.goes_from_itself history old.file;
+    goes = continues_itself history old;
     start = refl;
     does = λ k. (refl, inr (inl refl, λ k. inl (inl refl)));
     left = refl;
@@ -149,7 +150,7 @@ module _ {D : Type 0} (history : D → History) (reply : Pairs) (planned : Resul
     pub performs_done : (d : Pairs) → d ≡ ok_reply reply → Makes history planned (Ok tt) old new → Performs history run (Ok d) old new
     performs_done d said makes = record {
       sound = makes.sound;
-      goes = makes.goes;
+      goes = continues_of history old new makes.goes;
       start = makes.start;
       does = λ k. ap with_ok (is ∙ ap (with_reply (world old) reply) (makes.does k)) ∙ there;
       left = tt;
@@ -167,7 +168,7 @@ module _ {D : Type 0} (history : D → History) (reply : Pairs) (planned : Resul
     pub performs_refused : (e : Refusal) → Makes history planned (Err e) old new → Performs history run (Err e) old new
     performs_refused e makes = record {
       sound = makes.sound;
-      goes = makes.goes;
+      goes = continues_of history old new makes.goes;
       start = makes.start;
       does = λ k. let d = makes.does k in (same d.0, why d.1);
       left = same makes.left;

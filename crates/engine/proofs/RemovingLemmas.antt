@@ -32,6 +32,7 @@ use Rattle.database_model.specs.World.{World, documents_or_none, documents_of}
 use Rattle.engine.specs.Writing.{Makes, Writes}
 use Rattle.engine.specs.declared.delete.Taken.{Taken}
 use Rattle.engine.specs.declared.engine.Engine.{Engine}
+use Rattle.engine.proofs.Continuing.{continues_of}
 use Rattle.engine.proofs.Deleting.{left_same}
 use Rattle.engine.proofs.LostLemmas.{all_lost, all_there, taken_kept}
 use Rattle.engine.proofs.MakingLemmas.{makes_none, makes_written, performs_done, performs_refused, with_reply}
@@ -195,7 +196,7 @@ module _ {D : Type 0} (history : D → History) where
         → Performs history (run (world old)) (Ok d) old new
     delete_done new n d said many m = record {
       sound = m.sound;
-      goes = m.goes;
+      goes = continues_of history old new m.goes;
       start = m.start;
       does = λ k. (performs_done history (pair (codes "n") (total count) no_pairs) (planned old) (run (world old)) old new runs d
           (said ∙ ap (λ (x : ℕ). ok_reply (pair (codes "n") (total x) no_pairs)) (many k)) m).does k;

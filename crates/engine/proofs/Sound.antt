@@ -24,6 +24,7 @@ use Rattle.engine.specs.Performing.{DoesPlanned, Performs}
 use Rattle.opening.specs.Known.{Known}
 use Rattle.path.specs.declared.refusal.Refusal.{Refusal}
 use Rattle.path.specs.declared.refusal.Refusal.TheVariants as refusals
+use Rattle.engine.proofs.Continuing.{continues_of}
 use Rattle.engine.proofs.LawfulSteps.{Good, good_run}
 
 -- the file has the collections as the turn began, and a tree of those of now
@@ -111,7 +112,7 @@ module _ {D : Type 0} (history : D → History) (old new : Engine D) (planned : 
         (subst (λ (f : State D). HasState history f (turn_start old) (world old).collections) (sym file) h.file))
         (ap (λ (k : Known). k.start) told) lawful
         (λ rests. ap (λ (k : Known). k.start) told ∙ h.quiet (sym changes ∙ rests) ∙ sym (ap (λ (k : Known). k.now) told));
-    goes = subst (λ (f : State D). GoesFrom history old.file f) (sym file) (laws.goes_from_itself history old.file);
+    goes = continues_of history old new (subst (λ (f : State D). GoesFrom history old.file f) (sym file) (laws.goes_from_itself history old.file));
     start = ap (λ (k : Known). k.start) told;
     does = λ k. does_planned r runs;
     left = unchanged r runs;

@@ -36,6 +36,7 @@ use Rattle.engine.specs.declared.engine.Engine.{Engine}
 use Rattle.statements.specs.declared.statements.Ran.{Ran}
 use Rattle.statements.specs.declared.statements.Tally.{Tally}
 use Rattle.statements.specs.declared.statements.Write.{Write}
+use Rattle.engine.proofs.Continuing.{continues_of}
 use Rattle.engine.proofs.LawfulSteps.{entered_lawful}
 use Rattle.engine.proofs.MakingLemmas.{lawful_now, leads_planned, makes_none, makes_written, performs_done, performs_refused, planned_is, with_reply}
 use Rattle.engine.proofs.OnlyReading.{cause_from, now_same, reads_on, word_before}
@@ -207,7 +208,7 @@ module _ {D : Type 0} (history : D → History) (name : List ℕ) (ss : List Upd
       → Makes history (plan name ss now) (Ok tt) old new → Runs (Ok d) new
   done_makes new d replied makes = record {
     sound = makes.sound;
-    goes = makes.goes;
+    goes = continues_of history old new makes.goes;
     start = makes.start;
     does = λ k.
         let x = replied k in

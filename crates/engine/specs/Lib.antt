@@ -2,6 +2,7 @@ pub mod View
 pub mod Laws
 pub mod Durable
 pub mod Committing
+pub mod Continuing
 pub mod Opening
 pub mod Writing
 pub mod Looking

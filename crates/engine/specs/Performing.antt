@@ -4,7 +4,7 @@ use Rattle.bson.specs.Tree.{Pairs}
 use Rattle.commands.specs.Command as commands
 use Rattle.page.specs.History.{History, KeepsWord}
 use Rattle.path.specs.declared.refusal.Refusal.{Refusal}
-use Rattle.collections.specs.Calls.{GoesFrom}
+use Rattle.engine.specs.Continuing.{Continues}
 use Rattle.engine.specs.Durable.{disk_history, file_of, has_changes, IsSound}
 use Rattle.database_model.specs.Step.{answered}
 use Rattle.replies.specs.View.{with_ok}
@@ -39,7 +39,7 @@ DoesPlanned history planned (Err e) old new = (world new ≡ world old)
 pub record Performs {D : Type 0} (history : D → History) (planned : Result (World × Pairs) Refusal)
     (result : Result Pairs Refusal) (old new : Engine D) : Type 0 where
   pub sound : IsSound history new
-  pub goes : GoesFrom history (file_of old) (file_of new)
+  pub goes : Continues history old new
   pub start : turn_start new ≡ turn_start old
   pub does : KeepsWord (disk_history history new) → DoesPlanned history planned result old new
   pub left : OnErr result (world new ≡ world old)

@@ -2,9 +2,9 @@
 
 ghost use Rattle.std.specs.Prelude.{◌≡◌, ◌⊎◌, Ok, true, false, IfOk, IfErr};
 ghost use Rattle.page.specs.History.{KeepsWord};
-ghost use Rattle.collections.specs.Calls.{GoesFrom};
 ghost use Rattle.collections.specs.Marks.{Undoes};
 ghost use Rattle.engine.specs.Committing.{Commits};
+ghost use Rattle.engine.specs.Continuing.{Continues};
 ghost use Rattle.engine.specs.Opening.{IsOpened};
 ghost use Rattle.opening.specs.Refusing.{IsRefused};
 ghost use Rattle.engine.specs.Performing.{IsAdministrative, Performs};
@@ -178,7 +178,7 @@ impl<D: Disk> Engine<D> {
     pub fn execute(&mut self, connection: ConnId, body: &Document) -> Reply
         requires sound { IsSound D.history self.old }
         ensures sound { IsSound D.history self.new }
-        ensures goes { GoesFrom D.history (file_of self.old) (file_of self.new) }
+        ensures goes { Continues D.history self.old self.new }
         ensures answers { KeepsWord (disk_history D.history self.new)
             → Answers (FileCause D.history (file_of self.old) (file_of self.new))
             (world self.old) connection (Ok body.now) (world self.new) (reply_of result) }
@@ -264,7 +264,6 @@ impl<D: Disk> Engine<D> {
         ensures turn_start { turn_start self.new ≡ (world self.new).collections }
         ensures rests { has_changes self.new ≡ false }
         ensures rested { are_untouched (world self.new).cursors ≡ true }
-        ensures quiet { has_changes self.old ≡ false → file_of self.new ≡ file_of self.old }
     {
         if !self.is_changed {
             self.cursors.undo();
@@ -279,7 +278,8 @@ impl<D: Disk> Engine<D> {
         ensures sound { IsSound D.history self.new }
         ensures disk { disk_history D.history self.new ≡ disk_history D.history self.old }
         ensures running { is_stopped self.new ≡ is_stopped self.old }
-        ensures file { file_of self.new ≡ file_of self.old }
+        ensures generation { generation self.new ≡ generation self.old }
+        ensures takes { full_takes_of D.history self.new ≡ full_takes_of D.history self.old }
         ensures world { world self.new ≡ forget (world self.old) connection }
         ensures turn_start { turn_start self.new ≡ turn_start self.old }
         ensures has_changes { has_changes self.new ≡ has_changes self.old }
