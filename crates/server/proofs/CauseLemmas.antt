@@ -9,17 +9,17 @@ use Rattle.path.specs.declared.refusal.Refusal.TheVariants as refusals
 use Rattle.page.specs.History.{History, KeepsWord}
 use Rattle.page.specs.Crash.{GoesOn}
 use Rattle.roots.specs.declared.store.CommitFault.{CommitFault}
-use Rattle.collections.specs.Calls.{GoesFrom, HasWriteCause, IsTooLarge}
-use Rattle.collections.specs.State.{State}
-use Rattle.collections.specs.View as views
+use Rattle.collections.specs.Calls.{HasWriteCause, IsTooLarge}
 use Rattle.database_model.specs.World.{World, after_commit}
 use Rattle.database_model.specs.Step.{step, Answers}
 use Rattle.engine.specs.Committing as engines
 use Rattle.engine.specs.Committing.{Commits}
+use Rattle.engine.specs.Continuing.{Continues}
 use Rattle.engine.specs.Writing.{FileCause}
 use Rattle.engine.specs.Durable.{disk_history, file_of, full_takes_of, generation, has_changes, IsRunning, IsSound}
 use Rattle.engine.specs.declared.engine.Engine.{Engine}
 use Rattle.engine.specs.View.{world, turn_start}
+use Rattle.engine.proofs.Continuing.{continues_still}
 use Rattle.server.specs.Turn.{Call, Runs, calls}
 use Rattle.server.specs.declared.connection.Connection.{Connection}
 use Rattle.server.specs.Taking.{Serves}
@@ -128,25 +128,19 @@ module _ (beside other : World → Refusal → Type 0) (weaker : (planned : Worl
 
 -- ---- what the engine's calls do to the moment
 
-same_generation : {x y : ℕ} (a b : List ℕ) {s t : ℕ} → s ∷ x ∷ a ≡ t ∷ y ∷ b → x ≡ y
-same_generation a b e = cc
-
 one_more : (committed : Bool) (old new : ℕ) → new ≡ (if committed then old + 1 else old) → (old ≤ new) × (new ≤ old + 1)
 one_more true old new is = (omega (arith, is), omega (arith, is))
 one_more false old new is = (omega (arith, is), omega (arith, is))
 
 module _ {D : Type 0} (history : D → History) (old new : Engine D) where
-  -- a command commits nothing
-  pub goes_generation : GoesFrom history (file_of old) (file_of new) → generation new ≡ generation old
-  goes_generation goes = same_generation _ _ goes.stays.base
-
-  pub goes_follows : GoesFrom history (file_of old) (file_of new) → Follows (engine_moment history old) (engine_moment history new)
+  -- a command, which commits nothing
+  pub goes_follows : Continues history old new → Follows (engine_moment history old) (engine_moment history new)
   goes_follows goes = record {
-    word = goes.stays.reads.on.kept;
-    clock = goes.stays.reads.on.clock;
-    failures = λ k. (goes.frame k).failures;
-    takes = λ k. (goes.frame k).full_takes;
-    generation = omega (arith, goes_generation goes);
+    word = goes.reads.on.kept;
+    clock = goes.reads.on.clock;
+    failures = goes.reads.on.failures;
+    takes = goes.takes;
+    generation = omega (arith, goes.version);
   }
 
   -- the end of a turn, which may find no page
@@ -202,43 +196,52 @@ module _ {D : Type 0} (history : D → History) (old new : Engine D) where
         inr (inr (is, λ k. full_so (subst (λ (e : Refusal). HasWriteCause history planned.collections (file_of old) (file_of new) e) is (why k))))
 
 -- the commands of a turn, and its end
-pub turn_follows : {D : Type 0} (history : D → History) (old mid new : Engine D) → GoesFrom history (file_of old) (file_of mid)
+pub turn_follows : {D : Type 0} (history : D → History) (old mid new : Engine D) → Continues history old mid
     → FollowsInTurn (engine_moment history mid) (engine_moment history new)
     → FollowsInTurn (engine_moment history old) (engine_moment history new)
 turn_follows history old mid new goes end = (
   follows_further (engine_moment history old) (engine_moment history mid) (engine_moment history new) (goes_follows history old mid goes) end.0,
-  omega (arith, goes_generation history old mid goes, end.1),
+  omega (arith, goes.version, end.1),
 )
 
 -- Why a turn's commit finds no room, by the whole turn.
-pub room_ran_out : {D : Type 0} (history : D → History) (old mid new : Engine D) → GoesFrom history (file_of old) (file_of mid)
+pub room_ran_out : {D : Type 0} (history : D → History) (old mid new : Engine D) → Continues history old mid
     → KeepsWord (disk_history history mid)
     → (generation mid ≡ 2 ^ 64 - 1) ⊎ engines.FoundNoPage history mid new
     → ((engine_moment history old).generation ≡ 2 ^ 64 - 1) ⊎ FoundNoPage (engine_moment history old) (engine_moment history new)
-room_ran_out history old mid new goes k (inl most) = inl (sym (goes_generation history old mid goes) ∙ most)
-room_ran_out history old mid new goes k (inr (inl more)) = inr (inl (omega (arith, more, (goes.frame k).full_takes)))
+room_ran_out history old mid new goes k (inl most) = inl (sym goes.version ∙ most)
+room_ran_out history old mid new goes k (inr (inl more)) = inr (inl (omega (arith, more, goes.takes k)))
 room_ran_out history old mid new goes k (inr (inr most)) = inr (inr (omega (arith, most)))
 
 -- what the commands of a turn changed is committed
 pub commits_changes : {D : Type 0} (history : D → History) (old mid new : Engine D) (changed : Bool) → has_changes mid ≡ changed → IsSound history mid
-    → GoesFrom history (file_of old) (file_of mid)
+    → Continues history old mid
     → turn_start mid ≡ (world old).collections → world new ≡ after_commit (world mid)
     → generation new ≡ (if has_changes mid then generation mid + 1 else generation mid)
     → ((world new).collections ≡ (world old).collections) ⊎ (generation new ≡ generation old + 1)
 commits_changes history old mid new true moved sound goes start done version =
-    inr (version ∙ ap (λ (b : Bool). if b then generation mid + 1 else generation mid) moved ∙ ap (λ (n : ℕ). n + 1) (goes_generation history old mid goes))
+    inr (version ∙ ap (λ (b : Bool). if b then generation mid + 1 else generation mid) moved ∙ ap (λ (n : ℕ). n + 1) goes.version)
 commits_changes history old mid new false rests sound goes start done version =
     inl (ap (λ (w : World). w.collections) done ∙ sym (sound.quiet rests) ∙ start)
+
+-- a turn that changed nothing ends without a commit
+pub quiet_commit : {D : Type 0} (history : D → History) (mid new : Engine D) (result : Result (Unit {0}) CommitFault) → has_changes mid ≡ false
+    → Commits history result mid new → Continues history mid new
+quiet_commit history mid new result rests commits =
+    let quiet = commits.quiet rests in
+    let done = subst (λ (r : Result (Unit {0}) CommitFault). Commits history r mid new) quiet.0 commits in
+    continues_still history mid new quiet.1 (done.running (λ e. absurd cc))
+    (done.version ∙ ap (λ (b : Bool). if b then generation mid + 1 else generation mid) rests) (done.found (λ e. absurd cc))
 
 -- a turn that took no message ends without a call of the disk
 pub idle_commit : {D : Type 0} (history : D → History) (old mid new : Engine D) (result : Result (Unit {0}) CommitFault) → has_changes old ≡ false → mid ≡ old
     → Commits history result mid new
     → disk_history history new ≡ disk_history history old
-idle_commit {D = D} history old mid new result rests same commits =
-    ap (λ (f : State D). views.disk_history history f) (commits.quiet (ap has_changes same ∙ rests)).1 ∙ ap (disk_history history) same
+idle_commit history old mid new result rests same commits =
+    (commits.quiet (ap has_changes same ∙ rests)).1 ∙ ap (disk_history history) same
 
 -- the messages of a turn, by the causes of the whole turn
-module _ {D : Type 0} (history : D → History) (old mid new : Engine D) (goes : GoesFrom history (file_of old) (file_of mid))
+module _ {D : Type 0} (history : D → History) (old mid new : Engine D) (goes : Continues history old mid)
     (after : Follows (engine_moment history mid) (engine_moment history new)) where
   abbrev early : Beside
   early = IsCaused (engine_moment history old) (engine_moment history mid)

@@ -5,7 +5,6 @@ use Rattle.page.specs.History.{History, KeepsWord}
 use Rattle.page.specs.Crash.{GoesOn, LeavesOnly, LeavesNow}
 use Rattle.trusted_disk.specs.Trusting.{trusted_history}
 use Rattle.page.proofs.Moments.{goes_nowhere, goes_further, started, leaves_further, leaves_weaker, reads_moments}
-use Rattle.collections.specs.Calls.{GoesFrom}
 use Rattle.collections.specs.View as views
 use Rattle.collections.proofs.LawLemmas.{leaves_start}
 use Rattle.database_model.specs.World.{World, after_commit, forget}
@@ -13,6 +12,7 @@ use Rattle.index.specs.State.{Collection}
 use Rattle.op_msg.specs.declared.fault.FrameFault.{FrameFault}
 use Rattle.server.specs.Turn.{forget_all}
 use Rattle.opening.specs.Holding.{Holds}
+use Rattle.engine.specs.Continuing.{Continues}
 use Rattle.engine.specs.Durable as engines
 use Rattle.engine.specs.View.{world, turn_start}
 use Rattle.engine.specs.declared.engine.Engine.{Engine}
@@ -52,11 +52,11 @@ Either old new image = Holds image (world old).collections ⊎ Holds image (worl
 -- the messages of a turn, which only read the disk, and then its end
 module _ {D : Type 0} (history : D → History) (old mid new : Engine D) (sound : engines.IsSound history old) (running : engines.IsRunning old)
     (idle : turn_start old ≡ (world old).collections)
-    (goes : GoesFrom history (engines.file_of old) (engines.file_of mid)) where
+    (goes : Continues history old mid) where
   while_read : LeavesOnly (engines.disk_history history old) (engines.disk_history history mid) (Either old new)
   while_read k image left =
-      inl (engine_holds history old sound idle running (goes.stays.reads.on.kept k) image
-      (reads_moments (engines.disk_history history old) (engines.disk_history history mid) goes.stays.reads k image left))
+      inl (engine_holds history old sound idle running (goes.reads.on.kept k) image
+      (reads_moments (engines.disk_history history old) (engines.disk_history history mid) goes.reads k image left))
 
   -- a turn that is undone without the disk
   pub unwritten : engines.disk_history history new ≡ engines.disk_history history mid
@@ -65,11 +65,11 @@ module _ {D : Type 0} (history : D → History) (old mid new : Engine D) (sound 
 
   pub unwritten_on : engines.disk_history history new ≡ engines.disk_history history mid
       → GoesOn (engines.disk_history history old) (engines.disk_history history new)
-  unwritten_on same = subst (λ (h : History). GoesOn (engines.disk_history history old) h) (sym same) goes.stays.reads.on
+  unwritten_on same = subst (λ (h : History). GoesOn (engines.disk_history history old) h) (sym same) goes.reads.on
 
   module _ (on : GoesOn (engines.disk_history history mid) (engines.disk_history history new)) where
     pub then_on : GoesOn (engines.disk_history history old) (engines.disk_history history new)
-    then_on = goes_further (engines.disk_history history old) (engines.disk_history history mid) (engines.disk_history history new) goes.stays.reads.on on
+    then_on = goes_further (engines.disk_history history old) (engines.disk_history history mid) (engines.disk_history history new) goes.reads.on on
 
     further : LeavesOnly (engines.disk_history history mid) (engines.disk_history history new) (Either old new)
         → LeavesOnly (engines.disk_history history old) (engines.disk_history history new) (Either old new)
@@ -106,7 +106,7 @@ module _ {D : Type 0} (history : D → History) (old mid new : Engine D) (sound 
       where
         both_ways : (b : Bool) → b ≡ true → b ≡ false → ⊥
         both_ways b t f = absurd cc
-    failed_further k same (inr failed) = omega (arith, goes.stays.reads.on.failures (on.kept k), failed)
+    failed_further k same (inr failed) = omega (arith, goes.reads.on.failures (on.kept k), failed)
 
 -- a disk that stays as it is goes on
 pub on_same : (old new : History) → new ≡ old → GoesOn old new
@@ -138,16 +138,20 @@ unmoved history old new sound same = record {
   idle = λ _. same;
 }
 
--- a call that leaves the file as it is takes no time
-pub same_engine_moment : {D : Type 0} (history : D → History) (old new : Engine D) → engines.file_of new ≡ engines.file_of old
+-- a call that leaves the disk and the counts as they are takes no time
+pub still_moment : {D : Type 0} (history : D → History) (old new : Engine D) → engines.disk_history history new ≡ engines.disk_history history old
+    → engines.generation new ≡ engines.generation old → engines.full_takes_of history new ≡ engines.full_takes_of history old
     → engine_moment history new ≡ engine_moment history old
-same_engine_moment history old new file = λ i. record {
-  keeps_word = (views.disk_history history (file i)).keeps_word;
-  clock = (views.disk_history history (file i)).clock;
-  failures = (views.disk_history history (file i)).failures;
-  generation = views.generation (file i);
-  full_takes = (views.pages_of history (file i)).full_takes;
+still_moment history old new disk generation takes = λ i. record {
+  keeps_word = (disk i).keeps_word;
+  clock = (disk i).clock;
+  failures = (disk i).failures;
+  generation = generation i;
+  full_takes = takes i;
 }
 
+-- so does one that leaves the file as it is
 pub same_moment : {D : Type 0} (history : D → History) (old new : Core D) → file_of new ≡ file_of old → moment_of history new ≡ moment_of history old
-same_moment history old new file = same_engine_moment (trusted_history history) old.engine new.engine file
+same_moment history old new file =
+    still_moment (trusted_history history) old.engine new.engine (λ i. views.disk_history (trusted_history history) (file i))
+    (λ i. views.generation (file i)) (λ i. (views.pages_of (trusted_history history) (file i)).full_takes)

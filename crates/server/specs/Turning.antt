@@ -3,14 +3,14 @@ use Rattle.std.specs.Prelude.{◌≡◌, ◌≢◌, ◌⊎◌, ◌+◌, ◌<◌,
 use Rattle.page.specs.History.{History, KeepsWord}
 use Rattle.page.specs.Crash.{GoesOn, LeavesOnly, LeavesNow}
 use Rattle.trusted_disk.specs.Trusting.{trusted_history}
-use Rattle.collections.specs.Calls.{GoesFrom}
+use Rattle.engine.specs.Continuing.{Continues}
 use Rattle.opening.specs.Holding.{Holds}
 use Rattle.server.specs.Turn.{calls, connections_after, HandsOut, Turns, TurnFails, ChangesNothing}
 use Rattle.server.specs.Moment.{HoldsEither, FollowsInTurn}
 use Rattle.server.specs.Causes.{IsCaused, OfAnyCause}
 use Rattle.server.specs.History.{RoomRanOut}
 use Rattle.server.specs.View.{state, out_of}
-use Rattle.server.specs.Durable.{disk_history, is_stopped, IsRunning, file_of, IsSound}
+use Rattle.server.specs.Durable.{disk_history, is_stopped, IsRunning, IsSound}
 use Rattle.server.specs.Durable.{collections_of, moment_of}
 use Rattle.server.specs.declared.turn.Core.{Core}
 use Rattle.server.specs.declared.turn.TurnOut.{TurnOut}
@@ -60,7 +60,6 @@ pub record TakesTurn {D : Type 0} (history : D → History) (old : Core D)
   -- where it takes no message, it makes no call of the disk
   pub void : calls (state old).connections ≡ []
       → disk_history history new ≡ disk_history history old
-  -- where its messages change nothing, it only reads the disk, and takes no page into its tree or
-  -- out of it
+  -- where its messages change nothing, it only reads the disk, and commits nothing
   pub quiet : KeepsWord (disk_history history new) → ChangesNothing OfAnyCause (state old)
-      → GoesFrom (trusted_history history) (file_of old) (file_of new)
+      → Continues (trusted_history history) old.engine new.engine

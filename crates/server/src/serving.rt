@@ -7,8 +7,8 @@ ghost use Rattle.op_msg.specs.Request.{reply_bytes};
 ghost use Rattle.database_model.specs.World.{are_untouched};
 ghost use Rattle.replies.specs.View.{answer_of, IsSendable};
 ghost use Rattle.engine.specs.View.{world, turn_start, reply_of};
-ghost use Rattle.collections.specs.Calls.{GoesFrom};
-ghost use Rattle.engine.specs.Durable.{disk_history, file_of, generation, has_changes, is_stopped, IsRunning, IsSound};
+ghost use Rattle.engine.specs.Continuing.{Continues};
+ghost use Rattle.engine.specs.Durable.{disk_history, generation, has_changes, is_stopped, IsRunning, IsSound};
 ghost use Rattle.opening.specs.Holding.{Holds};
 ghost use Rattle.path.specs.declared.refusal.Refusal.TheVariants.{OutOfMemory};
 ghost use Rattle.std.specs.Prelude.{Result};
@@ -74,7 +74,7 @@ fn answer<D: Disk>(engine: &mut Engine<D>, id: ConnId, request: &Request) -> Rep
     requires sound { IsSound D.history engine.old }
     requires running { IsRunning engine.old }
     ensures sound { IsSound D.history engine.new }
-    ensures goes { GoesFrom D.history (file_of engine.old) (file_of engine.new) }
+    ensures goes { Continues D.history engine.old engine.new }
     ensures running { is_stopped engine.new ≡ is_stopped engine.old }
     ensures answer { KeepsWord (disk_history D.history engine.new)
         → IsAnswer (IsCaused (engine_moment D.history engine.old)
@@ -104,7 +104,7 @@ fn serve_connection<D: Disk>(
     requires sound { IsSound D.history engine.old }
     requires running { IsRunning engine.old }
     ensures sound { IsSound D.history engine.new }
-    ensures goes { GoesFrom D.history (file_of engine.old) (file_of engine.new) }
+    ensures goes { Continues D.history engine.old engine.new }
     ensures running { is_stopped engine.new ≡ is_stopped engine.old }
     ensures serves { Serves (KeepsWord (disk_history D.history engine.new))
         (IsCaused (engine_moment D.history engine.old) (engine_moment D.history engine.new))
@@ -142,7 +142,7 @@ fn serve_connections<D: Disk>(
     requires sound { IsSound D.history engine.old }
     requires running { IsRunning engine.old }
     ensures sound { IsSound D.history engine.new }
-    ensures goes { GoesFrom D.history (file_of engine.old) (file_of engine.new) }
+    ensures goes { Continues D.history engine.old engine.new }
     ensures running { is_stopped engine.new ≡ is_stopped engine.old }
     ensures serves { Serves (KeepsWord (disk_history D.history engine.new))
         (IsCaused (engine_moment D.history engine.old) (engine_moment D.history engine.new))
@@ -208,7 +208,7 @@ pub(crate) fn run_messages<D: Disk>(
         ⊎ (generation engine.new ≡ generation engine.old + 1)) }
     ensures quiet { KeepsWord (disk_history D.history engine.new)
         → ChangeNothing OfAnyCause (world engine.old) (calls connections.old.items)
-        → GoesFrom D.history (file_of engine.old) (file_of engine.new) }
+        → Continues D.history engine.old engine.new }
     ensures void { calls connections.old.items ≡ []
         → disk_history D.history engine.new ≡ disk_history D.history engine.old }
 {
@@ -236,7 +236,7 @@ pub(crate) fn forget_closed<D: Disk>(engine: &mut Engine<D>, closed: &[(ConnId, 
     ensures sound { IsSound D.history engine.new }
     ensures disk { disk_history D.history engine.new ≡ disk_history D.history engine.old }
     ensures running { is_stopped engine.new ≡ is_stopped engine.old }
-    ensures file { file_of engine.new ≡ file_of engine.old }
+    ensures moment { engine_moment D.history engine.new ≡ engine_moment D.history engine.old }
     ensures world { world engine.new ≡ forget_all (world engine.old) closed.now }
     ensures idle { turn_start engine.new ≡ (world engine.new).collections }
     ensures rested { are_untouched (world engine.new).cursors ≡ true }

@@ -68,7 +68,7 @@ impl<D: Disk> Core<D> {
     ghost use Rattle.server.specs.ServerState.{fed, ended, find_connection, is_closed_in};
     ghost use Rattle.server.specs.Turn.{is_waiting_in};
     ghost use Rattle.server.specs.View.{state};
-    ghost use Rattle.server.specs.Durable.{disk_history, is_stopped, file_of, IsSound};
+    ghost use Rattle.server.specs.Durable.{disk_history, is_stopped, file_of, moment_of, IsSound};
     ghost use Rattle.server.specs.Opening.{IsOpened, inner_history};
     ghost use Rattle.server.specs.Turning.{TakesTurn};
 
@@ -149,7 +149,7 @@ impl<D: Disk> Core<D> {
         ensures sound { IsSound D.history self.new }
         ensures disk { disk_history D.history self.new ≡ disk_history D.history self.old }
         ensures running { is_stopped self.new ≡ is_stopped self.old }
-        ensures file { file_of self.new ≡ file_of self.old }
+        ensures moment { moment_of D.history self.new ≡ moment_of D.history self.old }
         ensures state { state self.new ≡ ended (state self.old) id }
     {
         self.engine.gone(id);

@@ -9,7 +9,7 @@ use Rattle.engine.specs.View.{world, reply_of}
 use Rattle.engine.specs.Durable.{file_of}
 use Rattle.database_model.specs.Step.{Answers, WroteNothing}
 use Rattle.engine.specs.Writing.{FileCause}
-use Rattle.collections.proofs.LawLemmas.{goes_from_itself}
+use Rattle.engine.proofs.Continuing.{continues_itself}
 use Rattle.server.specs.Causes.{IsCaused}
 use Rattle.server.specs.Durable.{engine_moment}
 use Rattle.server.proofs.CauseLemmas.{answers_weaker, file_caused}
@@ -39,7 +39,7 @@ returns-in-Err-clause-answer g c k read gives =
     (subst (λ body. Gives bson_faults.Memory (λ d. d) body read) c.in-Err.is gives)
 
 pub returns-in-Err-clause-goes : goal.returns-in-Err-clause-goes
-returns-in-Err-clause-goes g c = goes_from_itself g.D.Disk.history (file_of c.args.engine.now)
+returns-in-Err-clause-goes g c = continues_itself g.D.Disk.history c.args.engine.now
 
 pub returns-in-Ok-clause-quiet : goal.returns-in-Ok-clause-quiet
 returns-in-Ok-clause-quiet g c = λ k read gives wrote.

@@ -2,6 +2,7 @@ use Rattle.std.proofs.Common.{sym, ap, ◌∙◌}
 use Rattle.engine.specs.View.{world}
 use Rattle.database_model.specs.World.{World, forget}
 use Rattle.server.proofs.ConnectionsServed.{forget_all_more}
+use Rattle.server.proofs.Images.{still_moment}
 use Rattle.server.proofs.serving.forget_closed.Goals as goal
 
 pub closed-preserved : goal.closed-preserved
@@ -15,7 +16,7 @@ closed-preserved g c =
       sound = call.ensures.sound;
       disk = call.ensures.disk ∙ inv.disk;
       running = call.ensures.running ∙ inv.running;
-      file = call.ensures.file ∙ inv.file;
+      moment = still_moment g.D.Disk.history c.closed.engine call.new.self call.ensures.disk call.ensures.generation call.ensures.takes ∙ inv.moment;
       world_is = call.ensures.world ∙ (λ k. forget (inv.world_is k) (c.closed-item.is k).0)
           ∙ sym (forget_all_more (world c.args.engine.now) fs i d c.closed-test.true);
       idle = call.ensures.turn_start ∙ inv.idle ∙ sym (ap (λ (w : World). w.collections) call.ensures.world);

@@ -10,16 +10,15 @@ use Rattle.engine.specs.declared.engine.Engine.{Engine}
 use Rattle.index.specs.State.{Collection}
 use Rattle.op_msg.specs.Request.{respelled}
 use Rattle.page.specs.History.{KeepsWord}
-use Rattle.collections.specs.Calls.{GoesFrom}
-use Rattle.collections.specs.State.{State}
-use Rattle.engine.specs.Durable.{disk_history, file_of, has_changes}
+use Rattle.engine.specs.Durable.{disk_history, has_changes}
+use Rattle.engine.proofs.Continuing.{continues_further, continues_still}
 use Rattle.server.specs.declared.connection.Connection.{Connection}
 use Rattle.server.specs.Causes.{OfAnyCause}
 use Rattle.server.specs.Turn.{ChangeNothing, calls, frames_of, refused_frames}
 use Rattle.server.specs.Taking.{HaveRoom, full_body, respelled_frames}
 use Rattle.server.specs.View.{frames_in}
 use Rattle.path.specs.declared.refusal.Refusal.TheVariants.{OutOfMemory, Full}
-use Rattle.server.proofs.CauseLemmas.{commit_follows, undo_follows, turn_follows, commits_changes, idle_commit, room_ran_out, runs_over}
+use Rattle.server.proofs.CauseLemmas.{commit_follows, undo_follows, turn_follows, commits_changes, idle_commit, quiet_commit, room_ran_out, runs_over}
 use Rattle.server.proofs.Images.{unwritten, unwritten_on, then_on, moved, moved_back, failed_further, on_same}
 use Rattle.server.proofs.Refusing.{refused_room, refused_respelled, whole}
 use Rattle.server.proofs.serving.run_messages.Goals as goal
@@ -76,13 +75,14 @@ returns-then-not-serve_connections-clause-any_moment g c =
     unwritten history e0 e1 e2 c.requires.sound c.requires.running c.requires.idle serve.goes c.undo_turn.ensures.disk
 
 pub returns-then-not-serve_connections-clause-quiet : goal.returns-then-not-serve_connections-clause-quiet
-returns-then-not-serve_connections-clause-quiet g c k nothing =
-    let D = g.row.D.Denot in
-    let serve = c.serve_connections.ensures in
-    let taken : c.deref_mut.result.now ≡ c.args.connections.now.items = search rules in
-    let same = serve.quiet (subst KeepsWord c.undo_turn.ensures.disk k)
-    (subst (λ (ls : List Connection). ChangeNothing OfAnyCause (world c.args.engine.now) (calls ls)) (sym taken) nothing) in
-    subst (λ (f : State D). GoesFrom g.D.Disk.history (file_of c.args.engine.now) f) (sym (c.undo_turn.ensures.quiet (same ∙ c.requires.rests))) serve.goes
+returns-then-not-serve_connections-clause-quiet g c _ _ =
+    let history = g.D.Disk.history in
+    let e0 = c.args.engine.now in
+    let e1 = c.serve_connections.new.engine in
+    let e2 = c.undo_turn.new.self in
+    let undone = c.undo_turn.ensures in
+    continues_further history e0 e1 e2 c.serve_connections.ensures.goes
+    (continues_still history e1 e2 undone.disk undone.running undone.generation undone.takes)
 
 pub returns-in-Ok-clause-settles : goal.returns-in-Ok-clause-settles
 returns-in-Ok-clause-settles g c =
@@ -214,12 +214,13 @@ returns-in-Ok-clause-running g c =
 
 pub returns-in-Ok-clause-quiet : goal.returns-in-Ok-clause-quiet
 returns-in-Ok-clause-quiet g c k nothing =
-    let D = g.row.D.Denot in
     let serve = c.serve_connections.ensures in
     let taken : c.deref_mut.result.now ≡ c.args.connections.now.items = search rules in
     let same = serve.quiet (c.commit_turn.ensures.on.kept k)
     (subst (λ (ls : List Connection). ChangeNothing OfAnyCause (world c.args.engine.now) (calls ls)) (sym taken) nothing) in
-    subst (λ (f : State D). GoesFrom g.D.Disk.history (file_of c.args.engine.now) f) (sym (c.commit_turn.ensures.quiet (same ∙ c.requires.rests)).1) serve.goes
+    continues_further g.D.Disk.history c.args.engine.now c.serve_connections.new.engine c.commit_turn.new.self serve.goes
+    (quiet_commit g.D.Disk.history c.serve_connections.new.engine c.commit_turn.new.self c.commit_turn.result (same ∙ c.requires.rests)
+    c.commit_turn.ensures)
 
 pub returns-in-Err-Memory-clause-on : goal.returns-in-Err-Memory-clause-on
 returns-in-Err-Memory-clause-on g c =
@@ -246,12 +247,13 @@ returns-in-Err-Memory-clause-running g c =
 
 pub returns-in-Err-Memory-clause-quiet : goal.returns-in-Err-Memory-clause-quiet
 returns-in-Err-Memory-clause-quiet g c k nothing =
-    let D = g.row.D.Denot in
     let serve = c.serve_connections.ensures in
     let taken : c.deref_mut.result.now ≡ c.args.connections.now.items = search rules in
     let same = serve.quiet (c.commit_turn.ensures.on.kept k)
     (subst (λ (ls : List Connection). ChangeNothing OfAnyCause (world c.args.engine.now) (calls ls)) (sym taken) nothing) in
-    subst (λ (f : State D). GoesFrom g.D.Disk.history (file_of c.args.engine.now) f) (sym (c.commit_turn.ensures.quiet (same ∙ c.requires.rests)).1) serve.goes
+    continues_further g.D.Disk.history c.args.engine.now c.serve_connections.new.engine c.commit_turn.new.self serve.goes
+    (quiet_commit g.D.Disk.history c.serve_connections.new.engine c.commit_turn.new.self c.commit_turn.result (same ∙ c.requires.rests)
+    c.commit_turn.ensures)
 
 pub returns-in-Err-Full-clause-on : goal.returns-in-Err-Full-clause-on
 returns-in-Err-Full-clause-on g c =
@@ -278,12 +280,13 @@ returns-in-Err-Full-clause-running g c =
 
 pub returns-in-Err-Full-clause-quiet : goal.returns-in-Err-Full-clause-quiet
 returns-in-Err-Full-clause-quiet g c k nothing =
-    let D = g.row.D.Denot in
     let serve = c.serve_connections.ensures in
     let taken : c.deref_mut.result.now ≡ c.args.connections.now.items = search rules in
     let same = serve.quiet (c.commit_turn.ensures.on.kept k)
     (subst (λ (ls : List Connection). ChangeNothing OfAnyCause (world c.args.engine.now) (calls ls)) (sym taken) nothing) in
-    subst (λ (f : State D). GoesFrom g.D.Disk.history (file_of c.args.engine.now) f) (sym (c.commit_turn.ensures.quiet (same ∙ c.requires.rests)).1) serve.goes
+    continues_further g.D.Disk.history c.args.engine.now c.serve_connections.new.engine c.commit_turn.new.self serve.goes
+    (quiet_commit g.D.Disk.history c.serve_connections.new.engine c.commit_turn.new.self c.commit_turn.result (same ∙ c.requires.rests)
+    c.commit_turn.ensures)
 
 pub returns-in-Err-Device-clause-on : goal.returns-in-Err-Device-clause-on
 returns-in-Err-Device-clause-on g c =
@@ -306,12 +309,13 @@ returns-in-Err-Device-clause-any_moment g c =
 
 pub returns-in-Err-Device-clause-quiet : goal.returns-in-Err-Device-clause-quiet
 returns-in-Err-Device-clause-quiet g c k nothing =
-    let D = g.row.D.Denot in
     let serve = c.serve_connections.ensures in
     let taken : c.deref_mut.result.now ≡ c.args.connections.now.items = search rules in
     let same = serve.quiet (c.commit_turn.ensures.on.kept k)
     (subst (λ (ls : List Connection). ChangeNothing OfAnyCause (world c.args.engine.now) (calls ls)) (sym taken) nothing) in
-    subst (λ (f : State D). GoesFrom g.D.Disk.history (file_of c.args.engine.now) f) (sym (c.commit_turn.ensures.quiet (same ∙ c.requires.rests)).1) serve.goes
+    continues_further g.D.Disk.history c.args.engine.now c.serve_connections.new.engine c.commit_turn.new.self serve.goes
+    (quiet_commit g.D.Disk.history c.serve_connections.new.engine c.commit_turn.new.self c.commit_turn.result (same ∙ c.requires.rests)
+    c.commit_turn.ensures)
 
 pub returns-in-Err-Device-clause-stops : goal.returns-in-Err-Device-clause-stops
 returns-in-Err-Device-clause-stops g c _ =

@@ -2,8 +2,8 @@ use Rattle.std.proofs.Common.{◌≡◌, ℕ, List, [], ◌∷◌, ◌++◌, sym
 use Rattle.std.specs.Prelude.{Bool, true, false}
 use Rattle.engine.specs.View.{world, reply_of}
 use Rattle.page.specs.History.{KeepsWord}
-use Rattle.engine.specs.Durable.{disk_history, file_of, has_changes}
-use Rattle.collections.proofs.LawLemmas.{goes_from_itself}
+use Rattle.engine.specs.Durable.{disk_history, has_changes}
+use Rattle.engine.proofs.Continuing.{continues_itself}
 use Rattle.server.specs.Causes.{IsCaused, OfAnyCause}
 use Rattle.server.specs.Durable.{engine_moment}
 use Rattle.server.proofs.CauseLemmas.{any_cause}
@@ -105,7 +105,7 @@ returns-in-Ok-clause-quiet g c = λ k.
     c.in-Call.ensures.taken (c.answer-reply.ensures.answer k) (c.answer-reply.ensures.quiet k)
 
 pub returns-in_default-clause-goes : goal.returns-in_default-clause-goes
-returns-in_default-clause-goes g c = goes_from_itself g.D.Disk.history (file_of c.args.engine.now)
+returns-in_default-clause-goes g c = continues_itself g.D.Disk.history c.args.engine.now
 
 pub returns-then-request-clause-idle : goal.returns-then-request-clause-idle
 returns-then-request-clause-idle g c none =

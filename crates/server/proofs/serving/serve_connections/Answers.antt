@@ -1,8 +1,8 @@
 use Rattle.std.proofs.Common.{◌≡◌, ℕ, suc, ◌+◌, List, ◌∷◌, ◌++◌, drop-cons, take, drop, set, get_or, ◌&&◌, sym, ◌∙◌, ap, subst, arith}
 use Rattle.engine.specs.View.{world}
 use Rattle.page.specs.History.{KeepsWord}
-use Rattle.engine.specs.Durable.{disk_history, file_of}
-use Rattle.collections.proofs.LawLemmas.{goes_further}
+use Rattle.engine.specs.Durable.{disk_history}
+use Rattle.engine.proofs.Continuing.{continues_further}
 use Rattle.server.specs.Causes.{IsCaused, OfAnyCause}
 use Rattle.server.specs.Durable.{engine_moment}
 use Rattle.server.specs.Moment.{Moment, Follows}
@@ -37,7 +37,7 @@ connections-preserved g c =
     ap (λ (y : Connection). calls (take i first) ++ call_at y (front_of y)) s.same ∙ sym (calls_more first i x s.within) in
     record {
       sound = call.ensures.sound;
-      goes = goes_further history (file_of c.args.engine.now) (file_of c.connections.engine) (file_of call.new.engine) inv.goes call.ensures.goes;
+      goes = continues_further history c.args.engine.now c.connections.engine call.new.engine inv.goes call.ensures.goes;
       running = call.ensures.running ∙ inv.running;
       serves = subst
           (λ (cs : List Call). Serves word_after (IsCaused start end) cs (world c.args.engine.now) (world call.new.engine) (c.connections.all && call.result)
@@ -46,7 +46,7 @@ connections-preserved g c =
           (world call.new.engine) c.connections.all call.result (frames_in c.args.frames.now.items) (frames_in c.connections.frames.items)
           (frames_in call.new.frames.items)
           (serves_weaker (IsCaused start middle) (IsCaused start end)
-          (caused_wider start start middle end (follows_itself start) before after) word_after word_before call.ensures.goes.stays.reads.on.kept
+          (caused_wider start start middle end (follows_itself start) before after) word_after word_before call.ensures.goes.reads.on.kept
           (calls (take i first)) (world c.args.engine.now) (world c.connections.engine) c.connections.all (frames_in c.args.frames.now.items)
           (frames_in c.connections.frames.items) inv.serves)
           (serves_weaker (IsCaused middle end) (IsCaused start end) (caused_wider start middle end end before after (follows_itself end)) word_after word_after
@@ -58,7 +58,7 @@ connections-preserved g c =
       turn_start = call.ensures.turn_start ∙ inv.turn_start;
       idle = λ none. call.ensures.idle (none_next (calls (take i first)) (call_at x (front_of x)) (none_more first (i + 1) none more)) ∙ inv.idle none;
       quiet = λ k h.
-          let so_far = inv.quiet (call.ensures.goes.stays.reads.on.kept k) h in
+          let so_far = inv.quiet (call.ensures.goes.reads.on.kept k) h in
           let served = call.ensures.serves in
           let here : drop i first ≡ x ∷ drop (i + 1) first = drop-cons first i x s.within ∙ (λ j. sym s.same j ∷ drop (sym next j) first) in
           let rest = subst (ChangeNothing OfAnyCause (world c.connections.engine)) (ap calls here) so_far.1 in

@@ -1,8 +1,8 @@
 use Rattle.std.proofs.Common.{◌≡◌, [], take, drop}
 use Rattle.engine.specs.View.{world, turn_start}
 use Rattle.page.specs.History.{KeepsWord}
-use Rattle.engine.specs.Durable.{disk_history, file_of, has_changes, is_stopped, IsSound}
-use Rattle.collections.specs.Calls.{GoesFrom}
+use Rattle.engine.specs.Continuing.{Continues}
+use Rattle.engine.specs.Durable.{disk_history, has_changes, is_stopped, IsSound}
 use Rattle.server.specs.Causes.{IsCaused, OfAnyCause}
 use Rattle.server.specs.Durable.{engine_moment}
 use Rattle.server.specs.Turn.{calls, connections_taken, ChangeNothing}
@@ -13,7 +13,7 @@ use Rattle.server.proofs.serving.serve_connections.Given as goal
 abbrev pub invariant-connections : goal.invariant-connections
 invariant-connections g l = record {
   sound : IsSound g.D.Disk.history l.engine;
-  goes : GoesFrom g.D.Disk.history (file_of l.initial.engine) (file_of l.engine);
+  goes : Continues g.D.Disk.history l.initial.engine l.engine;
   running : is_stopped l.engine ≡ is_stopped l.initial.engine;
   serves : Serves (KeepsWord (disk_history g.D.Disk.history l.engine))
       (IsCaused (engine_moment g.D.Disk.history l.initial.engine) (engine_moment g.D.Disk.history l.engine))

@@ -64,7 +64,7 @@ pub returns-in-Gone-clause-does : goal.returns-in-Gone-clause-does
 returns-in-Gone-clause-does g c =
     gone_on c.args.step.now c.in-Gone.id c.args.out.now (instant_of g.D.Disk.history c.args.self.now)
     (instant_of g.D.Disk.history c.gone.new.self) c.in-Gone.is c.gone.ensures.state
-    (same_moment g.D.Disk.history c.args.self.now c.gone.new.self c.gone.ensures.file)
+    c.gone.ensures.moment
 
 pub returns-in-Gone-clause-disk : goal.returns-in-Gone-clause-disk
 returns-in-Gone-clause-disk g c = unmoved g.D.Disk.history c.args.self.now c.gone.new.self c.requires.sound c.gone.ensures.disk
@@ -133,5 +133,5 @@ returns-in-Ok-clause-moment g c =
 
 pub returns-in-Gone-clause-moment : goal.returns-in-Gone-clause-moment
 returns-in-Gone-clause-moment g c =
-    subst (FollowsInTurn (moment_of g.D.Disk.history c.args.self.now)) (sym (same_moment g.D.Disk.history c.args.self.now c.gone.new.self c.gone.ensures.file))
+    subst (FollowsInTurn (moment_of g.D.Disk.history c.args.self.now)) (sym c.gone.ensures.moment)
     (in_turn_itself (moment_of g.D.Disk.history c.args.self.now))

@@ -1,7 +1,9 @@
 use Rattle.std.proofs.Common.{ap, sym, ◌∙◌}
+use Rattle.trusted_disk.specs.Trusting.{trusted_history}
 use Rattle.database_model.specs.World.{World}
 use Rattle.server.specs.ServerState.{are_ascending}
 use Rattle.server.proofs.Ascending.{drop_ascends}
+use Rattle.server.proofs.Images.{still_moment}
 use Rattle.server.proofs.turn.Core.gone.Goals as goal
 
 pub returns-clause-sound : goal.returns-clause-sound
@@ -12,3 +14,8 @@ returns-clause-sound g c = record {
   rests = c.gone.ensures.has_changes ∙ c.requires.sound.rests;
   ascending = ap are_ascending c.end_connection.ensures ∙ drop_ascends c.args.self.now.connections.items c.args.id c.requires.sound.ascending;
 }
+
+pub returns-clause-moment : goal.returns-clause-moment
+returns-clause-moment g c =
+    still_moment (trusted_history g.D.Disk.history) c.args.self.now.engine c.gone.new.self c.gone.ensures.disk c.gone.ensures.generation
+    c.gone.ensures.takes

@@ -8,13 +8,9 @@ use Rattle.server.specs.History.{RoomRanOut}
 use Rattle.server.specs.Moment.{Moment, FollowsInTurn}
 use Rattle.page.specs.History.{KeepsWord}
 use Rattle.trusted_disk.specs.Trusting.{trusted_history}
-use Rattle.trusted_disk.specs.declared.disk.TrustedDisk.{TrustedDisk}
-use Rattle.collections.specs.Calls.{GoesFrom}
-use Rattle.collections.specs.State.{State}
-use Rattle.collections.specs.View as views
 use Rattle.database_model.specs.World.{World}
-use Rattle.collections.proofs.LawLemmas.{goes_from_itself}
-use Rattle.server.specs.Durable.{engine_moment, moment_of, file_of, is_stopped}
+use Rattle.engine.proofs.Continuing.{continues_further, continues_itself, continues_still}
+use Rattle.server.specs.Durable.{engine_moment, moment_of, is_stopped}
 use Rattle.server.specs.declared.turn.TurnFault.TheVariants as turns
 use Rattle.server.specs.Turn.{Cut, TurnFails, Runs, calls, faults, forget_all, connections_taken}
 use Rattle.server.specs.declared.connection.Connection.{Connection}
@@ -22,7 +18,7 @@ use Rattle.server.specs.Taking.{EndsTurn, closed_connections, faults_in}
 use Rattle.server.specs.View.{state, frames_in}
 use Rattle.server.specs.ServerState.{ServerState, are_ascending}
 use Rattle.server.proofs.Ascending.{taken_ascends, after_ascends}
-use Rattle.server.proofs.Images.{engine_holds, stays, forgotten, forget_all_state, same_engine_moment}
+use Rattle.server.proofs.Images.{engine_holds, stays, forgotten, forget_all_state}
 use Rattle.server.proofs.CauseLemmas.{in_turn_itself}
 use Rattle.server.proofs.ConnectionsServed.{all_closed}
 use Rattle.server.proofs.Refusing.{whole}
@@ -66,7 +62,7 @@ returns-then-is_stopped g c = record {
   moment = in_turn_itself (moment_of g.D.Disk.history c.args.self.now);
   commits = tt;
   void = λ _. refl;
-  quiet = λ _ _. goes_from_itself (trusted_history g.D.Disk.history) (file_of c.args.self.now);
+  quiet = λ _ _. continues_itself (trusted_history g.D.Disk.history) c.args.self.now.engine;
 }
 
 pub returns-in_err-refusals : goal.returns-in_err-refusals
@@ -88,7 +84,7 @@ returns-in_err-refusals g c = record {
   moment = in_turn_itself (moment_of g.D.Disk.history c.args.self.now);
   commits = search rules;
   void = λ _. refl;
-  quiet = λ _ _. goes_from_itself (trusted_history g.D.Disk.history) (file_of c.args.self.now);
+  quiet = λ _ _. continues_itself (trusted_history g.D.Disk.history) c.args.self.now.engine;
 }
 
 pub returns-in_default : goal.returns-in_default
@@ -156,7 +152,7 @@ returns g c =
     (λ (m : Moment). RoomRanOut old m (state core))
     (world core.engine) connections frames (world c.run_messages.new.engine) old
     (engine_moment history c.run_messages.new.engine) new
-    (sym (same_engine_moment history c.run_messages.new.engine c.forget_closed.new.engine forgot.file)) c.in-Some.ensures.settles in
+    (sym forgot.moment) c.in-Some.ensures.settles in
     record {
       sound = record {
         engine = forgot.sound;
@@ -179,13 +175,14 @@ returns g c =
       stops = search rules;
       idle = λ stopped. absurd (stopped_not (is_stopped core) stopped runs);
       device = search rules;
-      moment = subst (FollowsInTurn (engine_moment history core.engine))
-          (sym (same_engine_moment history c.run_messages.new.engine c.forget_closed.new.engine forgot.file)) ran.moment;
+      moment = subst (FollowsInTurn (engine_moment history core.engine)) (sym forgot.moment) ran.moment;
       commits = ⊎_elim
           (λ same. inl (ap (λ (w : World). w.collections) forgets ∙ forget_all_state (world c.run_messages.new.engine) prepared.closed.items ∙ same))
-          (λ committed. inr (ap (λ (f : State (TrustedDisk g.row.D.Denot)). views.generation f) forgot.file ∙ committed))
+          (λ committed. inr (ap (λ (m : Moment). m.generation) forgot.moment ∙ committed))
           c.in-Some.ensures.commits;
       void = λ none. forgot.disk ∙ ran.void none;
-      quiet = λ k nothing. subst (λ (f : State (TrustedDisk g.row.D.Denot)). GoesFrom history (file_of core) f) (sym forgot.file)
-          (ran.quiet (subst KeepsWord forgot.disk k) nothing);
+      quiet = λ k nothing. continues_further history core.engine c.run_messages.new.engine c.forget_closed.new.engine
+          (ran.quiet (subst KeepsWord forgot.disk k) nothing)
+          (continues_still history c.run_messages.new.engine c.forget_closed.new.engine forgot.disk forgot.running
+          (ap (λ (m : Moment). m.generation) forgot.moment) (ap (λ (m : Moment). m.full_takes) forgot.moment));
     }
