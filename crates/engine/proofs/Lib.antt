@@ -35,6 +35,7 @@ pub mod DroppingLemmas
 pub mod NumberingLemmas
 pub mod PlannedUpdates
 pub mod ReplacedLemmas
+pub mod EnoughUpdates
 pub mod UpdateSteps
 pub mod UpdateLemmas
 pub mod MeantLemmas

@@ -16,7 +16,7 @@ use Rattle.engine.specs.Durable.{disk_history, file_of, IsSound}
 use Rattle.engine.specs.Looking.{Looks, LooksOf, OnlyReads}
 use Rattle.database_model.specs.Merging.{is_meant, makes_any}
 use Rattle.engine.specs.Numbering.{IsNewNumber, IsTooMany}
-use Rattle.engine.specs.Putting.{IsFullFor, IsFullWithout, IsMeant, IsUpdate, MeansIn}
+use Rattle.engine.specs.Putting.{AreMeantOf, IsFullFor, IsFullWithout, IsMeant, IsUpdate, MeansIn, Suffices}
 use Rattle.engine.specs.Trying.{Tries}
 use Rattle.statements.specs.Updating.{IsRan}
 use Rattle.engine.specs.View.{world}
@@ -104,9 +104,9 @@ module _ {D : Type 0} (history : D → History) (name : List ℕ) (ss : List Upd
 
   -- it is there
   module _ (home : Catalogued) (first : Looks history (IsCatalogueOf name) (Ok (Some home)) old mid) (select : Pairs → Bool) (selects : (d : Pairs)
-      → select d ≡ is_meant ss d) (last : Engine D) where
+      → select d ≡ is_meant ss d) (most : ℕ) (suffices : Suffices ss most) (last : Engine D) where
     abbrev Found : List Collection → Collection → Vec Pairs → Type 0
-    Found cs c found = found.items ≡ take (2 ^ 64 - 1) (filter select c.documents)
+    Found cs c found = found.items ≡ take most (filter select c.documents)
 
     abbrev meant_of : Vec Pairs → Meant
     meant_of found = record { number = home.number; is_new = false; documents = found }
@@ -114,13 +114,24 @@ module _ {D : Type 0} (history : D → History) (name : List ℕ) (ss : List Upd
     same_filter : (ds : List Pairs) → filter select ds ≡ filter (is_meant ss) ds
     same_filter ds = λ i. filter (λ d. selects d i) ds
 
+    meant_so : (ds : List Pairs) (found : Vec Pairs) → found.items ≡ take most (filter (is_meant ss) ds) → AreMeantOf ss ds found.items
+    meant_so ds found is = at suffices
+      where
+        among : List Pairs
+        among = filter (is_meant ss) ds
+
+        at : Suffices ss most → AreMeantOf ss ds found.items
+        at (inl greatest) =
+            let few : length found.items < 2 ^ 64 - 1 = omega (arith, found.ok.0, found.ok.1, found.small) in
+            let all : length among ≤ most = omega (arith, length-take most among, few, ap length is, greatest) in
+            inl (is ∙ take_all most among all)
+        at (inr (one, first)) = inr (first, is ∙ ap (λ (n : ℕ). take n among) one)
+
     means : (c : Collection) → find_collection now name ≡ Some c → c.number ≡ home.number → (found : Vec Pairs) → Found now c found
         → IsMeant now name ss (meant_of found)
     means c there numbered found is =
-        let few : length found.items < 2 ^ 64 - 1 = omega (arith, found.ok.0, found.ok.1, found.small) in
-        let all : length (filter select c.documents) ≤ 2 ^ 64 - 1 = omega (arith, length-take (2 ^ 64 - 1) (filter select c.documents), few, ap length is) in
-        let same : found.items ≡ filter (is_meant ss) c.documents = is ∙ take_all (2 ^ 64 - 1) (filter select c.documents) all ∙ same_filter c.documents in
-        subst (λ (o : Option Collection). MeansIn o now ss (meant_of found)) (sym there) (refl, numbered, same)
+        subst (λ (o : Option Collection). MeansIn o now ss (meant_of found)) (sym there)
+        (refl, numbered, meant_so c.documents found (is ∙ ap (take most) (same_filter c.documents)))
 
     looked : (r : Result (Vec Pairs) Refusal) → LooksOf history (λ cs c. IsHome cs c home) Found r mid last
         → Looks history (λ cs found. IsMeant cs name ss (meant_of found)) r old last

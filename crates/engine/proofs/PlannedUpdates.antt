@@ -1,14 +1,9 @@
 -- What an update makes of the documents that are meant is what is planned for all of their collection.
 use Rattle.std.proofs.Common.{◌≡◌, ℕ, suc, ◌<◌, Bool, true, false, List, [], ◌∷◌, length, map, Option, Some, None, Result, Ok, Err, refl, sym, ap, subst, ◌∙◌}
-use Rattle.std.proofs.Common.{arith}
+use Rattle.std.proofs.Common.{arith, inl}
 use Rattle.std.specs.Prelude.{nat_le, if◌then◌else◌, All}
-use Rattle.std.specs.List.{filter}
-use Rattle.std.specs.declared.cmp.Ordering.TheVariants as orders
 use Rattle.std.proofs.lemmas.Bool.Decides.{nat_tests}
-use Rattle.std.proofs.lemmas.List.Elements.{All-filter}
-use Rattle.std.proofs.lemmas.List.Kept.{AllPairs-filter}
 use Rattle.bson.specs.Tree.{Pairs, no_items}
-use Rattle.value_order.specs.Order.{compare}
 use Rattle.outcome.specs.Outcome.{◌>>=◌}
 use Rattle.path.specs.declared.refusal.Refusal.{Refusal}
 use Rattle.path.specs.declared.refusal.Refusal.TheVariants as refusals
@@ -17,10 +12,9 @@ use Rattle.index.specs.LawfulState.{IsRising}
 use Rattle.index.specs.State.{Collection, find_collection}
 use Rattle.index.proofs.PlaceLemmas.{found_name}
 use Rattle.index.proofs.StateEditLaws.{put_same}
-use Rattle.database_model.specs.Documents.{key_of}
 use Rattle.database_model.specs.Lawful.{IsLawfulState, IsStored}
-use Rattle.database_model.specs.Merging.{is_meant, Listed, listed_in, makes_any, not_listed, put_each, run_each, upsert_listed}
-use Rattle.engine.specs.Putting.{EndsIn, IsFullFor, IsMeant, IsUpdate, MeansIn}
+use Rattle.database_model.specs.Merging.{Listed, listed_in, makes_any, not_listed, put_each, run_each, upsert_listed}
+use Rattle.engine.specs.Putting.{AreMeantOf, EndsIn, IsFullFor, IsMeant, IsUpdate, MeansIn}
 use Rattle.database_model.specs.Update.{counts_reply, judged, not_updated, run_all, run_statements, Updated, update_reply}
 use Rattle.statements.specs.Updating.{EndsAs, HasNone, IsRan, IsRun, IsRunOf, listed_of, news_of, seen}
 use Rattle.database_model.specs.World.{documents_of, documents_or_none, or_empty, unused}
@@ -33,9 +27,8 @@ use Rattle.engine.specs.declared.updates.Meant.{Meant}
 use Rattle.statements.proofs.KeptLemmas.{stored_at}
 use Rattle.statements.proofs.ListedUpdates.{each_full, each_in, each_missing, each_there}
 use Rattle.statements.proofs.MeantDeletions.{or_first, or_second}
-use Rattle.statements.proofs.MeantUpdates.{done_alike, refused_alike}
-use Rattle.engine.proofs.ReplacedLemmas.{IsSub, sub_filter, writes_among}
-use Rattle.statements.proofs.WriteLawLemmas.{writes_of_meant}
+use Rattle.engine.proofs.EnoughUpdates.{AreEnough, are_enough}
+use Rattle.engine.proofs.ReplacedLemmas.{writes_among}
 use Rattle.statements.proofs.WritePlaceLemmas.{writes_replace}
 
 -- statements that make none do nothing where no document is
@@ -66,12 +59,12 @@ module _ (now : List Collection) (name : List ℕ) (ss : List UpdateStatement) (
 
   -- ---- a collection that is there
 
-  module _ (c : Collection) (found : find_collection now name ≡ Some c) (are : m.documents.items ≡ filter (is_meant ss) c.documents) where
-    abbrev among : List Pairs
-    among = filter (is_meant ss) c.documents
-
+  module _ (c : Collection) (found : find_collection now name ≡ Some c) (are : AreMeantOf ss c.documents m.documents.items) where
     kept : IsRising c.documents × All IsStored c.documents
     kept = subst (λ (o : Option Collection). IsRising (documents_or_none o) × All IsStored (documents_or_none o)) found (stored_at now name h.kept)
+
+    enough : AreEnough ss m.documents.items c.documents
+    enough = are_enough ss c.documents read kept.0 kept.1 m.documents.items are
 
     found_so : find_collection now c.name ≡ Some c
     found_so = ap (find_collection now) (sym (found_name now name c found)) ∙ found
@@ -83,20 +76,17 @@ module _ (now : List Collection) (name : List ℕ) (ss : List UpdateStatement) (
     all_there = (λ k. run_statements (found_name now name c found k) 0 ss (begun k)) ∙ each_there c now 0 ss (not_listed c.documents)
 
     refused_there : (e : Refusal) → run_of m.documents.items ≡ Err e → planned ≡ Err e
-    refused_there e refused = all_there ∙ ap (each_in c now) (refused_alike ss c.documents read kept.0 kept.1 e (ap run_of (sym are) ∙ refused))
+    refused_there e refused = all_there ∙ ap (each_in c now) (enough.refused e refused)
 
     module _ (r : Run) (is : run_of m.documents.items ≡ Ok (listed_of r)) (run : IsRun m.documents.items r) where
       up : IsRunOf m.documents.items r
-      up = run.keeps
-          (subst IsRising (sym are) (AllPairs-filter (λ (d e : Pairs). compare (key_of d) (key_of e) ≡ orders.Less) (is_meant ss) c.documents kept.0))
-          (subst (All IsStored) (sym are) (All-filter (is_meant ss) IsStored c.documents kept.1))
+      up = run.keeps enough.rising enough.stored
 
       abbrev all_listed : Listed
       all_listed = record (listed_of r) { documents = put_each (news_of r.writes.items) c.documents }
 
       listed : run_of c.documents ≡ Ok all_listed
-      listed = done_alike ss c.documents read kept.0 kept.1 (news_of r.writes.items) (listed_of r) (ap run_of (sym are) ∙ is)
-          (ap (put_each (news_of r.writes.items)) (sym are) ∙ up.puts)
+      listed = enough.done (news_of r.writes.items) (listed_of r) is up.puts
 
       abbrev after_there : Updated
       after_there = listed_in c now all_listed
@@ -199,20 +189,18 @@ module _ (ss : List UpdateStatement) (m : Meant) (read : All (λ (s : UpdateStat
   kept_all : IsRising all_of_name × All IsStored all_of_name
   kept_all = stored_at now name h.kept
 
-  among_all : m.documents.items ≡ filter (is_meant ss) all_of_name
+  among_all : AreMeantOf ss all_of_name m.documents.items
   among_all = at (find_collection now name) meant
     where
-      at : (o : Option Collection) → MeansIn o now ss m → m.documents.items ≡ filter (is_meant ss) (documents_or_none o)
+      at : (o : Option Collection) → MeansIn o now ss m → AreMeantOf ss (documents_or_none o) m.documents.items
       at (Some c) means = means.2
-      at None means = means.0
+      at None means = inl means.0
+
+  enough_all : AreEnough ss m.documents.items all_of_name
+  enough_all = are_enough ss all_of_name read kept_all.0 kept_all.1 m.documents.items among_all
 
   run_meant : AreRun ss m.documents.items
-  run_meant = record {
-    read = read;
-    rising = subst IsRising (sym among_all)
-        (AllPairs-filter (λ (d e : Pairs). compare (key_of d) (key_of e) ≡ orders.Less) (is_meant ss) all_of_name kept_all.0);
-    stored = subst (All IsStored) (sym among_all) (All-filter (is_meant ss) IsStored all_of_name kept_all.1);
-  }
+  run_meant = record { read = read; rising = enough_all.rising; stored = enough_all.stored }
 
   ends : EndsIn now name ss x.writes.items x.end
   ends = at x.end ran.end
@@ -234,10 +222,8 @@ module _ (ss : List UpdateStatement) (m : Meant) (read : All (λ (s : UpdateStat
       let there : AreThere m.documents.items (map seen x.writes.items) =
       subst (AreThere m.documents.items) (sym ran.writes) (writes_replace ss m.documents.items run_meant) in
       record {
-        planned = ran.writes ∙ ap (writes_of ss) among_all ∙ writes_of_meant ss all_of_name (record { read = read; rising = kept_all.0; stored = kept_all.1 });
-        writes = writes_among m.documents.items all_of_name x.writes.items
-            (subst (λ (ds : List Pairs). IsSub ds all_of_name) (sym among_all) (sub_filter (is_meant ss) all_of_name kept_all.0))
-            (written.old refl) there written.storable;
+        planned = ran.writes ∙ enough_all.writes;
+        writes = writes_among m.documents.items all_of_name x.writes.items enough_all.sub (written.old refl) there written.storable;
         end = ends;
       }
 

@@ -1,5 +1,5 @@
 -- A delete reads the documents that its statements match, and takes of them what it would take of all.
-use Rattle.std.proofs.Common.{◌≡◌, ◌<◌, ◌-◌, ◌^◌, ℕ, List, [], ◌∷◌, length, take, Option, Some, None, Result, Ok, refl, sym, ap, subst, ◌∙◌, arith}
+use Rattle.std.proofs.Common.{◌≡◌, ◌<◌, ◌-◌, ◌^◌, ℕ, true, List, [], ◌∷◌, length, take, Option, Some, None, Result, Ok, refl, sym, ap, subst, ◌∙◌, arith}
 use Rattle.std.specs.Global.{Vec}
 use Rattle.std.specs.List.{filter}
 use Rattle.std.proofs.lemmas.List.{length-take, take_all}
@@ -15,14 +15,14 @@ use Rattle.database_model.specs.Delete.{after_deletions, deleted_in}
 use Rattle.engine.specs.Looking.{Looks, LooksOf}
 use Rattle.database_model.specs.Merging.{is_deleted}
 use Rattle.statements.specs.Redoing.{all_taken}
-use Rattle.engine.specs.Removing.{IsTaken, deleted}
+use Rattle.engine.specs.Removing.{IsTaken, Suffices, deleted}
 use Rattle.engine.specs.TakingOut.{HasHome, IsHome}
 use Rattle.engine.specs.View.{world}
 use Rattle.database_model.specs.World.{documents_or_none, documents_of}
 use Rattle.engine.specs.declared.delete.Taken.{Taken}
 use Rattle.engine.specs.declared.engine.Engine.{Engine}
 use Rattle.engine.proofs.LookingLemmas.{looks_behind, looks_made}
-use Rattle.statements.proofs.MeantDeletions.{taken_alike, taken_count}
+use Rattle.statements.proofs.MeantDeletions.{first_alike, taken_alike, taken_count}
 use Rattle.engine.proofs.RemovingLemmas.{all_empty, taken_none}
 use Rattle.engine.proofs.CataloguedLemmas.{IsCatalogueOf, has_home, not_catalogued, some_same}
 use Rattle.engine.proofs.NamedLemmas.{documents_found}
@@ -35,21 +35,28 @@ none_empty (x ∷ xs) e = absurd (omega (arith, e))
 taken_whole : {X : Type 0} (most : ℕ) (xs : List X) → length (take most xs) < most → take most xs ≡ xs
 taken_whole most xs few = take_all most xs (omega (arith, length-take most xs, few))
 
-module _ (name : List ℕ) (deletions : List Deletion) where
+-- ---- how many are enough
+
+pub all_suffice : (deletions : List Deletion) → Suffices deletions (2 ^ 64 - 1)
+all_suffice deletions ds few =
+    ap (all_taken deletions) (taken_whole (2 ^ 64 - 1) (filter (is_deleted deletions) ds) few) ∙ taken_alike deletions ds
+
+pub first_suffices : (d : Deletion) → d.only_first ≡ true → Suffices (d ∷ []) 1
+first_suffices d first ds few = first_alike d first ds
+
+module _ (name : List ℕ) (deletions : List Deletion) (most : ℕ) where
   -- the first ones of the documents that a statement matches, and what the catalogue has of their collection
   pub record AreMeant (home : Catalogued) (now : List Collection) (found : List Pairs) : Type 0 where
-    pub first : found ≡ take (2 ^ 64 - 1) (filter (is_deleted deletions) (documents_of now name))
+    pub first : found ≡ take most (filter (is_deleted deletions) (documents_of now name))
     pub there : HasHome now name home
 
   -- what is taken of them is what is taken of all
-  meant_taken : (home : Catalogued) (now : List Collection) (found : List Pairs) (t : Taken) → AreMeant home now found → length found < 2 ^ 64 - 1
-      → t.home ≡ home
+  meant_taken : Suffices deletions most → (home : Catalogued) (now : List Collection) (found : List Pairs) (t : Taken) → AreMeant home now found
+      → length found < 2 ^ 64 - 1 → t.home ≡ home
       → t.removed.items ≡ all_taken deletions found → IsTaken now name deletions t
-  meant_taken home now found t h few same made =
-      let all = filter (is_deleted deletions) (documents_of now name) in
-      let whole : found ≡ all = h.first ∙ taken_whole (2 ^ 64 - 1) all (omega (arith, ap length h.first, few)) in
+  meant_taken suffices home now found t h few same made =
       record {
-        removed = made ∙ ap (all_taken deletions) whole ∙ taken_alike deletions (documents_of now name);
+        removed = made ∙ ap (all_taken deletions) h.first ∙ suffices (documents_of now name) (subst (λ (ds : List Pairs). length ds < 2 ^ 64 - 1) h.first few);
         home = λ c there.
             let is : h.there.collection ≡ c = some_same (sym h.there.found ∙ there) in
             let here = h.there.catalogued in
@@ -57,6 +64,7 @@ module _ (name : List ℕ) (deletions : List Deletion) where
             (subst (λ (d : Collection). (d.number ≡ home.number) × (d.indexes ≡ home.indexes.items)) is (here.numbered.same, here.indexed));
       }
 
+module _ (name : List ℕ) (deletions : List Deletion) where
   -- of a missing collection nothing is taken
   none_taken : (now : List Collection) (t : Taken) → find_collection now name ≡ None → t.removed.items ≡ [] → IsTaken now name deletions t
   none_taken now t none empty = record {
@@ -91,15 +99,15 @@ module _ {D : Type 0} (history : D → History) (name : List ℕ) (deletions : L
         (λ p. none_taken name deletions (world a).collections t
         (not_catalogued (world a).collections name (subst (IsCatalogueOf name (world a).collections) is p)) empty)
 
-    -- the documents that a statement matches were looked up
-    pub meant_found : (c : Engine D) (home : Catalogued) → x ≡ Some home → (r : Result (Vec Pairs) Refusal)
+    -- the first documents that a statement matches were looked up
+    pub meant_found : (most : ℕ) (c : Engine D) (home : Catalogued) → x ≡ Some home → (r : Result (Vec Pairs) Refusal)
         → LooksOf history (λ now of. IsHome now of home)
-        (λ now of (found : Vec Pairs). found.items ≡ take (2 ^ 64 - 1) (filter (is_deleted deletions) of.documents)) r b c
-        → Looks history (λ now (found : Vec Pairs). AreMeant name deletions home now found.items) r a c
-    meant_found c home is r second =
+        (λ now of (found : Vec Pairs). found.items ≡ take most (filter (is_deleted deletions) of.documents)) r b c
+        → Looks history (λ now (found : Vec Pairs). AreMeant name deletions most home now found.items) r a c
+    meant_found most c home is r second =
         looks_behind history (IsCatalogueOf name) (λ now of. IsHome now of home)
-        (λ now of (found : Vec Pairs). found.items ≡ take (2 ^ 64 - 1) (filter (is_deleted deletions) of.documents))
-        (λ now (found : Vec Pairs). AreMeant name deletions home now found.items) a b c x r first second (λ p.
+        (λ now of (found : Vec Pairs). found.items ≡ take most (filter (is_deleted deletions) of.documents))
+        (λ now (found : Vec Pairs). AreMeant name deletions most home now found.items) a b c x r first second (λ p.
         let now = (world a).collections in
         let f = has_home now name home (subst (IsCatalogueOf name now) is p) in
         record {
@@ -107,15 +115,15 @@ module _ {D : Type 0} (history : D → History) (name : List ℕ) (deletions : L
           is = f.catalogued;
           right = λ y right. record {
             first = right
-                ∙ ap (λ (ds : List Pairs). take (2 ^ 64 - 1) (filter (is_deleted deletions) ds)) (sym (documents_found now name f.collection f.found));
+                ∙ ap (λ (ds : List Pairs). take most (filter (is_deleted deletions) ds)) (sym (documents_found now name f.collection f.found));
             there = f;
           };
         })
 
-  pub takes_meant : (home : Catalogued) (found : Vec Pairs) (t : Taken)
-      → Looks history (λ now (found : Vec Pairs). AreMeant name deletions home now found.items) (Ok found) a b
+  pub takes_meant : (most : ℕ) → Suffices deletions most → (home : Catalogued) (found : Vec Pairs) (t : Taken)
+      → Looks history (λ now (found : Vec Pairs). AreMeant name deletions most home now found.items) (Ok found) a b
       → length found.items < 2 ^ 64 - 1 → t.home ≡ home → t.removed.items ≡ all_taken deletions found.items
       → Looks history (λ now t. IsTaken now name deletions t) (Ok t) a b
-  takes_meant home found t looks few same made =
-      looks_made history (λ now (found : Vec Pairs). AreMeant name deletions home now found.items) a b (λ now t. IsTaken now name deletions t) found t looks
-      (λ h. meant_taken name deletions home (world a).collections found.items t h few same made)
+  takes_meant most suffices home found t looks few same made =
+      looks_made history (λ now (found : Vec Pairs). AreMeant name deletions most home now found.items) a b (λ now t. IsTaken now name deletions t) found t looks
+      (λ h. meant_taken name deletions most suffices home (world a).collections found.items t h few same made)

@@ -1,6 +1,6 @@
 -- What an update puts into the file: clauses of private functions.
 use Rattle.std.specs.Prelude.{◌≡◌, ◌⊎◌, ◌≤◌, ◌<◌, ℕ, Bool, true, false, not, is_some, List, [], ◌∷◌}
-use Rattle.std.specs.Prelude.{length, map, Option, Some, None, Result, Ok, Err, MatchResult}
+use Rattle.std.specs.Prelude.{◌-◌, ◌^◌, length, map, take, Option, Some, None, Result, Ok, Err, MatchResult}
 use Rattle.std.specs.List.{filter}
 use Rattle.bson.specs.Tree.{Pairs, no_items}
 use Rattle.page.specs.History.{History, KeepsWord}
@@ -16,7 +16,7 @@ use Rattle.index.specs.State.{Collection, find_collection}
 use Rattle.index.specs.StateEntries.{Leads}
 use Rattle.engine.specs.Durable.{disk_history, file_of}
 use Rattle.engine.specs.Looking.{OnlyReads}
-use Rattle.database_model.specs.Merging.{is_meant, makes_any}
+use Rattle.database_model.specs.Merging.{is_meant, made_of, makes_any}
 use Rattle.database_model.specs.Refusals.{ok_reply}
 use Rattle.engine.specs.Storing.{IsReplacedIn}
 use Rattle.database_model.specs.Update.{Updated, counts_reply, not_updated, run_all, run_statements}
@@ -37,11 +37,26 @@ HasNumber is_new number = is_new ≡ true → (1 ≤ number) × (number ≤ 1000
 
 -- ---- the documents that are meant
 
+-- The only statement changes one document, and makes none.
+abbrev pub ChangesFirst : List UpdateStatement → Type 0
+ChangesFirst [] = ⊥
+ChangesFirst (s ∷ []) = (s.multi ≡ false) × (made_of s ≡ [])
+ChangesFirst (s ∷ t ∷ ss) = ⊥
+
+-- So many first ones of the documents that the statements may mean are enough: all, or one.
+abbrev pub Suffices : List UpdateStatement → ℕ → Type 0
+Suffices ss most = (most ≡ 2 ^ 64 - 1) ⊎ ((most ≡ 1) × ChangesFirst ss)
+
+-- of these documents, all that the statements may mean, or the first where it is enough
+abbrev pub AreMeantOf : List UpdateStatement → List Pairs → List Pairs → Type 0
+AreMeantOf ss ds found = (found ≡ filter (is_meant ss) ds)
+    ⊎ (ChangesFirst ss × (found ≡ take 1 (filter (is_meant ss) ds)))
+
 -- These are the documents that the statements may mean in a collection that is there, or in one
 -- that is missing.
 abbrev pub MeansIn : Option Collection → List Collection → List UpdateStatement → Meant → Type 0
 MeansIn (Some c) now ss m = (m.is_new ≡ false) × (c.number ≡ m.number)
-    × (m.documents.items ≡ filter (is_meant ss) c.documents)
+    × AreMeantOf ss c.documents m.documents.items
 MeansIn None now ss m = (m.documents.items ≡ []) × (m.is_new ≡ makes_any ss)
     × (m.is_new ≡ true → (length now < 1000) × (m.number ≡ unused now))
 

@@ -9,7 +9,7 @@ ghost use Rattle.queries.specs.ById.{ArePut, TellIds};
 ghost use Rattle.page.specs.History.{KeepsWord};
 ghost use Rattle.engine.specs.Durable.{disk_history, has_changes, IsSound};
 ghost use Rattle.engine.specs.Performing.{Performs};
-ghost use Rattle.engine.specs.Removing.{IsTaken, deleted};
+ghost use Rattle.engine.specs.Removing.{IsTaken, Suffices, deleted};
 ghost use Rattle.engine.specs.Writing.{Makes};
 ghost use Rattle.replies.specs.View.{IsSendable};
 ghost use Rattle.engine.specs.View.{world};
@@ -70,6 +70,17 @@ impl Selects for Matched<'_> {
     }
 }
 
+/// So many of the documents that statements match, in ascending order of `_id`, are enough: one, where a single statement takes the
+/// first one.
+fn enough(deletions: &[Deletion]) -> usize
+    ensures { Suffices deletions.now result }
+{
+    match deletions {
+        [only] if only.only_first => 1,
+        _ => usize::MAX,
+    }
+}
+
 /// What a delete takes out of a collection.
 #[derive(Drop)]
 struct Taken {
@@ -114,7 +125,8 @@ impl<D: Disk> Engine<D> {
         Ok(reply)
     }
 
-    /// What a delete takes out of the collection of a name. Of its documents those are read that a statement matches.
+    /// What a delete takes out of the collection of a name. Of its documents those are kept that a statement matches, as many as are
+    /// enough.
     fn taken(&mut self, namespace: &str, deletions: &[Deletion]) -> Result<Taken, Refusal>
         requires sound { IsSound D.history self.old }
         ensures { Looks D.history (λ now taken. IsTaken now namespace.now deletions.now taken)
@@ -123,7 +135,7 @@ impl<D: Disk> Engine<D> {
         let Some(home) = self.catalogued(namespace)? else {
             return Ok(none_taken(self.alloc));
         };
-        let found = self.selected(&home, &Matched { deletions }, usize::MAX)?;
+        let found = self.selected(&home, &Matched { deletions }, enough(deletions))?;
         let left = after_deletions(self.alloc, &found, deletions)?;
         Ok(Taken {
             home,

@@ -12,7 +12,7 @@ ghost use Rattle.engine.specs.Durable.{disk_history, has_changes, IsSound};
 ghost use Rattle.database_model.specs.Lawful.{IsWithin};
 ghost use Rattle.database_model.specs.Merging.{has_key_of, is_meant_by, is_updated, made_by, made_of, makes_any};
 ghost use Rattle.engine.specs.Performing.{Performs};
-ghost use Rattle.engine.specs.Putting.{AreWritesOf, HasNumber, IsFullFor, IsFullWithout, IsMeant, IsUpdate, MeansIn, NotesWrites, RepliesTo};
+ghost use Rattle.engine.specs.Putting.{AreWritesOf, HasNumber, IsFullFor, IsFullWithout, IsMeant, IsUpdate, MeansIn, NotesWrites, RepliesTo, Suffices};
 ghost use Rattle.database_model.specs.Step.{ChangesNone};
 ghost use Rattle.engine.specs.Storing.{MayEnter, Notes, entering};
 ghost use Rattle.engine.specs.Trying.{Tries};
@@ -39,7 +39,7 @@ use statements::{
 };
 use std::alloc::Global;
 
-/// The documents that the statements of an update may mean, and the collection that has them.
+/// The documents that the statements of an update may mean, as many as are enough, and the collection that has them.
 #[derive(Drop)]
 pub(crate) struct Meant {
     number: u32,
@@ -210,6 +210,17 @@ impl Selects for Meaning<'_> {
     }
 }
 
+/// So many of the documents that statements may mean are enough, in ascending order of `_id`: one, where the only statement changes one
+/// and makes none.
+fn enough(statements: &[UpdateStatement], made: &[Document]) -> usize
+    ensures { made.now ≡ made_by statements.now → Suffices statements.now result }
+{
+    match statements {
+        [only] if !only.multi && made.is_empty() => 1,
+        _ => usize::MAX,
+    }
+}
+
 /// The reply that says what statements came to; `BSONObjectTooLarge` where that is too long, as the `_id`s of many documents that
 /// were made can make it.
 fn reply_of(alloc: Global, end: Result<Tally, Refusal>) -> Result<Document, Refusal>
@@ -337,7 +348,7 @@ impl<D: Disk> Engine<D> {
         }
     }
 
-    /// The documents that statements may mean in the collection of a name. One walk reads them. `TooMany` where the collection
+    /// The documents that statements may mean in the collection of a name, as many as are enough. One walk reads them. `TooMany` where the collection
     /// is missing, and making it for a document that a statement makes would be one too many.
     fn meant(&mut self, namespace: &str, statements: &[UpdateStatement]) -> Result<Meant, Refusal>
         requires sound { IsSound D.history self.old }
@@ -356,7 +367,7 @@ impl<D: Disk> Engine<D> {
             statements,
             made: &made,
         };
-        let documents = self.selected(&home, &meaning, usize::MAX)?;
+        let documents = self.selected(&home, &meaning, enough(statements, &made))?;
         Ok(Meant {
             number: home.number,
             is_new: false,

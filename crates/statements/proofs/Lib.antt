@@ -14,6 +14,7 @@ pub mod LawfulUpdates
 pub mod MergingLemmas
 pub mod MeantDeletions
 pub mod MeantUpdates
+pub mod FirstUpdates
 pub mod MeantWrites
 pub mod WriteLawLemmas
 pub mod WritePlaceLemmas

@@ -1,5 +1,5 @@
 -- A delete takes the same documents of those that its statements may mean as of all of them.
-use Rattle.std.proofs.Common.{◌≡◌, ℕ, suc, ◌+◌, ◌-◌, Bool, true, false, List, [], ◌∷◌, ◌++◌, length, Option, Some, None, refl, sym, ap, subst, ◌∙◌, arith}
+use Rattle.std.proofs.Common.{◌≡◌, ℕ, suc, ◌+◌, ◌-◌, Bool, true, false, List, [], ◌∷◌, ◌++◌, length, take, Option, Some, None, refl, sym, ap, subst, ◌∙◌, arith}
 use Rattle.std.proofs.Common.{length-append}
 use Rattle.std.specs.Prelude.{not, ◌||◌, if◌then◌else◌, nat_lt}
 use Rattle.std.specs.List.{filter, position, position_or_len}
@@ -185,6 +185,36 @@ pub taken_alike : (deletions : List Deletion) (ds : List Pairs) → all_taken de
 taken_alike deletions ds =
     let p = is_deleted deletions in
     ap (all_taken deletions) (sym (mark_meant p ds)) ∙ all_alike deletions (mark p ds) (mark_others p ds) ∙ ap (all_taken deletions) (mark_all p ds)
+
+-- ---- the first of those that are meant
+
+or_false : (b : Bool) → (b || false) ≡ b
+or_false true = refl
+or_false false = refl
+
+-- what passes first is the first of those that pass
+first_of_first : (p q : Pairs → Bool) → ((x : Pairs) → q x ≡ p x) → (ds : List Pairs) → first_of p (take 1 (filter q ds)) ≡ first_of p ds
+first_of_first p q same [] = refl
+first_of_first p q same (d ∷ ds) = at (p d) refl (first_of_first p q same ds)
+  where
+    at : (b : Bool) → p d ≡ b → first_of p (take 1 (filter q ds)) ≡ first_of p ds → first_of p (take 1 (filter q (d ∷ ds))) ≡ first_of p (d ∷ ds)
+    at true e later =
+        ap (λ (b : Bool). first_of p (take 1 (if b then d ∷ filter q ds else filter q ds))) (same d ∙ e)
+        ∙ ap (λ (b : Bool). if b then d ∷ [] else []) e ∙ sym (ap (λ (b : Bool). if b then d ∷ [] else first_of p ds) e)
+    at false e later =
+        ap (λ (b : Bool). first_of p (take 1 (if b then d ∷ filter q ds else filter q ds))) (same d ∙ e) ∙ later
+        ∙ sym (ap (λ (b : Bool). if b then d ∷ [] else first_of p ds) e)
+
+-- A statement that takes one takes it of the first document that it matches.
+pub first_alike : (d : Deletion) → d.only_first ≡ true → (ds : List Pairs)
+    → all_taken (d ∷ []) (take 1 (filter (is_deleted (d ∷ [])) ds)) ≡ all_taken (d ∷ []) ds
+first_alike d first ds =
+    let p = matches d.filter in
+    let q = is_deleted (d ∷ []) in
+    let of : (es : List Pairs) → taken d es ≡ first_of p es =
+    λ es. ap (λ (b : Bool). if b then taken_at (position p es) es else filter p es) first ∙ first_is p es in
+    ap (λ (es : List Pairs). es ++ [])
+    (of (take 1 (filter q ds)) ∙ first_of_first p q (λ x. or_false (matches d.filter x)) ds ∙ sym (of ds))
 
 -- ---- how many are taken
 
