@@ -18,7 +18,7 @@ use Rattle.index.specs.Documents.{put_document}
 use Rattle.index.specs.Entering.{DocumentWrite}
 use Rattle.index.specs.State.{by_order}
 use Rattle.database_model.specs.Documents.{key_of}
-use Rattle.database_model.specs.Merging.{Listed, is_meant, listed_to, made_of, none_changed, not_listed, put_each, run_each, upsert_listed}
+use Rattle.database_model.specs.Merging.{Listed, is_meant, listed_to, made_of, none_changed, not_listed, put_each, run_each, run_listed, upsert_listed}
 use Rattle.database_model.specs.Update.{Changed, counted, modified_by}
 use Rattle.database_model.specs.Writes.{changes_of, made_write, unless_refused, writes_from, writes_of}
 use Rattle.statements.proofs.MeantUpdates.{listed_with, one_step}
@@ -42,13 +42,13 @@ each_longer (new ∷ rest) ds = omega (arith, put_longer new ds, each_longer res
 -- They go there too where others stand behind it.
 put_over : (news : List Pairs) (d new : Pairs) (ds : List Pairs) → put_each news (d ∷ []) ≡ new ∷ [] → put_each news (d ∷ ds) ≡ new ∷ ds
 put_over [] d new ds e = let same : d ≡ new = cc in ap (λ (x : Pairs). x ∷ ds) same
-put_over (n ∷ rest) d new ds e = at (compare (key_of n) (key_of d)) e
+put_over (n ∷ rest) d new ds e = at (compare (key_of n) (key_of d)) (λ later. put_over rest n new ds later) e
   where
-    at : (r : Ordering) → put_each rest (by_order r (n ∷ d ∷ []) (n ∷ []) (d ∷ n ∷ [])) ≡ new ∷ []
+    at : (r : Ordering) → (put_each rest (n ∷ []) ≡ new ∷ [] → put_each rest (n ∷ ds) ≡ new ∷ ds) → put_each rest (by_order r (n ∷ d ∷ []) (n ∷ []) (d ∷ n ∷ [])) ≡ new ∷ []
         → put_each rest (by_order r (n ∷ d ∷ ds) (n ∷ ds) (d ∷ put_document n ds)) ≡ new ∷ ds
-    at orders.Less is = absurd (omega (arith, ap length is, each_longer rest (n ∷ d ∷ [])))
-    at orders.Equal is = put_over rest n new ds is
-    at orders.Greater is = absurd (omega (arith, ap length is, each_longer rest (d ∷ n ∷ [])))
+    at orders.Less go is = absurd (omega (arith, ap length is, each_longer rest (n ∷ d ∷ [])))
+    at orders.Equal go is = go is
+    at orders.Greater go is = absurd (omega (arith, ap length is, each_longer rest (d ∷ n ∷ [])))
 
 -- ---- the only statement
 
@@ -83,7 +83,7 @@ module _ (s : UpdateStatement) (one : s.multi ≡ false) where
   refused_front d ds m e is = run_front d ds m ∙ at (apply s.change 65535 d) (sym (run_front d [] m) ∙ is)
     where
       at : (r : Result Pairs Refusal) → (r >>= changed d []) ≡ Err e → (r >>= changed d ds) ≡ Err e
-      at (Ok new) no = absurd cc
+      at (Ok new) made = absurd cc
       at (Err f) same = same
 
   done_front : (d : Pairs) (ds : List Pairs) → matches s.filter d ≡ true → (news : List Pairs) (l : Listed) → run_of (d ∷ []) ≡ Ok l
@@ -91,7 +91,7 @@ module _ (s : UpdateStatement) (one : s.multi ≡ false) where
   done_front d ds m news l is puts = run_front d ds m ∙ at (apply s.change 65535 d) (sym (run_front d [] m) ∙ is)
     where
       at : (r : Result Pairs Refusal) → (r >>= changed d []) ≡ Ok l → (r >>= changed d ds) ≡ Ok (record l { documents = put_each news (d ∷ ds) })
-      at (Err f) no = absurd cc
+      at (Err f) refused = absurd cc
       at (Ok new) same =
           let made : listed_with (new ∷ []) (counted 0) (modified_by d new 0) no_items ≡ l = cc in
           let behind : put_each news (d ∷ ds) ≡ new ∷ ds = put_over news d new ds (puts ∙ sym (ap (λ (x : Listed). x.documents) made)) in
@@ -109,7 +109,7 @@ module _ (s : UpdateStatement) (one : s.multi ≡ false) where
       let written : Bool → Bool → Bool → List DocumentWrite =
       λ b c multi. if b then changes_of s.change (if multi then (if c then d ∷ filter p ds else filter p ds) else take 1 (if c then d ∷ filter p ds else filter p ds))
           else map made_write (made_of s) in
-      ap (λ (ws : List DocumentWrite). written (list_any p (d ∷ ds)) (p d) s.multi ++ ws) (none_behind (run_of (d ∷ ds)))
+      ap (λ (ws : List DocumentWrite). written (list_any p (d ∷ ds)) (p d) s.multi ++ ws) (none_behind (run_listed 0 s (not_listed (d ∷ ds))))
       ∙ append-nil (written (list_any p (d ∷ ds)) (p d) s.multi)
       ∙ ap (λ (b : Bool). written (b || list_any p ds) b s.multi) m
       ∙ ap (written true true) one
