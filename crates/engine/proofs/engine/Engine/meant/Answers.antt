@@ -31,10 +31,11 @@ returns-in_err-documents-clause-tries g c =
     let made = c.deref.result.now in
     let same : (d : Pairs)
     → is_meant_by ss made d ≡ is_meant ss d = λ d. ap (λ (ds : List Pairs). is_meant_by ss ds d) (c.deref.ensures.value ∙ c.in_ok-made.ensures.ok) in
-    let suffices = c.enough.ensures (c.deref.ensures.value ∙ c.in_ok-made.ensures.ok) in
+    let suffices = c.enough.ensures (c.deref-2.ensures.value ∙ c.in_ok-made.ensures.ok) in
     rw (p.1, p.2)
     (meant_unselected g.D.Disk.history c.args.namespace.now ss c.args.self.now c.catalogued.new.self c.in-Some.home
-    (rw c.in-Some.is at c.in_ok-home.ensures.looks) (is_meant_by ss made) same c.enough.result suffices c.selected.new.self c.in_err-documents.field-0.0 c.in_err-documents.ensures.looks)
+    (rw c.in-Some.is at c.in_ok-home.ensures.looks) (is_meant_by ss made) same c.enough.result suffices c.selected.new.self
+    c.in_err-documents.field-0.0 c.in_err-documents.ensures.looks)
 
 pub returns-clause-tries : goal.returns-clause-tries
 returns-clause-tries g c =
@@ -42,6 +43,6 @@ returns-clause-tries g c =
     let made = c.deref.result.now in
     let same : (d : Pairs)
     → is_meant_by ss made d ≡ is_meant ss d = λ d. ap (λ (ds : List Pairs). is_meant_by ss ds d) (c.deref.ensures.value ∙ c.in_ok-made.ensures.ok) in
-    let suffices = c.enough.ensures (c.deref.ensures.value ∙ c.in_ok-made.ensures.ok) in
+    let suffices = c.enough.ensures (c.deref-2.ensures.value ∙ c.in_ok-made.ensures.ok) in
     meant_there g.D.Disk.history c.args.namespace.now ss c.args.self.now c.catalogued.new.self c.in-Some.home (rw c.in-Some.is at c.in_ok-home.ensures.looks)
     (is_meant_by ss made) same c.enough.result suffices c.selected.new.self c.in_ok-documents.documents c.in_ok-documents.ensures.looks
