@@ -43,7 +43,7 @@ sub_first (x ∷ ds) id d e = at (is_eq (compare id (key_of x))) e
   where
     at : (b : Bool) → (if b then Some x else None) ≡ Some d → (if b then Some x else find_document ds id) ≡ Some d
     at true is = is
-    at false no = absurd cc
+    at false missing = absurd cc
 
 -- The first is enough where the only statement changes one and makes none.
 first_enough : (ss : List UpdateStatement) → ChangesFirst ss → (ds : List Pairs) → IsRising ds → All IsStored ds
