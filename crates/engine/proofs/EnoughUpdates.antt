@@ -58,7 +58,7 @@ first_enough (s ∷ []) first ds rising stored =
       writes = writes_first s first.0 among all;
       sub = sub_first among;
       rising = rising_first among (AllPairs-filter (λ (d e : Pairs). compare (key_of d) (key_of e) ≡ orders.Less) (is_meant (s ∷ [])) ds rising);
-      stored = All-take 1 IsStored among (All-filter (is_meant (s ∷ [])) IsStored ds stored);
+      stored = All-take IsStored 1 among (All-filter (is_meant (s ∷ [])) IsStored ds stored);
     }
 first_enough (s ∷ t ∷ ss) none ds rising stored = absurd none
 
