@@ -1,5 +1,6 @@
 -- A delete reads the documents that its statements match, and takes of them what it would take of all.
-use Rattle.std.proofs.Common.{◌≡◌, ◌<◌, ◌-◌, ◌^◌, ℕ, true, List, [], ◌∷◌, length, take, Option, Some, None, Result, Ok, refl, sym, ap, subst, ◌∙◌, arith}
+use Rattle.std.proofs.Common.{◌≡◌, ◌<◌, ◌≤◌, ◌-◌, ◌^◌, ℕ, true, List, [], ◌∷◌, length, take, Option, Some, None, Result, Ok, refl, sym, ap, subst, ◌∙◌, arith}
+use Rattle.std.specs.Prelude.{slice_index_or}
 use Rattle.std.specs.Global.{Vec}
 use Rattle.std.specs.List.{filter}
 use Rattle.std.proofs.lemmas.List.{length-take, take_all}
@@ -41,8 +42,12 @@ pub all_suffice : (deletions : List Deletion) → Suffices deletions (2 ^ 64 - 1
 all_suffice deletions ds few =
     ap (all_taken deletions) (taken_whole (2 ^ 64 - 1) (filter (is_deleted deletions) ds) few) ∙ taken_alike deletions ds
 
-pub first_suffices : (d : Deletion) → d.only_first ≡ true → Suffices (d ∷ []) 1
-first_suffices d first ds few = first_alike d first ds
+pub one_suffices : (ds : List Deletion) (d : Deletion) → 1 ≤ length ds → length ds < 2 → d ≡ slice_index_or ds 0 d → d.only_first ≡ true → Suffices ds 1
+one_suffices [] d some few is first = absurd (omega (arith, some))
+one_suffices (x ∷ []) d some few is first =
+    let here : x.only_first ≡ true = ap (λ (e : Deletion). e.only_first) (sym is) ∙ first in
+    λ xs below. first_alike x here xs
+one_suffices (x ∷ y ∷ ds) d some few is first = absurd (omega (arith, few))
 
 module _ (name : List ℕ) (deletions : List Deletion) (most : ℕ) where
   -- the first ones of the documents that a statement matches, and what the catalogue has of their collection
