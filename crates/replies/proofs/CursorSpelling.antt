@@ -18,12 +18,10 @@ use Rattle.replies.specs.declared.batch_spelling.BatchKind.{BatchKind}
 use Rattle.replies.specs.declared.batch_spelling.BatchKind.TheVariants as batches
 use Rattle.database_model.specs.Lawful.{IsWithin}
 use Rattle.filter.specs.Projection.{Projection, project}
+use Rattle.replies.specs.OpenBatch.{zeros}
 use Rattle.replies.specs.View.{projected, batch_name, IsSendable}
 use Rattle.replies.proofs.Replying.{items_levels-within}
 use Rattle.replies.proofs.SpelledSizes.{batch_items, cursor-sendable}
-
-abbrev pub zeros : List ℕ
-zeros = 0 ∷ 0 ∷ 0 ∷ 0 ∷ []
 
 -- what stands behind the room for a length becomes the content
 pub framed : (old content now : List ℕ) (start : ℕ) → start ≡ length old → now ≡ (old ++ zeros) ++ content

@@ -1,2 +1,4 @@
 pub mod View
 pub mod FirstBatch
+pub mod OpenBatch
+pub mod OpenBatchLaws

@@ -6,7 +6,10 @@ ghost use Rattle.bson.specs.Spelling.{frame_of, pairs_bytes};
 ghost use Rattle.filter.specs.Projection.{project};
 ghost use Rattle.database_model.specs.Lawful.{IsWithin};
 
-use bson::{Document, EncodeFault, NoMemory, SpelledDocument, encode, encode_onto, laws};
+use bson::{
+    BsonFault, Document, EncodeFault, NoMemory, RawDoc, SpelledDocument, decode, encode,
+    encode_onto, laws,
+};
 use filter::Projection;
 use std::alloc::{AllocError, Global};
 
@@ -76,6 +79,33 @@ impl Gives for SpelledDocument {
             return Ok(());
         }
         let document = self.document(*out.allocator())?;
+        put_projected(out, projection, &document)
+    }
+}
+
+/// The document, with values of its own.
+fn document_of(alloc: Global, document: &RawDoc<'_>) -> Result<Document, NoMemory>
+    ensures { IfOk result (λ d. d ≡ document.now) }
+{
+    match decode(alloc, document.bytes()) {
+        Ok((document, _)) => Ok(document),
+        Err(fault) => match fault {
+            BsonFault::Memory => Err(AllocError),
+            _ => unreachable!(),
+        },
+    }
+}
+
+/// The same of one whose bytes are lent.
+impl Gives for RawDoc<'_> {
+    ghost document = { λ a. a };
+
+    fn put_onto(&self, out: &mut Vec<u8>, projection: &Projection) -> Result<(), NoMemory> {
+        if projection.keeps_all() {
+            out.extend_from_slice(self.bytes())?;
+            return Ok(());
+        }
+        let document = document_of(*out.allocator(), self)?;
         put_projected(out, projection, &document)
     }
 }

@@ -6,13 +6,15 @@ mod batch_spelling;
 mod connection;
 mod cursors;
 mod giving;
+mod open_batch;
 mod reply;
 mod shared_document;
 
-pub use batch_spelling::whole_reply;
+pub use batch_spelling::{BatchKind, whole_reply};
 pub use connection::{CONNECTIONS, ConnId};
 pub use cursors::Cursors;
 pub use giving::{Gives, spelled_all};
+pub use open_batch::OpenBatch;
 pub use reply::{
     Answer, add, built, create_indexes_reply, described_document, done, drop_indexes_reply,
     drop_reply, explain_reply, full_bytes, insert_reply, listed_document, out_of_memory_bytes,

@@ -4,4 +4,4 @@ use Rattle.replies.proofs.BatchLoop.{IsBatchSoFar}
 use Rattle.replies.proofs.batch.put_batch.Given as goal
 
 abbrev pub invariant-documents : goal.invariant-documents
-invariant-documents g l = IsBatchSoFar (projected l.projection (map g.T.Gives.document l.documents)) l.most l.i l.room l.fn.out.items l.out.items
+invariant-documents g l = IsBatchSoFar l.fn.batch (projected l.projection (map g.T.Gives.document l.documents)) l.i l.batch

@@ -1,4 +1,4 @@
-use Rattle.std.proofs.Common.{◌≤◌, List, [], length, ℕ, sym, subst}
+use Rattle.std.proofs.Common.{◌≤◌, [], length, sym, subst}
 use Rattle.std.specs.Prelude.{if◌then◌else◌}
 use Rattle.bson.specs.Tree.{Tree}
 use Rattle.bson.specs.Spelling.{tree_bytes}
