@@ -1,0 +1,1 @@
+-- Cursors that are ended one after the other, until none is to end: all others are left.

@@ -1,0 +1,6 @@
+pub mod Held
+pub mod HeldCode
+pub mod View
+pub mod Changes
+pub mod Ending
+pub mod EndingLaws
