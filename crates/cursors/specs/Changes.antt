@@ -1,6 +1,6 @@
 -- What becomes of open cursors where one is opened, goes on or ends, and where a turn is done.
 use Rattle.std.specs.Prelude.{ℕ, ◌+◌, true, List, [], ◌∷◌, ◌++◌, map, drop, remove, slice_set}
-use Rattle.std.specs.Prelude.{Option, option_map}
+use Rattle.std.specs.Prelude.{nat_le, if◌then◌else◌, length, Option, None, option_map}
 use Rattle.bson.specs.Tree.{Pairs}
 use Rattle.pager.specs.declared.version.Version.{Version}
 use Rattle.database_model.specs.World.{at_rest}
@@ -41,7 +41,15 @@ without held at = record held { list = remove held.list at }
 abbrev pub pinned_by : HeldCursor → Option Version
 pinned_by h = option_map (λ w. w.version) h.walk
 
--- the turn is over for all cursors
+-- the turn is over for a cursor, and for all
+abbrev pub rested : HeldCursor → HeldCursor
+rested h = record h { cursor = at_rest h.cursor }
+
 abbrev pub all_at_rest : Held → Held
-all_at_rest held =
-    record held { list = map (λ h. record h { cursor = at_rest h.cursor }) held.list }
+all_at_rest held = record held { list = map rested held.list }
+
+-- A cursor that keeps its documents gave n of them: with its last one it ends.
+abbrev pub advanced_kept : Held → ℕ → ℕ → Held
+advanced_kept held at n =
+    if nat_le (length (held_at held at).cursor.rest) n then without held at
+    else gone_on held at n None

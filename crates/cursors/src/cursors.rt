@@ -3,10 +3,10 @@
 //! What later commands do to a collection isn't seen by a cursor: it keeps the bytes of its documents, or reads a version
 //! of the collections that is pinned for it.
 
-ghost use Rattle.std.specs.Prelude.{◌≡◌, ◌≢◌, ◌<◌, ◌≤◌, ◌^◌, ◌+◌, ◌++◌, [], ◌∷◌, false, true, All, length, map, None, remove, OnOk, OnErr, IfOk, IfErr, IfSome, IfNone, nat_le, if◌then◌else◌, option_map};
+ghost use Rattle.std.specs.Prelude.{◌≡◌, ◌≢◌, ◌<◌, ◌≤◌, ◌^◌, ◌+◌, ◌++◌, [], ◌∷◌, false, true, All, length, map, None, Some, OnOk, OnErr, IfOk, IfErr, IfSome, IfNone, nat_le, if◌then◌else◌, option_map};
 ghost use Rattle.std.specs.List.{position};
 ghost use Rattle.filter.specs.Projection.{project};
-ghost use Rattle.database_model.specs.World.{at_rest, count_of};
+ghost use Rattle.database_model.specs.World.{count_of};
 ghost use Rattle.database_model.specs.Lawful.{IsWithin};
 ghost use Rattle.database_model.specs.Refusals.{ok_reply};
 ghost use Rattle.database_model.specs.Cursors.{batch_reply, is_refused, new_cursor, is_cursor, cursor_at, advanced};
@@ -15,7 +15,7 @@ ghost use Rattle.database_model.specs.KillCursors.{has_cursor};
 ghost use Rattle.replies.specs.FirstBatch.{IsFirstBatch, IsNoBatch};
 ghost use Rattle.replies.specs.View.{batch_name, projected, IsSendable};
 ghost use Rattle.cursors.specs.Held.{cursors_of, held_at, table_of};
-ghost use Rattle.cursors.specs.Changes.{all_at_rest, gone_on, onwards, opened, pinned_by, without};
+ghost use Rattle.cursors.specs.Changes.{advanced_kept, all_at_rest, gone_on, onwards, opened, pinned_by, rested, without};
 ghost use Rattle.cursors.specs.Ending.{first_ended, given_back, left};
 ghost use Rattle.cursors.specs.View.{rest_in, walk_in, walk_of};
 
@@ -37,7 +37,7 @@ const LAST_NUMBER: u64 = 9_223_372_036_854_775_807;
 
 /// The turn is over for all of these.
 fn rest_all(cursors: &mut [OpenCursor])
-    ensures { cursors.new ≡ map (λ h. record h { cursor = at_rest h.cursor }) cursors.old }
+    ensures { cursors.new ≡ map rested cursors.old }
 {
     'cursors: for cursor in cursors.iter_mut() {
         cursor.rest();

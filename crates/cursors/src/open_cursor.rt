@@ -1,14 +1,13 @@
 //! One open cursor.
 
 ghost use Rattle.std.specs.Prelude.{◌≡◌, ◌≢◌, ◌==◌, ◌<◌, ◌≤◌, ◌^◌, All, length, None, IfOk, option_map};
-ghost use Rattle.database_model.specs.World.{at_rest};
 ghost use Rattle.database_model.specs.Lawful.{IsWithin};
 ghost use Rattle.database_model.specs.Refusals.{ok_reply};
 ghost use Rattle.database_model.specs.Cursors.{batch_reply, new_cursor, is_cursor};
 ghost use Rattle.database_model.specs.GetMore.{batch_len_of};
 ghost use Rattle.database_model.specs.KillCursors.{is_asked};
 ghost use Rattle.replies.specs.View.{batch_name, IsSendable};
-ghost use Rattle.cursors.specs.Changes.{after, onwards, pinned_by};
+ghost use Rattle.cursors.specs.Changes.{after, onwards, pinned_by, rested};
 ghost use Rattle.cursors.specs.Ending.{is_ended};
 ghost use Rattle.cursors.specs.View.{rest_in, walk_in, walk_of};
 
@@ -198,7 +197,7 @@ impl OpenCursor {
 
     /// The turn is over.
     pub(crate) fn rest(&mut self)
-        ensures { self.new ≡ record self.old { cursor = at_rest self.old.cursor } }
+        ensures { self.new ≡ rested self.old }
     {
         self.touched = false;
     }

@@ -9,7 +9,7 @@ mod giving;
 mod reply;
 mod shared_document;
 
-pub use batch_spelling::whole_reply;
+pub use batch_spelling::{BatchKind, batch_reply, whole_reply};
 pub use connection::{CONNECTIONS, ConnId};
 pub use cursors::Cursors;
 pub use giving::{Gives, spelled_all};
