@@ -35,10 +35,18 @@ impl Rest {
         Rest::any()
     }
 
+    /// Others are left, by what was left and what is passed.
+    fn set<A>(&mut self, with: &A)
+        ghost to: { List Pairs }
+        ensures { self.new.value ≡ to }
+    {
+        *self = Rest::any();
+    }
+
     /// So many of them were given.
     pub(crate) fn give(&mut self, count: usize)
         ensures { self.new.value ≡ drop count self.old.value }
     {
-        *self = Rest::any();
+        self.set(&count);
     }
 }
