@@ -276,12 +276,19 @@ impl Cursors {
         cursor.pinned()
     }
 
+    /// Where the first of the cursors stands that are to end.
+    fn first_ended(&self, ends: &Ends<'_>) -> Option<usize>
+        ensures { result ≡ first_ended ends.now self.now }
+    {
+        self.list.iter().position(|cursor| cursor.is_ended(ends))
+    }
+
     /// Ends the first of the cursors that are to end, and gives the version that it had pinned. `None`: there is none.
     pub fn end_first(&mut self, ends: &Ends<'_>) -> Option<Option<Version>>
         ensures pinned { result ≡ given_back self.old (first_ended ends.now self.old) }
         ensures left { self.new ≡ left self.old (first_ended ends.now self.old) }
     {
-        match self.list.iter().position(|cursor| cursor.is_ended(ends)) {
+        match self.first_ended(ends) {
             Some(at) => Some(self.end_at(at)),
             None => None,
         }
