@@ -3,10 +3,10 @@
 //! What later commands do to a collection isn't seen by a cursor: it keeps the bytes of its documents, or reads a version
 //! of the collections that is pinned for it.
 
-ghost use Rattle.std.specs.Prelude.{◌≡◌, ◌≢◌, ◌<◌, ◌≤◌, ◌^◌, ◌+◌, ◌++◌, [], ◌∷◌, false, true, All, length, map, None, Some, OnOk, OnErr, IfOk, IfErr, IfSome, IfNone, nat_le, if◌then◌else◌, option_map};
+ghost use Rattle.std.specs.Prelude.{◌≡◌, ◌≢◌, ◌<◌, ◌≤◌, ◌^◌, ◌+◌, ◌++◌, [], ◌∷◌, false, true, All, length, map, None, Some, remove, OnOk, OnErr, IfOk, IfErr, IfSome, IfNone, nat_le, if◌then◌else◌, option_map};
 ghost use Rattle.std.specs.List.{position};
 ghost use Rattle.filter.specs.Projection.{project};
-ghost use Rattle.database_model.specs.World.{count_of};
+ghost use Rattle.database_model.specs.World.{at_rest, count_of};
 ghost use Rattle.database_model.specs.Lawful.{IsWithin};
 ghost use Rattle.database_model.specs.Refusals.{ok_reply};
 ghost use Rattle.database_model.specs.Cursors.{batch_reply, is_refused, new_cursor, is_cursor, cursor_at, advanced};
@@ -108,6 +108,11 @@ impl Cursors {
         requires within { All IsWithin (rest_in source) }
         ensures ok { OnOk result (self.new
             ≡ opened self.old connection namespace.now (rest_in source) (walk_in source)) }
+        ensures table { OnOk result (table_of self.new ≡ record {
+          list = cursors_of self.old
+              ++ new_cursor self.old.next connection namespace.now (rest_in source) ∷ [];
+          next = self.old.next + 1;
+        }) }
         ensures err { OnErr result (self.new ≡ self.old) }
     {
         let alloc = *self.list.allocator();
@@ -130,6 +135,12 @@ impl Cursors {
         requires within { All IsWithin (map (project projection) documents.items) }
         ensures ok { OnOk result (self.new ≡ opened self.old connection namespace.now
             (map (project projection) documents.items) None) }
+        ensures table { OnOk result (table_of self.new ≡ record {
+          list = cursors_of self.old
+              ++ new_cursor self.old.next connection namespace.now
+              (map (project projection) documents.items) ∷ [];
+          next = self.old.next + 1;
+        }) }
         ensures err { OnErr result (self.new ≡ self.old) }
     {
         let kept = KeptDocuments::new(documents, projection);
@@ -147,6 +158,11 @@ impl Cursors {
         requires within { All IsWithin walk.rest.value }
         ensures ok { OnOk result (self.new ≡ opened self.old connection namespace.now
             walk.rest.value (Some (walk_of walk))) }
+        ensures table { OnOk result (table_of self.new ≡ record {
+          list = cursors_of self.old
+              ++ new_cursor self.old.next connection namespace.now walk.rest.value ∷ [];
+          next = self.old.next + 1;
+        }) }
         ensures err { OnErr result (self.new ≡ self.old) }
     {
         self.open(connection, namespace, Source::Pinned(walk))
@@ -244,7 +260,10 @@ impl Cursors {
     pub fn advance(&mut self, at: usize, count: usize)
         requires there { at < length self.old.list }
         requires kept { (held_at self.old at).walk ≡ None }
-        ensures { self.new ≡ advanced_kept self.old at count }
+        ensures walks { self.new ≡ advanced_kept self.old at count }
+        ensures table { table_of self.new ≡ record (table_of self.old) {
+          list = advanced (cursors_of self.old) at count;
+        } }
     {
         let cursor = &mut self.list[at];
         if count < cursor.left() {
@@ -259,8 +278,12 @@ impl Cursors {
     pub fn go_on(&mut self, at: usize, count: usize, skip: usize, limit: usize, from: Vec<u8>)
         requires there { at < length self.old.list }
         requires pinned { (held_at self.old at).walk ≢ None }
-        ensures { self.new ≡ gone_on self.old at count
+        requires more { count < length (held_at self.old at).cursor.rest }
+        ensures walks { self.new ≡ gone_on self.old at count
             (option_map (onwards skip limit from.items) (held_at self.old at).walk) }
+        ensures table { table_of self.new ≡ record (table_of self.old) {
+          list = advanced (cursors_of self.old) at count;
+        } }
     {
         let cursor = &mut self.list[at];
         cursor.go_on(count, skip, limit, from);
@@ -271,6 +294,9 @@ impl Cursors {
         requires { at < length self.old.list }
         ensures pinned { result ≡ pinned_by (held_at self.old at) }
         ensures left { self.new ≡ without self.old at }
+        ensures table { table_of self.new ≡ record (table_of self.old) {
+          list = remove (cursors_of self.old) at;
+        } }
     {
         let cursor = self.list.remove(at);
         cursor.pinned()
@@ -296,7 +322,10 @@ impl Cursors {
 
     /// Ends a turn that is done.
     pub fn commit(&mut self)
-        ensures { self.new ≡ all_at_rest self.old }
+        ensures walks { self.new ≡ all_at_rest self.old }
+        ensures table { table_of self.new ≡ record (table_of self.old) {
+          list = map at_rest (cursors_of self.old);
+        } }
     {
         rest_all(&mut self.list);
     }
