@@ -5,7 +5,7 @@ use Rattle.std.specs.Prelude.{not, remove, Option, Some, None}
 use Rattle.std.specs.List.{filter}
 use Rattle.std.proofs.lemmas.List.Edits.{length-remove}
 use Rattle.std.proofs.lemmas.List.Quantifiers.{position-Some}
-use Rattle.database_model.specs.World.{Cursor}
+use Rattle.database_model.specs.World.{Cursor, CursorTable}
 use Rattle.cursors.specs.Held.{HeldCursor, Held, cursors_of, no_held_cursor, table_of}
 use Rattle.cursors.specs.Changes.{without}
 use Rattle.cursors.specs.Ending.{first_ended, is_ended, left, others}
@@ -71,5 +71,6 @@ module _ (ends : Ends) where
   pub others_to_table : (held : Held) → table_of (others ends held) ≡ record (table_of held) {
     list = filter (λ c. not (is_ended ends c)) (cursors_of held);
   }
-  others_to_table held = ap (λ (cs : List Cursor). record { list = cs; next = held.next })
-      (others_in_table held (λ c. not (is_ended ends c)))
+  others_to_table held =
+      let made : List Cursor → CursorTable = λ cs. record { list = cs; next = held.next } in
+      ap made (others_in_table held (λ c. not (is_ended ends c)))

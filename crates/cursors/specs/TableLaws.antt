@@ -50,11 +50,10 @@ module _ (held : Held) where
         list = cursors_of held ++ new_cursor held.next connection namespace rest ∷ [];
         next = held.next + 1;
       }
-  opened_in_table connection namespace rest walk = ap made (map-append cursor_of held.list
+  opened_in_table connection namespace rest walk =
+      let made : List Cursor → CursorTable = λ cs. record { list = cs; next = held.next + 1 } in
+      ap made (map-append cursor_of held.list
       (record { cursor = new_cursor held.next connection namespace rest; walk = walk } ∷ []))
-    where
-      abbrev made : List Cursor → CursorTable
-      made cs = record { list = cs; next = held.next + 1 }
 
   pub removed_in_table : (at : ℕ)
       → table_of (without held at) ≡ record (table_of held) { list = remove (cursors_of held) at }
