@@ -1,5 +1,6 @@
 -- Cursors that are ended one after the other, until none is to end: all others are left.
-use Rattle.std.proofs.Common.{◌≡◌, ℕ, zero, suc, ◌+◌, ◌<◌, ◌≤◌, Bool, List, [], ◌∷◌, length, map, refl, sym}
+use Rattle.std.proofs.Common.{◌≡◌, ℕ, zero, suc, ◌+◌, ◌<◌, ◌≤◌, Bool, List, [], ◌∷◌, length, map}
+use Rattle.std.proofs.Common.{refl, sym}
 use Rattle.std.proofs.Common.{ap, ◌∙◌, arith}
 use Rattle.std.specs.Prelude.{not, remove, Option, Some, None}
 use Rattle.std.specs.List.{filter}
@@ -21,7 +22,8 @@ with_list held hs = record held { list = hs }
 
 module _ (ends : Ends) where
   -- those that are not to end are the same after one has ended
-  pub others_left : (held : Held) → others ends (left held (first_ended ends held)) ≡ others ends held
+  pub others_left : (held : Held)
+      → others ends (left held (first_ended ends held)) ≡ others ends held
   others_left held = after_one (first_ended ends held) refl
     where
       after_one : (place : Option ℕ) → first_ended ends held ≡ place

@@ -1,5 +1,6 @@
 -- Lists of which something is removed, and what a function makes of each element.
-use Rattle.std.proofs.Common.{◌≡◌, ℕ, zero, suc, ◌+◌, ◌<◌, ◌≤◌, Bool, true, false, List, [], ◌∷◌, ◌++◌, length, take, drop, map, refl, sym}
+use Rattle.std.proofs.Common.{◌≡◌, ℕ, zero, suc, ◌+◌, ◌<◌, ◌≤◌, Bool, true, false, List, [], ◌∷◌}
+use Rattle.std.proofs.Common.{◌++◌, length, take, drop, map, refl, sym}
 use Rattle.std.proofs.Common.{ap, ◌∙◌, arith}
 use Rattle.std.specs.Prelude.{not, ◌||◌, Option, Some, None, remove, nat_lt, if◌then◌else◌}
 use Rattle.std.specs.List.{filter, list_any, position, position_or_len}
@@ -25,16 +26,20 @@ module _ {X Y : Type 0} (f : X → Y) where
   filter-map p (x ∷ xs) =
       filter_step x (filter p (map f xs)) (filter (λ x. p (f x)) xs) (filter-map p xs) (p (f x))
 
-  pub list_any-map : (p : Y → Bool) (xs : List X) → list_any p (map f xs) ≡ list_any (λ x. p (f x)) xs
+  pub list_any-map : (p : Y → Bool) (xs : List X)
+      → list_any p (map f xs) ≡ list_any (λ x. p (f x)) xs
   list_any-map p [] = refl
   list_any-map p (x ∷ xs) = ap (λ (b : Bool). p (f x) || b) (list_any-map p xs)
 
-  position_or_len-map : (p : Y → Bool) (xs : List X) → position_or_len p (map f xs) ≡ position_or_len (λ x. p (f x)) xs
-  position_or_len-map p [] = refl
-  position_or_len-map p (x ∷ xs) = ap (λ (n : ℕ). if not (p (f x)) then 1 + n else 0) (position_or_len-map p xs)
+  place-map : (p : Y → Bool) (xs : List X)
+      → position_or_len p (map f xs) ≡ position_or_len (λ x. p (f x)) xs
+  place-map p [] = refl
+  place-map p (x ∷ xs) = ap (λ (n : ℕ). if not (p (f x)) then 1 + n else 0) (place-map p xs)
 
-  pub position-map : (p : Y → Bool) (xs : List X) → position p (map f xs) ≡ position (λ x. p (f x)) xs
-  position-map p xs = λ k. if nat_lt (position_or_len-map p xs k) (length-map xs f k) then Some (position_or_len-map p xs k) else None
+  pub position-map : (p : Y → Bool) (xs : List X)
+      → position p (map f xs) ≡ position (λ x. p (f x)) xs
+  position-map p xs = λ k. if nat_lt (place-map p xs k) (length-map xs f k)
+      then Some (place-map p xs k) else None
 
 -- ---- the first element that passes is removed
 
@@ -56,7 +61,8 @@ module _ {X : Type 0} (p : X → Bool) where
       ap (λ (i : ℕ). others (remove (x ∷ xs) i)) next
       ∙ ap (λ (ys : List X). if not (p x) then x ∷ ys else ys) (later (omega (arith, h)))
 
-  without_first : (xs : List X) → first xs < length xs → others (remove xs (first xs)) ≡ others xs
+  without_first : (xs : List X) → first xs < length xs
+      → others (remove xs (first xs)) ≡ others xs
   without_first [] h = absurd (omega (arith, h))
   without_first (x ∷ xs) h = first_goes x xs (p x) refl (without_first xs) h
 
@@ -73,15 +79,17 @@ module _ {X : Type 0} (p : X → Bool) where
   none_first (x ∷ xs) h = all_stay x xs (p x) refl (none_first xs) h
 
   -- all others are left
-  pub others_stay : (xs : List X) (at : ℕ) → position p xs ≡ Some at → filter (λ x. not (p x)) (remove xs at) ≡ filter (λ x. not (p x)) xs
+  pub others_stay : (xs : List X) (at : ℕ) → position p xs ≡ Some at
+      → filter (λ x. not (p x)) (remove xs at) ≡ filter (λ x. not (p x)) xs
   others_stay xs at e =
-      let found = cond_some (nat_lt (position_or_len p xs) (length xs)) (position_or_len p xs) at e in
-      ap (λ (i : ℕ). filter (λ x. not (p x)) (remove xs i)) (sym found.1) ∙ without_first xs (grind (arith, nat_tests, found.0))
+      let found = cond_some (nat_lt (first xs) (length xs)) (first xs) at e in
+      ap (λ (i : ℕ). others (remove xs i)) (sym found.1)
+      ∙ without_first xs (grind (arith, nat_tests, found.0))
+
+  past : (xs : List X) (b : Bool) → nat_lt (first xs) (length xs) ≡ b
+      → (if b then Some (first xs) else None) ≡ None → length xs ≤ first xs
+  past xs true is e = absurd cc
+  past xs false is e = grind (arith, nat_tests)
 
   pub none_passes : (xs : List X) → position p xs ≡ None → filter (λ x. not (p x)) xs ≡ xs
-  none_passes xs e = none_first xs (past (nat_lt (position_or_len p xs) (length xs)) refl e)
-    where
-      past : (b : Bool) → nat_lt (position_or_len p xs) (length xs) ≡ b → (if b then Some (position_or_len p xs) else None) ≡ None
-          → length xs ≤ position_or_len p xs
-      past true is e = absurd cc
-      past false is e = grind (arith, nat_tests)
+  none_passes xs e = none_first xs (past xs (nat_lt (first xs) (length xs)) refl e)

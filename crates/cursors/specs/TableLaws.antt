@@ -1,6 +1,7 @@
 -- What the changes of open cursors are to the table of cursors, as the definition of a database
 -- knows it.
-use Rattle.std.proofs.Common.{◌≡◌, ℕ, ◌+◌, ◌<◌, ◌≤◌, Bool, true, false, List, [], ◌∷◌, ◌++◌, length, drop, map, refl, sym}
+use Rattle.std.proofs.Common.{◌≡◌, ℕ, ◌+◌, ◌<◌, ◌≤◌, Bool, true, false, List, [], ◌∷◌, ◌++◌, length}
+use Rattle.std.proofs.Common.{drop, map, refl, sym}
 use Rattle.std.proofs.Common.{ap, ◌∙◌, arith}
 use Rattle.std.specs.Prelude.{not, nat_le, if◌then◌else◌, remove, slice_set, Option, None}
 use Rattle.std.specs.List.{filter, list_any, position}
@@ -11,7 +12,8 @@ use Rattle.std.proofs.lemmas.Simd.{map-map}
 use Rattle.bson.specs.Tree.{Pairs}
 use Rattle.database_model.specs.World.{Cursor, CursorTable, at_rest, count_of}
 use Rattle.database_model.specs.Cursors.{advanced, cursor_at, new_cursor}
-use Rattle.cursors.specs.Held.{HeldWalk, HeldCursor, Held, cursors_of, held_at, no_held_cursor, table_of}
+use Rattle.cursors.specs.Held.{HeldWalk, HeldCursor, Held, cursors_of, held_at, no_held_cursor}
+use Rattle.cursors.specs.Held.{table_of}
 use Rattle.cursors.specs.Changes.{advanced_kept, all_at_rest, gone_on, opened, rested, without}
 use Rattle.cursors.specs.ListLaws.{filter-map, list_any-map, map-remove, position-map}
 

@@ -98,12 +98,7 @@ impl Cursors {
     }
 
     /// Opens a cursor. An `Err` leaves all as it was.
-    fn open(
-        &mut self,
-        connection: ConnId,
-        namespace: &str,
-        source: Source,
-    ) -> Result<(), NoMemory>
+    fn open(&mut self, connection: ConnId, namespace: &str, source: Source) -> Result<(), NoMemory>
         requires number { self.old.next < 2 ^ 63 }
         requires within { All IsWithin (rest_in source) }
         ensures ok { OnOk result (self.new

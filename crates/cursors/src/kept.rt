@@ -68,7 +68,8 @@ impl KeptDocuments {
         requires within { All IsWithin self.now }
         requires short { length namespace.now ≤ 255 }
         requires number { number < 2 ^ 63 }
-        ensures count { IfOk result (λ r. r.1 ≡ batch_of (unwrap_or most (length self.now)) self.now) }
+        ensures count { IfOk result
+            (λ r. r.1 ≡ batch_of (unwrap_or most (length self.now)) self.now) }
         ensures reply { IfOk result (λ r. r.0 ≡ ok_reply (batch_reply (batch_name BatchKind.Next)
             r.1 self.now number namespace.now)) }
         ensures sendable { IfOk result (λ r. IsSendable r.0) }
