@@ -42,7 +42,7 @@ module _ (ends : Ends) where
       (position-Some (ends_it ends) held.list at no_held_cursor e).0
 
   -- the first of those that are to end, so many times
-  pub ended_times : ℕ → Held → Held
+  abbrev pub ended_times : ℕ → Held → Held
   ended_times zero held = held
   ended_times (suc n) held = ended_times n (left held (first_ended ends held))
 

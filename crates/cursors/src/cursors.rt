@@ -3,8 +3,8 @@
 //! What later commands do to a collection isn't seen by a cursor: it keeps the bytes of its documents, or reads a version
 //! of the collections that is pinned for it.
 
-ghost use Rattle.std.specs.Prelude.{◌≡◌, ◌≢◌, ◌<◌, ◌≤◌, ◌^◌, ◌+◌, ◌++◌, [], ◌∷◌, false, true, All, length, map, None, Some, remove, OnOk, OnErr, IfOk, IfErr, IfSome, IfNone, nat_le, if◌then◌else◌, option_map};
-ghost use Rattle.std.specs.List.{position};
+ghost use Rattle.std.specs.Prelude.{◌≡◌, ◌≢◌, ◌==◌, ◌<◌, ◌≤◌, ◌^◌, ◌+◌, ◌++◌, [], ◌∷◌, false, true, All, length, map, None, Some, remove, OnOk, OnErr, IfOk, IfErr, IfSome, IfNone, nat_le, if◌then◌else◌, option_map};
+ghost use Rattle.std.specs.List.{filter, list_any, position};
 ghost use Rattle.filter.specs.Projection.{project};
 ghost use Rattle.database_model.specs.World.{at_rest, count_of};
 ghost use Rattle.database_model.specs.Lawful.{IsWithin};
@@ -34,6 +34,37 @@ use std::marker::Model;
 
 /// The number of the last cursor that may be opened.
 const LAST_NUMBER: u64 = 9_223_372_036_854_775_807;
+
+/// How many of these a connection has.
+fn count_in(cursors: &[OpenCursor], connection: ConnId) -> usize
+    ensures { result
+        ≡ length (filter (λ h. h.cursor.connection == connection) cursors.now) }
+{
+    cursors
+        .iter()
+        .filter(|cursor| cursor.is_of(connection))
+        .count()
+}
+
+/// Where a connection's cursor of this id and namespace stands among these.
+fn place_in(cursors: &[OpenCursor], connection: ConnId, namespace: &str, id: &i64) -> Option<usize>
+    ensures { result
+        ≡ position (λ h. is_cursor connection namespace.now id.now h.cursor) cursors.now }
+{
+    cursors
+        .iter()
+        .position(|cursor| cursor.has_id(connection, namespace, id))
+}
+
+/// Whether a connection's cursor of this id and namespace is among these.
+fn is_in(cursors: &[OpenCursor], connection: ConnId, namespace: &str, id: &i64) -> bool
+    ensures { result
+        ≡ list_any (λ h. is_cursor connection namespace.now id.now h.cursor) cursors.now }
+{
+    cursors
+        .iter()
+        .any(|cursor| cursor.has_id(connection, namespace, id))
+}
 
 /// The turn is over for all of these.
 fn rest_all(cursors: &mut [OpenCursor])
@@ -76,10 +107,7 @@ impl Cursors {
     fn count_of(&self, connection: ConnId) -> usize
         ensures { result ≡ count_of connection (cursors_of self.now) }
     {
-        self.list
-            .iter()
-            .filter(|cursor| cursor.is_of(connection))
-            .count()
+        count_in(&self.list, connection)
     }
 
     /// The number of the next cursor; `None` where the connection may open none.
@@ -206,18 +234,14 @@ impl Cursors {
         ensures { result
             ≡ position (is_cursor connection namespace.now id.now) (cursors_of self.now) }
     {
-        self.list
-            .iter()
-            .position(|cursor| cursor.has_id(connection, namespace, id))
+        place_in(&self.list, connection, namespace, id)
     }
 
     /// Whether a connection has a cursor of this id and namespace.
     pub fn has(&self, connection: ConnId, namespace: &str, id: &i64) -> bool
         ensures { result ≡ has_cursor connection namespace.now (cursors_of self.now) id.now }
     {
-        self.list
-            .iter()
-            .any(|cursor| cursor.has_id(connection, namespace, id))
+        is_in(&self.list, connection, namespace, id)
     }
 
     /// The walk of the cursor at a place; `None` where it keeps its documents.
@@ -251,6 +275,21 @@ impl Cursors {
         cursor.batch(alloc, namespace, most)
     }
 
+    /// The cursor at a place, which keeps its documents, gave so many and has others left.
+    #[tactic(auto, using(crate::specs::TableLaws::gone_on_in_table))]
+    fn give(&mut self, at: usize, count: usize)
+        requires there { at < length self.old.list }
+        requires kept { (held_at self.old at).walk ≡ None }
+        requires more { count < length (held_at self.old at).cursor.rest }
+        ensures walks { self.new ≡ gone_on self.old at count None }
+        ensures table { table_of self.new ≡ record (table_of self.old) {
+          list = advanced (cursors_of self.old) at count;
+        } }
+    {
+        let cursor = &mut self.list[at];
+        cursor.give(count);
+    }
+
     /// The cursor at a place, which keeps its documents, gave so many. With its last one it ends.
     pub fn advance(&mut self, at: usize, count: usize)
         requires there { at < length self.old.list }
@@ -260,16 +299,16 @@ impl Cursors {
           list = advanced (cursors_of self.old) at count;
         } }
     {
-        let cursor = &mut self.list[at];
-        if count < cursor.left() {
-            cursor.give(count);
+        if count < self.list[at].left() {
+            self.give(at, count);
             return;
         }
-        let _cursor = self.list.remove(at);
+        let _pinned = self.end_at(at);
     }
 
     /// The cursor at a place gave so many documents of its walk and has others left. It goes on from a key text, where so many
     /// are still skipped and so many may come then.
+    #[tactic(auto, using(crate::specs::TableLaws::gone_on_in_table))]
     pub fn go_on(&mut self, at: usize, count: usize, skip: usize, limit: usize, from: Vec<u8>)
         requires there { at < length self.old.list }
         requires pinned { (held_at self.old at).walk ≢ None }
@@ -316,6 +355,7 @@ impl Cursors {
     }
 
     /// Ends a turn that is done.
+    #[tactic(auto, using(crate::specs::TableLaws::rested_in_table))]
     pub fn commit(&mut self)
         ensures walks { self.new ≡ all_at_rest self.old }
         ensures table { table_of self.new ≡ record (table_of self.old) {
