@@ -355,7 +355,6 @@ impl Cursors {
     }
 
     /// Ends a turn that is done.
-    #[tactic(auto, using(crate::specs::TableLaws::rested_in_table))]
     pub fn commit(&mut self)
         ensures walks { self.new ≡ all_at_rest self.old }
         ensures table { table_of self.new ≡ record (table_of self.old) {
