@@ -1,10 +1,10 @@
 -- Cursors that end where a connection asks for it or is gone, or where a turn is undone.
-use Rattle.std.specs.Prelude.{ℕ, Bool, not, ◌==◌, List, Option, Some, None, option_map}
+use Rattle.std.specs.Prelude.{ℕ, Bool, not, ◌==◌, Option, Some, None, option_map}
 use Rattle.std.specs.List.{filter, position}
 use Rattle.pager.specs.declared.version.Version.{Version}
 use Rattle.database_model.specs.World.{Cursor}
 use Rattle.database_model.specs.KillCursors.{is_asked}
-use Rattle.cursors.specs.Held.{HeldCursor, Held, held_at}
+use Rattle.cursors.specs.Held.{Held, held_at}
 use Rattle.cursors.specs.Changes.{without, pinned_by}
 use Rattle.cursors.specs.declared.ending.Ends.{Ends}
 use Rattle.cursors.specs.declared.ending.Ends.TheVariants as cases

@@ -1,5 +1,5 @@
 -- A code for open cursors, by which a proof tells two of them apart.
-use Rattle.std.specs.Prelude.{ℕ, List, Bool, Option, refl}
+use Rattle.std.specs.Prelude.{ℕ, List, Option, refl}
 use Rattle.std.specs.Coded.{Coded, code_by, coded×, coded_ℕ, coded_bool, coded_list, coded_option}
 use Rattle.filter.specs.Condition.{Conditions}
 use Rattle.filter.specs.ConditionCode.{coded_conditions}

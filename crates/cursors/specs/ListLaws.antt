@@ -1,8 +1,8 @@
 -- Lists of which something is removed, and what a function makes of each element.
 use Rattle.std.proofs.Common.{◌≡◌, ℕ, zero, suc, ◌+◌, ◌<◌, ◌≤◌, Bool, true, false, List, [], ◌∷◌}
-use Rattle.std.proofs.Common.{◌++◌, length, take, drop, map, refl, sym}
+use Rattle.std.proofs.Common.{length, map, refl, sym}
 use Rattle.std.proofs.Common.{ap, ◌∙◌, arith}
-use Rattle.std.specs.Prelude.{not, ◌||◌, Option, Some, None, remove, nat_lt, if◌then◌else◌}
+use Rattle.std.specs.Prelude.{not, ◌||◌, Some, None, remove, nat_lt, if◌then◌else◌}
 use Rattle.std.specs.List.{filter, list_any, position, position_or_len}
 use Rattle.std.proofs.lemmas.Bool.Decides.{nat_tests}
 use Rattle.std.proofs.lemmas.List.{length-map}

@@ -3,14 +3,14 @@
 use Rattle.std.proofs.Common.{◌≡◌, ℕ, ◌+◌, ◌<◌, ◌≤◌, Bool, true, false, List, [], ◌∷◌, ◌++◌, length}
 use Rattle.std.proofs.Common.{drop, map, refl, sym}
 use Rattle.std.proofs.Common.{ap, ◌∙◌, arith}
-use Rattle.std.specs.Prelude.{not, nat_le, if◌then◌else◌, remove, slice_set, Option, None}
+use Rattle.std.specs.Prelude.{nat_le, if◌then◌else◌, remove, slice_set, Option, None}
 use Rattle.std.specs.List.{filter, list_any, position}
 use Rattle.std.proofs.Math.ListN.{get_or-map}
 use Rattle.std.proofs.lemmas.Bool.Decides.{nat_tests}
 use Rattle.std.proofs.lemmas.List.{length-map, map-append, map-set}
 use Rattle.std.proofs.lemmas.Simd.{map-map}
 use Rattle.bson.specs.Tree.{Pairs}
-use Rattle.database_model.specs.World.{Cursor, CursorTable, at_rest, count_of}
+use Rattle.database_model.specs.World.{Cursor, CursorTable, at_rest}
 use Rattle.database_model.specs.Cursors.{advanced, cursor_at, new_cursor}
 use Rattle.cursors.specs.Held.{HeldWalk, HeldCursor, Held, cursors_of, held_at, no_held_cursor}
 use Rattle.cursors.specs.Held.{table_of}
