@@ -3,13 +3,13 @@
 //! What later commands do to a collection isn't seen by a cursor: it keeps the bytes of its documents, or reads a version
 //! of the collections that is pinned for it.
 
-ghost use Rattle.std.specs.Prelude.{◌≡◌, ◌≢◌, ◌==◌, ◌<◌, ◌≤◌, ◌^◌, ◌+◌, ◌++◌, [], ◌∷◌, false, true, All, length, map, None, Some, remove, OnOk, OnErr, IfOk, IfErr, IfSome, IfNone, nat_le, if◌then◌else◌, option_map};
+ghost use Rattle.std.specs.Prelude.{◌≡◌, ◌≢◌, ◌==◌, ◌<◌, ◌≤◌, ◌^◌, ◌+◌, ◌++◌, [], ◌∷◌, false, true, All, length, map, None, Some, remove, OnOk, OnErr, IfOk, IfErr, IfSome, IfNone, option_map};
 ghost use Rattle.std.specs.List.{filter, list_any, position};
 ghost use Rattle.filter.specs.Projection.{project};
 ghost use Rattle.database_model.specs.World.{at_rest, count_of};
 ghost use Rattle.database_model.specs.Lawful.{IsWithin};
 ghost use Rattle.database_model.specs.Refusals.{ok_reply};
-ghost use Rattle.database_model.specs.Cursors.{batch_reply, is_refused, new_cursor, is_cursor, cursor_at, advanced};
+ghost use Rattle.database_model.specs.Cursors.{batch_reply, is_refused, new_cursor, is_cursor, advanced};
 ghost use Rattle.database_model.specs.GetMore.{batch_len_of};
 ghost use Rattle.database_model.specs.KillCursors.{has_cursor};
 ghost use Rattle.replies.specs.FirstBatch.{IsFirstBatch, IsNoBatch};
