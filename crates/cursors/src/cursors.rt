@@ -244,10 +244,21 @@ impl Cursors {
         is_in(&self.list, connection, namespace, id)
     }
 
+    /// The number of the cursor at a place.
+    pub fn number_at(&self, at: usize) -> u64
+        requires { at < length self.now.list }
+        ensures number { result ≡ (held_at self.now at).cursor.number }
+        ensures below { result < 2 ^ 63 }
+    {
+        let cursor = &self.list[at];
+        cursor.number()
+    }
+
     /// The walk of the cursor at a place; `None` where it keeps its documents.
     pub fn walk_at(&self, at: usize) -> Option<&PinnedWalk>
         requires { at < length self.now.list }
-        ensures { option_map (λ w. walk_of w.now) result ≡ (held_at self.now at).walk }
+        ensures walk { option_map (λ w. walk_of w.now) result ≡ (held_at self.now at).walk }
+        ensures within { All IsWithin (held_at self.now at).cursor.rest }
     {
         let cursor = &self.list[at];
         cursor.walk()

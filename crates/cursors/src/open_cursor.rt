@@ -118,9 +118,17 @@ impl OpenCursor {
         }
     }
 
+    pub(crate) fn number(&self) -> u64
+        ensures number { result ≡ self.now.cursor.number }
+        ensures below { result < 2 ^ 63 }
+    {
+        self.number
+    }
+
     /// Its walk; `None` where it keeps its documents.
     pub(crate) fn walk(&self) -> Option<&PinnedWalk>
-        ensures { option_map (λ w. walk_of w.now) result ≡ self.now.walk }
+        ensures walk { option_map (λ w. walk_of w.now) result ≡ self.now.walk }
+        ensures within { All IsWithin self.now.cursor.rest }
     {
         match &self.source {
             Source::Kept(_) => None,
