@@ -9,7 +9,7 @@ ghost use Rattle.filter.specs.Projection.{project};
 ghost use Rattle.database_model.specs.World.{at_rest, count_of};
 ghost use Rattle.database_model.specs.Lawful.{IsWithin};
 ghost use Rattle.database_model.specs.Refusals.{ok_reply};
-ghost use Rattle.database_model.specs.Cursors.{batch_reply, is_refused, new_cursor, is_cursor, advanced};
+ghost use Rattle.database_model.specs.Cursors.{batch_reply, is_refused, new_cursor, is_cursor, cursor_at, advanced};
 ghost use Rattle.database_model.specs.GetMore.{batch_len_of};
 ghost use Rattle.database_model.specs.KillCursors.{has_cursor};
 ghost use Rattle.replies.specs.FirstBatch.{IsFirstBatch, IsNoBatch};
@@ -265,6 +265,7 @@ impl Cursors {
     }
 
     /// The reply with the next batch of the cursor at a place, which keeps its documents, and how many go into it.
+    #[tactic(auto, using(crate::specs::TableLaws::cursor_in_table))]
     pub fn batch(
         &self,
         at: usize,
@@ -275,10 +276,10 @@ impl Cursors {
         requires kept { (held_at self.now at).walk ≡ None }
         requires short { length namespace.now ≤ 255 }
         ensures count { IfOk result
-            (λ r. r.1 ≡ batch_len_of (held_at self.now at).cursor most) }
+            (λ r. r.1 ≡ batch_len_of (cursor_at (cursors_of self.now) at) most) }
         ensures reply { IfOk result (λ r. r.0 ≡ ok_reply (batch_reply (batch_name BatchKind.Next)
-            r.1 (held_at self.now at).cursor.rest (held_at self.now at).cursor.number
-            namespace.now)) }
+            r.1 (cursor_at (cursors_of self.now) at).rest
+            (cursor_at (cursors_of self.now) at).number namespace.now)) }
         ensures sendable { IfOk result (λ r. IsSendable r.0) }
     {
         let alloc = *self.list.allocator();
