@@ -10,7 +10,7 @@ mod open_batch;
 mod reply;
 mod shared_document;
 
-pub use batch_spelling::{BatchKind, whole_reply};
+pub use batch_spelling::{BatchKind, batch_reply, whole_reply};
 pub use connection::{CONNECTIONS, ConnId};
 pub use cursors::Cursors;
 pub use giving::{Gives, spelled_all};

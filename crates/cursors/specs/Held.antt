@@ -1,0 +1,43 @@
+-- Open cursors, of which some hold no documents: these go on in a version of the collections that
+-- is pinned.
+use Rattle.std.specs.Prelude.{ℕ, List, map, Option, None, slice_index_or}
+use Rattle.filter.specs.Condition.{Conditions}
+use Rattle.filter.specs.Projection.{Projection}
+use Rattle.pager.specs.declared.version.Version.{Version}
+use Rattle.database_model.specs.World.{Cursor, CursorTable}
+use Rattle.database_model.specs.Cursors.{no_cursor}
+
+-- How the walk of a cursor goes on: in a pinned version, through the collection of this number,
+-- from this key text on. Of the documents that pass the filter so many are skipped, and so many may
+-- come then (0: all), each as the projection leaves it.
+pub record HeldWalk : Type 0 where
+  pub version : Version
+  pub number : ℕ
+  pub filter : Conditions
+  pub projection : Projection
+  pub skip : ℕ
+  pub limit : ℕ
+  pub from : List ℕ
+
+-- A cursor, and the walk by which it goes on. One without a walk keeps its documents.
+pub record HeldCursor : Type 0 where
+  pub cursor : Cursor
+  pub walk : Option HeldWalk
+
+-- the open cursors in the order in which they were opened, and the number of the next one
+pub record Held : Type 0 where
+  pub list : List HeldCursor
+  pub next : ℕ
+
+abbrev pub cursors_of : Held → List Cursor
+cursors_of held = map (λ h. h.cursor) held.list
+
+-- the same as the definition of a database knows them
+abbrev pub table_of : Held → CursorTable
+table_of held = record { list = cursors_of held; next = held.next }
+
+abbrev pub no_held_cursor : HeldCursor
+no_held_cursor = record { cursor = no_cursor; walk = None }
+
+abbrev pub held_at : Held → ℕ → HeldCursor
+held_at held at = slice_index_or held.list at no_held_cursor

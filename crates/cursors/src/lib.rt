@@ -1,0 +1,15 @@
+//! Open cursors, of which some hold no documents: these go on in a version of the collections that is pinned.
+#![tactic(auto)]
+
+mod cursors;
+mod ending;
+mod kept;
+mod open_cursor;
+mod rest;
+mod source;
+mod walk;
+
+pub use cursors::Cursors;
+pub use ending::Ends;
+pub use rest::Rest;
+pub use walk::PinnedWalk;
