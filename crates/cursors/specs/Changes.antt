@@ -1,5 +1,5 @@
 -- What becomes of open cursors where one is opened, goes on or ends, and where a turn is done.
-use Rattle.std.specs.Prelude.{ℕ, ◌+◌, true, List, [], ◌∷◌, ◌++◌, map, drop, remove, slice_set}
+use Rattle.std.specs.Prelude.{ℕ, ◌+◌, ◌-◌, true, List, [], ◌∷◌, ◌++◌, map, drop, remove, slice_set}
 use Rattle.std.specs.Prelude.{nat_le, if◌then◌else◌, length, Option, None, option_map}
 use Rattle.bson.specs.Tree.{Pairs}
 use Rattle.pager.specs.declared.version.Version.{Version}
@@ -24,9 +24,9 @@ after h n walk = record {
   walk = walk;
 }
 
--- the walk goes on from this key text, where so many are skipped and so many may come
-abbrev pub onwards : ℕ → ℕ → List ℕ → HeldWalk → HeldWalk
-onwards skip limit from walk = record walk { skip = skip; limit = limit; from = from }
+-- the walk gave n documents, and goes on from this key text
+abbrev pub onwards : ℕ → List ℕ → HeldWalk → HeldWalk
+onwards n from walk = record walk { limit = walk.limit - n; from = from }
 
 -- the cursor at a place gave n documents, and has others left
 abbrev pub gone_on : Held → ℕ → ℕ → Option HeldWalk → Held

@@ -20,18 +20,17 @@ projection_code = coded× coded_bool (coded_list (coded_list (coded_list coded_�
 -- a walk by its version, its collection, its filter and projection, and where it goes on
 abbrev walk_code : Coded HeldWalk
 walk_code =
-    code_by ((Version × ℕ) × ((Conditions × Projection) × ((ℕ × ℕ) × List ℕ)))
+    code_by ((Version × ℕ) × ((Conditions × Projection) × (ℕ × List ℕ)))
     (coded× (coded× version_code coded_ℕ)
     (coded× (coded× coded_conditions projection_code)
-    (coded× (coded× coded_ℕ coded_ℕ) (coded_list coded_ℕ))))
-    (λ w. ((w.version, w.number), ((w.filter, w.projection), ((w.skip, w.limit), w.from))))
+    (coded× coded_ℕ (coded_list coded_ℕ))))
+    (λ w. ((w.version, w.number), ((w.filter, w.projection), (w.limit, w.from))))
     (λ p. record {
       version = p.0.0;
       number = p.0.1;
       filter = p.1.0.0;
       projection = p.1.0.1;
-      skip = p.1.1.0.0;
-      limit = p.1.1.0.1;
+      limit = p.1.1.0;
       from = p.1.1.1;
     })
     (λ _. refl)

@@ -12,7 +12,6 @@ walk_of w = record {
   number = w.number;
   filter = w.filter;
   projection = w.projection;
-  skip = w.skip;
   limit = w.limit;
   from = w.from.items;
 }

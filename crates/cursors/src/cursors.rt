@@ -318,21 +318,15 @@ impl Cursors {
         let _pinned = self.end_at(at);
     }
 
-    /// The cursor at a place gave so many documents of its walk and has others left. It goes on from a key text, where so many
-    /// are still skipped and so many may come then.
-    #[tactic(auto, using(crate::specs::TableLaws::gone_on_in_table))]
-    pub fn go_on(&mut self, at: usize, count: usize, skip: usize, limit: usize, from: Vec<u8>)
+    /// The cursor at a place gave so many documents of its walk and has others left: it goes on from a key text.
+    pub fn go_on(&mut self, at: usize, count: usize, from: Vec<u8>)
         requires there { at < length self.old.list }
         requires pinned { (held_at self.old at).walk ≢ None }
-        requires more { count < length (held_at self.old at).cursor.rest }
-        ensures walks { self.new ≡ gone_on self.old at count
-            (option_map (onwards skip limit from.items) (held_at self.old at).walk) }
-        ensures table { table_of self.new ≡ record (table_of self.old) {
-          list = advanced (cursors_of self.old) at count;
-        } }
+        ensures { self.new ≡ gone_on self.old at count
+            (option_map (onwards count from.items) (held_at self.old at).walk) }
     {
         let cursor = &mut self.list[at];
-        cursor.go_on(count, skip, limit, from);
+        cursor.go_on(count, from);
     }
 
     /// Ends the cursor at a place, and gives the version that it had pinned.

@@ -191,14 +191,14 @@ impl OpenCursor {
     }
 
     /// One that walks through a pinned version gave so many, and goes on from a key text.
-    pub(crate) fn go_on(&mut self, count: usize, skip: usize, limit: usize, from: Vec<u8>)
+    pub(crate) fn go_on(&mut self, count: usize, from: Vec<u8>)
         requires { self.old.walk ≢ None }
         ensures { self.new ≡ after self.old count
-            (option_map (onwards skip limit from.items) self.old.walk) }
+            (option_map (onwards count from.items) self.old.walk) }
     {
         match &mut self.source {
             Source::Kept(_) => unreachable!("it walks through a pinned version"),
-            Source::Pinned(walk) => walk.go_on(count, skip, limit, from),
+            Source::Pinned(walk) => walk.go_on(count, from),
         }
         self.touched = true;
     }

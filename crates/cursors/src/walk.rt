@@ -16,9 +16,7 @@ pub struct PinnedWalk {
     pub filter: Filter,
     /// What is given of each document.
     pub projection: Projection,
-    /// How many of the documents that pass the filter are still to be skipped.
-    pub skip: usize,
-    /// How many may come then; 0 is no limit.
+    /// How many documents may still come; 0 is no limit.
     pub limit: usize,
     /// The key text from which it goes on.
     pub from: Vec<u8>,
@@ -31,13 +29,12 @@ impl PinnedWalk {
     ghost use Rattle.cursors.specs.Changes.{onwards};
 
     /// It gave so many documents, and goes on from a key text.
-    pub(crate) fn go_on(&mut self, count: usize, skip: usize, limit: usize, from: Vec<u8>)
-        ensures walk { walk_of self.new ≡ onwards skip limit from.items (walk_of self.old) }
+    pub(crate) fn go_on(&mut self, count: usize, from: Vec<u8>)
+        ensures walk { walk_of self.new ≡ onwards count from.items (walk_of self.old) }
         ensures rest { self.new.rest.value ≡ drop count self.old.rest.value }
     {
         self.rest.give(count);
-        self.skip = skip;
-        self.limit = limit;
+        self.limit = self.limit.saturating_sub(count);
         self.from = from;
     }
 }
