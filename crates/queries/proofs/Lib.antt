@@ -13,3 +13,7 @@ pub mod IdTextLemmas
 pub mod OrderingLemmas
 pub mod ByOrderLemmas
 pub mod DepthLemmas
+pub mod WindowLemmas
+pub mod BatchesLemmas
+pub mod WalkLeftLemmas
+pub mod GivenLemmas

@@ -49,7 +49,7 @@ by_nothing : (x : Pairs) (xs : List Pairs) → insert_in_order (compare_by []) x
 by_nothing x [] = refl
 by_nothing x (y ∷ ys) = refl
 
-unsorted : (ds : List Pairs) → order [] ds ≡ ds
+pub unsorted : (ds : List Pairs) → order [] ds ≡ ds
 unsorted [] = refl
 unsorted (d ∷ ds) = ap (insert_in_order (compare_by []) d) (unsorted ds) ∙ by_nothing d ds
 

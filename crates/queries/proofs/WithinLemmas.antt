@@ -15,7 +15,7 @@ use Rattle.index.specs.LawfulState.{IsStorable}
 use Rattle.database_model.specs.Lawful.{IsWithin}
 use Rattle.queries.specs.Within.{is_within}
 
-within_by : (d : Pairs) → is_within d ≡ true → IsWithin d
+pub within_by : (d : Pairs) → is_within d ≡ true → IsWithin d
 within_by d is = at (nat_lt 65535 (length (frame_of (pairs_bytes d)))) (nat_lt 90 (suc (pairs_levels d))) refl refl is
   where
     at : (large deep : Bool) → nat_lt 65535 (length (frame_of (pairs_bytes d))) ≡ large → nat_lt 90 (suc (pairs_levels d)) ≡ deep

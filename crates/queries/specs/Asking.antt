@@ -1,5 +1,5 @@
 -- The collection that a query asks.
-use Rattle.std.specs.Prelude.{◌≡◌, List, All}
+use Rattle.std.specs.Prelude.{◌≡◌, ℕ, List, All}
 use Rattle.collections.specs.Reading.{IsNumbered}
 use Rattle.database_model.specs.Lawful.{IsStored}
 use Rattle.index.specs.State.{Collection}
@@ -10,4 +10,9 @@ use Rattle.index.specs.declared.catalogue_reading.Catalogued.{Catalogued}
 pub record IsAsked (home : Catalogued) (now : List Collection) (c : Collection) : Type 0 where
   pub numbered : IsNumbered now c home.number
   pub indexed : c.indexes ≡ home.indexes.items
+  pub stored : All IsStored c.documents
+
+-- the collection of this number, whose documents are such as commands store
+pub record IsAskedIn (number : ℕ) (now : List Collection) (c : Collection) : Type 0 where
+  pub numbered : IsNumbered now c number
   pub stored : All IsStored c.documents

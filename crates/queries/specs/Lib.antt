@@ -1,4 +1,5 @@
 pub mod Asking
+pub mod Batches
 pub mod ById
 pub mod ByIndex
 pub mod Folding

@@ -21,9 +21,9 @@ use std::alloc::Global;
 
 /// Between which key texts of `_id`s a walk goes: from the first to below the end, where there is one.
 #[derive(Drop)]
-struct IdSpan {
-    first: Vec<u8>,
-    end: Option<Vec<u8>>,
+pub(crate) struct IdSpan {
+    pub(crate) first: Vec<u8>,
+    pub(crate) end: Option<Vec<u8>>,
 }
 
 /// The range of `_id`s that a filter gives, if it gives one.
@@ -58,7 +58,7 @@ fn span_of_ids(alloc: Global, filter: &Filter) -> Result<Option<IdSpan>, NoMemor
 }
 
 /// Between which texts all documents lie that are looked for: between all, where no filter gives a range of `_id`s.
-fn span_asked<S: Selects>(alloc: Global, which: &S) -> Result<IdSpan, NoMemory>
+pub(crate) fn span_asked<S: Selects>(alloc: Global, which: &S) -> Result<IdSpan, NoMemory>
     ensures { IfOk result (λ span. PassWithin (S.selects which.now)
         span.first.items (option_map (λ v. v.items) span.end)) }
 {

@@ -3,6 +3,7 @@
 //! index, they are looked up.
 #![tactic(auto)]
 
+mod batches;
 mod by_id;
 mod by_index;
 mod by_order;
@@ -16,6 +17,7 @@ mod scanning;
 mod selects;
 mod within;
 
+pub use batches::{BatchAsked, GivenBatch, Walk, batch_of_turn, batch_of_version};
 pub use by_id::{put_id, put_ids};
 pub use counting::count_in;
 pub use looking_up::selected_in;

@@ -84,7 +84,7 @@ pub(crate) fn copied_within(
 }
 
 /// The document, with values of its own.
-fn document_of(alloc: Global, document: &RawDoc<'_>) -> Result<Document, NoMemory>
+pub(crate) fn document_of(alloc: Global, document: &RawDoc<'_>) -> Result<Document, NoMemory>
     ensures { IfOk result (λ d. d ≡ document.now) }
 {
     match decode(alloc, document.bytes()) {

@@ -1,0 +1,238 @@
+-- What is left of a walk is what a walk gives from the first document on that was not given.
+use Rattle.std.proofs.Common.{◌≡◌, ℕ, zero, suc, Bool, true, false, List, [], ◌∷◌, ◌++◌, map, drop, Option}
+use Rattle.std.proofs.Common.{refl, sym}
+use Rattle.std.proofs.Common.{ap, subst, ◌∙◌, arith, get_or}
+use Rattle.std.specs.Prelude.{not, ◌&&◌, All}
+use Rattle.std.specs.List.{AllByRecursion, filter}
+use Rattle.std.specs.Ordering.{is_lt, on, ordering_reverse}
+use Rattle.std.specs.Cmp.Lexicographic.{nat_list_cmp_total}
+use Rattle.std.specs.declared.cmp.Ordering.{Ordering}
+use Rattle.std.specs.declared.cmp.Ordering.TheVariants.{Less, Equal, Greater}
+use Rattle.std.proofs.lemmas.Cmp.{alike_right, tied_itself}
+use Rattle.std.proofs.lemmas.List.Elements.{All-drop, All-filter, All-head, All-map, All-tail, All-take}
+use Rattle.bson.specs.SizingLaws.{frame_of-length}
+use Rattle.bson.specs.Spelling.{pairs_bytes}
+use Rattle.bson.specs.Tree.{Pairs}
+use Rattle.value_order.specs.KeyText.{tree_text}
+use Rattle.value_order.specs.Order.{compare, value}
+use Rattle.value_order.specs.declared.texts.Direction.TheVariants.{Ascending}
+use Rattle.value_order.proofs.KeyLaws.{texts_order}
+use Rattle.aggregate.proofs.SplitLemmas.{filter-all, filter-both}
+use Rattle.aggregate.specs.EnoughLaws.{filter-passes}
+use Rattle.btree.specs.Keys.{is_within, key_cmp}
+use Rattle.commands.specs.Find.{Query}
+use Rattle.filter.specs.Condition.{Conditions}
+use Rattle.filter.specs.Matches.{matches}
+use Rattle.filter.specs.Projection.{Projection, project}
+use Rattle.filter.specs.ProjectionLaws.{project_no_larger}
+use Rattle.filter.specs.Sort.{SortField, order}
+use Rattle.index.specs.LawfulState.{IsRising, IsStorable}
+use Rattle.index.specs.State.{key_of}
+use Rattle.index.proofs.EntryLemmas.{id_is_key}
+use Rattle.planner.proofs.RisingLemmas.{Below, Rises, rises_of, rises_filter}
+use Rattle.database_model.specs.Find.{limited, matching, query_result, window}
+use Rattle.database_model.specs.Lawful.{IsStored, IsWithin}
+use Rattle.queries.specs.Batches.{PassFrom, is_from, picked, rest_from, walk_rest}
+use Rattle.queries.specs.IdRange.{PassWithin, has_id_within}
+use Rattle.queries.proofs.OrderingLemmas.{unsorted}
+
+abbrev text : Pairs → List ℕ
+text d = tree_text (key_of d)
+
+abbrev by_key : Pairs → Pairs → Ordering
+by_key = on key_of compare
+
+-- ---- texts order as the documents do
+
+text_order : (d e : Pairs) → IsStorable d → IsStorable e → key_cmp (text d) (text e) ≡ compare (key_of d) (key_of e)
+text_order d e hd he = texts_order Ascending (value (key_of d)) (value (key_of e)) (id_is_key d hd) (id_is_key e he)
+
+own_text : (d : Pairs) → is_from (text d) d ≡ true
+own_text d = ap (λ (o : Ordering). not (is_lt o)) (tied_itself nat_list_cmp_total (text d))
+
+text_above : (d e : Pairs) → IsStorable d → IsStorable e → by_key d e ≡ Less → is_from (text d) e ≡ true
+text_above d e hd he less =
+    ap (λ (o : Ordering). not (is_lt o)) (nat_list_cmp_total.antisymm (text e) (text d) ∙ ap ordering_reverse (text_order d e hd he ∙ less))
+
+text_below : (d e : Pairs) → IsStorable d → IsStorable e → by_key d e ≡ Less → is_from (text e) d ≡ false
+text_below d e hd he less = ap (λ (o : Ordering). not (is_lt o)) (text_order d e hd he ∙ less)
+
+all_above : (d : Pairs) (es : List Pairs) → IsStorable d → All IsStorable es → Below by_key d es → filter (is_from (text d)) es ≡ es
+all_above d [] hd all below = refl
+all_above d (e ∷ es) hd all below =
+    rw (text_above d e hd (All-head IsStorable e es all) below.0)
+    (ap (λ (xs : List Pairs). e ∷ xs) (all_above d es hd (All-tail IsStorable e es all) below.1))
+
+middle_below : (x d : Pairs) (xs behind : List Pairs) → Below by_key x (xs ++ d ∷ behind) → by_key x d ≡ Less
+middle_below x d [] behind below = below.0
+middle_below x d (y ∷ xs) behind below = middle_below x d xs behind below.1
+
+-- from the text of one of them on there are it and those behind it
+pub rest_from_one : (front behind : List Pairs) (d : Pairs) → All IsStorable (front ++ d ∷ behind) → Rises by_key (front ++ d ∷ behind)
+    → rest_from (text d) (front ++ d ∷ behind) ≡ d ∷ behind
+rest_from_one [] behind d all up =
+    rw (own_text d)
+    (ap (λ (xs : List Pairs). d ∷ xs) (all_above d behind (All-head IsStorable d behind all) (All-tail IsStorable d behind all) up.0))
+rest_from_one (x ∷ front) behind d all up =
+    let rest = front ++ d ∷ behind in
+    let later : All IsStorable rest = All-tail IsStorable x rest all in
+    let hd : IsStorable d = All-head IsStorable d behind (All-back front (d ∷ behind) later) in
+    rw (text_below x d (All-head IsStorable x rest all) hd (middle_below x d front behind up.0)) (rest_from_one front behind d later up.1)
+  where
+    All-back : (xs ys : List Pairs) → All IsStorable (xs ++ ys) → All IsStorable ys
+    All-back [] ys h = h
+    All-back (y ∷ xs) ys h = All-back xs ys (All-tail IsStorable y (xs ++ ys) h)
+
+-- ---- two tests in either order
+
+filter_twice : (p q : Pairs → Bool) (ds : List Pairs) → filter p (filter q ds) ≡ filter q (filter p ds)
+filter_twice p q ds =
+    sym (filter-both (λ d. p d && q d) p q (λ d. refl) ds) ∙ filter-both (λ d. p d && q d) q p (λ d. swapped (p d) (q d)) ds
+  where
+    swapped : (a b : Bool) → (a && b) ≡ (b && a)
+    swapped true true = refl
+    swapped true false = refl
+    swapped false true = refl
+    swapped false false = refl
+
+-- what isn't below a text isn't below one that is below that
+from_later : (low high : List ℕ) (d : Pairs) → not (is_lt (key_cmp high low)) ≡ true → is_from high d ≡ true → is_from low d ≡ true
+from_later low high d up h = at (key_cmp (text d) low) refl
+  where
+    at : (o : Ordering) → key_cmp (text d) low ≡ o → not (is_lt o) ≡ true
+    at Equal e = refl
+    at Greater e = refl
+    at Less e = by (key_cmp high low) refl up
+      where
+        above : key_cmp low (text d) ≡ Greater
+        above = nat_list_cmp_total.antisymm low (text d) ∙ ap ordering_reverse e
+
+        by : (o : Ordering) → key_cmp high low ≡ o → not (is_lt o) ≡ true → not (is_lt Less) ≡ true
+        by Less f g = g
+        by Equal f g =
+            let less : key_cmp (text d) high ≡ Less = alike_right nat_list_cmp_total high low (text d) f ∙ e in
+            sym (ap (λ (o : Ordering). not (is_lt o)) less) ∙ h
+        by Greater f g =
+            let back : key_cmp low high ≡ Less = nat_list_cmp_total.antisymm low high ∙ ap ordering_reverse f in
+            let less : key_cmp (text d) high ≡ Less = nat_list_cmp_total.trans (text d) low high e back in
+            sym (ap (λ (o : Ordering). not (is_lt o)) less) ∙ h
+
+-- those from a text on, of those from a lower one on
+pub from_twice : (low high : List ℕ) → not (is_lt (key_cmp high low)) ≡ true → (ds : List Pairs) → rest_from high (rest_from low ds) ≡ rest_from high ds
+from_twice low high up ds =
+    sym (filter-both (is_from high) (is_from high) (is_from low) (λ d. both (is_from high d) (is_from low d) (from_later low high d up)) ds)
+  where
+    both : (a b : Bool) → (a ≡ true → b ≡ true) → a ≡ (a && b)
+    both false b h = refl
+    both true b h = sym (h refl)
+
+-- ---- between which texts a walk goes
+
+module _ (passes : Pairs → Bool) (from first : List ℕ) (end : Option (List ℕ)) (within : PassWithin passes first end) where
+  -- the range of the filter begins no lower
+  pub from_range : (key_cmp first from ≡ Less → ⊥) → PassFrom passes from first end
+  from_range above ds storable stored =
+      ap (filter passes) (filter-both (has_id_within first end) (has_id_within first end) (is_from from) each ds)
+      ∙ within (rest_from from ds) (All-filter (is_from from) IsStorable ds storable) (All-filter (is_from from) IsStored ds stored)
+    where
+      not_below : not (is_lt (key_cmp first from)) ≡ true
+      not_below = at (key_cmp first from) refl
+        where
+          at : (o : Ordering) → key_cmp first from ≡ o → not (is_lt o) ≡ true
+          at Less e = absurd (above e)
+          at Equal e = refl
+          at Greater e = refl
+
+      both : (a b c : Bool) → (a ≡ true → c ≡ true) → (a && b) ≡ ((a && b) && c)
+      both false b c h = refl
+      both true false c h = refl
+      both true true c h = sym (h refl)
+
+      each : (d : Pairs) → has_id_within first end d ≡ (has_id_within first end d && is_from from d)
+      each d = both (is_from first d) (is_within end (text d)) (is_from from d) (from_later from first d not_below)
+
+  -- the walk goes on within it
+  pub from_text : key_cmp first from ≡ Less → PassFrom passes from from end
+  from_text less ds storable stored =
+      ap (filter passes) (filter-both (has_id_within from end) (has_id_within first end) (is_from from) each ds)
+      ∙ within (rest_from from ds) (All-filter (is_from from) IsStorable ds storable) (All-filter (is_from from) IsStored ds stored)
+    where
+      not_below : not (is_lt (key_cmp from first)) ≡ true
+      not_below = ap (λ (o : Ordering). not (is_lt o)) (nat_list_cmp_total.antisymm from first ∙ ap ordering_reverse less)
+
+      both : (a b c : Bool) → (c ≡ true → a ≡ true) → (c && b) ≡ ((a && b) && c)
+      both false b false h = refl
+      both false b true h = absurd (let no = h refl in cc)
+      both true false false h = refl
+      both true true false h = refl
+      both true false true h = refl
+      both true true true h = refl
+
+      each : (d : Pairs) → has_id_within from end d ≡ (has_id_within first end d && is_from from d)
+      each d = both (is_from first d) (is_within end (text d)) (is_from from d) (from_later first from d not_below)
+
+-- ---- the first one that is left
+
+passed : (p : Pairs → Bool) (ds front behind : List Pairs) (d : Pairs) → filter p ds ≡ front ++ d ∷ behind → p d ≡ true
+passed p ds front behind d e = one front (subst (AllByRecursion (λ x. p x ≡ true)) e (filter-passes p ds))
+  where
+    one : (xs : List Pairs) → AllByRecursion (λ x. p x ≡ true) (xs ++ d ∷ behind) → p d ≡ true
+    one [] h = h.0
+    one (x ∷ xs) h = one xs h.1
+
+-- Of those that match from a text on, those from one of them on are those that match from its text on.
+pub left_matching : (rules : Conditions) (from : List ℕ) (ds front behind : List Pairs) (d : Pairs) → All IsStorable ds → IsRising ds
+    → matching rules (rest_from from ds) ≡ front ++ d ∷ behind → matching rules (rest_from (text d) ds) ≡ d ∷ behind
+left_matching rules from ds front behind d all rising split =
+    let found = matching rules (rest_from from ds) in
+    let storable : All IsStorable (front ++ d ∷ behind) =
+    subst (All IsStorable) split (All-filter (matches rules) IsStorable (rest_from from ds) (All-filter (is_from from) IsStorable ds all)) in
+    let up : Rises by_key (front ++ d ∷ behind) =
+    subst (Rises by_key) split
+    (rises_filter (matches rules) by_key (rest_from from ds) (rises_filter (is_from from) by_key ds (rises_of by_key ds rising))) in
+    let above : is_from from d ≡ true =
+    passed (is_from from) (matching rules ds) front behind d (filter_twice (is_from from) (matches rules) ds ∙ split) in
+    ap (matching rules) (sym (from_twice from (text d) above ds)) ∙ filter_twice (matches rules) (is_from (text d)) (rest_from from ds)
+    ∙ ap (rest_from (text d)) split ∙ rest_from_one front behind d storable up
+
+-- ---- what is given is within the limits
+
+projected_within : (p : Projection) (d : Pairs) → IsWithin d → IsWithin (project p d)
+projected_within p d h =
+    let less = project_no_larger p d in
+    record {
+      size = omega (arith, frame_of-length (pairs_bytes (project p d)), frame_of-length (pairs_bytes d), less.0, h.size);
+      depth = omega (arith, less.1, h.depth);
+    }
+
+pub one_within : (p : Projection) (d : Pairs) → IsWithin d → IsWithin (project p d)
+one_within = projected_within
+
+limited_within : (limit : ℕ) (ds : List Pairs) → All IsWithin ds → All IsWithin (limited limit ds)
+limited_within zero ds h = h
+limited_within (suc n) ds h = All-take IsWithin (suc n) ds h
+
+pub picked_within : (rules : Conditions) (p : Projection) (skip limit : ℕ) (ds : List Pairs) → All IsWithin ds → All IsWithin (picked rules p skip limit ds)
+picked_within rules p skip limit ds h =
+    let kept = window skip limit (matching rules ds) in
+    let all : All IsWithin kept = limited_within limit (drop skip (matching rules ds))
+    (All-drop IsWithin skip (matching rules ds) (All-filter (matches rules) IsWithin ds h)) in
+    All-map IsWithin (project p) kept (λ k d below. projected_within p (get_or kept k d) (all k d below))
+
+pub stored_within : (ds : List Pairs) → All IsStored ds → All IsWithin ds
+stored_within ds h = λ k d below. record { size = (h k d below).size; depth = (h k d below).depth }
+
+-- ---- from the beginning
+
+-- a walk from the beginning gives what a query without a sort gives
+pub whole_walk : (q : Query) (ds : List Pairs) → q.sort ≡ [] → walk_rest q.filter q.projection q.skip q.limit [] ds ≡ query_result q ds
+whole_walk q ds none =
+    let all : rest_from [] ds ≡ ds = filter-all (is_from []) (λ d. not_below (text d)) ds in
+    let plain : order q.sort (matching q.filter ds) ≡ matching q.filter ds =
+    ap (λ (fields : List SortField). order fields (matching q.filter ds)) none ∙ unsorted (matching q.filter ds) in
+    ap (picked q.filter q.projection q.skip q.limit) all
+    ∙ ap (λ (es : List Pairs). map (project q.projection) (window q.skip q.limit es)) (sym plain)
+  where
+    not_below : (t : List ℕ) → not (is_lt (key_cmp t [])) ≡ true
+    not_below [] = refl
+    not_below (b ∷ t) = refl
