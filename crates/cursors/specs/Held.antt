@@ -8,8 +8,8 @@ use Rattle.database_model.specs.World.{Cursor, CursorTable}
 use Rattle.database_model.specs.Cursors.{no_cursor}
 
 -- How the walk of a cursor goes on: in a pinned version, through the collection of this number,
--- from this key text on. Of the documents that pass the filter so many may still come (0: all), each
--- as the projection leaves it.
+-- from this key text on. Of the documents that pass the filter so many may still come (0: all),
+-- each as the projection leaves it.
 pub record HeldWalk : Type 0 where
   pub version : Version
   pub number : ℕ

@@ -44,7 +44,8 @@ put_over : (news : List Pairs) (d new : Pairs) (ds : List Pairs) → put_each ne
 put_over [] d new ds e = let same : d ≡ new = cc in ap (λ (x : Pairs). x ∷ ds) same
 put_over (n ∷ rest) d new ds e = at (compare (key_of n) (key_of d)) (λ later. put_over rest n new ds later) e
   where
-    at : (r : Ordering) → (put_each rest (n ∷ []) ≡ new ∷ [] → put_each rest (n ∷ ds) ≡ new ∷ ds) → put_each rest (by_order r (n ∷ d ∷ []) (n ∷ []) (d ∷ n ∷ [])) ≡ new ∷ []
+    at : (r : Ordering) → (put_each rest (n ∷ []) ≡ new ∷ [] → put_each rest (n ∷ ds) ≡ new ∷ ds)
+        → put_each rest (by_order r (n ∷ d ∷ []) (n ∷ []) (d ∷ n ∷ [])) ≡ new ∷ []
         → put_each rest (by_order r (n ∷ d ∷ ds) (n ∷ ds) (d ∷ put_document n ds)) ≡ new ∷ ds
     at orders.Less go is = absurd (omega (arith, ap length is, each_longer rest (n ∷ d ∷ [])))
     at orders.Equal go is = go is
@@ -107,8 +108,9 @@ module _ (s : UpdateStatement) (one : s.multi ≡ false) where
   writes_front d ds m =
       let p = matches s.filter in
       let written : Bool → Bool → Bool → List DocumentWrite =
-      λ b c multi. if b then changes_of s.change (if multi then (if c then d ∷ filter p ds else filter p ds) else take 1 (if c then d ∷ filter p ds else filter p ds))
-          else map made_write (made_of s) in
+      λ b c multi. if b then changes_of s.change
+      (if multi then (if c then d ∷ filter p ds else filter p ds) else take 1 (if c then d ∷ filter p ds else filter p ds))
+      else map made_write (made_of s) in
       ap (λ (ws : List DocumentWrite). written (list_any p (d ∷ ds)) (p d) s.multi ++ ws) (none_behind (run_listed 0 s (not_listed (d ∷ ds))))
       ∙ append-nil (written (list_any p (d ∷ ds)) (p d) s.multi)
       ∙ ap (λ (b : Bool). written (b || list_any p ds) b s.multi) m

@@ -30,17 +30,18 @@ returns-in_err-found g c =
     let home = c.in-Some.home in
     let p = err_from_is_err_and c.from_residual-in_err-found.result c.from_residual-in_err-found.ensures.1 in
     rw (p.1, p.2)
-    (looks_refused g.D.Disk.history (λ now (found : Vec Pairs Global). AreMeant name ds c.enough.result home now found.items) c.args.self.now c.selected.new.self
+    (looks_refused g.D.Disk.history (λ now (found : Vec Pairs Global). AreMeant name ds c.enough.result home now found.items) c.args.self.now
+    c.selected.new.self
     (λ now t. IsTaken now name ds t) c.in_err-found.field-0.0
-    (meant_found g.D.Disk.history name ds c.args.self.now c.catalogued.new.self c.in_ok-home.field-0 c.in_ok-home.ensures.looks c.enough.result c.selected.new.self home
-    c.in-Some.is _ c.in_err-found.ensures.looks))
+    (meant_found g.D.Disk.history name ds c.args.self.now c.catalogued.new.self c.in_ok-home.field-0 c.in_ok-home.ensures.looks
+    c.enough.result c.selected.new.self home c.in-Some.is _ c.in_err-found.ensures.looks))
 
 pub returns-in_err-left : goal.returns-in_err-left
 returns-in_err-left g c =
     let name = c.args.namespace.now in
     let ds = c.args.deletions.now in
-    let looks = meant_found g.D.Disk.history name ds c.args.self.now c.catalogued.new.self c.in_ok-home.field-0 c.in_ok-home.ensures.looks c.enough.result c.selected.new.self
-    c.in-Some.home c.in-Some.is c.selected.result c.selected.ensures.looks in
+    let looks = meant_found g.D.Disk.history name ds c.args.self.now c.catalogued.new.self c.in_ok-home.field-0 c.in_ok-home.ensures.looks
+    c.enough.result c.selected.new.self c.in-Some.home c.in-Some.is c.selected.result c.selected.ensures.looks in
     let p = err_from_is_err_and c.from_residual-in_err-left.result c.from_residual-in_err-left.ensures.1 in
     rw p.1 (looks_memory g.D.Disk.history (λ now t. IsTaken now name ds t) c.args.self.now c.selected.new.self p.0 p.2 looks.reads)
 
@@ -51,7 +52,8 @@ returns g c =
     let home = c.in-Some.home in
     let found = c.in_ok-found.found in
     let left = c.in_ok-left.left in
-    takes_meant g.D.Disk.history name ds c.args.self.now c.selected.new.self c.enough.result c.enough.ensures home found (record { home = home; removed = left.removed })
-    (meant_found g.D.Disk.history name ds c.args.self.now c.catalogued.new.self c.in_ok-home.field-0 c.in_ok-home.ensures.looks c.enough.result c.selected.new.self home
-    c.in-Some.is _ c.in_ok-found.ensures.looks)
+    takes_meant g.D.Disk.history name ds c.args.self.now c.selected.new.self c.enough.result c.enough.ensures home found
+    (record { home = home; removed = left.removed })
+    (meant_found g.D.Disk.history name ds c.args.self.now c.catalogued.new.self c.in_ok-home.field-0 c.in_ok-home.ensures.looks
+    c.enough.result c.selected.new.self home c.in-Some.is _ c.in_ok-found.ensures.looks)
     (omega (arith, found.ok.0, found.ok.1, found.small)) refl (c.in_ok-left.ensures.removed ∙ ap (all_taken ds) c.deref.ensures.value)
