@@ -108,7 +108,7 @@ module _ (s : UpdateStatement) (one : s.multi ≡ false) where
       let p = matches s.filter in
       let written : Bool → Bool → Bool → List DocumentWrite =
       λ b c multi. if b then changes_of s.change (if multi then (if c then d ∷ filter p ds else filter p ds) else take 1 (if c then d ∷ filter p ds else filter p ds))
-          else map made_write (made_of s) in
+      else map made_write (made_of s) in
       ap (λ (ws : List DocumentWrite). written (list_any p (d ∷ ds)) (p d) s.multi ++ ws) (none_behind (run_listed 0 s (not_listed (d ∷ ds))))
       ∙ append-nil (written (list_any p (d ∷ ds)) (p d) s.multi)
       ∙ ap (λ (b : Bool). written (b || list_any p ds) b s.multi) m
