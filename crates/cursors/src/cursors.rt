@@ -1,7 +1,7 @@
 //! The open cursors.
 //!
-//! What later commands do to a collection isn't seen by a cursor: it keeps the bytes of its documents, or reads a version
-//! of the collections that is pinned for it.
+//! What later commands do to a collection isn't seen by a cursor: it keeps the bytes of its documents, or
+//! reads a version of the collections that is pinned for it.
 
 ghost use Rattle.std.specs.Prelude.{◌≡◌, ◌≢◌, ◌==◌, ◌<◌, ◌≤◌, ◌^◌, ◌+◌, ◌++◌, [], ◌∷◌, false, true, All, length, map, None, Some, remove, OnOk, OnErr, IfOk, IfErr, IfSome, IfNone, option_map};
 ghost use Rattle.std.specs.List.{filter, list_any, position};
@@ -191,8 +191,8 @@ impl Cursors {
         self.open(connection, namespace, Source::Pinned(walk))
     }
 
-    /// The reply with a first batch of documents of which a projection is given, and how many they are. `TooMany` where others
-    /// are left and the connection may open no cursor.
+    /// The reply with a first batch of documents of which a projection is given, and how many they are.
+    /// `TooMany` where others are left and the connection may open no cursor.
     pub fn first_batch<T: Gives>(
         &self,
         connection: ConnId,
@@ -264,7 +264,8 @@ impl Cursors {
         cursor.walk()
     }
 
-    /// The reply with the next batch of the cursor at a place, which keeps its documents, and how many go into it.
+    /// The reply with the next batch of the cursor at a place, which keeps its documents, and how many go
+    /// into it.
     #[tactic(auto, using(crate::specs::TableLaws::cursor_in_table))]
     pub fn batch(
         &self,
@@ -318,7 +319,8 @@ impl Cursors {
         let _pinned = self.end_at(at);
     }
 
-    /// The cursor at a place gave so many documents of its walk and has others left: it goes on from a key text.
+    /// The cursor at a place gave so many documents of its walk and has others left: it goes on from a key
+    /// text.
     pub fn go_on(&mut self, at: usize, count: usize, from: Vec<u8>)
         requires there { at < length self.old.list }
         requires pinned { (held_at self.old at).walk ≢ None }
@@ -349,7 +351,8 @@ impl Cursors {
         self.list.iter().position(|cursor| cursor.is_ended(ends))
     }
 
-    /// Ends the first of the cursors that are to end, and gives the version that it had pinned. `None`: there is none.
+    /// Ends the first of the cursors that are to end, and gives the version that it had pinned. `None`: there
+    /// is none.
     pub fn end_first(&mut self, ends: &Ends<'_>) -> Option<Option<Version>>
         ensures pinned { result ≡ given_back self.old (first_ended ends.now self.old) }
         ensures left { self.new ≡ left self.old (first_ended ends.now self.old) }

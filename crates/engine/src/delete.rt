@@ -27,7 +27,8 @@ use replies::{SharedDocument, total_reply};
 use statements::{after_deletions, is_deleted};
 use std::alloc::Global;
 
-/// Puts the key texts of the `_id`s that statements ask for behind others; false where one of them asks for none.
+/// Puts the key texts of the `_id`s that statements ask for behind others; false where one of them asks for
+/// none.
 fn put_deleted(
     alloc: Global,
     ids: &mut Vec<Vec<u8>>,
@@ -70,8 +71,8 @@ impl Selects for Matched<'_> {
     }
 }
 
-/// So many of the documents that statements match, in ascending order of `_id`, are enough: one, where a single statement takes the
-/// first one.
+/// So many of the documents that statements match, in ascending order of `_id`, are enough: one, where a
+/// single statement takes the first one.
 fn enough(deletions: &[Deletion]) -> usize
     ensures { Suffices deletions.now result }
 {
@@ -125,8 +126,8 @@ impl<D: Disk> Engine<D> {
         Ok(reply)
     }
 
-    /// What a delete takes out of the collection of a name. Of its documents those are kept that a statement matches, as many as are
-    /// enough.
+    /// What a delete takes out of the collection of a name. Of its documents those are kept that a statement
+    /// matches, as many as are enough.
     fn taken(&mut self, namespace: &str, deletions: &[Deletion]) -> Result<Taken, Refusal>
         requires sound { IsSound D.history self.old }
         ensures { Looks D.history (λ now taken. IsTaken now namespace.now deletions.now taken)
@@ -143,7 +144,8 @@ impl<D: Disk> Engine<D> {
         })
     }
 
-    /// Takes documents out of the file, with their entries in the indexes. Where there are none, nothing is written.
+    /// Takes documents out of the file, with their entries in the indexes. Where there are none, nothing is
+    /// written.
     fn remove(
         &mut self,
         namespace: &str,

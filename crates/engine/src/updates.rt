@@ -39,7 +39,8 @@ use statements::{
 };
 use std::alloc::Global;
 
-/// The documents that the statements of an update may mean, as many as are enough, and the collection that has them.
+/// The documents that the statements of an update may mean, as many as are enough, and the collection that
+/// has them.
 #[derive(Drop)]
 pub(crate) struct Meant {
     number: u32,
@@ -125,7 +126,8 @@ fn has_id_of_raw(
     )
 }
 
-/// Puts the key texts of the `_id`s that statements ask for behind others; false where one of them asks for none.
+/// Puts the key texts of the `_id`s that statements ask for behind others; false where one of them asks for
+/// none.
 fn put_updated(
     alloc: Global,
     ids: &mut Vec<Vec<u8>>,
@@ -143,7 +145,8 @@ fn put_updated(
     Ok(true)
 }
 
-/// Puts the key text of a document's `_id` behind others; false where it has none, or a longer one than a stored document's.
+/// Puts the key text of a document's `_id` behind others; false where it has none, or a longer one than a
+/// stored document's.
 fn put_id_of(alloc: Global, ids: &mut Vec<Vec<u8>>, document: &Document) -> Result<bool, NoMemory>
     ensures put { OnOk result (ArePut (texts_of ids.old.items) (texts_of ids.new.items)) }
     ensures tells { IfOk result (λ told. told ≡ true
@@ -210,8 +213,8 @@ impl Selects for Meaning<'_> {
     }
 }
 
-/// So many of the documents that statements may mean are enough, in ascending order of `_id`: one, where the only statement changes one
-/// and makes none.
+/// So many of the documents that statements may mean are enough, in ascending order of `_id`: one, where the
+/// only statement changes one and makes none.
 fn enough(statements: &[UpdateStatement], made: &[Document]) -> usize
     ensures { made.now ≡ made_by statements.now → Suffices statements.now result }
 {
@@ -221,8 +224,8 @@ fn enough(statements: &[UpdateStatement], made: &[Document]) -> usize
     }
 }
 
-/// The reply that says what statements came to; `BSONObjectTooLarge` where that is too long, as the `_id`s of many documents that
-/// were made can make it.
+/// The reply that says what statements came to; `BSONObjectTooLarge` where that is too long, as the `_id`s of
+/// many documents that were made can make it.
 fn reply_of(alloc: Global, end: Result<Tally, Refusal>) -> Result<Document, Refusal>
     ensures replies { RepliesTo end result }
     ensures sendable { IfOk result (λ d. IsSendable d) }
@@ -289,7 +292,8 @@ impl<D: Disk> Engine<D> {
         Ok(run_on(self.alloc, meant.documents, statements, true)?)
     }
 
-    /// The edits that write what an update writes to the collection of a name, which they make where it is missing.
+    /// The edits that write what an update writes to the collection of a name, which they make where it is
+    /// missing.
     fn edits_of(&mut self, namespace: &str, writes: &[Write]) -> Result<Edits, Refusal>
         requires short { length namespace.now ≤ 255 }
         requires sound { IsSound D.history self.old }
@@ -348,8 +352,9 @@ impl<D: Disk> Engine<D> {
         }
     }
 
-    /// The documents that statements may mean in the collection of a name, as many as are enough. One walk reads them. `TooMany` where the collection
-    /// is missing, and making it for a document that a statement makes would be one too many.
+    /// The documents that statements may mean in the collection of a name, as many as are enough. One walk
+    /// reads them. `TooMany` where the collection is missing, and making it for a document that a statement
+    /// makes would be one too many.
     fn meant(&mut self, namespace: &str, statements: &[UpdateStatement]) -> Result<Meant, Refusal>
         requires sound { IsSound D.history self.old }
         ensures tries { Tries D.history

@@ -1,6 +1,6 @@
-//! The collections of a file. It is opened with what its bytes hold, of which no entry is read then; a check reads each entry of its tree
-//! once and judges it, and keeps none but what the catalogue tells. Each key of a document is looked up, and the entries of indexes are
-//! counted.
+//! The collections of a file. It is opened with what its bytes hold, of which no entry is read then; a check
+//! reads each entry of its tree once and judges it, and keeps none but what the catalogue tells. Each key of
+//! a document is looked up, and the entries of indexes are counted.
 
 ghost use Rattle.std.specs.Prelude.{◌≡◌, ◌≢◌, ◌+◌, ◌≤◌, ◌⊎◌, [], List, ℕ, Some, IfErr, IfOk, OnOk, map};
 ghost use Rattle.page.specs.History.{now, reads};
@@ -28,8 +28,8 @@ use trusted_disk::TrustedDisk;
 /// How many entries are read at a time.
 const BATCH: usize = 64;
 
-/// What was read of a file so far, beside what is told: the catalogue, how many documents there were, how many keys these have, and
-/// how many entries of indexes there were.
+/// What was read of a file so far, beside what is told: the catalogue, how many documents there were, how
+/// many keys these have, and how many entries of indexes there were.
 #[derive(Drop)]
 pub struct Loading {
     pub names: Vec<Named>,
@@ -49,7 +49,8 @@ fn reading_fault(refusal: Refusal) -> OpenFault
     }
 }
 
-/// The document of an entry of a collection, whose keys stand in the collection's indexes, and a count with its keys more.
+/// The document of an entry of a collection, whose keys stand in the collection's indexes, and a count with
+/// its keys more.
 fn judge_document<D: Disk>(
     alloc: Global,
     file: &mut FileCollections<D>,
@@ -243,7 +244,8 @@ fn load_batch<D: Disk>(
     }
 }
 
-/// Takes all entries of a file, of which nothing is told yet. The bound on batches is none that a file could reach.
+/// Takes all entries of a file, of which nothing is told yet. The bound on batches is none that a file could
+/// reach.
 fn load_entries<D: Disk>(
     alloc: Global,
     file: &mut FileCollections<D>,
@@ -268,7 +270,8 @@ fn load_entries<D: Disk>(
     Err(OpenFault::Memory)
 }
 
-/// Takes all entries of a file, of which nothing is told yet: there are as many entries of indexes as keys of documents.
+/// Takes all entries of a file, of which nothing is told yet: there are as many entries of indexes as keys of
+/// documents.
 pub fn load_file<D: Disk>(
     alloc: Global,
     file: &mut FileCollections<D>,
@@ -293,8 +296,8 @@ pub fn load_file<D: Disk>(
     Ok(loading)
 }
 
-/// Opens a disk. The collections that are told of it are those that an image holds, which the caller chooses; where it holds none
-/// the disk isn't trusted.
+/// Opens a disk. The collections that are told of it are those that an image holds, which the caller chooses;
+/// where it holds none the disk isn't trusted.
 fn open_told<D: Disk>(
     alloc: Global,
     disk: D,
@@ -311,9 +314,9 @@ fn open_told<D: Disk>(
     }
 }
 
-/// Opens a disk that a crash may have left, as a file of at most so many pages, or those that it has. No entry of its tree is read:
-/// the collections that are told of it are those that the disk's bytes hold, and where they hold none the disk isn't trusted. An
-/// `Err` hands the disk back.
+/// Opens a disk that a crash may have left, as a file of at most so many pages, or those that it has. No
+/// entry of its tree is read: the collections that are told of it are those that the disk's bytes hold, and
+/// where they hold none the disk isn't trusted. An `Err` hands the disk back.
 pub fn open_file<D: Disk>(
     alloc: Global,
     disk: D,

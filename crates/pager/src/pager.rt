@@ -16,8 +16,8 @@ use std::alloc::{AllocError, Global};
 use std::marker::Model;
 use trusted_disk::TrustedDisk;
 
-/// The pages of a database file: those of the tree that is committed, read through a cache, and those that the running turn has made
-/// and retired since then.
+/// The pages of a database file: those of the tree that is committed, read through a cache, and those that
+/// the running turn has made and retired since then.
 #[derive(Drop)]
 pub struct Pager<D: Disk> {
     alloc: Global,
@@ -63,9 +63,9 @@ impl<D: Disk> Pager<D> {
     ghost use Rattle.pager.specs.Turn.{IsOrderly, LeadsBack, Returns, is_changed, undone_to};
     ghost use Rattle.pager.specs.View.{pager_history};
 
-    /// Opens a disk that a crash may have left, as a file of at most so many pages, or those that it has. It reads the list of free
-    /// pages, and of the tree the root page alone, where the root names a list; each page of the tree where it names none. An `Err`
-    /// hands the disk back.
+    /// Opens a disk that a crash may have left, as a file of at most so many pages, or those that it has. It
+    /// reads the list of free pages, and of the tree the root page alone, where the root names a list; each
+    /// page of the tree where it names none. An `Err` hands the disk back.
     pub fn open(alloc: Global, disk: D, limit: u32) -> Result<Pager<D>, (D, OpenFault)>
         ensures opened { IfOk result (IsOpened D.history disk) }
         ensures limit { IfOk result (HasLimit limit) }
@@ -101,7 +101,8 @@ impl<D: Disk> Pager<D> {
         self.store.into_disk()
     }
 
-    /// The same pager over the same disk, whose word counts from now on only where what the caller chooses is true.
+    /// The same pager over the same disk, whose word counts from now on only where what the caller chooses is
+    /// true.
     pub fn trusting(self) -> Pager<TrustedDisk<D>>
         ghost trusted: { Bool }
         ensures { result ≡ trusting_pager trusted self }
@@ -146,9 +147,9 @@ impl<D: Disk> Pager<D> {
         let _ = &self.made;
     }
 
-    /// How many pages the file has by the last commit, and how many of them nothing reaches. It reads each page of the committed
-    /// tree, and of the list that the root names, from the disk, not from the cache. Damaged where these pages are no tree, or no
-    /// list that fits it.
+    /// How many pages the file has by the last commit, and how many of them nothing reaches. It reads each
+    /// page of the committed tree, and of the list that the root names, from the disk, not from the cache.
+    /// Damaged where these pages are no tree, or no list that fits it.
     pub fn count_pages(&mut self) -> Result<PageCounts, OpenFault>
         ensures { CountsPages D.history result self.old self.new }
     {
@@ -188,8 +189,8 @@ impl<D: Disk> Pager<D> {
         keep_lower(&mut self.places, mark.made);
     }
 
-    /// Pins the tree below this page as it is now: what it reaches isn't free before it is unpinned, whatever is committed
-    /// meanwhile. A version may be pinned several times. An `Err` leaves all as it was.
+    /// Pins the tree below this page as it is now: what it reaches isn't free before it is unpinned, whatever
+    /// is committed meanwhile. A version may be pinned several times. An `Err` leaves all as it was.
     pub fn pin(&mut self, root: u32) -> Result<Version, AllocError>
         ensures pins { Pins D.history root result self.old self.new }
     {
@@ -210,10 +211,10 @@ impl<D: Disk> Pager<D> {
         ensures { VersionsStay D.history }
     {}
 
-    /// Makes the tree below this page the committed one, with a list of the pages that are free then: the pages that the turn
-    /// made and didn't retire are written, then those of the list, then the root. What it retired is free from then on, and so are
-    /// the pages of the list that the last root named. `Full` where no page is free for the list. An `Err` leaves the turn, to be
-    /// undone. It reads nothing.
+    /// Makes the tree below this page the committed one, with a list of the pages that are free then: the
+    /// pages that the turn made and didn't retire are written, then those of the list, then the root. What it
+    /// retired is free from then on, and so are the pages of the list that the last root named. `Full` where
+    /// no page is free for the list. An `Err` leaves the turn, to be undone. It reads nothing.
     pub fn commit(&mut self, root: u32) -> Result<(), CommitFault>
         ensures commits { Commits D.history root result self.old self.new }
         ensures takes { CountsTakes result self.old self.new }

@@ -1,4 +1,5 @@
-//! Batches that are spelled while a collection is walked through: no document of them is kept, and a walk ends where its batch is full.
+//! Batches that are spelled while a collection is walked through: no document of them is kept, and a walk
+//! ends where its batch is full.
 
 ghost use Rattle.std.specs.Prelude.{◌≡◌, ◌<◌, ◌≤◌, ◌^◌, IfErr, IfOk, [], length, option_map};
 ghost use Rattle.collections.specs.Reading.{ReadsOf};
@@ -27,7 +28,8 @@ use replies::{BatchKind, OpenBatch};
 use statements::id_text;
 use std::alloc::Global;
 
-/// A walk through the documents of a collection in ascending order of `_id`: which of them it gives, and from which key text it goes on.
+/// A walk through the documents of a collection in ascending order of `_id`: which of them it gives, and from
+/// which key text it goes on.
 #[derive(Clone, Copy)]
 pub struct Walk<'a> {
     pub filter: &'a Filter,
@@ -36,7 +38,8 @@ pub struct Walk<'a> {
     pub skip: usize,
     /// How many may come then; 0 is no limit.
     pub limit: usize,
-    /// It goes on from the first document whose `_id` has this key text or one above it; empty at the beginning.
+    /// It goes on from the first document whose `_id` has this key text or one above it; empty at the
+    /// beginning.
     pub from: &'a [u8],
 }
 
@@ -56,8 +59,8 @@ pub struct BatchAsked<'a> {
 pub struct GivenBatch {
     pub reply: SpelledDocument,
     pub count: usize,
-    /// Where others are left: the key text from which the walk goes on. Nothing is left out at the front then, and the limit is less by
-    /// what was given.
+    /// Where others are left: the key text from which the walk goes on. Nothing is left out at the front
+    /// then, and the limit is less by what was given.
     pub next: Option<Vec<u8>>,
 }
 
@@ -81,8 +84,8 @@ fn is_reached(limit: usize, count: usize) -> bool
     limit != 0 && limit <= count
 }
 
-/// Puts what a projection leaves of a document into a batch, if it goes into it, and says whether it did; `StorageFailed` where it is over
-/// the limits of those that are stored, as a disk may give some.
+/// Puts what a projection leaves of a document into a batch, if it goes into it, and says whether it did;
+/// `StorageFailed` where it is over the limits of those that are stored, as a disk may give some.
 fn offer_within(
     alloc: Global,
     batch: &mut OpenBatch,

@@ -59,7 +59,8 @@ pub enum CommitFault {
     Device = 1,
     /// Out of memory. Nothing changed.
     Memory,
-    /// No greater generation is left, and nothing changed; or, to who makes a list of free pages, no page is free for it.
+    /// No greater generation is left, and nothing changed; or, to who makes a list of free pages, no page is
+    /// free for it.
     Full,
 }
 
@@ -162,8 +163,8 @@ pub struct Store<D> {
 }
 
 impl<D: Disk> Store<D> {
-    /// Opens a disk that a crash may have left. It reads the two roots, writes nothing, and syncs before it answers. An `Err`
-    /// hands the disk back.
+    /// Opens a disk that a crash may have left. It reads the two roots, writes nothing, and syncs before it
+    /// answers. An `Err` hands the disk back.
     pub fn open(mut disk: D) -> Result<Store<D>, (D, OpenFault)>
         ensures opened { IfOk result (IsOpened D.history disk) }
         ensures refused { IfErr result (λ e. IsRefused D.history disk e.0 e.1) }
@@ -189,7 +190,8 @@ impl<D: Disk> Store<D> {
         self.disk
     }
 
-    /// The same store on the same disk, whose word counts from now on only where what the caller chooses is true.
+    /// The same store on the same disk, whose word counts from now on only where what the caller chooses is
+    /// true.
     pub fn trusting(self) -> Store<TrustedDisk<D>>
         ghost trusted: { Bool }
         ensures { result ≡ trusting_store trusted self }
@@ -215,8 +217,8 @@ impl<D: Disk> Store<D> {
         self.stopped
     }
 
-    /// The page of this number, as the disk holds it under the root that was committed last. Damaged where it is no page of
-    /// that file.
+    /// The page of this number, as the disk holds it under the root that was committed last. Damaged where it
+    /// is no page of that file.
     pub fn read(&mut self, alloc: Global, page: u32) -> Result<PageImage, OpenFault>
         ensures looks { Looks result (disk_history D.history self.old)
             (disk_history D.history self.new) }
@@ -225,9 +227,9 @@ impl<D: Disk> Store<D> {
         read_sheet(alloc, &mut self.disk, self.root, page)
     }
 
-    /// The pages that the committed root reaches: those of its tree, then those of its list of free pages, if it names one; and the
-    /// list's own once more. Damaged where they are no tree, or where the list isn't one or doesn't fit the tree. It reads each of
-    /// them once.
+    /// The pages that the committed root reaches: those of its tree, then those of its list of free pages, if
+    /// it names one; and the list's own once more. Damaged where they are no tree, or where the list isn't
+    /// one or doesn't fit the tree. It reads each of them once.
     fn live_pages(&mut self, alloc: Global) -> Result<(Vec<u32>, Vec<u32>), OpenFault>
         ensures looks { Looks result (disk_history D.history self.old)
             (disk_history D.history self.new) }
@@ -262,8 +264,9 @@ impl<D: Disk> Store<D> {
         }
     }
 
-    /// The book of a file whose root names a list of free pages, as the list tells it, and the list's own pages. It reads these, and
-    /// the root page of the tree. Damaged where that is no page of a tree, or where the list is none.
+    /// The book of a file whose root names a list of free pages, as the list tells it, and the list's own
+    /// pages. It reads these, and the root page of the tree. Damaged where that is no page of a tree, or
+    /// where the list is none.
     fn listed_pages(
         &mut self,
         alloc: Global,
@@ -288,8 +291,8 @@ impl<D: Disk> Store<D> {
         Ok((book, list.pages))
     }
 
-    /// The same of any file, found by a walk that reads each page of the tree once, and of the list, if the root names one. Damaged
-    /// where they are no tree and no list that fits it.
+    /// The same of any file, found by a walk that reads each page of the tree once, and of the list, if the
+    /// root names one. Damaged where they are no tree and no list that fits it.
     fn walked_pages(
         &mut self,
         alloc: Global,
@@ -305,10 +308,11 @@ impl<D: Disk> Store<D> {
         Ok((book, listed))
     }
 
-    /// The book of the file's pages, in which those that the committed root reaches are in use. The others below the limit, or
-    /// below the number of pages that the file has, are free. Beside it the own pages of the root's list. Where the root names a
-    /// list, it is read, and of the tree the root page alone; else each page of the tree is, as in a file of an earlier docpage.
-    /// Damaged where what is read is no such page.
+    /// The book of the file's pages, in which those that the committed root reaches are in use. The others
+    /// below the limit, or below the number of pages that the file has, are free. Beside it the own pages of
+    /// the root's list. Where the root names a list, it is read, and of the tree the root page alone; else
+    /// each page of the tree is, as in a file of an earlier docpage. Damaged where what is read is no such
+    /// page.
     pub fn free_pages(
         &mut self,
         alloc: Global,
@@ -325,8 +329,9 @@ impl<D: Disk> Store<D> {
         }
     }
 
-    /// How many pages the file has, and how many of them nothing reaches: neither page 0 nor one that the committed root reaches
-    /// is free. It reads each page of the tree and of the list once. Damaged where they are none.
+    /// How many pages the file has, and how many of them nothing reaches: neither page 0 nor one that the
+    /// committed root reaches is free. It reads each page of the tree and of the list once. Damaged where
+    /// they are none.
     pub fn count_pages(&mut self, alloc: Global) -> Result<PageCounts, OpenFault>
         ensures looks { Looks result (disk_history D.history self.old)
             (disk_history D.history self.new) }
@@ -336,9 +341,9 @@ impl<D: Disk> Store<D> {
         Ok(counts_of(self.root, live.len()))
     }
 
-    /// Makes the tree below this page the committed one, with the list of free pages that begins with this page and names so many
-    /// (0 and 0 for none). The pages that the turn made, the list's among them, ascend; they are written, then the next root. It
-    /// reads nothing and takes no memory.
+    /// Makes the tree below this page the committed one, with the list of free pages that begins with this
+    /// page and names so many (0 and 0 for none). The pages that the turn made, the list's among them,
+    /// ascend; they are written, then the next root. It reads nothing and takes no memory.
     pub fn commit(
         &mut self,
         made: &[SharedPage],

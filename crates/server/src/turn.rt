@@ -17,8 +17,8 @@ use trusted_disk::TrustedDisk;
 /// Why a turn answered no message.
 #[derive(Clone, Copy, Debug, PartialEq, Eq)]
 pub enum TurnFault {
-    /// A write or a sync failed, in this turn or an earlier one. In this turn: its messages were taken, and what they
-    /// changed may be durable or not. In an earlier one: nothing changed.
+    /// A write or a sync failed, in this turn or an earlier one. In this turn: its messages were taken, and
+    /// what they changed may be durable or not. In an earlier one: nothing changed.
     Stopped = 1,
     /// Memory ran out before a message was taken. Nothing changed.
     Memory,
@@ -48,7 +48,8 @@ impl From<AllocError> for TurnFault {
     }
 }
 
-/// What a turn hands out: frames of replies, each with its connection, and the connections that a fault of a frame closed.
+/// What a turn hands out: frames of replies, each with its connection, and the connections that a fault of a
+/// frame closed.
 #[derive(Drop)]
 pub struct TurnOut {
     pub replies: Vec<(ConnId, Vec<u8>)>,
@@ -72,9 +73,9 @@ impl<D: Disk> Core<D> {
     ghost use Rattle.server.specs.Opening.{IsOpened, inner_history};
     ghost use Rattle.server.specs.Turning.{TakesTurn};
 
-    /// Opens the database on a disk that a crash may have left; a disk of zeros holds the empty one. It writes nothing, and
-    /// syncs before it answers. It doesn't look whether the file is sound: what isn't is a failure of the command that meets it, and
-    /// `check` looks at all. An `Err` hands the disk back.
+    /// Opens the database on a disk that a crash may have left; a disk of zeros holds the empty one. It
+    /// writes nothing, and syncs before it answers. It doesn't look whether the file is sound: what isn't is
+    /// a failure of the command that meets it, and `check` looks at all. An `Err` hands the disk back.
     pub fn open(alloc: Global, disk: D, config: Config) -> Result<Core<D>, (D, OpenFault)>
         ensures opened { IfOk result (IsOpened D.history disk) }
         ensures refused { IfErr result (λ e. IsRefused D.history disk e.0 e.1) }
@@ -100,8 +101,8 @@ impl<D: Disk> Core<D> {
         *self.connections.allocator()
     }
 
-    /// Takes bytes that came on a connection. The first ones open it. A connection that a fault of a frame closed answers
-    /// `Closed` until `gone`, and the bytes are passed over.
+    /// Takes bytes that came on a connection. The first ones open it. A connection that a fault of a frame
+    /// closed answers `Closed` until `gone`, and the bytes are passed over.
     pub fn feed(&mut self, id: ConnId, bytes: &[u8]) -> Result<(), FeedFault>
         requires sound { IsSound D.history self.old }
         ensures sound { IsSound D.history self.new }
@@ -117,11 +118,12 @@ impl<D: Disk> Core<D> {
         feed_connection(&mut self.connections, id, bytes)
     }
 
-    /// A turn: it takes the first whole message of each open connection, runs them in rising connection number, makes what they
-    /// changed durable, and hands out the replies. Where memory runs out for a reply or for the commit, or the commit finds no
-    /// greater generation or no free page, the turn is undone and each reply is the refusal that says so. A connection with a
-    /// fault at its front is closed. `Memory` took no message and changed nothing. `Stopped` hands out nothing and closes no
-    /// connection: the device failed in this turn, or before it, and then nothing changed.
+    /// A turn: it takes the first whole message of each open connection, runs them in rising connection
+    /// number, makes what they changed durable, and hands out the replies. Where memory runs out for a reply
+    /// or for the commit, or the commit finds no greater generation or no free page, the turn is undone and
+    /// each reply is the refusal that says so. A connection with a fault at its front is closed. `Memory`
+    /// took no message and changed nothing. `Stopped` hands out nothing and closes no connection: the device
+    /// failed in this turn, or before it, and then nothing changed.
     pub fn turn(&mut self) -> Result<TurnOut, TurnFault>
         requires sound { IsSound D.history self.old }
         ensures { TakesTurn D.history self.old result self.new }
@@ -156,7 +158,8 @@ impl<D: Disk> Core<D> {
         end_connection(&mut self.connections, id);
     }
 
-    /// Whether a whole message or a fault of a frame stands at the front of an open connection. It takes no memory.
+    /// Whether a whole message or a fault of a frame stands at the front of an open connection. It takes no
+    /// memory.
     pub fn waiting(&self, id: ConnId) -> bool
         ensures { result ≡ is_waiting_in (find_connection (state self.now).connections id) }
     {

@@ -67,15 +67,18 @@ fn pages_of(pager: Pager<MemDisk>) -> u32 {
     }
 }
 
-/// So many keys of so many bytes, with values of these lengths; how many pages the file may have, and how many it needs at most.
+/// So many keys of so many bytes, with values of these lengths; how many pages the file may have, and how
+/// many it needs at most.
 ///
-/// An entry of 17 and 100 bytes takes 6 more. A leaf of less than a quarter of its 4,080 bytes, 8 entries or fewer, is joined with
-/// the page beside it: some 112 leaves at most. A child takes 6 + 17 bytes of a branch, and 44 are less than a quarter: 3 branches
-/// at most, and a root. A turn makes two pages on each of three levels at most, and a new root; the list of free pages has one, and
-/// the one before it another. With page 0 these are 126, where a page that is free is taken before a new one; 140 are let pass. A
-/// file that lost a page each turn would have 2,000.
+/// An entry of 17 and 100 bytes takes 6 more. A leaf of less than a quarter of its 4,080 bytes, 8 entries or
+/// fewer, is joined with the page beside it: some 112 leaves at most. A child takes 6 + 17 bytes of a branch,
+/// and 44 are less than a quarter: 3 branches at most, and a root. A turn makes two pages on each of three
+/// levels at most, and a new root; the list of free pages has one, and the one before it another. With page 0
+/// these are 126, where a page that is free is taken before a new one; 140 are let pass. A file that lost a
+/// page each turn would have 2,000.
 ///
-/// A key of 1,014 bytes and 330 of its value are 1,350, so a leaf has three entries or four, and a branch four children.
+/// A key of 1,014 bytes and 330 of its value are 1,350, so a leaf has three entries or four, and a branch
+/// four children.
 const COMING: [(u32, usize, &[usize], u32, u32); 2] = [
     (1_000, 17, &[100], 400, 140),
     (200, 1_014, &[330, 0, 331, 1, 330, 65_535], 2_000, 2_000),
@@ -130,10 +133,11 @@ fn entries_come_and_go(rt: HostRuntime) -> Result<(), Fail> {
     Ok(())
 }
 
-/// A key of 17 bytes and a value of 330 take 353 with their lengths: 11 go into a leaf's 4,080 bytes. Two thousand in ascending
-/// order fill 182 leaves. A branch has 59 children of 6 + 17 bytes where it is filled to a third: 4 branches at most, and a root. One
-/// leaf more may stand at the end, where two share what is left, and with page 0 these are 189. A turn makes two pages on each of
-/// three levels at most, and a new root, and the list of free pages and the one before have one each.
+/// A key of 17 bytes and a value of 330 take 353 with their lengths: 11 go into a leaf's 4,080 bytes. Two
+/// thousand in ascending order fill 182 leaves. A branch has 59 children of 6 + 17 bytes where it is filled
+/// to a third: 4 branches at most, and a root. One leaf more may stand at the end, where two share what is
+/// left, and with page 0 these are 189. A turn makes two pages on each of three levels at most, and a new
+/// root, and the list of free pages and the one before have one each.
 #[test]
 fn rising_entries_fill_their_leaves(rt: HostRuntime) -> Result<(), Fail> {
     let alloc = rt.alloc();
@@ -146,8 +150,8 @@ fn rising_entries_fill_their_leaves(rt: HostRuntime) -> Result<(), Fail> {
     Ok(())
 }
 
-/// Lengths of the value at one key, turn by turn, and the pages of its tree and of the list of free pages: a leaf, one for each
-/// 4,076 bytes of a value of more than 330, and from the second turn on the list's.
+/// Lengths of the value at one key, turn by turn, and the pages of its tree and of the list of free pages: a
+/// leaf, one for each 4,076 bytes of a value of more than 330, and from the second turn on the list's.
 const LENGTHS: [(usize, u32); 9] = [
     (330, 1),
     (331, 3),
@@ -160,7 +164,8 @@ const LENGTHS: [(usize, u32); 9] = [
     (65_535, 19),
 ];
 
-/// The old value and the new one have 18 pages each at most, and their lists one each: with page 0 the file has 39.
+/// The old value and the new one have 18 pages each at most, and their lists one each: with page 0 the file
+/// has 39.
 #[test]
 fn values_replace_each_other(rt: HostRuntime) -> Result<(), Fail> {
     let mut pager = new_file(rt.alloc(), 100)?;
@@ -173,7 +178,8 @@ fn values_replace_each_other(rt: HostRuntime) -> Result<(), Fail> {
     Ok(())
 }
 
-/// What a book of two pages gives while a version is pinned that reaches page 1, before and after a commit, and then.
+/// What a book of two pages gives while a version is pinned that reaches page 1, before and after a commit,
+/// and then.
 fn taken(book: &mut FreePages) -> Result<[Option<u32>; 4], NoMemory> {
     book.pin(5)?;
     book.retire(1, 5)?;
