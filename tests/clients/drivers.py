@@ -1,6 +1,6 @@
 """Drives `docpage listen --drivers` by pymongo, and by those of the drivers for Ruby, Perl, Node and C that are installed. Usage: drivers.py PROGRAM [CASE ..]
 Every wait has an end, and so has the whole. The last line is `N passed, M failed`."""
-import os, resource, shutil, signal, socket, subprocess, sys, tempfile, threading, traceback
+import os, resource, shutil, signal, socket, struct, subprocess, sys, tempfile, threading, traceback
 
 import bson
 import pymongo
@@ -58,6 +58,16 @@ def refused(kind, call, code=None):
     raise AssertionError(f"answered {answer!r}")
 
 
+def sent(server, body, documents):
+    """The reply to a message whose documents stand behind its body."""
+    behind = b"documents\0" + b"".join(bson.encode(document) for document in documents)
+    content = struct.pack("<I", 0) + b"\0" + bson.encode(body) + b"\1" + struct.pack("<i", len(behind) + 4) + behind
+    with socket.create_connection(("127.0.0.1", server.port), PATIENCE) as connection, connection.makefile("rb") as reader:
+        connection.sendall(struct.pack("<iiii", len(content) + 16, 1, 0, 2013) + content)
+        length = struct.unpack("<i", reader.read(4))[0]
+        return bson.decode(reader.read(length - 4)[17:])
+
+
 def all_of(threads):
     """Runs these at the same time, and gives the faults of all."""
     faults = []
@@ -96,6 +106,35 @@ def inserts(server):
     many = [{"_id": n, "text": "x" * 30_000} for n in range(2000, 2080)]
     expect(len(people.insert_many(many).inserted_ids), 80)
     expect(people.find_one({"_id": 2079}), many[-1])
+
+
+def raw_inserts(server):
+    """Documents that say no `_id`, in commands as they are: the driver makes none there."""
+    database = server.client().test
+
+    def insert(documents, **fields):
+        told = database.command("insert", "raw", documents=documents, **fields)
+        return told["n"], [(error["index"], error["code"]) for error in told.get("writeErrors", [])]
+
+    expect(insert([{"name": "Ada"}, {"name": "Grace"}]), (2, []))
+    expect(insert([{"name": "Alan"}, {"name": "Edsger"}]), (2, []))
+    made = list(database.raw.find())
+    expect([list(document) for document in made], [["_id", "name"]] * 4)
+    expect([document["name"] for document in made], ["Ada", "Grace", "Alan", "Edsger"])
+    expect([type(document["_id"]) for document in made], [bson.ObjectId] * 4)
+    expect(len({document["_id"] for document in made}), 4)
+    # some say one, and where one is refused the others are made once
+    some = [{"name": "Barbara"}, {"_id": made[0]["_id"]}, {"name": "Tony", "_id": 7}, {}]
+    expect(insert(some, ordered=False), (3, [(1, 11000)]))
+    expect(insert(some), (1, [(1, 11000)]))
+    expect(database.raw.find_one({"_id": 7}), {"_id": 7, "name": "Tony"})
+    expect((database.raw.count_documents({}), database.raw.count_documents({"name": "Barbara"})), (8, 2))
+    refused(OperationFailure, lambda: insert([{}] * 1001), 9002)
+    expect(insert([{}] * 1000), (1000, []))
+    expect(database.raw.count_documents({}), 1008)
+    # with their `_id`s these are too long for one command, so each is asked by itself
+    expect(sent(server, {"insert": "raw", "$db": "test"}, [{"text": "x" * 52_394}] * 20), {"n": 20, "ok": 1})
+    expect(database.raw.count_documents({}), 1028)
 
 
 def finds(server):
@@ -474,8 +513,8 @@ OTHERS = [other_driver("ruby", ["ruby", "-rmongo", "-e", "1"], ["ruby", f"{HERE}
           other_driver("node", NODE + ["-e", "require('mongodb')"], NODE + [f"{HERE}/drivers.js"]),
           other_driver("c", ["sh", "-c", COMPILE], [f"{FOLDER}/session"])]
 
-CASES = [handshake, inserts, finds, cursors, abandoned_cursors, updates, batches, upserts, modifications, deletes, counts, distincts, indexes, collections, refusals,
-         unacknowledged, pool, clients, idle_sockets, killed]
+CASES = [handshake, inserts, raw_inserts, finds, cursors, abandoned_cursors, updates, batches, upserts, modifications, deletes, counts, distincts, indexes,
+         collections, refusals, unacknowledged, pool, clients, idle_sockets, killed]
 
 
 def main():

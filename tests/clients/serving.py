@@ -6,6 +6,8 @@ PROGRAM = os.path.abspath(sys.argv[1])
 FOLDER = tempfile.mkdtemp(prefix="serving.")
 PATIENCE = 20.0
 signal.alarm(600)
+# Where a shell runs this in the background it ignores SIGINT, and so would the programs that it starts.
+signal.signal(signal.SIGINT, signal.default_int_handler)
 
 
 # BSON and OP_MSG, as far as the cases need them: numbers are int32, lists are arrays.

@@ -110,13 +110,6 @@ one_stored place v r b reads = by_found (stored_at place) refl b.spelled
         let same : v.items ≡ frame_of (pairs_bytes d) = cc in
         told d r (reads d (found_document place.collection.documents place.id d b.storable at).0 same)
 
-pub is_stored : (place : Place) (found : Option (Vec ℕ)) → AreBytesAt place found → is_some found ≡ is_some (stored_at place)
-is_stored place found b = sym (counted (λ v. v.items) found) ∙ ap is_some b.spelled ∙ counted (λ d. frame_of (pairs_bytes d)) (stored_at place)
-  where
-    counted : {X Y : Type 0} (f : X → Y) (o : Option X) → is_some (option_map f o) ≡ is_some o
-    counted f None = refl
-    counted f (Some x) = refl
-
 -- ---- entries, one by one
 
 pub record AtPlace {X Y : Type 0} (R : X → Y → Type 0) (x : X) (ys : List Y) (i : ℕ) : Type 0 where

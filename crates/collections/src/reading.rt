@@ -1,6 +1,6 @@
 //! Collections by their names, and documents by their `_id`.
 
-ghost use Rattle.std.specs.Prelude.{◌≡◌, IfOk, IfSome, List, is_some, length, map};
+ghost use Rattle.std.specs.Prelude.{◌≡◌, IfOk, IfSome, List, length, map};
 ghost use Rattle.std.specs.Option.{option_map};
 ghost use Rattle.bson.specs.Spelling.{frame_of, pairs_bytes};
 ghost use Rattle.bson.specs.Tree.{Pairs};
@@ -311,13 +311,5 @@ impl<D: Disk> Collections<D> {
             (λ now place found. found ≡ stored_at place) result self.old self.new }
     {
         self.document_from(self.root, number, id)
-    }
-
-    /// Whether there is a document of that `_id`. It isn't decoded.
-    pub fn has_document(&mut self, number: u32, id: &[u8]) -> Result<bool, Refusal>
-        ensures { ReadsOf D.history (IsPlaceOf number id.now)
-            (λ now place found. found ≡ is_some (stored_at place)) result self.old self.new }
-    {
-        Ok(self.bytes_from(self.root, number, id)?.is_some())
     }
 }

@@ -28,9 +28,12 @@ use bson::{NoMemory, SpelledDocument};
 use filter::Projection;
 use pager::Version;
 use path::Refusal;
-use replies::{BatchKind, ConnId, Gives, MOST_CURSORS, batch_reply};
+use replies::{BatchKind, ConnId, Gives, batch_reply};
 use std::alloc::Global;
 use std::marker::Model;
+
+/// The most cursors of one connection.
+const MOST_CURSORS: usize = 16;
 
 /// The number of the last cursor that may be opened.
 const LAST_NUMBER: u64 = 9_223_372_036_854_775_807;

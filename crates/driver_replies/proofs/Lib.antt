@@ -3,5 +3,7 @@ mod IdLemmas
 mod ListingLemmas
 mod IndexLemmas
 mod BatchLemmas
+mod NewIdLemmas
+mod NewIdLawLemmas
 mod BatchLawLemmas
 pub mod ModifyingLemmas

@@ -4,6 +4,8 @@ pub mod Texts
 pub mod WriteErrors
 pub mod Tallies
 pub mod Writes
+pub mod NewIds
+pub mod NewIdLaws
 pub mod BatchLaws
 pub mod Cursors
 pub mod Listing

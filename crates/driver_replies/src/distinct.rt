@@ -7,8 +7,8 @@ ghost use Rattle.bson.specs.View.{tree, items_of};
 ghost use Rattle.driver_replies.specs.Listing.{items_in};
 ghost use Rattle.driver_replies.specs.Distinct.{key_of, distinct_of, field_alone, find_values, get_more, documents_in, with_document, with_documents, distinct_reply};
 
-use crate::fields::{put, text_value};
-use crate::parts::part_or_empty;
+use crate::fields::{put, put_text};
+use crate::modifying::find_query;
 use crate::texts::text_or_none;
 use bson::{Document, NoMemory, Value};
 use distinct_values::DistinctValues;
@@ -58,14 +58,11 @@ pub fn find_values(
     ensures { IfOk result
         (λ d. d ≡ find_values database.now collection.now path.now body.now) }
 {
-    let filter = part_or_empty(alloc, body.get("query"))?;
+    let mut command = find_query(alloc, collection, body)?;
     let (name, _rest) = path.split_first();
     let fields = field_alone(alloc, name)?;
-    let mut command = Document::new(alloc);
-    put(&mut command, "find", text_value(alloc, collection)?)?;
-    put(&mut command, "filter", filter.value()?)?;
     put(&mut command, "projection", Value::Document(fields))?;
-    put(&mut command, "$db", text_value(alloc, database)?)?;
+    put_text(alloc, &mut command, "$db", database)?;
     Ok(command)
 }
 
@@ -80,8 +77,8 @@ pub fn get_more(
 {
     let mut command = Document::new(alloc);
     put(&mut command, "getMore", Value::Int64(cursor))?;
-    put(&mut command, "collection", text_value(alloc, collection)?)?;
-    put(&mut command, "$db", text_value(alloc, database)?)?;
+    put_text(alloc, &mut command, "collection", collection)?;
+    put_text(alloc, &mut command, "$db", database)?;
     Ok(command)
 }
 

@@ -76,6 +76,21 @@ pub fn text_value(alloc: Global, text: &str) -> Result<Value, NoMemory>
     Ok(Value::String(Text::from_str(alloc, text)?))
 }
 
+/// Adds a field of another name than those before, whose value is a text.
+pub(crate) fn put_text(
+    alloc: Global,
+    document: &mut Document,
+    name: &str,
+    text: &str,
+) -> Result<(), NoMemory>
+    requires name { list_any (λ b. b == 0) name.now ≡ false }
+    requires new { lookup document.old name.now ≡ None }
+    ensures { OnOk result
+        (document.new ≡ append document.old (pair name.now (words text.now) no_pairs)) }
+{
+    put(document, name, text_value(alloc, text)?)
+}
+
 /// Adds an item to an array that is not nested too deep, so only memory can be wanting.
 pub fn add(array: &mut Array, value: Value) -> Result<(), NoMemory>
     requires { levels (tree value) ≤ 98 }

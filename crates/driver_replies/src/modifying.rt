@@ -3,11 +3,12 @@
 ghost use Rattle.std.specs.Prelude.{◌≡◌, ◌≤◌, true, None, IfOk, OnOk, codes, option_map};
 ghost use Rattle.bson.specs.Lookup.{lookup};
 ghost use Rattle.bson.specs.Lawful.{levels, pairs_levels};
-ghost use Rattle.bson.specs.Tree.{document};
+ghost use Rattle.bson.specs.Tree.{document, pair, no_pairs};
 ghost use Rattle.bson.specs.View.{tree};
-ghost use Rattle.driver_replies.specs.Modifying.{part_in, modification_of, find_one, find_first, part_of, by_id, subject_of, made_by, with_upserted, write_name, write_one, removal, replacement, change_one, upsert_of, asked_upsert, insert_one, inserts, nothing_done, done_with, value_of, modified_reply};
+ghost use Rattle.driver_replies.specs.Fields.{words};
+ghost use Rattle.driver_replies.specs.Modifying.{part_in, or_empty, modification_of, find_one, with_sort, find_first, part_of, by_id, subject_of, made_by, with_upserted, write_name, write_one, removal, replacement, change_one, upsert_of, asked_upsert, insert_one, inserts, nothing_done, done_with, value_of, modified_reply};
 
-use crate::fields::{Fact, add, document_of, put, text_value};
+use crate::fields::{Fact, add, document_of, put, put_text};
 use crate::fresh_ids::FreshIds;
 use crate::parts::{Part, part_in, part_or_empty};
 use crate::tally::upserted_id;
@@ -28,6 +29,31 @@ pub struct Modification {
     pub ids: FreshIds,
 }
 
+/// A find by a filter, up to that.
+fn find_by(alloc: Global, collection: &str, filter: &Part) -> Result<Document, NoMemory>
+    ensures { IfOk result (λ d. d ≡ pair (codes "find") (words collection.now)
+        (pair (codes "filter") (document filter.now) no_pairs)) }
+{
+    let mut command = Document::new(alloc);
+    put_text(alloc, &mut command, "find", collection)?;
+    put(&mut command, "filter", filter.value()?)?;
+    Ok(command)
+}
+
+/// A find by the `query` of a command, up to its filter.
+pub(crate) fn find_query(
+    alloc: Global,
+    collection: &str,
+    body: &Document,
+) -> Result<Document, NoMemory>
+    ensures { IfOk result (λ d. d ≡ pair (codes "find") (words collection.now)
+        (pair (codes "filter")
+        (document (or_empty (part_in (lookup body.now (codes "query"))))) no_pairs)) }
+{
+    let filter = part_or_empty(alloc, body.get("query"))?;
+    find_by(alloc, collection, &filter)
+}
+
 /// A find of one document.
 pub fn find_one(
     alloc: Global,
@@ -37,12 +63,26 @@ pub fn find_one(
 ) -> Result<Document, NoMemory>
     ensures { IfOk result (λ d. d ≡ find_one database.now collection.now filter.now) }
 {
-    let mut command = Document::new(alloc);
-    put(&mut command, "find", text_value(alloc, collection)?)?;
-    put(&mut command, "filter", filter.value()?)?;
+    let mut command = find_by(alloc, collection, filter)?;
     put(&mut command, "limit", Value::Int32(1))?;
-    put(&mut command, "$db", text_value(alloc, database)?)?;
+    put_text(alloc, &mut command, "$db", database)?;
     Ok(command)
+}
+
+/// Adds to a find by what its documents are sorted, if a command says that.
+fn put_sort(find: &mut Document, sort: Option<&Value>) -> Result<(), NoMemory>
+    requires { lookup find.old (codes "sort") ≡ None }
+    ensures { OnOk result
+        (find.new ≡ with_sort (part_in (option_map (λ v. tree v.now) sort.entry)) find.old) }
+{
+    match part_in(sort)? {
+        Some(sort) => {
+            let value = sort.value();
+            drop(sort);
+            put(find, "sort", value?)
+        }
+        None => Ok(()),
+    }
 }
 
 /// The find of the first document that a `findAndModify` asks for.
@@ -55,11 +95,10 @@ pub fn find_first(
     ensures { IfOk result (λ d. d ≡ find_first database.now collection.now body.now) }
 {
     let filter = part_or_empty(alloc, body.get("query"))?;
-    let mut command = find_one(alloc, database, collection, &filter)?;
-    let Some(sort) = part_in(body.get("sort"))? else {
-        return Ok(command);
-    };
-    put(&mut command, "sort", sort.value()?)?;
+    let command = find_one(alloc, database, collection, &filter);
+    drop(filter);
+    let mut command = command?;
+    put_sort(&mut command, body.get("sort"))?;
     Ok(command)
 }
 
@@ -110,9 +149,9 @@ fn write_one(
     add(&mut statements, Value::Document(statement))?;
     let _levels = statements.levels();
     let mut command = Document::new(alloc);
-    put(&mut command, write.name(), text_value(alloc, collection)?)?;
+    put_text(alloc, &mut command, write.name(), collection)?;
     put(&mut command, write.field(), Value::Array(statements))?;
-    put(&mut command, "$db", text_value(alloc, database)?)?;
+    put_text(alloc, &mut command, "$db", database)?;
     Ok(command)
 }
 

@@ -35,7 +35,7 @@ fn is_open(filter: Option<&Value>) -> bool
 }
 
 /// Whether a value is a document that says no `_id`.
-fn has_no_id(value: Option<&Value>) -> bool
+pub(crate) fn has_no_id(value: Option<&Value>) -> bool
     ensures { result ≡ has_no_id (option_map (λ v. tree v.now) value.entry) }
 {
     match value {

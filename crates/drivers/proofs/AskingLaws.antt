@@ -7,6 +7,7 @@ use Rattle.drivers.specs.Cleaning.{is_kept, field_fault, first_refused, kept}
 use Rattle.drivers.specs.Starting.{ask, ask_unless, do_command, name_of}
 use Rattle.drivers.specs.Commands.{command_of}
 use Rattle.drivers.specs.Laws.{asked_by, Asks, AsksOwnFields, IgnoredMakesNoDifference}
+use Rattle.driver_replies.specs.declared.fresh_ids.FreshIds.{FreshIds}
 use Rattle.drivers.specs.declared.server_info.ServerInfo.{ServerInfo}
 use Rattle.drivers.specs.declared.reason.Reason.{Reason}
 use Rattle.drivers.specs.declared.command.Asked.{Asked}
@@ -27,17 +28,17 @@ refused-without asked (pair other u before) name t behind e =
     (refused-without asked before name t behind e)
 
 -- what is asked, where a command is one for the database
-asked_is : (asked : Asked) (refused : Option (List ℕ × Reason)) (body question : Pairs) → asked_by (ask_unless asked refused body) ≡ Some question
-    → (refused ≡ None) × (asked_by (ask asked (kept asked body)) ≡ Some question)
-asked_is asked None body question e = (refl, e)
-asked_is asked (Some x) body question e = absurd cc
+asked_is : (ids : FreshIds) (asked : Asked) (refused : Option (List ℕ × Reason)) (body question : Pairs)
+    → asked_by (ask_unless ids asked refused body) ≡ Some question → (refused ≡ None) × (asked_by (ask ids asked (kept asked body)) ≡ Some question)
+asked_is ids asked None body question e = (refl, e)
+asked_is ids asked (Some x) body question e = absurd cc
 
 asks : (command : Option Command) (name : List ℕ) (info : ServerInfo) (body question : Pairs) → command_of (name_of body) ≡ command
-    → asked_by (do_command command name info body) ≡ Some question → Asks body question
+    → asked_by (do_command command name info body) ≡ Some question → Asks info.ids body question
 asks None name info body question is e = absurd cc
 asks (Some (commands.Own own)) name info body question is e = absurd cc
 asks (Some (commands.Forwarded asked)) name info body question is e =
-    let found = asked_is asked (first_refused asked body) body question e in
+    let found = asked_is info.ids asked (first_refused asked body) body question e in
     record { asked = asked; command = is; taken = found.0; own_fields = found.1 }
 
 pub asks_own_fields : AsksOwnFields
@@ -49,10 +50,10 @@ same_done : (command : Option Command) (name : List ℕ) (info : ServerInfo) (ps
 same_done None name info ps qs same = refl
 same_done (Some (commands.Own own)) name info ps qs same = refl
 same_done (Some (commands.Forwarded asked)) name info ps qs same =
-    ap (λ (x : Option (List ℕ × Reason)). ask_unless asked x ps) (same asked).0 ∙ at (first_refused asked qs)
+    ap (λ (x : Option (List ℕ × Reason)). ask_unless info.ids asked x ps) (same asked).0 ∙ at (first_refused asked qs)
   where
-    at : (x : Option (List ℕ × Reason)) → ask_unless asked x ps ≡ ask_unless asked x qs
-    at None = ap (ask asked) (same asked).1
+    at : (x : Option (List ℕ × Reason)) → ask_unless info.ids asked x ps ≡ ask_unless info.ids asked x qs
+    at None = ap (ask info.ids asked) (same asked).1
     at (Some x) = refl
 
 pub ignored_makes_no_difference : IgnoredMakesNoDifference

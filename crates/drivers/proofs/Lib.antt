@@ -1,3 +1,4 @@
 mod CleaningLemmas
 mod AskingLaws
+mod StatementLaws
 mod PlanLaws

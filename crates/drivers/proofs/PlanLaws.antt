@@ -15,6 +15,7 @@ use Rattle.drivers.specs.Laws.{IgnoredLeavesThePlan}
 use Rattle.driver_replies.specs.Distinct.{path_or_none, no_values}
 use Rattle.driver_replies.specs.Listing.{name_in}
 use Rattle.driver_replies.specs.Modifying.{part_in, or_empty, modification_of}
+use Rattle.driver_replies.specs.NewIds.{with_new_ids}
 use Rattle.driver_replies.specs.declared.modifying.Modification.{Modification}
 use Rattle.drivers.specs.Rules.{rule_of}
 use Rattle.driver_replies.specs.Texts.{text_or_none}
@@ -139,7 +140,9 @@ write-alike ids ps qs write h =
     ∙ ap (wait (lookup qs (field_of write)) (lookup qs (codes "ordered"))) (h.left askeds.Write)
   where
     wait : Option Tree → Option Tree → Pairs → Wait
-    wait statements ordered left = if is_alone write statements then waits.Write else batch_wait (batch_of write (is_ordered_in ordered) ids left)
+    wait statements ordered left =
+        if is_alone write statements then waits.Write
+        else batch_wait (batch_of write (is_ordered_in ordered) ids (with_new_ids ids (Some write) left))
 
 other-alike : (ids : FreshIds) (ps qs : Pairs) (write : Option Write) → AreAlike ps qs → other_wait ids ps write ≡ other_wait ids qs write
 other-alike ids ps qs None h = refl

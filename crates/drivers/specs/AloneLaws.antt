@@ -10,6 +10,7 @@ use Rattle.driver_replies.specs.Cursors.{ids_of, first_id, after}
 use Rattle.driver_replies.specs.Distinct.{distinct_of, documents_in, with_documents}
 use Rattle.driver_replies.specs.Dropping.{drop_command, is_gone}
 use Rattle.driver_replies.specs.Listing.{batch_in}
+use Rattle.driver_replies.specs.NewIds.{with_new_ids}
 use Rattle.driver_replies.specs.WriteErrors.{refused_statement}
 use Rattle.driver_replies.specs.Writes.{write_of, field_of, is_alone, is_ordered_in, batch_of}
 use Rattle.driver_replies.specs.Writes.{next_command, after_reply}
@@ -63,7 +64,8 @@ other_first : (ids : FreshIds) (body : Pairs) (write : Option Write)
 other_first ids body None = refl
 other_first ids body (Some write) =
     let is_ordered = is_ordered_in (lookup body (codes "ordered")) in
-    let batch = batch_of write is_ordered ids (kept askeds.Write body) in
+    let command = with_new_ids ids (Some write) (kept askeds.Write body) in
+    let batch = batch_of write is_ordered ids command in
     if_first (is_alone write (lookup body (field_of write))) waits.Write (batch_wait batch) refl
     (batch_first batch)
 

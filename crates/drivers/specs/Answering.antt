@@ -17,6 +17,7 @@ use Rattle.driver_replies.specs.Tallies.{refused, no_tally, with_reply, write_re
 use Rattle.driver_replies.specs.Modifying.{part_in, modification_of, find_one, subject_of, made_by}
 use Rattle.driver_replies.specs.Modifying.{change_one, insert_one, inserts, nothing_done, done_with}
 use Rattle.driver_replies.specs.Modifying.{modified_reply}
+use Rattle.driver_replies.specs.NewIds.{with_new_ids}
 use Rattle.driver_replies.specs.declared.modifying.Modification.{Modification}
 use Rattle.driver_replies.specs.Writes.{is_true, write_of, field_of, is_alone, is_ordered_in}
 use Rattle.driver_replies.specs.Writes.{batch_of, next_command, after_reply, batch_reply}
@@ -77,7 +78,8 @@ abbrev pub write_wait : FreshIds → Pairs → Write → Wait
 write_wait ids body write =
     if is_alone write (lookup body (field_of write)) then waits.Write else
     batch_wait (
-    batch_of write (is_ordered_in (lookup body (codes "ordered"))) ids (kept askeds.Write body)
+    batch_of write (is_ordered_in (lookup body (codes "ordered"))) ids
+    (with_new_ids ids (Some write) (kept askeds.Write body))
     )
 
 abbrev pub other_wait : FreshIds → Pairs → Option Write → Wait
@@ -305,6 +307,12 @@ abbrev pub changed : Option ℤ → Plan → Modification → Option Pairs → P
 changed (Some code) plan m was reply = (record plan { wait = waits.Plain }, final plan reply)
 changed None plan m (Some ps) reply = changed_by (subject_of ps) plan m false (Some ps) reply
 changed None plan m None reply = changed_by (made_by reply) plan m true None reply
+
+-- what finds that document, if it wasn't refused
+abbrev pub subject_after : Option ℤ → Option Pairs → Pairs → Option Pairs
+subject_after (Some code) was reply = None
+subject_after None (Some ps) reply = subject_of ps
+subject_after None None reply = made_by reply
 
 -- The document that was found is changed or deleted.
 abbrev pub change_found : Option Pairs → Plan → Modification → Pairs → Pairs → Plan × Step

@@ -1,6 +1,10 @@
 -- Laws of what is asked of the database.
 use Rattle.std.specs.Prelude.{◌≡◌, ℕ, Bool, false, is_none, List, Option, Some, None}
+use Rattle.bson.specs.Edits.{cut}
+use Rattle.bson.specs.Lookup.{lookup}
 use Rattle.bson.specs.Tree.{Tree, Pairs, pair, append}
+use Rattle.driver_replies.specs.Writes.{field_of, statements_in}
+use Rattle.driver_replies.specs.declared.batch.Batch.{Batch}
 use Rattle.drivers.specs.Cleaning.{is_kept, field_fault, first_refused, kept}
 use Rattle.drivers.specs.Starting.{ask, do_command, name_of}
 use Rattle.drivers.specs.Answering.{plan_for}
@@ -10,6 +14,7 @@ use Rattle.driver_replies.specs.declared.fresh_ids.FreshIds.{FreshIds}
 use Rattle.drivers.specs.declared.server_info.ServerInfo.{ServerInfo}
 use Rattle.drivers.specs.declared.command.Asked.{Asked}
 use Rattle.drivers.specs.declared.command.Command.TheVariants as commands
+use Rattle.drivers.specs.declared.plan.Wait.TheVariants as waits
 use Rattle.drivers.specs.declared.step.Step.{Step}
 use Rattle.drivers.specs.declared.step.Step.TheVariants as steps
 
@@ -26,16 +31,27 @@ asked_by (steps.Fail reply) = None
 asked_by steps.Silent = None
 
 -- Something is asked of the database only if the command is one for it and no field of it is
--- refused. It is the command without the fields that the database doesn't have.
-pub record Asks (body question : Pairs) : Type 0 where
+-- refused. It is made of the command without the fields that the database doesn't have.
+pub record Asks (ids : FreshIds) (body question : Pairs) : Type 0 where
   pub asked : Asked
   pub command : command_of (name_of body) ≡ Some (commands.Forwarded asked)
   pub taken : first_refused asked body ≡ None
-  pub own_fields : asked_by (ask asked (kept asked body)) ≡ Some question
+  pub own_fields : asked_by (ask ids asked (kept asked body)) ≡ Some question
 
 abbrev pub AsksOwnFields : Type 0
 AsksOwnFields = (info : ServerInfo) (body question : Pairs)
-    → asked_by (done info body) ≡ Some question → Asks body question
+    → asked_by (done info body) ≡ Some question → Asks info.ids body question
+
+-- What is kept of a write, where its statements may be asked one by one, is the command that was
+-- asked first, with its statements: so the documents of an insert have the `_id`s that they had.
+pub record AreOfCommand (command : Pairs) (batch : Batch) : Type 0 where
+  pub left : batch.left ≡ statements_in (lookup command (field_of batch.write))
+  pub body : batch.body ≡ cut command (field_of batch.write)
+
+abbrev pub AsksSameStatements : Type 0
+AsksSameStatements = (info : ServerInfo) (more : Bool) (body command : Pairs) (batch : Batch)
+    → done info body ≡ steps.Ask command → (plan_for info.ids more body).wait ≡ waits.Batch batch
+    → AreOfCommand command batch
 
 -- A field behind the command's name that has a rule and isn't refused makes no difference to what
 -- is done first.

@@ -1,6 +1,7 @@
 -- What is done first with commands, worked by hand.
-use Rattle.std.specs.Prelude.{◌≡◌, ℕ, pos, true, List, codes}
-use Rattle.bson.specs.Tree.{Tree, scalar, document, null, boolean, int64, Pairs, no_pairs, pair}
+use Rattle.std.specs.Prelude.{◌≡◌, ℕ, pos, true, List, [], ◌∷◌, codes}
+use Rattle.bson.specs.Tree.{Tree, scalar, document, array, object_id, null, boolean, int64, Pairs}
+use Rattle.bson.specs.Tree.{no_pairs, pair, Items, no_items, item}
 use Rattle.driver_replies.specs.Fields.{int, words}
 use Rattle.drivers.specs.Handshake.{handshake_reply}
 use Rattle.drivers.specs.Reasons.{refusal_document}
@@ -32,6 +33,17 @@ abbrev pub asks_distinct : List ℕ → Pairs
 asks_distinct key =
     pair (codes "distinct") (words (codes "c"))
     (pair (codes "key") (words key) (pair (codes "$db") (words (codes "t")) no_pairs))
+
+-- {insert: "c", documents, $db: "t"}
+abbrev pub inserts : Items → Pairs
+inserts documents =
+    pair (codes "insert") (words (codes "c"))
+    (pair (codes "documents") (array documents)
+    (pair (codes "$db") (words (codes "t")) no_pairs))
+
+-- the object id of the second 5 with the number 256 n + k
+abbrev pub id_of : ℕ → ℕ → Tree
+id_of n k = scalar (object_id (0 ∷ 0 ∷ 0 ∷ 5 ∷ 0 ∷ 0 ∷ 0 ∷ 0 ∷ 0 ∷ 0 ∷ n ∷ k ∷ []))
 
 -- {a: 1, _id: 0}
 abbrev pub a_alone : Pairs
@@ -99,6 +111,14 @@ pub record StepRows : Type 0 where
   pub no_path : (info : ServerInfo) → done info (asks_distinct (codes "a..b"))
       ≡ steps.Reply
       (refusal_document (pos 2) (codes "BadValue") (codes "field 'key': no path"))
+  pub insert : (info : ServerInfo)
+      → done (record info { ids = record { seconds = 5; number = 255 } })
+      (inserts (item (one (codes "a") (int (pos 1))) (item (document a_alone)
+      (item (int (pos 3)) (item (document no_pairs) no_items)))))
+      ≡ steps.Ask (inserts (
+      item (document (pair (codes "_id") (id_of 0 255) (pair (codes "a") (int (pos 1)) no_pairs)))
+      (item (document a_alone) (item (int (pos 3)) (item (one (codes "_id") (id_of 1 2)) no_items)))
+      ))
   pub get_more : (info : ServerInfo) → done info (without (codes "getMore"))
       ≡ steps.AskOwner (pos 1) (pair (codes "getMore") (scalar (int64 (pos 1)))
       (pair (codes "$db") (words (codes "t")) no_pairs))

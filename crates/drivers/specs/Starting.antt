@@ -12,7 +12,9 @@ use Rattle.driver_replies.specs.Distinct.{key_of, find_values}
 use Rattle.driver_replies.specs.Dropping.{list_command}
 use Rattle.driver_replies.specs.Modifying.{part_in, find_first}
 use Rattle.driver_replies.specs.Texts.{text_or_none, collection_of}
-use Rattle.driver_replies.specs.Writes.{is_true}
+use Rattle.driver_replies.specs.NewIds.{with_new_ids}
+use Rattle.driver_replies.specs.Writes.{is_true, write_of}
+use Rattle.driver_replies.specs.declared.fresh_ids.FreshIds.{FreshIds}
 use Rattle.driver_replies.specs.Fields.{ok, int, words}
 use Rattle.drivers.specs.Handshake.{handshake_reply, build_reply}
 use Rattle.drivers.specs.Reasons.{refusal_reply, row_of}
@@ -130,20 +132,30 @@ distinct_unless None (Some path) body = steps.Ask (
 
 -- ---- commands
 
-abbrev pub ask : Asked → Pairs → Step
-ask askeds.GetMore body = ask_owner (cursor_of body) body
-ask askeds.KillCursors body = kill_first (option_and_then first_id (ids_of body)) body
-ask askeds.DropDatabase body = list_first body
-ask askeds.Explain body = ask_explain (lookup body (codes "explain")) body
-ask askeds.Modify body = modify_unless (modify_fault body) body
-ask askeds.Distinct body = distinct_unless (distinct_fault body) (key_of body) body
-ask other body = steps.Ask body
+-- the name of a command, which is that of its first field
+abbrev pub name_of : Pairs → List ℕ
+name_of no_pairs = []
+name_of (pair name t ps) = name
+
+-- A document of an insert that says no `_id` gets one.
+abbrev pub ask_write : FreshIds → Pairs → Step
+ask_write ids body = steps.Ask (with_new_ids ids (write_of (name_of body)) body)
+
+abbrev pub ask : FreshIds → Asked → Pairs → Step
+ask ids askeds.Write body = ask_write ids body
+ask ids askeds.GetMore body = ask_owner (cursor_of body) body
+ask ids askeds.KillCursors body = kill_first (option_and_then first_id (ids_of body)) body
+ask ids askeds.DropDatabase body = list_first body
+ask ids askeds.Explain body = ask_explain (lookup body (codes "explain")) body
+ask ids askeds.Modify body = modify_unless (modify_fault body) body
+ask ids askeds.Distinct body = distinct_unless (distinct_fault body) (key_of body) body
+ask ids other body = steps.Ask body
 
 -- A command for the database: without the fields that it doesn't have, unless one of them is
 -- refused.
-abbrev pub ask_unless : Asked → Option (List ℕ × Reason) → Pairs → Step
-ask_unless asked None body = ask asked (kept asked body)
-ask_unless asked (Some x) body = steps.Reply (refusal_reply x.1 x.0)
+abbrev pub ask_unless : FreshIds → Asked → Option (List ℕ × Reason) → Pairs → Step
+ask_unless ids asked None body = ask ids asked (kept asked body)
+ask_unless ids asked (Some x) body = steps.Reply (refusal_reply x.1 x.0)
 
 -- the reply to a command that the database isn't asked
 abbrev pub own_reply : Own → List ℕ → ServerInfo → Pairs
@@ -158,12 +170,7 @@ abbrev pub do_command : Option Command → List ℕ → ServerInfo → Pairs →
 do_command None name info body = steps.Reply (refusal_reply reasons.UnknownCommand name)
 do_command (Some (commands.Own own)) name info body = steps.Reply (own_reply own name info)
 do_command (Some (commands.Forwarded asked)) name info body =
-    ask_unless asked (first_refused asked body) body
-
--- the name of a command, which is that of its first field
-abbrev pub name_of : Pairs → List ℕ
-name_of no_pairs = []
-name_of (pair name t ps) = name
+    ask_unless info.ids asked (first_refused asked body) body
 
 -- What a failed query is answered with (MongoDB wire protocol, OP_REPLY, QueryFailure).
 abbrev pub failure : Pairs

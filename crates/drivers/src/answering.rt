@@ -126,10 +126,10 @@ pub(crate) fn kill_command(
 ) -> Result<Document, NoMemory>
     ensures { IfOk result (λ d. d ≡ kill_command database.now collection.now id) }
 {
-    let mut ids = Array::new(alloc);
-    add(&mut ids, Value::Int64(id))?;
     let mut command = Document::new(alloc);
     put(&mut command, "killCursors", text_value(alloc, collection)?)?;
+    let mut ids = Array::new(alloc);
+    add(&mut ids, Value::Int64(id))?;
     put(&mut command, "cursors", Value::Array(ids))?;
     put(&mut command, "$db", text_value(alloc, database)?)?;
     Ok(command)

@@ -81,9 +81,9 @@ impl Plan {
             return Ok(unheard(self.more_to_come, Step::Reply(reply)));
         };
         let database = self.database.as_str();
-        let command = get_more(alloc, database, self.collection.as_str(), cursor)?;
-        self.wait = Wait::Distinct(distinct);
-        Ok(Step::AskOwner(cursor, command))
+        let command = get_more(alloc, database, self.collection.as_str(), cursor);
+        self.wait_for(Wait::Distinct(distinct));
+        Ok(Step::AskOwner(cursor, command?))
     }
 
     /// Takes the values of a batch of documents.

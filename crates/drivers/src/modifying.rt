@@ -4,9 +4,9 @@ ghost use Rattle.std.specs.Prelude.{◌≡◌, ◌||◌, IfOk, is_some, option_m
 ghost use Rattle.bson.specs.Lookup.{lookup};
 ghost use Rattle.bson.specs.View.{tree};
 ghost use Rattle.driver_replies.specs.Listing.{batch_in};
-ghost use Rattle.driver_replies.specs.Modifying.{subject_of};
+ghost use Rattle.driver_replies.specs.Modifying.{change_one, done_with, modified_reply, subject_of};
 ghost use Rattle.driver_replies.specs.Tallies.{refused};
-ghost use Rattle.drivers.specs.Answering.{told_step, modified, changed_by, changed, change_found, found_none, found, first_part, found_again};
+ghost use Rattle.drivers.specs.Answering.{told_step, modified, changed_by, changed, subject_after, change_found, found_none, found, first_part, found_again};
 ghost use Rattle.drivers.specs.Starting.{part_fault, parts_fault, flag_fault, flags_fault, choice_fault, modify_fault, modify_unless};
 ghost use Rattle.drivers.specs.declared.plan.Wait.TheVariants as waits;
 
@@ -116,6 +116,44 @@ fn first_part(entries: &Array) -> Result<Option<Part>, NoMemory>
     part_in(entries.items().first())
 }
 
+/// What finds the document that was changed or deleted, or was made: none where that was refused.
+fn subject_after(
+    alloc: Global,
+    was: Option<&Part>,
+    reply: &Document,
+) -> Result<Option<Part>, NoMemory>
+    ensures { IfOk result (λ subject. subject ≡ subject_after (refused reply.now)
+        (option_map (λ part. part.now) was.entry) reply.now) }
+{
+    if refused(reply).is_some() {
+        return Ok(None);
+    }
+    match was {
+        Some(found) => subject_of(alloc, found),
+        None => made_by(alloc, reply),
+    }
+}
+
+/// The answer that tells a document as it is now: none where the reply that finds it again is a refusal.
+fn told_again(
+    alloc: Global,
+    modification: &Modification,
+    is_new: bool,
+    subject: &Part,
+    reply: &Document,
+) -> Result<Option<Document>, NoMemory>
+    ensures { IfOk result (λ answer. answer ≡ option_map (λ entries. modified_reply
+        (done_with modification.now.is_removal is_new subject.now) (first_part entries))
+        (batch_in (lookup reply.now (codes "cursor")))) }
+{
+    let Some(entries) = first_batch(reply)? else {
+        return Ok(None);
+    };
+    let now = first_part(&entries)?;
+    let answer = modification.reply(alloc, is_new, subject, now.as_ref())?;
+    Ok(Some(answer))
+}
+
 impl Plan {
     /// A document was changed, deleted or made: what is told of it, as it was or as it is now.
     fn modified(
@@ -131,13 +169,15 @@ impl Plan {
             ≡ modified self.old modification is_new was subject) }
     {
         if !modification.wants_new {
-            let reply = modification.reply(alloc, is_new, &subject, was.as_ref())?;
-            return Ok(unheard(self.more_to_come, Step::Reply(reply)));
+            let reply = modification.reply(alloc, is_new, &subject, was.as_ref());
+            drop((modification, was, subject));
+            return Ok(unheard(self.more_to_come, Step::Reply(reply?)));
         }
+        drop(was);
         let database = self.database.as_str();
-        let command = find_one(alloc, database, self.collection.as_str(), &subject)?;
-        self.wait = Wait::Again(modification, is_new, subject);
-        Ok(Step::Ask(command))
+        let command = find_one(alloc, database, self.collection.as_str(), &subject);
+        self.wait_for(Wait::Again(modification, is_new, subject));
+        Ok(Step::Ask(command?))
     }
 
     /// Takes the reply to what changes, deletes or makes a document.
@@ -152,18 +192,21 @@ impl Plan {
         ensures { IfOk result (λ s. (self.new, s)
             ≡ changed (refused reply) self.old modification was reply) }
     {
-        if refused(&reply).is_some() {
-            return self.final_step(alloc, reply);
+        match subject_after(alloc, was.as_ref(), &reply) {
+            Ok(Some(subject)) => {
+                drop(reply);
+                let is_new = was.is_none();
+                self.modified(alloc, modification, is_new, was, subject)
+            }
+            Ok(None) => {
+                drop((modification, was));
+                self.final_step(alloc, reply)
+            }
+            Err(fault) => {
+                drop((modification, was, reply));
+                Err(fault)
+            }
         }
-        let subject = match &was {
-            Some(found) => subject_of(alloc, found)?,
-            None => made_by(alloc, &reply)?,
-        };
-        let Some(subject) = subject else {
-            return self.final_step(alloc, reply);
-        };
-        let is_new = was.is_none();
-        self.modified(alloc, modification, is_new, was, subject)
     }
 
     /// Makes a document where none was found, if that is wanted.
@@ -172,13 +215,34 @@ impl Plan {
         ensures { IfOk result (λ s. (self.new, s) ≡ found_none self.old modification) }
     {
         if !modification.inserts() {
-            let reply = modification.none_reply(alloc)?;
-            return Ok(unheard(self.more_to_come, Step::Reply(reply)));
+            let reply = modification.none_reply(alloc);
+            drop(modification);
+            return Ok(unheard(self.more_to_come, Step::Reply(reply?)));
         }
         let database = self.database.as_str();
-        let command = modification.insert_one(alloc, database, self.collection.as_str())?;
-        self.wait = Wait::Changed(modification, None);
-        Ok(Step::Ask(command))
+        let command = modification.insert_one(alloc, database, self.collection.as_str());
+        self.wait_for(Wait::Changed(modification, None));
+        Ok(Step::Ask(command?))
+    }
+
+    /// The command that changes or deletes the document that was found, if its `_id` finds it.
+    fn change_command(
+        &self,
+        alloc: Global,
+        modification: &Modification,
+        found: &Part,
+    ) -> Result<Option<Document>, NoMemory>
+        ensures { IfOk result (λ command. command ≡ option_map
+            (change_one self.now.database self.now.collection modification.now)
+            (subject_of found.now)) }
+    {
+        let Some(subject) = subject_of(alloc, found)? else {
+            return Ok(None);
+        };
+        let database = self.database.as_str();
+        let collection = self.collection.as_str();
+        let command = modification.change_one(alloc, database, collection, &subject)?;
+        Ok(Some(command))
     }
 
     /// Changes or deletes the document that was found.
@@ -193,14 +257,21 @@ impl Plan {
         ensures { IfOk result (λ s. (self.new, s)
             ≡ change_found (subject_of found) self.old modification found reply) }
     {
-        let Some(subject) = subject_of(alloc, &found)? else {
-            return self.final_step(alloc, reply);
-        };
-        let database = self.database.as_str();
-        let collection = self.collection.as_str();
-        let command = modification.change_one(alloc, database, collection, &subject)?;
-        self.wait = Wait::Changed(modification, Some(found));
-        Ok(Step::Ask(command))
+        match self.change_command(alloc, &modification, &found) {
+            Ok(Some(command)) => {
+                drop(reply);
+                self.wait_for(Wait::Changed(modification, Some(found)));
+                Ok(Step::Ask(command))
+            }
+            Ok(None) => {
+                drop((modification, found));
+                self.final_step(alloc, reply)
+            }
+            Err(fault) => {
+                drop((modification, found, reply));
+                Err(fault)
+            }
+        }
     }
 
     /// Takes the first document, if one was found.
@@ -240,11 +311,11 @@ impl Plan {
             ≡ found_again (batch_in (lookup reply (codes "cursor"))) self.old modification is_new
             subject reply) }
     {
-        let Some(entries) = first_batch(&reply)? else {
-            return self.final_step(alloc, reply);
-        };
-        let now = first_part(&entries)?;
-        let answer = modification.reply(alloc, is_new, &subject, now.as_ref())?;
-        Ok(unheard(self.more_to_come, Step::Reply(answer)))
+        let answer = told_again(alloc, &modification, is_new, &subject, &reply);
+        drop((modification, subject));
+        match answer? {
+            Some(answer) => Ok(unheard(self.more_to_come, Step::Reply(answer))),
+            None => self.final_step(alloc, reply),
+        }
     }
 }

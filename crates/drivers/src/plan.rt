@@ -24,7 +24,8 @@ use driver_messages::Message;
 use driver_replies::{
     Batch, Distinct, FreshIds, Kills, Modification, Part, Tally, Write, collection_of,
     drop_command, drop_first, dropped_reply, first_batch, first_id, ids_of, indexes_told, is_alone,
-    is_gone, is_ordered_in, is_true, name_in, refused_statement, retold, text_or_none, write_of,
+    is_gone, is_ordered_in, is_true, name_in, refused_statement, retold, text_or_none,
+    with_new_ids, write_of,
 };
 use std::alloc::Global;
 use std::mem;
@@ -126,7 +127,7 @@ fn write_wait(alloc: Global, ids: FreshIds, body: &Document, write: Write) -> Re
         return Ok(Wait::Write);
     }
     let is_ordered = is_ordered_in(body.get("ordered"));
-    let command = kept(Asked::Write, body.copy()?);
+    let command = with_new_ids(alloc, ids, Some(write), kept(Asked::Write, body.copy()?))?;
     Ok(batch_wait(Batch::new(alloc, write, is_ordered, ids, command)))
 }
 
@@ -151,25 +152,26 @@ fn is_modification(name: &str) -> bool
 fn wait_of(alloc: Global, ids: FreshIds, body: &Document) -> Result<Wait, NoMemory>
     ensures { IfOk result (λ w. w ≡ wait_of ids body.now) }
 {
-    if name_of(body) == "killCursors" {
+    let name = name_of(body);
+    if name == "killCursors" {
         return kill_wait(alloc, body);
     }
-    if name_of(body) == "listCollections" {
+    if name == "listCollections" {
         return collections_wait(alloc, body);
     }
-    if name_of(body) == "listIndexes" {
+    if name == "listIndexes" {
         return Ok(Wait::Indexes);
     }
-    if name_of(body) == "dropDatabase" {
+    if name == "dropDatabase" {
         return Ok(Wait::Listed);
     }
-    if name_of(body) == "explain" {
+    if name == "explain" {
         return Ok(Wait::Explained);
     }
-    if is_modification(name_of(body)) {
+    if is_modification(name) {
         return Ok(Wait::Found(Modification::new(alloc, ids, body)?));
     }
-    if name_of(body) == "distinct" {
+    if name == "distinct" {
         return distinct_wait(alloc, body);
     }
     if is_single(body) {
@@ -217,9 +219,20 @@ impl Plan {
         ensures { IfOk result
             (λ x. (x.0 ≡ plan_of info.now.ids message) × (x.1 ≡ started info.now message)) }
     {
-        let plan = plan_of(alloc, info.ids, &message)?;
-        let step = start(alloc, info, message)?;
-        Ok((plan, step))
+        let plan = match plan_of(alloc, info.ids, &message) {
+            Ok(plan) => plan,
+            Err(fault) => {
+                drop(message);
+                return Err(fault);
+            }
+        };
+        match start(alloc, info, message) {
+            Ok(step) => Ok((plan, step)),
+            Err(fault) => {
+                drop(plan);
+                Err(fault)
+            }
+        }
     }
 
     /// Whether nobody else may ask the database before the answer.
@@ -242,17 +255,24 @@ impl Plan {
         Ok(unheard(self.more_to_come, Step::Reply(reply)))
     }
 
+    /// Keeps what the next reply is to.
+    pub(crate) fn wait_for(&mut self, wait: Wait)
+        ensures { self.new ≡ record self.old { wait = wait } }
+    {
+        drop(mem::replace(&mut self.wait, wait));
+    }
+
     /// Ends the cursor that a reply leaves, if it leaves one.
     fn end_cursor(&mut self, alloc: Global, mut reply: Document) -> Result<Step, NoMemory>
+        requires { self.old.wait ≡ waits.Plain }
         ensures { IfOk result (λ s. (self.new, s) ≡ end_cursor (cursor_left reply) self.old reply) }
     {
         let Some(id) = cursor_left(&reply) else {
-            self.wait = Wait::Plain;
             return self.final_step(alloc, reply);
         };
         end(&mut reply)?;
+        self.wait_for(Wait::Ended(reply));
         let command = kill_command(alloc, self.database.as_str(), self.collection.as_str(), id)?;
-        self.wait = Wait::Ended(reply);
         Ok(Step::AskOwner(id, command))
     }
 
@@ -277,12 +297,20 @@ impl Plan {
         requires { self.old.wait ≡ waits.Plain }
         ensures { IfOk result (λ s. (self.new, s) ≡ statement_step self.old batch) }
     {
-        let Some(command) = batch.command(alloc)? else {
-            let reply = batch.reply(alloc)?;
-            return Ok(unheard(self.more_to_come, Step::Reply(reply)));
-        };
-        self.wait = Wait::Statement(batch);
-        Ok(Step::Ask(command))
+        match batch.command(alloc) {
+            Ok(Some(command)) => {
+                self.wait_for(Wait::Statement(batch));
+                Ok(Step::Ask(command))
+            }
+            Ok(None) => {
+                let reply = batch.reply(alloc)?;
+                Ok(unheard(self.more_to_come, Step::Reply(reply)))
+            }
+            Err(fault) => {
+                drop(batch);
+                Err(fault)
+            }
+        }
     }
 
     /// Takes the reply to a write as a whole.
@@ -324,9 +352,9 @@ impl Plan {
             let reply = kills.reply(alloc)?;
             return Ok(unheard(self.more_to_come, Step::Reply(reply)));
         };
-        let command = kills.command(alloc, id)?;
-        self.wait = Wait::Kill(kills);
-        Ok(Step::AskOwner(id, command))
+        let command = kills.command(alloc, id);
+        self.wait_for(Wait::Kill(kills));
+        Ok(Step::AskOwner(id, command?))
     }
 
     /// Takes the answer for a cursor.
@@ -351,7 +379,7 @@ impl Plan {
             let reply = dropped_reply(alloc, self.database.as_str())?;
             return Ok(unheard(self.more_to_come, Step::Reply(reply)));
         };
-        self.wait = Wait::Drops(collections);
+        self.wait_for(Wait::Drops(collections));
         Ok(Step::Ask(command))
     }
 

@@ -5,7 +5,7 @@ ghost use Rattle.bson.specs.Lookup.{lookup};
 ghost use Rattle.bson.specs.View.{tree};
 ghost use Rattle.std.specs.Option.{option_and_then};
 ghost use Rattle.driver_replies.specs.Cursors.{cursor_of, first_id, ids_of};
-ghost use Rattle.drivers.specs.Starting.{ask_owner, kill_first, list_first, ask_explain, name_of, ask_unless, own_reply, do_command, do_query, do_fault, do_message, failure, unheard, started};
+ghost use Rattle.drivers.specs.Starting.{ask_owner, kill_first, list_first, ask_explain, name_of, ask_write, ask_unless, own_reply, do_command, do_query, do_fault, do_message, failure, unheard, started};
 ghost use Rattle.drivers.specs.Commands.{command_of};
 ghost use Rattle.drivers.specs.Cleaning.{first_refused};
 
@@ -20,7 +20,8 @@ use crate::step::Step;
 use bson::{Document, NoMemory, Value};
 use driver_messages::{BodyFault, Form, Message};
 use driver_replies::{
-    Fact, cursor_of, document_of, first_id, ids_of, kill_one, list_command, set, text_or_none,
+    Fact, FreshIds, cursor_of, document_of, first_id, ids_of, kill_one, list_command, set,
+    text_or_none, with_new_ids, write_of,
 };
 use std::alloc::Global;
 
@@ -97,15 +98,24 @@ fn ask_explain(alloc: Global, mut body: Document) -> Result<Step, NoMemory>
     Ok(Step::Ask(body))
 }
 
+/// A command that writes. A document of an insert that says no `_id` gets one.
+fn ask_write(alloc: Global, ids: FreshIds, body: Document) -> Result<Step, NoMemory>
+    ensures { IfOk result (λ s. s ≡ ask_write ids body) }
+{
+    let write = write_of(name_of(&body));
+    Ok(Step::Ask(with_new_ids(alloc, ids, write, body)?))
+}
+
 /// A command for the database, without the fields that it doesn't have, or why it is refused.
-fn ask(alloc: Global, asked: Asked, body: Document) -> Result<Step, NoMemory>
-    ensures { IfOk result (λ s. s ≡ ask_unless asked (first_refused asked body) body) }
+fn ask(alloc: Global, ids: FreshIds, asked: Asked, body: Document) -> Result<Step, NoMemory>
+    ensures { IfOk result (λ s. s ≡ ask_unless ids asked (first_refused asked body) body) }
 {
     if let Some((name, reason)) = first_refused(asked, body.pairs()) {
         return Ok(Step::Reply(refusal_reply(alloc, reason, name)?));
     }
     let body = kept(asked, body);
     match asked {
+        Asked::Write => ask_write(alloc, ids, body),
         Asked::GetMore => ask_owner(body),
         Asked::KillCursors => kill_first(alloc, body),
         Asked::DropDatabase => list_first(alloc, &body),
@@ -151,7 +161,7 @@ fn do_command(alloc: Global, info: &ServerInfo, body: Document) -> Result<Step, 
 {
     let name = name_of(&body);
     let reply = match command_of(name) {
-        Some(Command::Forwarded(asked)) => return ask(alloc, asked, body),
+        Some(Command::Forwarded(asked)) => return ask(alloc, info.ids, asked, body),
         Some(Command::Own(command)) => own_reply(alloc, command, name, info)?,
         None => refusal_reply(alloc, Reason::UnknownCommand, name)?,
     };

@@ -1,7 +1,7 @@
 -- How a turn ends: what it changed is durable, or not.
 use Rattle.std.proofs.Common.{◌≡◌, ◌≢◌, ◌⊎◌, inl, inr, arith, ℕ, true, false, List, map, Result, Ok, Err, refl, sym, ap, subst, ◌∙◌, ◌+◌, ◌-◌, ◌≤◌, ◌^◌}
 use Rattle.std.specs.Prelude.{not, All, Bool, if◌then◌else◌}
-use Rattle.page.specs.History.{History}
+use Rattle.page.specs.History.{History, KeepsWord}
 use Rattle.page.specs.Crash.{GoesOn, LeavesOnly, LeavesNow}
 use Rattle.page.proofs.Moments.{goes_nowhere, started}
 use Rattle.btree.specs.Store.{HasNoPage, Store}
@@ -12,12 +12,18 @@ use Rattle.collections.specs.Holding as images
 use Rattle.collections.specs.Marks.{IsUntouched, Undoes}
 use Rattle.collections.specs.Standing.{HasState}
 use Rattle.collections.specs.State.{State}
+use Rattle.collections.specs.Versions.{CommitsVersions, KeepsSinceStart, pins_of}
 use Rattle.collections.specs.View as views
 use Rattle.collections.proofs.LawLemmas as laws
+use Rattle.cursors.specs.Changes.{all_at_rest}
+use Rattle.cursors.specs.Held.{Held, HeldCursor, cursors_of, table_of}
+use Rattle.pinned_cursors.specs.Tied.{AreTied}
+use Rattle.pinned_cursors.specs.Turns.{OnlyPins}
+use Rattle.pinned_cursors.proofs.TurnTied.{tied_committed, tied_rested, tied_still}
 use Rattle.database_model.specs.World.{World, Cursor, CursorTable, at_rest, are_untouched, after_commit, after_undo}
 use Rattle.index.specs.State.{Collection}
 use Rattle.engine.proofs.ResultLemmas.{fault_of, not_both}
-use Rattle.replies.proofs.CursorSteps.{rested_untouched, untouched_untouched}
+use Rattle.engine.proofs.UntouchedCursors.{rested_untouched, untouched_untouched}
 use Rattle.std.proofs.lemmas.List.Elements.{All-filter, All-map}
 use Rattle.database_model.specs.Lawful.{IsWithin, IsLawfulState, AreLawfulCursors}
 use Rattle.engine.specs.View.{world_of, world, turn_start}
@@ -34,6 +40,24 @@ no_page_then : (a b c : Store) → HasNoPage a b → c.full_takes ≡ b.full_tak
 no_page_then a b c (inl more) same = inl (omega (arith, more, same))
 no_page_then a b c (inr most) same = inr (same ∙ most)
 
+-- The turn was taken back, and then pins went.
+pub undone_of_pins : {D : Type 0} (history : D → History) (a b c : State D) → Undoes history a b → OnlyPins history b c → Undoes history a c
+undone_of_pins history a b c undoes pins = record {
+  untouched = record {
+    disk = pins.untouched.disk ∙ undoes.untouched.disk;
+    stopped = pins.untouched.stopped ∙ undoes.untouched.stopped;
+    version = pins.untouched.version ∙ undoes.untouched.version;
+  };
+  takes = pins.takes ∙ undoes.takes;
+  rests = pins.unchanged ∙ undoes.rests;
+  state = λ start now has. pins.state start start (undoes.state start now has);
+}
+
+pub tied_undone : {D : Type 0} (history : D → History) (old new : State D) (list : List HeldCursor) → Undoes history old new
+    → KeepsSinceStart history old new → pins_of new ≡ pins_of old → AreTied history old list → AreTied history new list
+tied_undone history old new list undoes versions pins =
+    tied_still history old new list (λ running. sym undoes.untouched.stopped ∙ running) (subst KeepsWord undoes.untouched.disk) (λ running. versions) pins
+
 abbrev failed : CommitFault → Result (Unit {0}) CommitFault
 failed fault = Err fault
 
@@ -49,19 +73,21 @@ module _ {D : Type 0} (history : D → History) (old new : Engine D) (h : IsSoun
   counted e = ap (λ (b : Bool). if b then generation old + 1 else generation old) e
 
   -- nothing was changed but cursors
-  module _ (cursors : CursorTable) where
+  module _ (cursors : Held) where
     abbrev quiet_engine : Engine D
     quiet_engine = record { alloc = old.alloc; cursors = cursors; file = old.file; told = old.told; is_changed = old.is_changed }
 
-    pub kept_as_it_is : cursors ≡ record old.cursors { list = map at_rest old.cursors.list } → turn_start old ≡ (world old).collections
+    pub kept_as_it_is : cursors ≡ all_at_rest old.cursors
+        → table_of cursors ≡ record (table_of old.cursors) { list = map at_rest (cursors_of old.cursors) } → turn_start old ≡ (world old).collections
         → has_changes old ≡ false → Commits history (Ok tt) old quiet_engine
-    kept_as_it_is made idle rests = record {
+    kept_as_it_is held made idle rests = record {
       sound = record {
         lawful = h.lawful;
-        cursors = subst (λ (t : CursorTable). AreLawfulCursors t.list) (sym made) (rested_lawful old.cursors.list h.cursors);
+        cursors = subst (λ (t : CursorTable). AreLawfulCursors t.list) (sym made) (rested_lawful (cursors_of old.cursors) h.cursors);
         before = h.before;
         quiet = h.quiet;
         file = h.file;
+        tied = subst (λ (hs : Held). AreTied history old.file hs.list) (sym held) (tied_rested history old.file old.cursors.list h.tied);
       };
       on = goes_nowhere (disk_history history old);
       done = ap (world_of old.told.value) made;
@@ -82,8 +108,24 @@ module _ {D : Type 0} (history : D → History) (old new : Engine D) (h : IsSoun
       idle = λ e. refl;
       quiet = λ e. (refl, refl);
       rests = rests;
-      rested = subst (λ (t : CursorTable). are_untouched t.list ≡ true) (sym made) (rested_untouched old.cursors.list);
+      rested = subst (λ (t : CursorTable). are_untouched t.list ≡ true) (sym made) (rested_untouched (cursors_of old.cursors));
     }
+
+  -- what the turn changed was committed, or cut off
+  pub tied_through : (r : Result (Unit {0}) CommitFault) (mid : State D) → files.Commits history r old.file mid → CommitsVersions history r old.file mid
+      → pins_of mid ≡ pins_of old.file → (views.is_stopped mid ≡ false → views.is_stopped old.file ≡ false) → AreTied history mid old.cursors.list
+  tied_through r mid commits versions pins ran = tied_committed history old.file mid old.cursors.list r commits versions pins ran h.tied
+
+  pub tied_at_rest : (mid : State D) → AreTied history mid old.cursors.list → new.file ≡ mid → new.cursors ≡ all_at_rest old.cursors
+      → AreTied history new.file new.cursors.list
+  tied_at_rest mid tied file cursors =
+      subst (λ (f : State D). AreTied history f new.cursors.list) (sym file)
+      (subst (λ (held : Held). AreTied history mid held.list) (sym cursors) (tied_rested history mid old.cursors.list tied))
+
+  -- the file runs where it found no room
+  pub ran_before : (mid : State D) → files.FindsNoRoom history old.file mid → views.is_stopped mid ≡ false → views.is_stopped old.file ≡ false
+  ran_before mid (inl (most, same)) running = ap views.is_stopped (sym same) ∙ running
+  ran_before mid (inr found) running = sym found.untouched.stopped ∙ running
 
   -- the file where a commit found no room, and then where the turn was taken back
   module _ (mid : State D) (undoes : Undoes history mid new.file) where
@@ -108,7 +150,8 @@ module _ {D : Type 0} (history : D → History) (old new : Engine D) (h : IsSoun
   -- the collections are as they were at the beginning of the turn
   module _ (rests : has_changes new ≡ false) (back : world new ≡ after_undo (turn_start old) (world old)) (ended : turn_start new ≡ (world new).collections)
       (untouched : IsUntouched history old.file new.file)
-      (state : (start now : List Collection) → HasState history old.file start now → HasState history new.file start start) where
+      (state : (start now : List Collection) → HasState history old.file start now → HasState history new.file start start)
+      (tied : AreTied history new.file new.cursors.list) where
     now_state : (world new).collections ≡ turn_start old
     now_state = ap (λ (w : World). w.collections) back
 
@@ -124,6 +167,7 @@ module _ {D : Type 0} (history : D → History) (old new : Engine D) (h : IsSoun
       quiet = λ e. ended;
       file = subst (λ (cs : List Collection). HasState history new.file cs (world new).collections) (sym first_state)
           (subst (HasState history new.file (turn_start old)) (sym now_state) (state (turn_start old) (world old).collections h.file));
+      tied = tied;
     }
 
     pub rested_again : are_untouched (world new).cursors ≡ true
@@ -166,7 +210,7 @@ module _ {D : Type 0} (history : D → History) (old new : Engine D) (h : IsSoun
 
   -- the collections are as they stand
   module _ (moved : has_changes old ≡ true) (rests : has_changes new ≡ false) (forth : world new ≡ after_commit (world old))
-      (ended : turn_start new ≡ (world new).collections) where
+      (ended : turn_start new ≡ (world new).collections) (tied : AreTied history new.file new.cursors.list) where
     now_there : (world new).collections ≡ (world old).collections
     now_there = ap (λ (w : World). w.collections) forth
 
@@ -190,6 +234,7 @@ module _ {D : Type 0} (history : D → History) (old new : Engine D) (h : IsSoun
       quiet = λ e. ended;
       file = subst (λ (cs : List Collection). HasState history new.file cs (world new).collections) (sym there)
           (subst (HasState history new.file (world old).collections) (sym now_there) file);
+      tied = tied;
     }
 
     rested_now : are_untouched (world new).cursors ≡ true

@@ -6,7 +6,6 @@ use Rattle.page.specs.History.{History, KeepsWord}
 use Rattle.path.specs.declared.refusal.Refusal.{Refusal}
 use Rattle.path.specs.declared.refusal.Refusal.TheVariants as refusals
 use Rattle.database_model.specs.Cursors.{batch_of, first_batch}
-use Rattle.collections.specs.View as files
 use Rattle.engine.specs.Durable.{disk_history}
 use Rattle.database_model.specs.Lawful.{IsLawful, IsWithin}
 use Rattle.engine.specs.Looking.{OnlyReads}
@@ -15,6 +14,7 @@ use Rattle.replies.specs.View.{with_ok, Runs}
 use Rattle.engine.specs.View.{world}
 use Rattle.database_model.specs.World.{World}
 use Rattle.engine.specs.declared.engine.Engine.{Engine}
+use Rattle.pinned_cursors.specs.Turns.{Releases}
 use Rattle.engine.proofs.LawfulSteps.{good_batch}
 use Rattle.engine.proofs.LookingLemmas.{performs_behind, performs_memory, performs_read, world_same}
 use Rattle.engine.proofs.Sound.{lawful_world, performs_in_memory}
@@ -36,8 +36,9 @@ module _ (w new : World) (connection : ℕ) (name : List ℕ) (ds : List Pairs) 
       at (Ok x) good same = let there : x.0 ≡ new = ap world_in same in subst IsLawful there (good x refl)
 
 -- Read first, and then given: it was planned of what was read.
-module _ {D : Type 0} (history : D → History) (old mid new : Engine D) (reads : OnlyReads history old mid) (file : new.file ≡ mid.file)
-    (told : new.told.value ≡ mid.told.value) (changes : new.is_changed ≡ mid.is_changed) where
+module _ {D : Type 0} (history : D → History) (old mid new : Engine D) (reads : OnlyReads history old mid)
+    (file : Releases history mid.file new.file mid.cursors new.cursors) (told : new.told.value ≡ mid.told.value)
+    (changes : new.is_changed ≡ mid.is_changed) where
   pub gives_behind : (connection : ℕ) (name : List ℕ) (ds : List Pairs) (most : ℕ) (planned : Result (World × Pairs) Refusal) (r : Result Pairs Refusal)
       → length name ≤ 255 → All IsWithin ds
       → Runs (world mid) (first_batch (world mid) connection name ds (batch_of most ds)) (world new) r
@@ -49,7 +50,7 @@ module _ {D : Type 0} (history : D → History) (old mid new : Engine D) (reads 
       performs_behind history old mid new reads there planned r
       (performs_in_memory history mid new there r reads.sound file told changes lawful runs)
       (λ k. ap (λ (w : World). first_batch w connection name ds (batch_of most ds)) (world_same history old mid reads)
-      ∙ same (subst (λ f. KeepsWord (files.disk_history history f)) file k))
+      ∙ same (subst KeepsWord file.pins.untouched.disk k))
 
 -- What was read was refused as planned, or memory ran out.
 pub refuses_planned : {D : Type 0} (history : D → History) (old new : Engine D) (planned : Result (World × Pairs) Refusal) (e : Refusal)

@@ -19,6 +19,10 @@ pub mod ExplainingLemmas
 pub mod ResultLemmas
 pub mod OpeningLemmas
 pub mod LookingLemmas
+pub mod WalkingLemmas
+pub mod MoreLemmas
+pub mod KeepingPins
+pub mod UntouchedCursors
 pub mod NamedLemmas
 pub mod GivingLemmas
 pub mod RemovingLemmas

@@ -19,7 +19,10 @@ use Rattle.engine.specs.Performing.{DoesPlanned, Performs}
 use Rattle.database_model.specs.Step.{answered}
 use Rattle.replies.specs.View.{with_ok}
 use Rattle.engine.specs.View.{world, world_of, turn_start}
-use Rattle.database_model.specs.World.{World, CursorTable}
+use Rattle.database_model.specs.World.{World}
+use Rattle.cursors.specs.Held.{Held, cursors_of, table_of}
+use Rattle.pinned_cursors.specs.Tied.{AreTied}
+use Rattle.pinned_cursors.proofs.TurnTied.{tied_on}
 use Rattle.engine.specs.Writing.{FileCause}
 use Rattle.engine.specs.declared.engine.Engine.{Engine}
 use Rattle.queries.proofs.ReadingLemmas.{goes_itself, goes_on, of_file, widen_before, word_before}
@@ -35,10 +38,12 @@ module _ {D : Type 0} (history : D → History) (old new : Engine D) (h : IsSoun
   reads_so goes same = record {
     sound = record {
       lawful = subst (λ (t : Known). IsLawfulState t.now) (sym told) h.lawful;
-      cursors = subst (λ (t : CursorTable). AreLawfulCursors t.list) (sym cursors) h.cursors;
+      cursors = subst (λ (held : Held). AreLawfulCursors (cursors_of held)) (sym cursors) h.cursors;
       before = subst (λ (t : Known). IsLawfulState t.start) (sym told) h.before;
       quiet = λ rests. ap (λ (t : Known). t.start) told ∙ h.quiet (sym changes ∙ rests) ∙ sym (ap (λ (t : Known). t.now) told);
       file = subst (λ (t : Known). HasState history (file_of new) t.start t.now) (sym told) (same (turn_start old) (world old).collections h.file);
+      tied = subst (λ (held : Held). AreTied history (file_of new) held.list) (sym cursors)
+          (tied_on history (file_of old) (file_of new) old.cursors.list goes h.tied);
     };
     goes = goes;
     told = told;
@@ -71,7 +76,7 @@ module _ {D : Type 0} (history : D → History) (a b : Engine D) (reads : OnlyRe
   collections_same = ap (λ (t : Known). t.now) reads.told
 
   pub world_same : world b ≡ world a
-  world_same = λ i. world_of (reads.told i) (reads.cursors i)
+  world_same = λ i. world_of (reads.told i) (table_of (reads.cursors i))
 
   pub start_same : turn_start b ≡ turn_start a
   start_same = ap (λ (t : Known). t.start) reads.told

@@ -15,6 +15,7 @@ use Rattle.engine.specs.Durable.{disk_history, file_of, IsRunning, IsSound}
 use Rattle.opening.specs.Known.{Known}
 use Rattle.engine.specs.Looking.{OnlyReads}
 use Rattle.engine.specs.Performing.{Performs}
+use Rattle.cursors.specs.Held.{cursors_of}
 use Rattle.database_model.specs.Refusals.{ok_reply}
 use Rattle.database_model.specs.Step.{answered}
 use Rattle.replies.specs.View.{with_ok}
@@ -158,7 +159,7 @@ module _ {D : Type 0} (history : D → History) (reply : Pairs) (planned : Resul
     }
       where
         there : with_ok (Ok (record (world old) { collections = (world new).collections }, reply)) ≡ Ok (world new, d)
-        there i = Ok (record { collections = (world new).collections; cursors = (sym makes.cursors i).list; next = (sym makes.cursors i).next }, sym said i)
+        there i = Ok (record { collections = (world new).collections; cursors = cursors_of (sym makes.cursors i); next = (sym makes.cursors i).next }, sym said i)
 
     refused_so : (p : Result (List Collection) Refusal)
         → (answered (world old) (with_reply (world old) reply p)).0.collections ≡ planned_or (world old).collections p
@@ -176,7 +177,7 @@ module _ {D : Type 0} (history : D → History) (reply : Pairs) (planned : Resul
     }
       where
         same : (world new).collections ≡ (world old).collections → world new ≡ world old
-        same now i = record { collections = now i; cursors = (makes.cursors i).list; next = (makes.cursors i).next }
+        same now i = record { collections = now i; cursors = cursors_of (makes.cursors i); next = (makes.cursors i).next }
 
         ends : (answered (world old) run).0.collections ≡ planned_or (world old).collections planned
         ends = ap (λ (r : Result (World × Pairs) Refusal). (answered (world old) r).0.collections) is ∙ refused_so planned

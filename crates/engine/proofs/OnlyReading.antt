@@ -14,6 +14,7 @@ use Rattle.collections.proofs.LawLemmas as laws
 use Rattle.collections.proofs.StandingLemmas.{stopped_same}
 use Rattle.engine.specs.Durable.{disk_history, file_of, IsSound}
 use Rattle.opening.specs.Known.{Known}
+use Rattle.pinned_cursors.proofs.TurnTied.{tied_on}
 use Rattle.engine.specs.Looking.{OnlyReads}
 use Rattle.engine.specs.Trying.{Tries}
 use Rattle.engine.specs.View.{world}
@@ -37,6 +38,7 @@ module _ {D : Type 0} (history : D → History) where
       before = h.before;
       quiet = h.quiet;
       file = same old.told.value.start old.told.value.now h.file;
+      tied = tied_on history old.file file old.cursors.list goes h.tied;
     };
     goes = goes;
     told = refl;

@@ -5,7 +5,9 @@ use Rattle.trusted_disk.specs.Trusting.{trusted_history}
 use Rattle.trusted_disk.specs.declared.disk.TrustedDisk.{TrustedDisk}
 use Rattle.index.specs.State.{Collection}
 use Rattle.collections.specs.Standing.{HasState}
-use Rattle.database_model.specs.World.{CursorTable}
+use Rattle.btree.specs.Keys.{times}
+use Rattle.cursors.specs.Held.{Held, cursors_of}
+use Rattle.pinned_cursors.specs.Tied.{AreTied}
 use Rattle.database_model.specs.Lawful.{AreLawfulCursors, IsLawfulState}
 use Rattle.engine.specs.View.{world}
 use Rattle.opening.specs.FileOpening.{IsFileOpened}
@@ -18,14 +20,16 @@ pub opened_so : {D : Type 0} (history : D → History) (disk : D) (engine : Engi
 opened_so history disk engine o fresh rests = record {
   sound = record {
     lawful = o.lawful;
-    cursors = subst (λ (t : CursorTable). AreLawfulCursors t.list) (sym fresh) (search rules);
+    cursors = subst (λ (held : Held). AreLawfulCursors (cursors_of held)) (sym fresh) (search rules);
     before = subst IsLawfulState (sym o.idle) o.lawful;
     quiet = λ e. o.idle;
     file = subst (λ (cs : List Collection). HasState (trusted_history history) engine.file cs (world engine).collections) (sym o.idle) o.file;
+    tied = subst (λ (held : Held). AreTied (trusted_history history) engine.file held.list) (sym fresh)
+        (record { each = λ running k. tt; pins = λ n. ap (times n) o.pins });
   };
   running = o.running;
   idle = o.idle;
-  cursors = (ap (λ (t : CursorTable). t.list) fresh, ap (λ (t : CursorTable). t.next) fresh);
+  cursors = (ap cursors_of fresh, ap (λ (held : Held). held.next) fresh);
   rests = rests;
   on = o.on;
   trusted = o.trusted;

@@ -3,8 +3,7 @@ use Rattle.std.proofs.Common.{◌≡◌, ◌⊎◌, inl, inr, ℕ, false, List, 
 use Rattle.std.specs.Prelude.{◌==◌, not, All, OnErr}
 use Rattle.std.proofs.lemmas.List.Elements.{All-filter}
 use Rattle.bson.specs.Tree.{Pairs}
-use Rattle.page.specs.History.{History}
-use Rattle.collections.specs.Calls.{GoesFrom}
+use Rattle.page.specs.History.{History, KeepsWord}
 use Rattle.collections.specs.Standing.{HasState}
 use Rattle.collections.specs.State.{State}
 use Rattle.database_model.specs.World.{World, Cursor, forget, after_undo}
@@ -14,29 +13,32 @@ use Rattle.commands.specs.Command.{Command, IsBounded}
 use Rattle.database_model.specs.Step.{run, answered, RefusedBeside}
 use Rattle.replies.specs.View.{with_ok, Runs}
 use Rattle.engine.specs.View.{world, turn_start}
-use Rattle.engine.specs.Durable.{IsSound, file_of, has_changes}
+use Rattle.engine.specs.Durable.{IsSound, disk_history, file_of, has_changes}
 use Rattle.engine.specs.Writing.{FileCause}
 use Rattle.engine.specs.declared.engine.Engine.{Engine}
 use Rattle.opening.specs.declared.told.Told.{Told}
 use Rattle.database_model.specs.Refusals.{refusal_reply}
-use Rattle.collections.proofs.LawLemmas as laws
 use Rattle.engine.specs.Performing.{DoesPlanned, Performs}
 use Rattle.opening.specs.Known.{Known}
 use Rattle.path.specs.declared.refusal.Refusal.{Refusal}
 use Rattle.path.specs.declared.refusal.Refusal.TheVariants as refusals
-use Rattle.engine.proofs.Continuing.{continues_of}
+use Rattle.pinned_cursors.specs.Tied.{AreTied}
+use Rattle.pinned_cursors.specs.Turns.{OnlyPins, Releases}
+use Rattle.engine.specs.Continuing.{Continues}
+use Rattle.engine.proofs.Continuing.{continues_still}
 use Rattle.engine.proofs.LawfulSteps.{Good, good_run}
 
 -- the file has the collections as the turn began, and a tree of those of now
 pub keeps_sound : {D : Type 0} (history : D → History) (old new : Engine D) → IsSound history old
-    → HasState history new.file (turn_start old) (world new).collections → turn_start new ≡ turn_start old → IsLawful (world new)
-    → (has_changes new ≡ false → turn_start new ≡ (world new).collections) → IsSound history new
-keeps_sound history old new h file same lawful quiet = record {
+    → HasState history new.file (turn_start old) (world new).collections → AreTied history new.file new.cursors.list → turn_start new ≡ turn_start old
+    → IsLawful (world new) → (has_changes new ≡ false → turn_start new ≡ (world new).collections) → IsSound history new
+keeps_sound history old new h file tied same lawful quiet = record {
   lawful = lawful.collections;
   cursors = lawful.cursors;
   before = subst IsLawfulState (sym same) h.before;
   quiet = quiet;
   file = subst (λ (cs : List Collection). HasState history new.file cs (world new).collections) (sym same) file;
+  tied = tied;
 }
 
 -- what a command makes of a lawful world is lawful
@@ -95,7 +97,7 @@ pub answers_refused : {D : Type 0} (history : D → History) (old new : Engine D
 answers_refused history old new planned e (same, inl is) = inl ((λ i. (same i, refusal_reply e)) ∙ ap (answered (world old)) (sym is))
 answers_refused history old new planned e (same, inr cause) = inr (record { refusal = e; cause = cause; same = same; says = refl })
 
--- ---- commands that ask the file for nothing
+-- ---- commands that ask the file for pins at most
 
 module _ {D : Type 0} (history : D → History) (old new : Engine D) (planned : Result (World × Pairs) Refusal) where
   -- what memory alone gives is what was planned
@@ -104,32 +106,47 @@ module _ {D : Type 0} (history : D → History) (old new : Engine D) (planned : 
   does_planned (Err refusals.OutOfMemory) runs = (runs.0, inr (for_memory history (file_of old) (file_of new) (answered (world old) planned).0))
   does_planned (Err e) runs = (runs.0, inl (runs.1 (λ h. absurd cc)))
 
-  pub performs_in_memory : (r : Result Pairs Refusal) → IsSound history old → new.file ≡ old.file → new.told.value ≡ old.told.value
-      → has_changes new ≡ has_changes old → IsLawful (world new) → Runs (world old) planned (world new) r → Performs history planned r old new
-  performs_in_memory r h file told changes lawful runs = record {
-    sound = keeps_sound history old new h
-        (subst (λ (k : Known). HasState history new.file (turn_start old) k.now) (sym told)
-        (subst (λ (f : State D). HasState history f (turn_start old) (world old).collections) (sym file) h.file))
+  -- the turn goes on with the same collections, and the cursors stay tied to its file
+  pub performs_tied : (r : Result Pairs Refusal) → IsSound history old → Continues history old new
+      → HasState history new.file (turn_start old) (world old).collections → AreTied history new.file new.cursors.list → new.told.value ≡ old.told.value
+      → has_changes new ≡ has_changes old → IsLawful (world new) → (KeepsWord (disk_history history new) → DoesPlanned history planned r old new)
+      → OnErr r (world new ≡ world old) → Performs history planned r old new
+  performs_tied r h goes state tied told changes lawful does left = record {
+    sound = keeps_sound history old new h (subst (λ (k : Known). HasState history new.file (turn_start old) k.now) (sym told) state) tied
         (ap (λ (k : Known). k.start) told) lawful
         (λ rests. ap (λ (k : Known). k.start) told ∙ h.quiet (sym changes ∙ rests) ∙ sym (ap (λ (k : Known). k.now) told));
-    goes = continues_of history old new (subst (λ (f : State D). GoesFrom history old.file f) (sym file) (laws.goes_from_itself history old.file));
+    goes = goes;
     start = ap (λ (k : Known). k.start) told;
-    does = λ k. does_planned r runs;
-    left = unchanged r runs;
+    does = does;
+    left = left;
     refused = either r;
   }
+    where
+      either : (x : Result Pairs Refusal) → OnErr x (has_changes new ≡ has_changes old)
+      either (Ok reply) = tt
+      either (Err e) = changes
+
+  -- pins came or went
+  pub performs_pins : (r : Result Pairs Refusal) → IsSound history old → OnlyPins history old.file new.file → AreTied history new.file new.cursors.list
+      → new.told.value ≡ old.told.value → has_changes new ≡ has_changes old → IsLawful (world new)
+      → (KeepsWord (disk_history history new) → DoesPlanned history planned r old new) → OnErr r (world new ≡ world old) → Performs history planned r old new
+  performs_pins r h pins tied =
+      performs_tied r h (continues_still history old new pins.untouched.disk pins.untouched.stopped pins.untouched.version pins.takes)
+      (pins.state (turn_start old) (world old).collections h.file) tied
+
+  pub performs_in_memory : (r : Result Pairs Refusal) → IsSound history old → Releases history old.file new.file old.cursors new.cursors
+      → new.told.value ≡ old.told.value → has_changes new ≡ has_changes old → IsLawful (world new) → Runs (world old) planned (world new) r
+      → Performs history planned r old new
+  performs_in_memory r h file told changes lawful runs =
+      performs_pins r h file.pins (file.tied h.tied) told changes lawful (λ k. does_planned r runs) (unchanged r runs)
     where
       unchanged : (x : Result Pairs Refusal) → Runs (world old) planned (world new) x → OnErr x (world new ≡ world old)
       unchanged (Ok reply) ran = tt
       unchanged (Err e) ran = ran.0
 
-      either : (x : Result Pairs Refusal) → OnErr x (has_changes new ≡ has_changes old)
-      either (Ok reply) = tt
-      either (Err e) = changes
-
 -- the same of a command that was read
 pub performs_told : {D : Type 0} (history : D → History) (old new : Engine D) (connection : ℕ) (c : Command) (r : Result Pairs Refusal) → IsSound history old
-    → IsBounded c → new.file ≡ old.file → new.told ≡ old.told → has_changes new ≡ has_changes old
+    → IsBounded c → Releases history old.file new.file old.cursors new.cursors → new.told ≡ old.told → has_changes new ≡ has_changes old
     → Runs (world old) (run (world old) connection c) (world new) r → Performs history (run (world old) connection c) r old new
 performs_told history old new connection c r h b file told changes runs =
     performs_in_memory history old new (run (world old) connection c) r h file (ap (λ (t : Told). t.value) told) changes

@@ -13,6 +13,7 @@ use Rattle.collections.specs.State.{State}
 use Rattle.collections.proofs.LawLemmas as laws
 use Rattle.engine.specs.Durable.{disk_history, is_stopped, IsRunning, IsSound}
 use Rattle.opening.specs.Known.{Known}
+use Rattle.pinned_cursors.proofs.TurnTied.{tied_on}
 use Rattle.database_model.specs.Lawful.{IsLawfulState}
 use Rattle.engine.specs.View.{world}
 use Rattle.engine.specs.Writing.{Writes}
@@ -47,6 +48,7 @@ module _ {D : Type 0} (history : D → History) (old : Engine D) (h : IsSound hi
         before = subst (λ (k : Known). IsLawfulState k.start) (sym is) h.before;
         quiet = λ rests. absurd cc;
         file = subst (λ (k : Known). HasState history file k.start k.now) (sym is) has;
+        tied = tied_on history old.file file old.cursors.list applies.on h.tied;
       };
       goes = applies.on;
       start = ap (λ (k : Known). k.start) is;
@@ -65,7 +67,14 @@ module _ {D : Type 0} (history : D → History) (old : Engine D) (h : IsSound hi
     -- nothing of them was
     pub writes_undone : (e : Refusal) → Applies history edits (Err e) old.file file → Writes history after (Err e) old (record old { file = file })
     writes_undone e applies = record {
-      sound = record { lawful = h.lawful; cursors = h.cursors; before = h.before; quiet = h.quiet; file = has };
+      sound = record {
+        lawful = h.lawful;
+        cursors = h.cursors;
+        before = h.before;
+        quiet = h.quiet;
+        file = has;
+        tied = tied_on history old.file file old.cursors.list applies.on h.tied;
+      };
       goes = applies.on;
       start = refl;
       cursors = refl;

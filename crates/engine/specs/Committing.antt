@@ -57,6 +57,6 @@ pub record Commits {D : Type 0} (history : D → History) (result : Result (Unit
   pub idle : is_stopped old ≡ true → disk_history history new ≡ disk_history history old
   -- where the commands changed nothing, there is nothing to write
   pub quiet : has_changes old ≡ false
-      → (result ≡ Ok tt) × (disk_history history new ≡ disk_history history old)
+      → (result ≡ Ok tt) × (file_of new ≡ file_of old)
   pub rests : has_changes new ≡ false
   pub rested : are_untouched (world new).cursors ≡ true

@@ -4,6 +4,7 @@ use Rattle.page.specs.History.{History}
 use Rattle.collections.specs.State.{State}
 use Rattle.collections.specs.Standing.{HasState}
 use Rattle.collections.specs.View as views
+use Rattle.pinned_cursors.specs.Tied.{AreTied}
 use Rattle.database_model.specs.Lawful.{IsLawfulState, AreLawfulCursors}
 use Rattle.engine.specs.View.{world, turn_start}
 use Rattle.engine.specs.declared.engine.Engine.{Engine}
@@ -36,10 +37,12 @@ abbrev pub full_takes_of : {D : Type 0} → (D → History) → Engine D → ℕ
 full_takes_of history engine = (views.pages_of history (file_of engine)).full_takes
 
 -- Until it stops, its file has the collections as they were at the beginning of the turn, and a
--- tree of those of now.
+-- tree of those of now; and what is left of a cursor that holds no documents is what its walk is
+-- still to give of the version that is pinned for it.
 pub record IsSound {D : Type 0} (history : D → History) (engine : Engine D) : Type 0 where
   pub lawful : IsLawfulState (world engine).collections
   pub cursors : AreLawfulCursors (world engine).cursors
   pub before : IsLawfulState (turn_start engine)
   pub quiet : has_changes engine ≡ false → turn_start engine ≡ (world engine).collections
   pub file : HasState history (file_of engine) (turn_start engine) (world engine).collections
+  pub tied : AreTied history (file_of engine) engine.cursors.list

@@ -4,6 +4,7 @@ pub mod Durable
 pub mod Committing
 pub mod Continuing
 pub mod Opening
+pub mod Walking
 pub mod Writing
 pub mod Looking
 pub mod Performing

@@ -1,6 +1,7 @@
 -- What an engine and its replies stand for.
 use Rattle.std.specs.Prelude.{List}
 use Rattle.bson.specs.Tree.{Pairs}
+use Rattle.cursors.specs.Held.{table_of}
 use Rattle.database_model.specs.World.{World, CursorTable}
 use Rattle.database_model.specs.Refusals.{refusal_reply}
 use Rattle.index.specs.State.{Collection}
@@ -24,7 +25,7 @@ world_of known cursors =
     record { collections = known.now; cursors = cursors.list; next = cursors.next }
 
 abbrev pub world : {D : Type 0} → Engine D → World
-world engine = world_of engine.told.value engine.cursors
+world engine = world_of engine.told.value (table_of engine.cursors)
 
 -- The collections as they were at the beginning of the turn. That is all of the start that is kept:
 -- what a turn did to cursors is taken back by what they know of themselves.

@@ -10,6 +10,7 @@ ghost use Rattle.engine.specs.Durable.{has_changes, IsSound};
 ghost use Rattle.database_model.specs.Lawful.{IsWithin};
 ghost use Rattle.engine.specs.Looking.{Looks};
 ghost use Rattle.engine.specs.Performing.{Performs};
+ghost use Rattle.pinned_cursors.specs.Turns.{Releases};
 ghost use Rattle.replies.specs.View.{IsSendable, Runs};
 ghost use Rattle.engine.specs.View.{world};
 ghost use Rattle.database_model.specs.World.{documents_of};
@@ -80,6 +81,7 @@ impl<D: Disk> Engine<D> {
     }
 
     /// Gives a first batch of documents, and opens a cursor on the others.
+    #[tactic(auto, using(crate::proofs::KeepingPins::pins_as_before))]
     fn give_all(
         &mut self,
         connection: ConnId,
@@ -89,7 +91,8 @@ impl<D: Disk> Engine<D> {
     ) -> Result<SpelledDocument, Refusal>
         requires short { length namespace.now ≤ 255 }
         requires within { All IsWithin given.items }
-        ensures file { self.new.file ≡ self.old.file }
+        ensures file { Releases D.history self.old.file self.new.file self.old.cursors
+            self.new.cursors }
         ensures told { self.new.told ≡ self.old.told }
         ensures has_changes { self.new.is_changed ≡ self.old.is_changed }
         ensures runs { Runs (world self.old)
@@ -106,7 +109,7 @@ impl<D: Disk> Engine<D> {
             return Ok(reply);
         }
         let rest = spelled_all(self.alloc, &given[count..])?;
-        self.cursors.open(connection, namespace, rest, whole)?;
+        self.cursors.open_kept(connection, namespace, rest, whole)?;
         Ok(reply)
     }
 }

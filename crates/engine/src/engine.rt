@@ -3,10 +3,12 @@
 ghost use Rattle.std.specs.Prelude.{◌≡◌, ◌⊎◌, Ok, true, false, IfOk, IfErr};
 ghost use Rattle.page.specs.History.{KeepsWord};
 ghost use Rattle.collections.specs.Marks.{Undoes};
+ghost use Rattle.cursors.specs.Changes.{all_at_rest};
 ghost use Rattle.engine.specs.Committing.{Commits};
 ghost use Rattle.engine.specs.Continuing.{Continues};
 ghost use Rattle.engine.specs.Opening.{IsOpened};
 ghost use Rattle.opening.specs.Refusing.{IsRefused};
+ghost use Rattle.pinned_cursors.specs.Tied.{AreTied};
 ghost use Rattle.engine.specs.Performing.{IsAdministrative, Performs};
 ghost use Rattle.database_model.specs.World.{are_untouched, after_commit, after_undo, forget};
 ghost use Rattle.replies.specs.View.{answer_of, outcome_of, IsSendable};
@@ -20,10 +22,12 @@ ghost use Rattle.engine.specs.Writing.{FileCause};
 use bson::Document;
 use collections::Collections as FileCollections;
 use commands::Command;
+use cursors::{Cursors, Ends};
 use opening::{Told, open_file};
 use page::Disk;
 use path::Refusal;
-use replies::{Answer, ConnId, Cursors, FIRST_BATCH, built, ping_reply, spelled};
+use pinned_cursors::end_all;
+use replies::{Answer, ConnId, FIRST_BATCH, built, ping_reply, spelled};
 use roots::{CommitFault, Config, OpenFault};
 use std::alloc::Global;
 use trusted_disk::TrustedDisk;
@@ -230,6 +234,7 @@ impl<D: Disk> Engine<D> {
     /// The turn's changes stay.
     fn keep(&mut self)
         ensures file { self.new.file ≡ self.old.file }
+        ensures cursors { self.new.cursors ≡ all_at_rest self.old.cursors }
         ensures world { world self.new ≡ after_commit (world self.old) }
         ensures turn_start { turn_start self.new ≡ (world self.new).collections }
         ensures rests { has_changes self.new ≡ false }
@@ -242,6 +247,8 @@ impl<D: Disk> Engine<D> {
     /// The turn's changes are taken back. It takes no memory.
     fn take_back(&mut self)
         ensures file { Undoes D.history self.old.file self.new.file }
+        ensures tied { AreTied D.history self.old.file self.old.cursors.list
+            → AreTied D.history self.new.file self.new.cursors.list }
         ensures world { world self.new ≡ after_undo (turn_start self.old) (world self.old) }
         ensures turn_start { turn_start self.new ≡ (world self.new).collections }
         ensures rests { has_changes self.new ≡ false }
@@ -249,7 +256,7 @@ impl<D: Disk> Engine<D> {
         self.file.undo();
         self.told.take_back();
         self.is_changed = false;
-        self.cursors.undo();
+        end_all(&mut self.file, &mut self.cursors, &Ends::Touched);
     }
 
     /// Ends the turn, and takes back what its commands changed. It takes no memory.
@@ -266,7 +273,7 @@ impl<D: Disk> Engine<D> {
         ensures rested { are_untouched (world self.new).cursors ≡ true }
     {
         if !self.is_changed {
-            self.cursors.undo();
+            end_all(&mut self.file, &mut self.cursors, &Ends::Touched);
             return;
         }
         self.take_back();
@@ -286,6 +293,6 @@ impl<D: Disk> Engine<D> {
         ensures rested { are_untouched (world self.old).cursors ≡ true
             → are_untouched (world self.new).cursors ≡ true }
     {
-        self.cursors.forget(connection);
+        end_all(&mut self.file, &mut self.cursors, &Ends::Of(connection));
     }
 }

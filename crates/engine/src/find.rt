@@ -7,6 +7,7 @@ ghost use Rattle.engine.specs.Durable.{has_changes, IsSound};
 ghost use Rattle.database_model.specs.Find.{window, given, run_find, Suffices};
 ghost use Rattle.database_model.specs.Lawful.{IsWithin};
 ghost use Rattle.engine.specs.Performing.{Performs};
+ghost use Rattle.pinned_cursors.specs.Turns.{Releases};
 ghost use Rattle.replies.specs.View.{projected, IsSendable, Runs};
 ghost use Rattle.engine.specs.View.{world};
 
@@ -47,7 +48,7 @@ fn window(
 }
 
 /// So many of the documents that match, in their order, are enough: all, or none past the limit.
-fn enough(query: &Query) -> usize
+pub(crate) fn enough(query: &Query) -> usize
     ensures { Suffices query.now result }
 {
     if query.limit == 0 {
@@ -75,12 +76,37 @@ impl<D: Disk> Engine<D> {
         ensures has_changes { has_changes self.new ≡ has_changes self.old }
         ensures sendable { IfOk result (λ d. IsSendable d) }
     {
+        if query.sort.is_empty() && !self.file.is_changed() {
+            return self.find_walking(connection, namespace, query, most);
+        }
+        self.find_all(connection, namespace, query, most)
+    }
+
+    /// The same of a query that asks for another order, or behind a change of the turn: all documents that are asked for are
+    /// read, and a cursor keeps those that are left.
+    fn find_all(
+        &mut self,
+        connection: ConnId,
+        namespace: &str,
+        query: &Query,
+        most: usize,
+    ) -> Result<SpelledDocument, Refusal>
+        requires short { length namespace.now ≤ 255 }
+        requires sound { IsSound D.history self.old }
+        ensures performs { Performs D.history
+            (run_find (world self.old) connection
+            (record { namespace = namespace.now; query = query.now; batch_size = Some most }))
+            result self.old self.new }
+        ensures has_changes { has_changes self.new ≡ has_changes self.old }
+        ensures sendable { IfOk result (λ d. IsSendable d) }
+    {
         let found = self.found(namespace, query, enough(query))?;
         self.give_found(connection, namespace, query, found, most)
     }
 
     /// Gives a first batch of the documents that were found, as far as they are asked for, and opens a cursor on the others.
-    fn give_found(
+    #[tactic(auto, using(crate::proofs::KeepingPins::pins_as_before))]
+    pub(crate) fn give_found(
         &mut self,
         connection: ConnId,
         namespace: &str,
@@ -90,7 +116,8 @@ impl<D: Disk> Engine<D> {
     ) -> Result<SpelledDocument, Refusal>
         requires short { length namespace.now ≤ 255 }
         requires within { All IsWithin found.items }
-        ensures file { self.new.file ≡ self.old.file }
+        ensures file { Releases D.history self.old.file self.new.file self.old.cursors
+            self.new.cursors }
         ensures told { self.new.told ≡ self.old.told }
         ensures has_changes { self.new.is_changed ≡ self.old.is_changed }
         ensures runs { Runs (world self.old)
@@ -104,6 +131,7 @@ impl<D: Disk> Engine<D> {
     }
 
     /// Gives a first batch of documents of which a projection is given, and opens a cursor on the others.
+    #[tactic(auto, using(crate::proofs::KeepingPins::pins_as_before))]
     fn give_asked(
         &mut self,
         connection: ConnId,
@@ -114,7 +142,8 @@ impl<D: Disk> Engine<D> {
     ) -> Result<SpelledDocument, Refusal>
         requires short { length namespace.now ≤ 255 }
         requires within { All IsWithin (projected projection.now documents.items) }
-        ensures file { self.new.file ≡ self.old.file }
+        ensures file { Releases D.history self.old.file self.new.file self.old.cursors
+            self.new.cursors }
         ensures told { self.new.told ≡ self.old.told }
         ensures has_changes { self.new.is_changed ≡ self.old.is_changed }
         ensures runs { let ds = projected projection.now documents.items in
@@ -131,7 +160,8 @@ impl<D: Disk> Engine<D> {
         }
         let rest = behind(documents, count)?;
         let projection = projection.copy()?;
-        self.cursors.open(connection, namespace, rest, projection)?;
+        self.cursors
+            .open_kept(connection, namespace, rest, projection)?;
         Ok(reply)
     }
 }

@@ -2,13 +2,16 @@
 
 ghost use Rattle.std.specs.Prelude.{◌≡◌, ◌≤◌, IfOk, length};
 ghost use Rattle.database_model.specs.GetMore.{run_get_more};
-ghost use Rattle.replies.specs.View.{IsSendable, Runs};
+ghost use Rattle.engine.specs.Durable.{has_changes, IsSound};
+ghost use Rattle.engine.specs.Performing.{Performs};
+ghost use Rattle.replies.specs.View.{IsSendable};
 ghost use Rattle.engine.specs.View.{world};
 
 use crate::engine::Engine;
 use bson::SpelledDocument;
 use page::Disk;
 use path::Refusal;
+use pinned_cursors::give_next;
 use replies::ConnId;
 
 impl<D: Disk> Engine<D> {
@@ -20,21 +23,19 @@ impl<D: Disk> Engine<D> {
         id: &i64,
         most: Option<usize>,
     ) -> Result<SpelledDocument, Refusal>
-        requires { length namespace.now ≤ 255 }
-        ensures file { self.new.file ≡ self.old.file }
-        ensures runs { Runs (world self.old)
+        requires short { length namespace.now ≤ 255 }
+        requires sound { IsSound D.history self.old }
+        ensures performs { Performs D.history
             (run_get_more (world self.old) connection
             (record { id = id.now; namespace = namespace.now; batch_size = most }))
-            (world self.new) result }
-        ensures told { self.new.told ≡ self.old.told }
-        ensures has_changes { self.new.is_changed ≡ self.old.is_changed }
+            result self.old self.new }
+        ensures has_changes { has_changes self.new ≡ has_changes self.old }
         ensures sendable { IfOk result (λ d. IsSendable d) }
     {
         let Some(at) = self.cursors.place_of(connection, namespace, id) else {
             return Err(Refusal::CursorNotFound);
         };
-        let (reply, count) = self.cursors.batch(at, namespace, most)?;
-        self.cursors.advance(at, count);
-        Ok(reply)
+        let cursors = &mut self.cursors;
+        give_next(self.alloc, &mut self.file, cursors, at, namespace, most)
     }
 }

@@ -5,15 +5,19 @@ ghost use Rattle.std.specs.List.{list_any};
 ghost use Rattle.std.specs.Ordering.{int_eq};
 ghost use Rattle.bson.specs.Tree.{scalar, int64, item, no_items, append_items};
 ghost use Rattle.database_model.specs.KillCursors.{no_ids, with_id, told_apart, has_cursor, id_items, kill_reply, run_kill_cursors};
+ghost use Rattle.cursors.specs.Held.{cursors_of};
 ghost use Rattle.database_model.specs.Refusals.{ok_reply};
+ghost use Rattle.pinned_cursors.specs.Turns.{Releases};
 ghost use Rattle.replies.specs.View.{IsSendable, Runs};
 ghost use Rattle.engine.specs.View.{world};
 
 use crate::engine::Engine;
 use bson::{Array, Document, NoMemory, Value};
+use cursors::{Cursors, Ends};
 use page::Disk;
 use path::Refusal;
-use replies::{ConnId, Cursors, add, done, put};
+use pinned_cursors::end_all;
+use replies::{ConnId, add, done, put};
 use std::alloc::Global;
 use std::marker::Model;
 
@@ -69,8 +73,8 @@ fn tell_apart(
     namespace: &str,
     ids: &[i64],
 ) -> Result<ToldApart, NoMemory>
-    ensures { IfOk result (λ t. t
-        ≡ told_apart (has_cursor connection namespace.now cursors.now.list) no_ids ids.now) }
+    ensures { IfOk result (λ t. t ≡ told_apart
+        (has_cursor connection namespace.now (cursors_of cursors.now)) no_ids ids.now) }
 {
     let mut told = ToldApart::new(alloc);
     'ids: for id in ids {
@@ -119,6 +123,7 @@ fn kill_reply(alloc: Global, told: &ToldApart) -> Result<Document, NoMemory>
 
 impl<D: Disk> Engine<D> {
     /// Ends the cursors of a connection and a namespace that have one of these ids.
+    #[tactic(auto, using(crate::proofs::KeepingPins::pins_as_before))]
     pub(crate) fn kill_cursors(
         &mut self,
         connection: ConnId,
@@ -126,7 +131,8 @@ impl<D: Disk> Engine<D> {
         ids: &[i64],
     ) -> Result<Document, Refusal>
         requires { length ids.now ≤ 1000 }
-        ensures file { self.new.file ≡ self.old.file }
+        ensures file { Releases D.history self.old.file self.new.file self.old.cursors
+            self.new.cursors }
         ensures runs { Runs (world self.old)
             (run_kill_cursors (world self.old) connection
             (record { namespace = namespace.now; cursors = ids.now }))
@@ -137,7 +143,8 @@ impl<D: Disk> Engine<D> {
     {
         let told = tell_apart(self.alloc, &self.cursors, connection, namespace, ids)?;
         let reply = kill_reply(self.alloc, &told)?;
-        self.cursors.kill(connection, namespace, ids);
+        let asked = Ends::Asked(connection, namespace, ids);
+        end_all(&mut self.file, &mut self.cursors, &asked);
         Ok(reply)
     }
 }

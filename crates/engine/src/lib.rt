@@ -29,6 +29,7 @@ mod refusal;
 mod removing;
 mod unindexing;
 mod updates;
+mod walking;
 mod writing;
 
 pub use check_fault::CheckFault;

@@ -1,25 +1,32 @@
 //! What commands look up in the file.
 
-ghost use Rattle.std.specs.Prelude.{◌≡◌, All, IfOk, IfSome, take};
+ghost use Rattle.std.specs.Prelude.{◌≡◌, ◌<◌, ◌≤◌, ◌^◌, All, IfOk, IfSome, length, take};
 ghost use Rattle.std.specs.List.{filter};
 ghost use Rattle.std.specs.Option.{option_map};
 ghost use Rattle.collections.specs.Reading.{IsWithinLimits, catalogued_in, catalogued_of};
 ghost use Rattle.filter.specs.Sort.{order};
 ghost use Rattle.index.specs.State.{find_collection};
-ghost use Rattle.engine.specs.Durable.{IsSound};
+ghost use Rattle.collections.specs.View.{is_changed};
+ghost use Rattle.engine.specs.Durable.{IsSound, file_of};
 ghost use Rattle.database_model.specs.Find.{matching};
 ghost use Rattle.database_model.specs.Lawful.{IsWithin};
 ghost use Rattle.engine.specs.Looking.{Looks, LooksOf};
 ghost use Rattle.engine.specs.TakingOut.{IsHome};
+ghost use Rattle.engine.specs.Walking.{AreFirst};
+ghost use Rattle.queries.specs.Batches.{IsGivenBatch};
+ghost use Rattle.replies.specs.View.{IsSendable};
 ghost use Rattle.database_model.specs.World.{documents_of};
 
 use crate::engine::Engine;
 use bson::SpelledDocument;
 use commands::Query;
+use filter::Filter;
 use index::Catalogued;
 use page::Disk;
 use path::Refusal;
-use queries::{Selects, ordered_in, selected_in};
+use queries::{
+    BatchAsked, GivenBatch, Selects, Walk, batch_of_turn, looked_up_in, ordered_in, selected_in,
+};
 use replies::SharedDocument;
 
 impl<D: Disk> Engine<D> {
@@ -30,6 +37,7 @@ impl<D: Disk> Engine<D> {
             ≡ option_map catalogued_in (find_collection now namespace.now))
             result self.old self.new }
         ensures limits { IfOk result (λ found. IfSome found IsWithinLimits) }
+        ensures unchanged { is_changed (file_of self.new) ≡ is_changed (file_of self.old) }
     {
         self.file.catalogued(namespace)
     }
@@ -102,5 +110,42 @@ impl<D: Disk> Engine<D> {
             return Ok(Vec::new(self.alloc));
         };
         self.ordered(&home, query, most)
+    }
+
+    /// The first documents that match a filter, in ascending order of `_id`, up to so many. `None`: only a walk through the
+    /// collection tells them.
+    pub(crate) fn looked_up(
+        &mut self,
+        home: &Catalogued,
+        filter: &Filter,
+        most: usize,
+    ) -> Result<Option<Vec<SpelledDocument>>, Refusal>
+        requires { IsSound D.history self.old }
+        ensures looks { LooksOf D.history (λ now c. IsHome now c home.now)
+            (λ now c found. AreFirst most filter.now c.documents found)
+            result self.old self.new }
+        ensures within { IfOk result (λ found. IfSome found (λ v. All IsWithin v.items)) }
+        ensures unchanged { is_changed (file_of self.new) ≡ is_changed (file_of self.old) }
+    {
+        looked_up_in(self.alloc, &mut self.file, home, filter, most)
+    }
+
+    /// A batch of what a walk gives of the documents of a collection.
+    pub(crate) fn walked(
+        &mut self,
+        home: &Catalogued,
+        walk: &Walk<'_>,
+        asked: &BatchAsked<'_>,
+    ) -> Result<GivenBatch, Refusal>
+        requires short { length asked.now.namespace.now ≤ 255 }
+        requires number { asked.now.number < 2 ^ 63 }
+        requires sound { IsSound D.history self.old }
+        ensures looks { LooksOf D.history (λ now c. IsHome now c home.now)
+            (λ now c b. IsGivenBatch walk.now asked.now c.documents b)
+            result self.old self.new }
+        ensures sendable { IfOk result (λ b. IsSendable b.reply) }
+        ensures unchanged { is_changed (file_of self.new) ≡ is_changed (file_of self.old) }
+    {
+        batch_of_turn(self.alloc, &mut self.file, home, walk, asked)
     }
 }

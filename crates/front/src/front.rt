@@ -20,6 +20,7 @@ use page::Disk;
 use server::{Core, TurnFault, TurnOut};
 use sockets::{NotTaken, Outlet, Service, Stopped};
 use std::alloc::Global;
+use std::mem;
 use std::rt::Clock;
 
 /// How many sockets there are.
@@ -29,8 +30,10 @@ const MOST_ENDS: u8 = 16;
 /// The most bytes of a document.
 const MOST_DOCUMENT_BYTES: i32 = 65_535;
 
-/// How many object ids a message may need: one for each of its statements.
-const MOST_IDS: u64 = 1_000;
+/// How many object ids a message may need: one for each of its statements, which have 5 bytes at least of its 1,048,576.
+const MOST_IDS: u64 = 262_144;
+/// How many object ids go by in a millisecond, so that a server that is started again begins behind those that it gave.
+const IDS_A_MILLISECOND: u64 = 4_194_304;
 
 /// A server with up to 1,024 sockets of drivers before its 64 connections.
 #[derive(Drop)]
@@ -306,7 +309,7 @@ impl<C: Clock + Drop, D: Disk + Drop> Service for Front<C, D> {
         self.lending.end(connection);
         let alloc = self.core.allocator();
         if connection < self.sockets.len() {
-            self.sockets[connection] = Socket::new(alloc);
+            drop(mem::replace(&mut self.sockets[connection], Socket::new(alloc)));
         }
     }
 }
@@ -324,13 +327,12 @@ fn grow(alloc: Global, sockets: &mut Vec<Socket>, number: usize) -> Result<(), N
     Ok(())
 }
 
-/// Where object ids begin: at the nanoseconds since 1970. More of them go by than messages take ids, so a server that is started again
-/// begins behind those that it gave.
+/// Where object ids begin: where 16 messages a millisecond since 1970 would lead.
 fn first_id<C: Clock>(clock: &C) -> u64 {
     match clock.since_1970() {
         Ok(time) => u64::try_from(time.as_millis())
             .unwrap_or(0)
-            .wrapping_mul(1_000_000),
+            .wrapping_mul(IDS_A_MILLISECOND),
         Err(_) => 0,
     }
 }

@@ -1,6 +1,6 @@
 //! A socket of a driver.
 
-ghost use Rattle.std.specs.Prelude.{◌≡◌, true, false, None, is_some, IfSome, OnOk, OnErr};
+ghost use Rattle.std.specs.Prelude.{◌≡◌, true, false, None, Some, is_some, IfSome, OnOk, OnErr};
 ghost use Rattle.drivers.specs.Framing.{IsShort};
 ghost use Rattle.front.specs.Serving.{fresh, fed, waits};
 ghost use Rattle.front.specs.Tying.{is_asked};
@@ -13,6 +13,7 @@ use bson::{Document, MESSAGE_LIMIT, NoMemory};
 use drivers::{Form, Incoming, Message, Plan, ServerInfo, Step, StreamFault, framed};
 use engine::{Refusal, refusal_document};
 use std::alloc::Global;
+use std::mem;
 
 /// The most bytes of an answer's document.
 const MOST_BYTES: usize = MESSAGE_LIMIT - 36;
@@ -90,6 +91,13 @@ impl Socket {
         }
     }
 
+    /// Keeps a message that is worked on.
+    fn work_on(&mut self, job: Job)
+        ensures { self.new ≡ record self.old { job = Some job } }
+    {
+        drop(mem::replace(&mut self.job, Some(job)));
+    }
+
     /// Does what comes next with a message: the database is asked, or an answer is ready, or there is none.
     fn follow(&mut self, alloc: Global, form: Form, number: u32, plan: Plan, step: Step)
         requires { self.old.job ≡ None }
@@ -105,9 +113,12 @@ impl Socket {
                 cursor: Some(id),
                 command,
             },
-            other => return self.finish(alloc, form, number, other),
+            other => {
+                drop(plan);
+                return self.finish(alloc, form, number, other);
+            }
         };
-        self.job = Some(Job {
+        self.work_on(Job {
             form,
             number,
             plan,
@@ -158,11 +169,15 @@ impl Socket {
             form,
             number,
             mut plan,
-            stage: _,
+            stage,
         } = job;
+        drop(stage);
         match plan.answer(alloc, reply) {
             Ok(step) => self.follow(alloc, form, number, plan, step),
-            Err(_) => self.is_over = true,
+            Err(_) => {
+                drop(plan);
+                self.is_over = true;
+            }
         }
     }
 
@@ -181,7 +196,9 @@ impl Socket {
         ensures { self.new.job ≡ self.old.job }
     {
         let reply_no = next_number(self.last_reply);
-        match frame(alloc, form, reply_no, number, step) {
+        let made = frame(alloc, form, reply_no, number, &step);
+        drop(step);
+        match made {
             Ok(Some(frame)) => {
                 self.last_reply = reply_no;
                 self.answer = Some(frame);
@@ -214,14 +231,17 @@ fn frame(
     form: Form,
     reply_no: u32,
     number: u32,
-    step: Step,
+    step: &Step,
 ) -> Result<Option<Vec<u8>>, NoMemory> {
-    if is_short(&step) {
-        return framed(alloc, form, reply_no, number, &step);
+    if is_short(step) {
+        return framed(alloc, form, reply_no, number, step);
     }
     let refusal = Step::Reply(refusal_document(alloc, Refusal::BSONObjectTooLarge)?);
-    if is_short(&refusal) {
-        return framed(alloc, form, reply_no, number, &refusal);
-    }
-    Ok(None)
+    let made = if is_short(&refusal) {
+        framed(alloc, form, reply_no, number, &refusal)
+    } else {
+        Ok(None)
+    };
+    drop(refusal);
+    made
 }

@@ -1,7 +1,5 @@
--- What puts and removals of collections make of a state, and those of documents of one without
--- indexes.
+-- What puts and removals of documents make of a list of them, and those of collections of a state.
 use Rattle.std.specs.Prelude.{◌≡◌, ℕ, ◌<◌, false, if◌then◌else◌, List, [], ◌∷◌, length, Some, None}
-use Rattle.std.specs.Prelude.{All}
 use Rattle.std.specs.Ordering.{is_eq}
 use Rattle.bson.specs.Tree.{Tree, Pairs}
 use Rattle.value_order.specs.Order.{compare}
@@ -31,19 +29,6 @@ abbrev pub with_documents : Collection → List Pairs → List Collection → Li
 with_documents c ds cs = put_collection (record c { documents = ds }) cs
 
 -- ---- states
-
--- a lawful state in which no collection has an index beside that on `_id`
-pub record IsUnindexed (cs : List Collection) : Type 0 where
-  pub lawful : IsLawfulState cs
-  pub plain : All (λ c. c.indexes ≡ []) cs
-
--- Wherever the old edits lead to such a state with a collection of this number, the new ones lead
--- to such a state with other documents in it.
-abbrev pub ChangesDocuments : List Edit → List Edit → ℕ → (List Pairs → List Pairs) → Type 0
-ChangesDocuments old new number f =
-    (a b : List Collection) (c : Collection) → Leads old a b → IsUnindexed b
-    → find_collection b c.name ≡ Some c → c.number ≡ number
-    → let after = with_documents c (f c.documents) b in Leads new a after × IsUnindexed after
 
 -- Wherever the old edits lead to a lawful state, the new ones lead to one with an empty collection
 -- more, where its name and its number are new and there is room.

@@ -1,12 +1,9 @@
 //! Edits that put and remove documents and collections.
 
 ghost use Rattle.std.specs.Prelude.{◌≡◌, ◌≤◌, OnErr, OnOk, length};
-ghost use Rattle.bson.specs.Tree.{Tree};
 ghost use Rattle.value_order.specs.KeyText.{tree_text};
-ghost use Rattle.value_order.specs.Laws.{IsKey};
-ghost use Rattle.value_order.specs.Order.{value};
 ghost use Rattle.btree.specs.Change.{removal};
-ghost use Rattle.index.specs.Documents.{AddsCollection, ChangesDocuments, RemovesCollection, put_document, without_document};
+ghost use Rattle.index.specs.Documents.{AddsCollection, RemovesCollection};
 ghost use Rattle.index.specs.EditList.{with_edit};
 ghost use Rattle.index.specs.LawfulState.{IsStorable};
 ghost use Rattle.index.specs.State.{empty_collection, key_of, words};
@@ -20,7 +17,7 @@ use bson::{Document, NoMemory};
 impl Edits {
     /// Puts a document into the collection of a number, by the ascending text of its `_id`, in place of the one that it
     /// has of that `_id`.
-    pub fn put_document(
+    pub(crate) fn put_document(
         &mut self,
         number: u32,
         id: &[u8],
@@ -31,8 +28,6 @@ impl Edits {
         ensures ok { OnOk result (self.new
             ≡ with_edit (put_of (document_entry number document.now)) self.old) }
         ensures err { OnErr result (self.new ≡ self.old) }
-        ensures leads { OnOk result
-            (ChangesDocuments self.old self.new number (put_document document.now)) }
     {
         let alloc = self.allocator();
         let key = document_key(alloc, number, id)?;
@@ -41,13 +36,11 @@ impl Edits {
     }
 
     /// Removes the document of an `_id` from the collection of a number, by the ascending text of the `_id`.
-    pub fn remove_document(&mut self, number: u32, id: &[u8]) -> Result<(), NoMemory>
+    pub(crate) fn remove_document(&mut self, number: u32, id: &[u8]) -> Result<(), NoMemory>
         requires short { length id.now ≤ 500 }
         ensures ok { OnOk result (self.new
             ≡ with_edit (removal (key_under number 0 id.now)) self.old) }
         ensures err { OnErr result (self.new ≡ self.old) }
-        ensures leads { OnOk result ((t : Tree) → IsKey (value t) → id.now ≡ tree_text t
-            → ChangesDocuments self.old self.new number (without_document t)) }
     {
         let key = document_key(self.allocator(), number, id)?;
         self.note(key, None)

@@ -48,6 +48,7 @@ module _ {D : Type 0} (history : D → History) (disk : D) (c : State D) (opened
     lawful = loaded_lawful held (record { lawful = (stored_is_lawful image).0; stored = stored });
     idle = refl;
     running = opened.running;
+    pins = opened.pins;
     on = opened.on;
     trusted = λ cs h.
         ((some_tested image).1 (cs, h.file, held_stored image cs h), gives_stored image cs h.file (held_stored image cs h));

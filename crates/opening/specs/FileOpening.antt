@@ -1,5 +1,5 @@
 -- What opening a file gives.
-use Rattle.std.specs.Prelude.{◌≡◌, ◌≢◌, ℕ, false, true, List, ◌++◌, map, Option, Some, Result}
+use Rattle.std.specs.Prelude.{◌≡◌, ◌≢◌, ℕ, false, true, List, [], ◌++◌, map, Option, Some, Result}
 use Rattle.std.specs.Prelude.{IfErr, IfOk, MatchResult}
 use Rattle.std.specs.Global.{Vec}
 use Rattle.std.specs.Option.{option_map}
@@ -14,6 +14,7 @@ use Rattle.collections.specs.Entries.{HasEntries, entries_from}
 use Rattle.collections.specs.State.{State}
 use Rattle.collections.specs.Standing.{HasState}
 use Rattle.collections.specs.Trusting.{inner_history, is_trusted}
+use Rattle.collections.specs.Versions.{pins_of}
 use Rattle.collections.specs.View.{disk_history, is_stopped}
 use Rattle.trusted_disk.specs.Trusting.{trusted_history}
 use Rattle.trusted_disk.specs.declared.disk.TrustedDisk.{TrustedDisk}
@@ -92,6 +93,7 @@ pub record IsFileOpened {D : Type 0} (history : D → History) (disk : D)
   pub lawful : IsLawfulState known.now
   pub idle : known.start ≡ known.now
   pub running : is_stopped kept ≡ false
+  pub pins : pins_of kept ≡ []
   pub on : GoesOn (history disk) (inner_history history kept)
   pub trusted : (cs : List Collection) → Holds (reads (now (history disk))) cs
       → (is_trusted kept ≡ true) × (known.now ≡ cs)

@@ -9,7 +9,7 @@ use Rattle.path.specs.declared.refusal.Refusal.{Refusal}
 use Rattle.path.specs.declared.refusal.Refusal.TheVariants as refusals
 use Rattle.index.specs.LawfulState.{IsLawfulState}
 use Rattle.index.specs.State.{Collection}
-use Rattle.collections.specs.Calls.{GoesFrom, HasCause, HasWriteCause, IsOfFile}
+use Rattle.collections.specs.Calls.{GoesFrom, HasCause, IsOfFile}
 use Rattle.collections.specs.Reading.{ReadsOf}
 use Rattle.collections.specs.Standing.{IsTurnOf}
 use Rattle.collections.specs.State.{State}
@@ -52,10 +52,6 @@ module _ {D : Type 0} (history : D → History) (a b c d : State D) (early : Goe
   widen e (inr (inl (is, inl stopped))) = inr (inl (is, inl (sym (stopped_same history a.pager b.pager early.stays) ∙ stopped)))
   widen e (inr (inl (is, inr failed))) = inr (inl (is, inr (omega (arith, first.failures, failed, third.failures))))
   widen e (inr (inr (is, none))) = inr (inr (is, no_page_wider none))
-
-  pub widen_write : (after : List Collection) (e : Refusal) → HasWriteCause history after b c e → HasWriteCause history after a d e
-  widen_write after e (inl cause) = inl (widen e cause)
-  widen_write after e (inr large) = inr large
 
 -- only what came before is added, or only what came after
 module _ {D : Type 0} (history : D → History) (a b c : State D) (early : GoesFrom history a b) (late : GoesFrom history b c)

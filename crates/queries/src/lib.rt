@@ -20,7 +20,7 @@ mod within;
 pub use batches::{BatchAsked, GivenBatch, Walk, batch_of_turn, batch_of_version};
 pub use by_id::{put_id, put_ids};
 pub use counting::count_in;
-pub use looking_up::selected_in;
+pub use looking_up::{looked_up_in, selected_in};
 pub use needed::needed_in;
 pub use ordering::ordered_in;
 pub use scanning::BATCH;

@@ -133,9 +133,32 @@ pub(crate) fn asked_ids<D: Disk, S: Selects>(
     }
 }
 
-/// The documents of a collection in a file that are looked for, in ascending order of `_id`: the first ones, up to so many. Where all
-/// of them are looked for by their `_id`s, or an index serves the filter that asks for them, they are looked up; else the collection is
-/// walked through.
+/// The documents of a collection in a file that are looked for, in ascending order of `_id`: the first ones, up to so many. They are
+/// looked up, where they are looked for by their `_id`s, or an index serves the filter that asks for them. `None`: only a walk through
+/// the collection tells them.
+pub fn looked_up_in<D: Disk, S: Selects>(
+    alloc: Global,
+    file: &mut Collections<D>,
+    home: &Catalogued,
+    which: &S,
+    most: usize,
+) -> Result<Option<Vec<SpelledDocument>>, Refusal>
+    ensures reads { ReadsOf D.history (IsAsked home.now)
+        (λ now c found. IfSome found
+        (λ v. v.items ≡ take most (filter (S.selects which.now) c.documents)))
+        result file.old file.new }
+    ensures within { IfOk result (λ found. IfSome found (λ v. All IsWithin v.items)) }
+{
+    match asked_ids(alloc, file, home, which)? {
+        Some(ids) => {
+            let found = selected_by_ids(alloc, file, home.number, which, &ids, most)?;
+            Ok(Some(found))
+        }
+        None => Ok(None),
+    }
+}
+
+/// The same, by a walk where only that tells them.
 pub(crate) fn spelled_in<D: Disk, S: Selects>(
     alloc: Global,
     file: &mut Collections<D>,
@@ -148,8 +171,8 @@ pub(crate) fn spelled_in<D: Disk, S: Selects>(
         result file.old file.new }
     ensures within { IfOk result (λ found. All IsWithin found.items) }
 {
-    match asked_ids(alloc, file, home, which)? {
-        Some(ids) => selected_by_ids(alloc, file, home.number, which, &ids, most),
+    match looked_up_in(alloc, file, home, which, most)? {
+        Some(found) => Ok(found),
         None => scanned(alloc, file, home, which, most),
     }
 }

@@ -4,5 +4,4 @@ pub mod CursorSpelling
 pub mod BatchEnding
 pub mod SpelledSizes
 pub mod Replying
-pub mod CursorSteps
 pub mod WholeLemmas

@@ -1,10 +1,9 @@
-//! What commands are answered: documents, batches of them, and the open cursors that give what is left.
+//! What commands are answered: documents, and batches of them.
 #![tactic(auto)]
 
 mod batch;
 mod batch_spelling;
 mod connection;
-mod cursors;
 mod giving;
 mod open_batch;
 mod reply;
@@ -12,7 +11,6 @@ mod shared_document;
 
 pub use batch_spelling::{BatchKind, batch_reply, whole_reply};
 pub use connection::{CONNECTIONS, ConnId};
-pub use cursors::Cursors;
 pub use giving::{Gives, spelled_all};
 pub use open_batch::OpenBatch;
 pub use reply::{
@@ -28,5 +26,3 @@ pub const BATCH_LIMIT: usize = 900_000;
 pub const REPLY_LIMIT: usize = 1_048_555;
 /// The documents of a first batch where the command names no number.
 pub const FIRST_BATCH: usize = 101;
-/// The most cursors of one connection.
-pub const MOST_CURSORS: usize = 16;

@@ -10,6 +10,8 @@ use Rattle.page.specs.History.{History, KeepsWord}
 use Rattle.page.specs.Crash.{GoesOn}
 use Rattle.roots.specs.declared.store.CommitFault.{CommitFault}
 use Rattle.collections.specs.Calls.{HasWriteCause, IsTooLarge}
+use Rattle.collections.specs.State.{State}
+use Rattle.collections.specs.View as views
 use Rattle.database_model.specs.World.{World, after_commit}
 use Rattle.database_model.specs.Step.{step, Answers}
 use Rattle.engine.specs.Committing as engines
@@ -224,13 +226,17 @@ commits_changes history old mid new true moved sound goes start done version =
 commits_changes history old mid new false rests sound goes start done version =
     inl (ap (λ (w : World). w.collections) done ∙ sym (sound.quiet rests) ∙ start)
 
+-- the same file is on the same disk
+disk_same : {D : Type 0} (history : D → History) (mid new : Engine D) → file_of new ≡ file_of mid → disk_history history new ≡ disk_history history mid
+disk_same {D} history mid new = ap (λ (file : State D). views.disk_history history file)
+
 -- a turn that changed nothing ends without a commit
 pub quiet_commit : {D : Type 0} (history : D → History) (mid new : Engine D) (result : Result (Unit {0}) CommitFault) → has_changes mid ≡ false
     → Commits history result mid new → Continues history mid new
 quiet_commit history mid new result rests commits =
     let quiet = commits.quiet rests in
     let done = subst (λ (r : Result (Unit {0}) CommitFault). Commits history r mid new) quiet.0 commits in
-    continues_still history mid new quiet.1 (done.running (λ e. absurd cc))
+    continues_still history mid new (disk_same history mid new quiet.1) (done.running (λ e. absurd cc))
     (done.version ∙ ap (λ (b : Bool). if b then generation mid + 1 else generation mid) rests) (done.found (λ e. absurd cc))
 
 -- a turn that took no message ends without a call of the disk
@@ -238,7 +244,7 @@ pub idle_commit : {D : Type 0} (history : D → History) (old mid new : Engine D
     → Commits history result mid new
     → disk_history history new ≡ disk_history history old
 idle_commit history old mid new result rests same commits =
-    (commits.quiet (ap has_changes same ∙ rests)).1 ∙ ap (disk_history history) same
+    disk_same history mid new (commits.quiet (ap has_changes same ∙ rests)).1 ∙ ap (disk_history history) same
 
 -- the messages of a turn, by the causes of the whole turn
 module _ {D : Type 0} (history : D → History) (old mid new : Engine D) (goes : Continues history old mid)

@@ -19,5 +19,6 @@ returns c = record {
   explain_hint = λ info. refl;
   distinct = λ info. refl;
   no_path = λ info. refl;
+  insert = λ info. refl;
   get_more = λ info. refl;
 }

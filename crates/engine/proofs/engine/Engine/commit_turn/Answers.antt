@@ -1,17 +1,21 @@
-use Rattle.std.proofs.Common.{Ok, Err, arith, refl, sym, subst, ap, ◌∙◌}
+use Rattle.std.proofs.Common.{◌≡◌, true, false, Ok, Err, arith, refl, sym, subst, ap, ◌∙◌}
 use Rattle.std.specs.Prelude.{Result}
 use Rattle.roots.specs.declared.store.CommitFault.{CommitFault}
 use Rattle.roots.specs.declared.store.CommitFault.TheVariants as faults
 use Rattle.collections.specs.Committing as files
 use Rattle.collections.specs.Marks.{Undoes}
 use Rattle.collections.specs.State.{State}
-use Rattle.engine.proofs.Ending.{kept_as_it_is, undone_after, committed_now, cut_now, room_cause, state_since, untouched_since}
+use Rattle.collections.specs.Versions.{CommitsVersions}
+use Rattle.pinned_cursors.specs.Tied.{AreTied}
+use Rattle.engine.proofs.Ending.{kept_as_it_is, undone_after, committed_now, cut_now, ran_before, room_cause, state_since, tied_at_rest, tied_through}
+use Rattle.engine.proofs.Ending.{untouched_since}
 use Rattle.engine.proofs.engine.Engine.commit_turn.Goals as goal
 
 pub returns-then-not-self : goal.returns-then-not-self
 returns-then-not-self g c =
     let rests = c.if-not-self.true in
-    kept_as_it_is g.D.Disk.history c.args.self.now c.args.self.now c.requires.sound c.commit.new.self c.commit.ensures (c.requires.sound.quiet rests) rests
+    kept_as_it_is g.D.Disk.history c.args.self.now c.args.self.now c.requires.sound c.commit.new.self c.commit.ensures.walks
+    c.commit.ensures.table (c.requires.sound.quiet rests) rests
 
 pub returns-in-Ok : goal.returns-in-Ok
 returns-in-Ok g c =
@@ -20,7 +24,14 @@ returns-in-Ok g c =
     let D = g.row.D.Denot in
     let saved = subst (λ (f : State D). files.Commits g.D.Disk.history (Ok tt) old.file f) (sym c.keep.ensures.file)
     (subst (λ (r : Result (Unit {0}) CommitFault). files.Commits g.D.Disk.history r old.file c.commit-2.new.self) c.in-Ok.is c.commit-2.ensures.commits) in
-    committed_now g.D.Disk.history old new c.requires.sound c.if-not-self.false c.keep.ensures.rests c.keep.ensures.world c.keep.ensures.turn_start saved
+    let versions = subst (λ (r : Result (Unit {0}) CommitFault). CommitsVersions g.D.Disk.history r old.file c.commit-2.new.self) c.in-Ok.is
+    c.commit-2.ensures.versions in
+    let made = subst (λ (r : Result (Unit {0}) CommitFault). files.Commits g.D.Disk.history r old.file c.commit-2.new.self) c.in-Ok.is
+    c.commit-2.ensures.commits in
+    let tied = tied_through g.D.Disk.history old new c.requires.sound (Ok tt) c.commit-2.new.self made versions c.commit-2.ensures.pins
+    (λ running. made.running.0) in
+    committed_now g.D.Disk.history old new c.requires.sound c.if-not-self.false c.keep.ensures.rests c.keep.ensures.world c.keep.ensures.turn_start
+    (tied_at_rest g.D.Disk.history old new c.requires.sound c.commit-2.new.self tied c.keep.ensures.file c.keep.ensures.cursors) saved
 
 pub returns-in-Err-Device : goal.returns-in-Err-Device
 returns-in-Err-Device g c =
@@ -30,8 +41,17 @@ returns-in-Err-Device g c =
     let saved = subst (λ (f : State D). files.Commits g.D.Disk.history (Err faults.Device) old.file f) (sym c.keep-in-Err-Device.ensures.file)
     (subst (λ (r : Result (Unit {0}) CommitFault). files.Commits g.D.Disk.history r old.file c.commit-2.new.self)
     (c.in-Err-Device.is ∙ ap (λ (e : CommitFault). Err e) c.in-Err-Device.field-0-is) c.commit-2.ensures.commits) in
+    let result = c.in-Err-Device.is ∙ ap (λ (e : CommitFault). Err e) c.in-Err-Device.field-0-is in
+    let versions = subst (λ (r : Result (Unit {0}) CommitFault). CommitsVersions g.D.Disk.history r old.file c.commit-2.new.self) result
+    c.commit-2.ensures.versions in
+    let made = subst (λ (r : Result (Unit {0}) CommitFault). files.Commits g.D.Disk.history r old.file c.commit-2.new.self) result
+    c.commit-2.ensures.commits in
+    let tied = tied_through g.D.Disk.history old new c.requires.sound (Err faults.Device) c.commit-2.new.self made versions c.commit-2.ensures.pins
+    (λ running. let no : false ≡ true = sym running ∙ made.stops refl in cc) in
     cut_now g.D.Disk.history old new c.requires.sound c.if-not-self.false c.keep-in-Err-Device.ensures.rests c.keep-in-Err-Device.ensures.world
-    c.keep-in-Err-Device.ensures.turn_start saved
+    c.keep-in-Err-Device.ensures.turn_start
+    (tied_at_rest g.D.Disk.history old new c.requires.sound c.commit-2.new.self tied c.keep-in-Err-Device.ensures.file
+    c.keep-in-Err-Device.ensures.cursors) saved
 
 pub returns-in-Err-Memory : goal.returns-in-Err-Memory
 returns-in-Err-Memory g c =
@@ -41,7 +61,9 @@ returns-in-Err-Memory g c =
     let result = c.in-Err-Memory.is ∙ ap (λ (e : CommitFault). Err e) c.in-Err-Memory.field-0-is in
     let undoes = subst (λ (f : State D). Undoes g.D.Disk.history f new.file) (c.commit-2.ensures.commits.memory result) c.take_back.ensures.file in
     undone_after g.D.Disk.history old new c.requires.sound c.take_back.ensures.rests c.take_back.ensures.world c.take_back.ensures.turn_start
-    undoes.untouched undoes.state c.if-not-self.false faults.Memory (λ e. absurd cc) (λ e. absurd cc) (omega (arith, undoes.takes)) (λ e. undoes.takes)
+    undoes.untouched undoes.state
+    (c.take_back.ensures.tied (subst (λ (f : State D). AreTied g.D.Disk.history f old.cursors.list) (sym (c.commit-2.ensures.commits.memory result))
+    c.requires.sound.tied)) c.if-not-self.false faults.Memory (λ e. absurd cc) (λ e. absurd cc) (omega (arith, undoes.takes)) (λ e. undoes.takes)
 
 pub returns-in-Err-Full : goal.returns-in-Err-Full
 returns-in-Err-Full g c =
@@ -52,7 +74,9 @@ returns-in-Err-Full g c =
     let result = c.in-Err-Full.is ∙ ap (λ (e : CommitFault). Err e) c.in-Err-Full.field-0-is in
     let room = c.commit-2.ensures.commits.full result in
     let undoes = c.take_back-in-Err-Full.ensures.file in
+    let tied = tied_through history old new c.requires.sound c.commit-2.result mid c.commit-2.ensures.commits c.commit-2.ensures.versions
+    c.commit-2.ensures.pins (ran_before history old new c.requires.sound mid room) in
     undone_after history old new c.requires.sound c.take_back-in-Err-Full.ensures.rests c.take_back-in-Err-Full.ensures.world
     c.take_back-in-Err-Full.ensures.turn_start (untouched_since history old new c.requires.sound mid undoes room)
-    (state_since history old new c.requires.sound mid undoes room) c.if-not-self.false faults.Full (λ e. absurd cc)
+    (state_since history old new c.requires.sound mid undoes room) (c.take_back-in-Err-Full.ensures.tied tied) c.if-not-self.false faults.Full (λ e. absurd cc)
     (λ e. room_cause history old new c.requires.sound mid undoes room) (omega (arith, c.commit-2.ensures.commits.takes, undoes.takes)) (λ e. absurd (e refl))

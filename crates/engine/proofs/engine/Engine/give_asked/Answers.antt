@@ -5,12 +5,14 @@ use Rattle.std.proofs.lemmas.List.Elements.{All-drop}
 use Rattle.std.proofs.lemmas.Result.{err_from_is_err_and}
 use Rattle.bson.specs.Tree.{Pairs}
 use Rattle.filter.specs.Projection.{project}
+use Rattle.cursors.specs.Held.{table_of}
 use Rattle.database_model.specs.World.{World}
 use Rattle.database_model.specs.Cursors.{new_cursor}
 use Rattle.database_model.specs.Lawful.{IsWithin}
 use Rattle.replies.specs.FirstBatch.{IsFirstBatch, IsNoBatch}
 use Rattle.replies.specs.View.{projected}
 use Rattle.engine.specs.View.{world_of, world}
+use Rattle.engine.proofs.KeepingPins.{pins_of_opened}
 use Rattle.engine.proofs.Running.{given_none, given_opened, given_whole, table, with_cursor}
 use Rattle.engine.proofs.engine.Engine.give_asked.Goals as goal
 
@@ -53,8 +55,8 @@ returns-then-len-count-clause-runs g c =
     c.in_ok-reply.ensures.batch)
     (omega (arith, c.if-len-count.true, c.len.ensures, c.args.documents.ok, length-map c.args.documents.items (project c.args.projection.now)))
 
-pub open-requires-clause-within : goal.open-requires-clause-within
-open-requires-clause-within g c =
+pub open_kept-requires-clause-within : goal.open_kept-requires-clause-within
+open_kept-requires-clause-within g c =
     let p = c.args.projection.now in
     let gs = projected p c.args.documents.items in
     let n = c.in_ok-reply.count in
@@ -74,11 +76,16 @@ returns-clause-runs g c =
     let rest : map (project c.in_ok-projection.projection) c.in_ok-rest.rest.items ≡ drop n gs =
     (λ i. map (project (c.in_ok-projection.ensures i)) (c.in_ok-rest.ensures i)) ∙ sym (drop-map (project p) n c.args.documents.items) in
     let over : n < length gs = omega (arith, c.if-len-count.false, c.len.ensures, c.args.documents.ok, length-map c.args.documents.items (project p)) in
-    let made : world_of c.args.self.now.told.value c.open.new.self ≡ with_cursor w c.args.connection c.args.namespace.now gs n =
-    ap (world_of c.args.self.now.told.value) c.in_ok-open.ensures.ok
+    let made : world_of c.args.self.now.told.value (table_of c.open_kept.new.self) ≡ with_cursor w c.args.connection c.args.namespace.now gs n =
+    ap (world_of c.args.self.now.told.value) c.in_ok-open_kept.ensures.table
     ∙ ap (λ (es : List Pairs). let x : World =
     record w { cursors = w.cursors ++ new_cursor w.next c.args.connection c.args.namespace.now es ∷ []; next = w.next + 1 } in x) rest in
-    given_opened w c.args.connection c.args.namespace.now gs c.args.most n reply (world_of c.args.self.now.told.value c.open.new.self)
+    given_opened w c.args.connection c.args.namespace.now gs c.args.most n reply (world_of c.args.self.now.told.value (table_of c.open_kept.new.self))
     (subst (λ (es : List Pairs). IsFirstBatch
     (table w c.args.connection c.args.namespace.now gs c.args.most) c.args.connection c.args.namespace.now es c.args.most n reply) same
     c.in_ok-reply.ensures.batch) over made
+
+pub returns-clause-file : goal.returns-clause-file
+returns-clause-file g c =
+    pins_of_opened g.D.Disk.history c.args.self.now.file c.args.self.now.cursors c.open_kept.new.self c.args.connection c.args.namespace.now
+    (map (project c.in_ok-projection.projection) c.in_ok-rest.rest.items) c.in_ok-open_kept.ensures.ok

@@ -5,12 +5,14 @@ use Rattle.database_model.specs.World.{World}
 use Rattle.outcome.specs.Outcome.{◌>>=◌}
 use Rattle.commands.specs.Command as commands
 use Rattle.commands.specs.Find as finds
+use Rattle.commands.specs.GetMore as mores
 use Rattle.commands.specs.Aggregate as aggregates
 use Rattle.commands.specs.Update as updates
 use Rattle.database_model.specs.Aggregate.{run_aggregate}
 use Rattle.database_model.specs.Step.{run, ChangesNone}
 use Rattle.database_model.specs.Find.{run_find}
-use Rattle.commands.specs.View.{command_read, find_read, update_read, aggregate_read}
+use Rattle.database_model.specs.GetMore.{run_get_more}
+use Rattle.commands.specs.View.{command_read, find_read, get_more_read, update_read, aggregate_read}
 use Rattle.engine.specs.View.{world}
 use Rattle.commands.specs.declared.command.Command.{Command}
 use Rattle.path.specs.declared.refusal.Refusal.{Refusal}
@@ -20,11 +22,17 @@ use Rattle.engine.proofs.engine.Engine.perform.Goals as goal
 
 pub returns-in-GetMore-clause-performs : goal.returns-in-GetMore-clause-performs
 returns-in-GetMore-clause-performs g c =
-    let old = c.args.self.now in
-    let new = c.get_more.new.self in
-    performs_told g.D.Disk.history old new c.args.connection
-    (command_read c.args.command.now) _ c.requires.sound c.requires.bounded c.get_more.ensures.file c.get_more.ensures.told c.get_more.ensures.has_changes
-    (search rules)
+    let w = world c.args.self.now in
+    let asked : mores.GetMore = get_more_read c.in-GetMore.c in
+    let spelled : run w c.args.connection (command_read c.args.command.now) ≡ run_get_more w c.args.connection asked =
+    ap (λ (x : Command). run w c.args.connection (command_read x)) c.in-GetMore.is in
+    let called : run_get_more w c.args.connection
+    (record { id = asked.id; namespace = c.as_str-in-GetMore.result.now; batch_size = asked.batch_size })
+    ≡ run_get_more w c.args.connection asked =
+    λ i. run_get_more w c.args.connection
+    (record { id = asked.id; namespace = c.as_str-in-GetMore.ensures.value i; batch_size = asked.batch_size }) in
+    performs_as g.D.Disk.history c.args.self.now c.get_more.new.self _ _ _ _ (spelled ∙ sym called) c.spelled-in-GetMore.ensures
+    c.get_more.ensures.performs
 
 pub returns-in-KillCursors-clause-performs : goal.returns-in-KillCursors-clause-performs
 returns-in-KillCursors-clause-performs g c =

@@ -1,7 +1,11 @@
 use Rattle.std.proofs.Common.{ap, subst, sym, ◌∙◌}
-use Rattle.database_model.specs.World.{CursorTable, are_untouched}
+use Rattle.cursors.specs.EndingLaws.{others_to_table}
+use Rattle.cursors.specs.Held.{cursors_of, table_of}
+use Rattle.cursors.specs.declared.ending.Ends.TheVariants as cases
+use Rattle.database_model.specs.World.{CursorTable, after_undo, are_untouched}
 use Rattle.database_model.specs.Lawful.{AreLawfulCursors}
-use Rattle.replies.proofs.CursorSteps.{untouched_untouched}
+use Rattle.engine.proofs.UntouchedCursors.{untouched_untouched}
+use Rattle.engine.specs.View.{world, world_of}
 use Rattle.engine.proofs.Ending.{rested_again, sound_again}
 use Rattle.engine.proofs.Sound.{undone_lawful}
 use Rattle.engine.proofs.engine.Engine.undo_turn.Goals as goal
@@ -9,23 +13,36 @@ use Rattle.engine.proofs.engine.Engine.undo_turn.Goals as goal
 pub returns-clause-sound : goal.returns-clause-sound
 returns-clause-sound g c =
     sound_again g.D.Disk.history c.args.self.now c.take_back.new.self c.requires.sound c.take_back.ensures.rests c.take_back.ensures.world
-    c.take_back.ensures.turn_start c.take_back.ensures.file.untouched c.take_back.ensures.file.state
+    c.take_back.ensures.turn_start c.take_back.ensures.file.untouched c.take_back.ensures.file.state (c.take_back.ensures.tied c.requires.sound.tied)
 
 pub returns-clause-rested : goal.returns-clause-rested
 returns-clause-rested g c =
     rested_again g.D.Disk.history c.args.self.now c.take_back.new.self c.requires.sound c.take_back.ensures.rests c.take_back.ensures.world
-    c.take_back.ensures.turn_start c.take_back.ensures.file.untouched c.take_back.ensures.file.state
+    c.take_back.ensures.turn_start c.take_back.ensures.file.untouched c.take_back.ensures.file.state (c.take_back.ensures.tied c.requires.sound.tied)
+
+pub returns-then-not-self-clause-world : goal.returns-then-not-self-clause-world
+returns-then-not-self-clause-world g c =
+    let old = c.args.self.now in
+    ap (world_of old.told.value) (ap table_of c.end_all.ensures.left ∙ others_to_table cases.Touched old.cursors)
+    ∙ ap (λ cs. record (after_undo cs (world old)) { collections = cs }) (sym (c.requires.sound.quiet c.if-not-self.true))
 
 pub returns-then-not-self-clause-sound : goal.returns-then-not-self-clause-sound
 returns-then-not-self-clause-sound g c =
+    let old = c.args.self.now in
     let h = c.requires.sound in
+    let end = c.end_all in
     record {
       lawful = h.lawful;
-      cursors = subst (λ (t : CursorTable). AreLawfulCursors t.list) (sym c.undo.ensures) (undone_lawful g.D.Disk.history c.args.self.now h).cursors;
+      cursors = subst (λ (t : CursorTable). AreLawfulCursors t.list)
+          (sym (ap table_of end.ensures.left ∙ others_to_table cases.Touched old.cursors)) (undone_lawful g.D.Disk.history old h).cursors;
       before = h.before;
       quiet = h.quiet;
-      file = h.file;
+      file = end.ensures.releases.pins.state old.told.value.start old.told.value.now h.file;
+      tied = end.ensures.releases.tied h.tied;
     }
 
 pub returns-then-not-self-clause-rested : goal.returns-then-not-self-clause-rested
-returns-then-not-self-clause-rested g c = ap (λ (t : CursorTable). are_untouched t.list) c.undo.ensures ∙ untouched_untouched c.args.self.now.cursors.list
+returns-then-not-self-clause-rested g c =
+    let old = c.args.self.now in
+    ap (λ (t : CursorTable). are_untouched t.list) (ap table_of c.end_all.ensures.left ∙ others_to_table cases.Touched old.cursors)
+    ∙ untouched_untouched (cursors_of old.cursors)

@@ -1,4 +1,4 @@
-use Rattle.std.proofs.Common.{rules, ◌<◌, length}
+use Rattle.std.proofs.Common.{rules, ◌<◌, ◌∙◌, length}
 use Rattle.front.proofs.AloneLemmas.{stands_ended}
 use Rattle.front.proofs.TyingLemmas.{tied_end, tied_over}
 use Rattle.front.proofs.front.FrontService.forget.Goals as goal
@@ -7,8 +7,10 @@ pub returns-then-connection-len-clause-sound : goal.returns-then-connection-len-
 returns-then-connection-len-clause-sound g c =
     let inside : c.args.connection < length c.args.self.now.sockets.items = search rules in (
       c.requires.sound.0,
-      tied_end c.args.self.now.lending.loans c.end.new.self.loans c.args.self.now.sockets.items c.args.connection c.new.result c.requires.sound.1 c.end.ensures,
-      stands_ended c.args.self.now.alone c.args.self.now.sockets.items c.args.connection c.new.result inside c.new.ensures c.requires.sound.2,
+      tied_end c.args.self.now.lending.loans c.end.new.self.loans c.args.self.now.sockets.items c.args.connection c.replace.new.dest c.requires.sound.1
+          c.end.ensures,
+      stands_ended c.args.self.now.alone c.args.self.now.sockets.items c.args.connection c.replace.new.dest inside
+          (c.replace.ensures.after ∙ c.new.ensures) c.requires.sound.2,
     )
 
 pub returns-else-connection-len-clause-sound : goal.returns-else-connection-len-clause-sound

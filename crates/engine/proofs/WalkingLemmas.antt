@@ -1,0 +1,206 @@
+-- A find gives a first batch while it walks, and opens a cursor that goes on from there.
+use Rattle.std.proofs.Common.{◌≡◌, ℕ, ◌+◌, ◌-◌, ◌^◌, ◌<◌, ◌≤◌, true, false, List, [], ◌∷◌}
+use Rattle.std.proofs.Common.{◌++◌, length, drop, take, Option, Some, None, Result, Ok, Err, refl, sym}
+use Rattle.std.proofs.Common.{inl, inr, ap, subst, ◌∙◌, arith}
+use Rattle.std.specs.Prelude.{All, Bool, IfNone, IfSome, MatchOption, codes, is_some, not, unwrap_or}
+use Rattle.std.specs.Global.{Vec}
+use Rattle.std.proofs.lemmas.List.Elements.{All-append, All-cons, All-filter}
+use Rattle.bson.specs.Tree.{Pairs}
+use Rattle.commands.specs.Find.{Find, Query}
+use Rattle.filter.specs.Condition.{Conditions}
+use Rattle.filter.specs.Matches.{matches}
+use Rattle.filter.specs.Projection.{Projection}
+use Rattle.page.specs.History.{History, KeepsWord}
+use Rattle.collections.specs.Reading.{IsNumbered}
+use Rattle.collections.specs.State.{State}
+use Rattle.index.specs.State.{Collection}
+use Rattle.index.specs.declared.catalogue_reading.Catalogued.{Catalogued}
+use Rattle.cursors.specs.Held.{Held, table_of}
+use Rattle.pinned_cursors.specs.Opening.{IsLeftOf, OpensPinned, rest_behind}
+use Rattle.pinned_cursors.specs.declared.opening.Left.{Left}
+use Rattle.path.specs.declared.refusal.Refusal.{Refusal}
+use Rattle.path.specs.declared.refusal.Refusal.TheVariants as refusals
+use Rattle.database_model.specs.Cursors.{batch_of, batch_reply, first_batch, is_refused, new_cursor}
+use Rattle.database_model.specs.Find.{Suffices, given, matching, query_result, run_find}
+use Rattle.filter.specs.Sort.{SortField, order}
+use Rattle.queries.proofs.OrderingLemmas.{unsorted}
+use Rattle.database_model.specs.Lawful.{IsLawful, IsStored, IsWithin}
+use Rattle.database_model.specs.Refusals.{ok_reply}
+use Rattle.database_model.specs.World.{Cursor, World, documents_of}
+use Rattle.queries.specs.Batches.{GoesOn, IsGivenBatch, is_from, rest_from, rest_of, walk_rest}
+use Rattle.queries.specs.declared.batches.BatchAsked.{BatchAsked}
+use Rattle.queries.specs.declared.batches.GivenBatch.{GivenBatch}
+use Rattle.queries.specs.declared.batches.Walk.{Walk}
+use Rattle.queries.proofs.WalkLeftLemmas.{whole_walk}
+use Rattle.replies.specs.View.{batch_name, with_ok}
+use Rattle.replies.specs.declared.batch_spelling.BatchKind.TheVariants as kinds
+use Rattle.statements.proofs.KeptLemmas.{stored_at}
+use Rattle.statements.proofs.Numbers.{found_kept}
+use Rattle.engine.specs.Durable.{IsSound, disk_history}
+use Rattle.engine.specs.Performing.{Performs}
+use Rattle.engine.specs.TakingOut.{HasHome}
+use Rattle.engine.specs.View.{world, world_of}
+use Rattle.engine.specs.Walking.{IsWholeWalk}
+use Rattle.engine.specs.declared.engine.Engine.{Engine}
+use Rattle.engine.proofs.Finding.{given_enough, given_within, stored_within, window_kept}
+use Rattle.engine.proofs.NamedLemmas.{documents_found}
+use Rattle.engine.proofs.Running.{opened_batch, refused_batch, run_find-is, whole_batch}
+use Rattle.engine.proofs.Sound.{lawful_world, performs_pins}
+
+-- what a walk gives of stored documents is within the limits
+pub walk_within : (rules : Conditions) (p : Projection) (skip limit : ℕ) (from : List ℕ) (ds : List Pairs) → All IsStored ds
+    → All IsWithin (walk_rest rules p skip limit from ds)
+walk_within rules p skip limit from ds stored =
+    let within : All IsWithin ds = λ k d below. stored_within _ (stored k d below) in
+    given_within p _ (window_kept IsWithin skip limit (matching rules (rest_from from ds))
+    (All-filter (matches rules) IsWithin (rest_from from ds) (All-filter (is_from from) IsWithin ds within)))
+
+-- what was found in the order of `_id` is what a query asks for without a sort, as far as so many suffice
+pub found_plain : (w : World) (connection : ℕ) (name : List ℕ) (q : Query) (most : ℕ) → q.sort ≡ [] → (enough : ℕ) (found : List Pairs) → Suffices q enough
+    → found ≡ take enough (matching q.filter (documents_of w.collections name)) → length found < 2 ^ 64 - 1
+    → first_batch w connection name (given q found) (batch_of most (given q found))
+    ≡ run_find w connection (record { namespace = name; query = q; batch_size = Some most })
+found_plain w connection name q most none enough found suffices is few =
+    let ds = documents_of w.collections name in
+    let plain : order q.sort (matching q.filter ds) ≡ matching q.filter ds =
+    ap (λ (fields : List SortField). order fields (matching q.filter ds)) none ∙ unsorted (matching q.filter ds) in
+    run_find-is w connection name q most (given q found)
+    (given_enough q enough ds found suffices (is ∙ ap (take enough) (sym plain)) few)
+
+-- the batch that a whole walk gave is the first of what the query asks for
+module _ (w : World) (connection : ℕ) (name : List ℕ) (q : Query) (most : ℕ) (unsorted : q.sort ≡ []) (walk : Walk) (is : IsWholeWalk q walk)
+    (asked : BatchAsked) (kind : asked.kind ≡ kinds.First) (named : asked.namespace.now ≡ name) (most_is : asked.most ≡ most)
+    (b : GivenBatch) (given : IsGivenBatch walk asked (documents_of w.collections name) b) where
+  abbrev ds : List Pairs
+  ds = documents_of w.collections name
+
+  abbrev gs : List Pairs
+  gs = query_result q ds
+
+  abbrev pub find_asked : Find
+  find_asked = record { namespace = name; query = q; batch_size = Some most }
+
+  abbrev planned : Result (World × Pairs) Refusal
+  planned = run_find w connection find_asked
+
+  rest_is : rest_of walk ds ≡ gs
+  rest_is = (λ i. walk_rest (is.filter i) (is.projection i) (is.skip i) (is.limit i) (is.from i) ds) ∙ whole_walk q ds unsorted
+
+  counted : b.count ≡ batch_of most gs
+  counted = given.counted ∙ (λ i. batch_of (most_is i) (rest_is i))
+
+  says : b.reply ≡ ok_reply (batch_reply (codes "firstBatch") b.count gs asked.number name)
+  says = given.says ∙ (λ i. ok_reply (batch_reply (batch_name (kind i)) b.count (rest_is i) asked.number (named i)))
+
+  planned_is : planned ≡ first_batch w connection name gs b.count
+  planned_is = sym (run_find-is w connection name q most gs refl) ∙ ap (first_batch w connection name gs) (sym counted)
+
+  pub walked_whole : b.next ≡ None → with_ok planned ≡ Ok (w, b.reply)
+  walked_whole none =
+      let few : length (rest_of walk ds) ≤ b.count = subst
+      (λ (o : Option (Vec ℕ)). MatchOption o (length (rest_of walk ds) ≤ b.count) (λ text. GoesOn walk ds b.count text.items)) none given.next in
+      ap with_ok planned_is
+      ∙ whole_batch w connection name gs b.count asked.number b.reply (subst (λ (es : List Pairs). length es ≤ b.count) rest_is few) says
+
+  module _ (text : Vec ℕ) (some : b.next ≡ Some text) where
+    on : GoesOn walk ds b.count text.items
+    on = subst
+        (λ (o : Option (Vec ℕ)). MatchOption o (length (rest_of walk ds) ≤ b.count) (λ text. GoesOn walk ds b.count text.items)) some given.next
+
+    over : b.count < length gs
+    over = subst (λ (es : List Pairs). b.count < length es) rest_is on.more
+
+    pub walked_refused : is_refused connection w.cursors w.next ≡ true → planned ≡ Err refusals.TooMany
+    walked_refused full = planned_is ∙ refused_batch w connection name gs b.count over full
+
+    -- what is left
+    abbrev left : List Pairs
+    left = walk_rest walk.filter.now walk.projection.now 0 (walk.limit - b.count) text.items ds
+
+    pub walked_opened : asked.number ≡ w.next → is_refused connection w.cursors w.next ≡ false → (new : World)
+        → new ≡ record w { cursors = w.cursors ++ new_cursor w.next connection name left ∷ []; next = w.next + 1 } → with_ok planned ≡ Ok (new, b.reply)
+    walked_opened number free new made =
+        let behind : left ≡ drop b.count gs = on.left ∙ ap (drop b.count) rest_is in
+        ap with_ok planned_is
+        ∙ opened_batch w connection name gs b.count asked.number b.reply new over number free
+        (made ∙ ap (λ (es : List Pairs). let x : World =
+        record w { cursors = w.cursors ++ new_cursor w.next connection name es ∷ []; next = w.next + 1 } in x) behind) says
+
+-- ---- the number of the next cursor
+
+pub number_is : (o : Option ℕ) (P : ℕ → Type 0) (none : Bool) → is_some o ≡ not none → none ≡ false → IfSome o P → P (unwrap_or o 0)
+number_is (Some n) P none told is h = h
+number_is None P none told is h = absurd cc
+
+pub number_lacks : (o : Option ℕ) (Q : Type 0) (none : Bool) → is_some o ≡ not none → none ≡ true → IfNone o Q → Q
+number_lacks (Some n) Q none told is h = absurd cc
+number_lacks None Q none told is h = h
+
+-- what is so of the documents of the collection at home is so of those of the name
+pub at_home : (now : List Collection) (name : List ℕ) (home : Catalogued) (f : HasHome now name home) (Q : List Pairs → Type 0) → Q f.collection.documents
+    → Q (documents_of now name)
+at_home now name home f Q h = subst Q (sym (documents_found now name f.collection f.found)) h
+
+-- ---- the cursor on what is left
+
+module _ {D : Type 0} (history : D → History) (mid : Engine D) (h : IsSound history mid) (connection : ℕ) (name : List ℕ) (left : Left)
+    (rest : List Pairs) (rest_is : rest ≡ rest_behind left (documents_of (world mid).collections name)) (file : State D) (held : Held) where
+  abbrev new : Engine D
+  new = record mid { file = file; cursors = held }
+
+  abbrev documents : List Pairs
+  documents = documents_of (world mid).collections name
+
+  abbrev Opens : {E : Type 0} → Result (Unit {0}) E → Type 0
+  Opens r = OpensPinned history connection name left rest r mid.file file mid.cursors held
+
+  rest_within : All IsWithin rest
+  rest_within = subst (λ (ds : List Pairs). All IsWithin ds) (sym rest_is)
+      (walk_within left.walk.now.filter.now left.walk.now.projection.now 0 (left.walk.now.limit - left.count) left.from.items documents
+      (stored_at (world mid).collections name h.lawful.kept).1)
+
+  -- what is left is of the collection of that name, whose number the walk has
+  left_of_home : (home : Catalogued) → left.number ≡ home.number → HasHome (world mid).collections name home → IsLeftOf history mid.file left rest
+  left_of_home home number at = record {
+    start = mid.told.value.start;
+    now = mid.told.value.now;
+    has = h.file;
+    home = at.collection;
+    numbered = subst (λ (n : ℕ). IsNumbered mid.told.value.now at.collection n) (sym number) at.catalogued.numbered;
+    stored = (found_kept (world mid).collections at.collection.name at.collection h.lawful.kept at.catalogued.numbered.found).lawful.stored;
+    same = rest_is ∙ ap (rest_behind left) (documents_found (world mid).collections name at.collection at.found);
+  }
+
+  abbrev with_rest : World
+  with_rest = record (world mid) {
+    cursors = (world mid).cursors ++ new_cursor (world mid).next connection name rest ∷ [];
+    next = (world mid).next + 1;
+  }
+
+  abbrev holds_within : Cursor → Type 0
+  holds_within c = All IsWithin c.rest
+
+  with_rest_lawful : IsLawful with_rest
+  with_rest_lawful = record {
+    collections = h.lawful;
+    cursors = All-append holds_within (world mid).cursors (new_cursor (world mid).next connection name rest ∷ []) h.cursors
+        (All-cons holds_within (new_cursor (world mid).next connection name rest) [] rest_within (λ k d below. absurd (omega (arith, below))));
+  }
+
+  module _ {E : Type 0} (planned : Result (World × Pairs) Refusal) (home : Catalogued) (number : left.number ≡ home.number)
+      (at : KeepsWord (disk_history history mid) → HasHome (world mid).collections name home) where
+    pub opens_done : Opens {E = E} (Ok tt) → (reply : Pairs) → (KeepsWord (disk_history history mid) → with_ok planned ≡ Ok (with_rest, reply))
+        → Performs history planned (Ok reply) mid new
+    opens_done opens reply is =
+        let made : world new ≡ with_rest = ap (world_of mid.told.value) opens.ok in
+        performs_pins history mid new planned (Ok reply) h opens.pins (opens.tied (λ k. left_of_home home number (at k)) h.tied) refl refl
+        (subst IsLawful (sym made) with_rest_lawful)
+        (λ k. is (subst KeepsWord opens.pins.untouched.disk k)
+        ∙ (λ i. let r : Result (World × Pairs) Refusal = Ok (sym made i, reply) in r)) tt
+
+    pub opens_failed : (fault : E) → Opens (Err fault) → (e : Refusal) → e ≡ refusals.OutOfMemory → Performs history planned (Err e) mid new
+    opens_failed fault opens e memory =
+        let same : world new ≡ world mid = ap (λ (t : Held). world_of mid.told.value (table_of t)) opens.err in
+        performs_pins history mid new planned (Err e) h opens.pins (opens.tied (λ k. left_of_home home number (at k)) h.tied) refl refl
+        (subst IsLawful (sym same) (lawful_world history mid h))
+        (λ k. (same, inr (inl memory, λ k. inl (inl memory)))) same

@@ -1,0 +1,122 @@
+use Rattle.std.proofs.Common.{◌≡◌, ◌^◌, ◌-◌, List, Option, Some, Result, [], length, take, refl, sym, ap, subst, ◌∙◌, arith}
+use Rattle.std.specs.Prelude.{All, IfSome}
+use Rattle.std.specs.Global.{Vec}
+use Rattle.std.proofs.lemmas.List.{take_all}
+use Rattle.std.proofs.lemmas.Result.{err_from_is_err_and}
+use Rattle.bson.specs.Tree.{Pairs}
+use Rattle.commands.specs.Find.{Find, Query}
+use Rattle.database_model.specs.Find.{given, matching, run_find}
+use Rattle.database_model.specs.Lawful.{IsWithin}
+use Rattle.database_model.specs.World.{World, documents_of}
+use Rattle.filter.specs.Sort.{order}
+use Rattle.index.specs.State.{Collection}
+use Rattle.path.specs.declared.refusal.Refusal.{Refusal}
+use Rattle.engine.specs.Looking.{Looks, LooksOf}
+use Rattle.engine.specs.TakingOut.{HasHome, IsHome}
+use Rattle.engine.specs.View.{world}
+use Rattle.engine.specs.Walking.{AreFirst}
+use Rattle.engine.proofs.CataloguedLemmas.{IsCatalogueOf, has_home}
+use Rattle.engine.proofs.Finding.{all_suffice, given_within_limits}
+use Rattle.engine.proofs.GivingLemmas.{gives_behind}
+use Rattle.engine.proofs.LookingLemmas.{collections_same, performs_behind, performs_refused, reads_trans, world_same}
+use Rattle.engine.proofs.NamedLemmas.{of_home, of_no_home}
+use Rattle.engine.proofs.OnlyReading.{word_before}
+use Rattle.engine.proofs.WalkingLemmas.{found_plain}
+use Rattle.engine.proofs.engine.Engine.find_walking.Goals as goal
+
+pub returns-in_err-home-clause-performs : goal.returns-in_err-home-clause-performs
+returns-in_err-home-clause-performs g c =
+    let old = c.args.self.now in
+    let asked : Find = record { namespace = c.args.namespace.now; query = c.args.query.now; batch_size = Some c.args.most } in
+    let p = err_from_is_err_and c.from_residual.result c.from_residual.ensures.1 in
+    rw (p.1, p.2)
+    (performs_refused g.D.Disk.history old c.catalogued.new.self (run_find (world old) c.args.connection asked) c.in_err-home.field-0.0
+    c.in_err-home.ensures.looks.reads c.in_err-home.ensures.looks.answers)
+
+-- there is no collection of that name
+pub returns-in_default-clause-performs : goal.returns-in_default-clause-performs
+returns-in_default-clause-performs g c =
+    let history = g.D.Disk.history in
+    let old = c.args.self.now in
+    let mid = c.catalogued.new.self in
+    let q = c.args.query.now in
+    let asked : Find = record { namespace = c.args.namespace.now; query = q; batch_size = Some c.args.most } in
+    let none = c.new-none.result in
+    let looks = of_no_home history c.args.namespace.now old mid (λ ds (found : Vec Pairs). found.items ≡ take (2 ^ 64 - 1) (matching q.filter ds))
+    c.in_ok-home.field-0 c.in_ok-home.ensures.looks c.in_default.is none (c.new-none.ensures.items ∙ sym (take_all (2 ^ 64 - 1) [] (omega arith))) in
+    gives_behind history old mid c.give_found.new.self c.in_ok-home.ensures.looks.reads c.give_found.ensures.file
+    (ap (λ t. t.value) c.give_found.ensures.told) c.give_found.ensures.has_changes c.args.connection c.args.namespace.now (given q none.items) c.args.most
+    (run_find (world old) c.args.connection asked) c.give_found.result c.requires.short
+    (given_within_limits q none.items (λ k d below. absurd (omega (arith, below, ap length c.new-none.ensures.items)))) c.give_found.ensures.runs
+    (λ k. found_plain (world old) c.args.connection c.args.namespace.now q c.args.most c.requires.unsorted (2 ^ 64 - 1) none.items (all_suffice q)
+    (looks.answers k) (omega (arith, ap length c.new-none.ensures.items)))
+
+pub returns-in_err-found-clause-performs : goal.returns-in_err-found-clause-performs
+returns-in_err-found-clause-performs g c =
+    let history = g.D.Disk.history in
+    let old = c.args.self.now in
+    let q = c.args.query.now in
+    let asked : Find = record { namespace = c.args.namespace.now; query = q; batch_size = Some c.args.most } in
+    let p = err_from_is_err_and c.from_residual-in_err-found.result c.from_residual-in_err-found.ensures.1 in
+    let here = subst (λ (x : Query). LooksOf history (λ now of. IsHome now of c.in-Some.home)
+    (λ now of (o : Option (Vec Pairs)). AreFirst c.enough.result x.filter of.documents o) c.looked_up.result c.catalogued.new.self c.looked_up.new.self)
+    c.query.view_is c.looked_up.ensures.looks in
+    let looks = of_home history c.args.namespace.now old c.catalogued.new.self
+    (AreFirst c.enough.result q.filter)
+    c.in_ok-home.field-0 c.in_ok-home.ensures.looks c.looked_up.new.self c.in-Some.home c.in-Some.is c.looked_up.result here in
+    let refused = subst (λ (r : Result (Option (Vec Pairs)) Refusal). Looks history
+    (λ now. AreFirst c.enough.result q.filter (documents_of now c.args.namespace.now))
+    r old c.looked_up.new.self) c.in_err-found.was looks in
+    rw (p.1, p.2)
+    (performs_refused history old c.looked_up.new.self (run_find (world old) c.args.connection asked) c.in_err-found.field-0.0 refused.reads refused.answers)
+
+pub returns-in-Some-2-clause-performs : goal.returns-in-Some-2-clause-performs
+returns-in-Some-2-clause-performs g c =
+    let history = g.D.Disk.history in
+    let old = c.args.self.now in
+    let mid = c.looked_up.new.self in
+    let q = c.args.query.now in
+    let asked : Find = record { namespace = c.args.namespace.now; query = q; batch_size = Some c.args.most } in
+    let found = c.in-Some-2.found in
+    let here = subst (λ (x : Query). LooksOf history (λ now of. IsHome now of c.in-Some.home)
+    (λ now of (o : Option (Vec Pairs)). AreFirst c.enough.result x.filter of.documents o) c.looked_up.result c.catalogued.new.self c.looked_up.new.self)
+    c.query.view_is c.looked_up.ensures.looks in
+    let looks = of_home history c.args.namespace.now old c.catalogued.new.self
+    (AreFirst c.enough.result q.filter)
+    c.in_ok-home.field-0 c.in_ok-home.ensures.looks mid c.in-Some.home c.in-Some.is c.looked_up.result here in
+    let told = subst (λ (r : Result (Option (Vec Pairs)) Refusal). Looks history
+    (λ now. AreFirst c.enough.result q.filter (documents_of now c.args.namespace.now))
+    r old mid) c.in_ok-found.was looks in
+    let within = subst (λ (o : Option (Vec Pairs)). IfSome o (λ v. All IsWithin v.items)) c.in-Some-2.is c.in_ok-found.ensures.within in
+    gives_behind history old mid c.give_found-in-Some-2.new.self looks.reads c.give_found-in-Some-2.ensures.file
+    (ap (λ t. t.value) c.give_found-in-Some-2.ensures.told) c.give_found-in-Some-2.ensures.has_changes c.args.connection c.args.namespace.now
+    (given q found.items) c.args.most (run_find (world old) c.args.connection asked) c.give_found-in-Some-2.result c.requires.short
+    (given_within_limits q found.items within) c.give_found-in-Some-2.ensures.runs
+    (λ k. found_plain (world old) c.args.connection c.args.namespace.now q c.args.most c.requires.unsorted c.enough.result found.items c.enough.ensures
+    (subst (AreFirst c.enough.result q.filter (documents_of (world old).collections c.args.namespace.now)) c.in-Some-2.is (told.answers k))
+    (omega (arith, found.ok.0, found.ok.1, found.small)))
+
+-- the catalogue has it still
+pub give_walked-requires-clause-home : goal.give_walked-requires-clause-home
+give_walked-requires-clause-home g c = λ k.
+    let history = g.D.Disk.history in
+    let old = c.args.self.now in
+    let mid = c.catalogued.new.self in
+    let new = c.looked_up.new.self in
+    let name = c.args.namespace.now in
+    let first = c.in_ok-home.ensures.looks in
+    let then = c.in_ok-found.ensures.looks.reads in
+    let is = subst (IsCatalogueOf name (world old).collections) c.in-Some.is (first.answers (word_before history mid.file new.file then.goes k)) in
+    subst (λ (cs : List Collection). HasHome cs name c.in-Some.home)
+    (sym (collections_same history mid new then ∙ collections_same history old mid first.reads)) (has_home (world old).collections name c.in-Some.home is)
+
+pub returns-clause-performs : goal.returns-clause-performs
+returns-clause-performs g c =
+    let history = g.D.Disk.history in
+    let old = c.args.self.now in
+    let mid = c.looked_up.new.self in
+    let asked : Find = record { namespace = c.args.namespace.now; query = c.args.query.now; batch_size = Some c.args.most } in
+    let reads = reads_trans history old c.catalogued.new.self mid c.in_ok-home.ensures.looks.reads c.in_ok-found.ensures.looks.reads in
+    performs_behind history old mid c.give_walked.new.self reads (run_find (world mid) c.args.connection asked)
+    (run_find (world old) c.args.connection asked) c.give_walked.result c.give_walked.ensures.performs
+    (λ k. ap (λ (w : World). run_find w c.args.connection asked) (world_same history old mid reads))

@@ -1,0 +1,20 @@
+-- A find in the order of its walk.
+use Rattle.std.specs.Prelude.{◌≡◌, ℕ, List, [], Option, IfSome, take}
+use Rattle.std.specs.Global.{Vec}
+use Rattle.bson.specs.Tree.{Pairs}
+use Rattle.commands.specs.Find.{Query}
+use Rattle.filter.specs.Condition.{Conditions}
+use Rattle.database_model.specs.Find.{matching}
+use Rattle.queries.specs.declared.batches.Walk.{Walk}
+
+-- The walk is from the beginning, and gives what the query asks for.
+pub record IsWholeWalk (q : Query) (walk : Walk) : Type 0 where
+  pub filter : walk.filter.now ≡ q.filter
+  pub projection : walk.projection.now ≡ q.projection
+  pub skip : walk.skip ≡ q.skip
+  pub limit : walk.limit ≡ q.limit
+  pub from : walk.from.now ≡ []
+
+-- the first of the documents that pass, up to so many, where they can be told without a walk
+abbrev pub AreFirst : ℕ → Conditions → List Pairs → Option (Vec Pairs) → Type 0
+AreFirst most rules ds found = IfSome found (λ v. v.items ≡ take most (matching rules ds))

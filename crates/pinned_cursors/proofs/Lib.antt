@@ -1,0 +1,9 @@
+pub mod ListLemmas
+pub mod TiedLemmas
+pub mod TurnLemmas
+pub mod TurnTied
+pub mod EndingLemmas
+pub mod OpeningLemmas
+pub mod NextLemmas
+pub mod LawfulLemmas
+pub mod KeptLemmas

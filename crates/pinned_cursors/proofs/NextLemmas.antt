@@ -1,0 +1,257 @@
+-- The next batch of a cursor is read from its version, and the cursor goes on or ends.
+use Rattle.std.proofs.Common.{◌≡◌, ◌≢◌, inl, inr, ℕ, zero, suc, ◌+◌, ◌-◌, ◌^◌, ◌<◌, ◌≤◌, true, false, List, [], ◌∷◌, length, drop}
+use Rattle.std.proofs.Common.{Option, Some, None, Result, Ok, Err, refl, sym, ap, subst, ◌∙◌, arith}
+use Rattle.std.specs.Prelude.{⊤, ◌==◌, ◌||◌, nat_le, if◌then◌else◌, option_map, unwrap_or, codes, MatchOption, MatchResult}
+use Rattle.std.specs.Global.{Vec}
+use Rattle.bson.specs.Tree.{Pairs}
+use Rattle.page.specs.History.{History, KeepsWord}
+use Rattle.path.specs.declared.refusal.Refusal.{Refusal}
+use Rattle.path.specs.declared.refusal.Refusal.TheVariants as refusals
+use Rattle.collections.specs.Calls.{GoesFrom, HasCause}
+use Rattle.collections.specs.State.{State}
+use Rattle.collections.specs.Versions.{ReadsVersion}
+use Rattle.collections.specs.View.{disk_history, is_stopped}
+use Rattle.collections.proofs.LawLemmas.{goes_from_itself}
+use Rattle.collections.proofs.VersionLemmas.{has_still, since_start_stays}
+use Rattle.database_model.specs.Cursors.{advanced, batch_len, batch_of, batch_reply, item_size}
+use Rattle.database_model.specs.GetMore.{batch_len_of}
+use Rattle.database_model.specs.Refusals.{ok_reply}
+use Rattle.database_model.specs.World.{CursorTable}
+use Rattle.replies.specs.View.{batch_name}
+use Rattle.replies.specs.declared.batch_spelling.BatchKind.TheVariants as batches
+use Rattle.queries.specs.Asking.{IsAskedIn}
+use Rattle.queries.specs.Batches.{GoesOn, IsGivenBatch, rest_of, walk_rest}
+use Rattle.queries.specs.declared.batches.BatchAsked.{BatchAsked}
+use Rattle.queries.specs.declared.batches.GivenBatch.{GivenBatch}
+use Rattle.queries.specs.declared.batches.Walk.{Walk}
+use Rattle.cursors.specs.Changes.{after, gone_on, onwards, without}
+use Rattle.cursors.specs.Held.{Held, HeldCursor, HeldWalk, cursors_of, held_at, no_held_cursor, table_of}
+use Rattle.cursors.specs.TableLaws.{ended_in_table, gone_on_in_table}
+use Rattle.pinned_cursors.specs.Batches.{GivesNext, IsNextBatch, ReadsAt, ReadsThenPins}
+use Rattle.pinned_cursors.specs.Tied.{AreTied, IsTied, ReadsRest, left_of, with_pin}
+use Rattle.pinned_cursors.specs.Turns.{OnlyPins, Releases}
+use Rattle.pinned_cursors.proofs.ListLemmas.{each_at}
+use Rattle.pinned_cursors.proofs.TiedLemmas.{tied_set}
+use Rattle.pinned_cursors.proofs.TurnLemmas.{no_pins}
+use Rattle.pinned_cursors.proofs.TurnTied.{tied_on}
+
+-- ---- the batch
+
+-- the walk is that of the cursor, and its next batch is asked for
+pub record AsksNext (h : HeldCursor) (w : HeldWalk) (namespace : List ℕ) (most : ℕ) (walk : Walk) (asked : BatchAsked) : Type 0 where
+  pub filter : walk.filter.now ≡ w.filter
+  pub projection : walk.projection.now ≡ w.projection
+  pub skip : walk.skip ≡ 0
+  pub limit : walk.limit ≡ w.limit
+  pub from : walk.from.now ≡ w.from
+  pub kind : asked.kind ≡ batches.Next
+  pub namespace_is : asked.namespace.now ≡ namespace
+  pub number : asked.number ≡ h.cursor.number
+  pub most_is : asked.most ≡ most
+
+module _ {D : Type 0} (history : D → History) (h : HeldCursor) (w : HeldWalk) (is : h.walk ≡ Some w) (namespace : List ℕ) (most : ℕ)
+    (walk : Walk) (asked : BatchAsked) (asks : AsksNext h w namespace most walk asked) where
+  rest_is : (ds : List Pairs) → rest_of walk ds ≡ left_of w ds
+  rest_is ds = λ i. walk_rest (asks.filter i) (asks.projection i) (asks.skip i) (asks.limit i) (asks.from i) ds
+
+  module _ (old new : State D) where
+    next_so : GoesFrom history old new → (r : ReadsRest history old w h.cursor.rest) (b : GivenBatch) → IsGivenBatch walk asked r.home.documents b
+        → IsNextBatch history new h w namespace most b
+    next_so goes r b given =
+        let ds = r.home.documents in
+        let left : rest_of walk ds ≡ h.cursor.rest = rest_is ds ∙ sym r.same in
+        record {
+          counted = given.counted ∙ (λ i. batch_of (asks.most_is i) (left i));
+          says = given.says
+              ∙ (λ i. ok_reply (batch_reply (batch_name (asks.kind i)) b.count (left i) (asks.number i) (asks.namespace_is i)));
+          few = subst (λ (xs : List Pairs). length xs ≤ 4294967295) left given.few;
+          next = by_next b.next given.next;
+        }
+      where
+        by_next : (next : Option (Vec ℕ))
+            → MatchOption next (length (rest_of walk r.home.documents) ≤ b.count) (λ text. GoesOn walk r.home.documents b.count text.items)
+            → MatchOption next (length h.cursor.rest ≤ b.count)
+            (λ text. (b.count < length h.cursor.rest) × ReadsRest history new (onwards b.count text.items w) (drop b.count h.cursor.rest))
+        by_next None none = subst (λ (xs : List Pairs). length xs ≤ b.count) (rest_is r.home.documents ∙ sym r.same) none
+        by_next (Some text) on =
+            let left : rest_of walk r.home.documents ≡ h.cursor.rest = rest_is r.home.documents ∙ sym r.same in (
+              subst (λ (xs : List Pairs). b.count < length xs) left on.more,
+              record {
+                collections = r.collections;
+                had = since_start_stays history old new goes w.version r.collections r.had;
+                home = r.home;
+                numbered = r.numbered;
+                stored = r.stored;
+                same = ap (drop b.count) (sym left) ∙ sym on.left
+                    ∙ (λ i. walk_rest (asks.filter i) (asks.projection i) 0 (asks.limit i - b.count) text.items r.home.documents);
+              },
+            )
+
+    pub reads_next : (result : Result GivenBatch Refusal)
+        → ReadsVersion history w.version (IsAskedIn w.number) (λ now c b. IsGivenBatch walk asked c.documents b) result old new
+        → ReadsAt history h namespace most result old new
+    reads_next result reads = record {
+      on = reads.on;
+      unchanged = reads.unchanged;
+      same = reads.same;
+      answers = λ k v there r.
+          let one : v ≡ w = some_is v w (sym there ∙ is) in
+          subst (λ (x : HeldWalk). MatchResult result (IsNextBatch history new h x namespace most) (HasCause history old new)) (sym one)
+          (right k (subst (λ (x : HeldWalk). ReadsRest history old x h.cursor.rest) one r));
+    }
+      where
+        some_is : (a b : HeldWalk) → Some a ≡ Some b → a ≡ b
+        some_is a b e = cc
+
+        right : KeepsWord (disk_history history new) → ReadsRest history old w h.cursor.rest
+            → MatchResult result (IsNextBatch history new h w namespace most) (HasCause history old new)
+        right k r = at result (reads.answers k r.collections (has_still history old w.version r.collections r.had) r.home
+            (record { numbered = r.numbered; stored = r.stored }))
+          where
+            at : (q : Result GivenBatch Refusal)
+                → MatchResult q (λ b. IsGivenBatch walk asked r.home.documents b) (HasCause history old new)
+                → MatchResult q (IsNextBatch history new h w namespace most) (HasCause history old new)
+            at (Ok b) given = next_so reads.on r b given
+            at (Err e) cause = cause
+
+-- ---- how many documents
+
+-- Past what is left the most that may come makes no difference.
+len_past : (i most room : ℕ) (ds : List Pairs) → length ds ≤ most → batch_len i most room ds ≡ batch_len i (length ds) room ds
+len_past i most room [] few = refl
+len_past i zero room (d ∷ ds) few = absurd (omega (arith, few))
+len_past i (suc most) room (d ∷ ds) few =
+    ap (λ (n : ℕ). if i == 0 || nat_le (item_size i d) room then suc n else 0) (len_past (i + 1) most (room - item_size i d) ds (omega (arith, few)))
+
+-- A batch with no number asked for is bounded by its bytes alone.
+pub batch_past : (most : ℕ) (ds : List Pairs) → length ds ≤ most → batch_of most ds ≡ batch_of (length ds) ds
+batch_past most ds few = len_past 0 most (900000 - 5) ds few
+
+-- ---- the cursor then
+
+pub has_walk : (walk : Option HeldWalk) → walk ≢ None → (w : HeldWalk) × (walk ≡ Some w)
+has_walk None some = absurd (some refl)
+has_walk (Some w) some = (w, refl)
+
+module _ {D : Type 0} (history : D → History) (old read : State D) (held : Held) (at : ℕ) (there : at < length held.list) (w : HeldWalk)
+    (is : (held_at held at).walk ≡ Some w) (namespace : List ℕ) (most : Option ℕ) (bound : ℕ) (bound_is : bound ≡ unwrap_or most (2 ^ 64 - 1)) where
+  abbrev here : HeldCursor
+  here = held_at held at
+
+  abbrev Gives : Result Pairs Refusal → State D → Held → Type 0
+  Gives result new after = GivesNext history at namespace most result old new held after
+
+  -- the reading that came before
+  abbrev Read : Result GivenBatch Refusal → Type 0
+  Read result = ReadsAt history here namespace bound result old read
+
+  -- The cursors are tied where they were, and the walk gives what is left.
+  reads_tied : GoesFrom history old read → is_stopped old ≡ false → KeepsWord (disk_history history read) → AreTied history old held.list
+      → ReadsRest history old w here.cursor.rest
+  reads_tied goes running k tied =
+      subst (λ (walk : Option HeldWalk). MatchOption walk ⊤ (λ v. ReadsRest history old v here.cursor.rest)) is
+      (each_at (IsTied history old) held.list at no_held_cursor there (tied.each running (goes.stays.reads.on.kept k)))
+
+  -- as many as a database's definition says
+  same_count : (n : ℕ) → n ≡ batch_of bound here.cursor.rest → length here.cursor.rest ≤ 4294967295 → n ≡ batch_len_of here.cursor most
+  same_count n counted few = by_most most (counted ∙ ap (λ (m : ℕ). batch_of m here.cursor.rest) bound_is)
+    where
+      by_most : (m : Option ℕ) → n ≡ batch_of (unwrap_or m (2 ^ 64 - 1)) here.cursor.rest
+          → n ≡ batch_of (unwrap_or m (length here.cursor.rest)) here.cursor.rest
+      by_most None c = c ∙ batch_past (2 ^ 64 - 1) here.cursor.rest (omega (arith, few))
+      by_most (Some m) c = c
+
+  then_pins : (result : Result GivenBatch Refusal) → Read result → (new : State D) → OnlyPins history read new → ReadsThenPins history old new
+  then_pins result r new pins = record { read = read; on = r.on; unchanged = r.unchanged; same = r.same; pins = pins }
+
+  -- ---- what was read is refused
+
+  pub gives_refused : (e : Refusal) → is_stopped old ≡ false → Read (Err e) → Gives (Err e) read held
+  gives_refused e running r = record {
+    goes = then_pins (Err e) r read (no_pins history read);
+    err = refl;
+    answers = λ k tied. r.answers k w is (reads_tied r.on running k tied);
+    tied = tied_on history old read held.list r.on;
+  }
+
+  module _ (b : GivenBatch) (running : is_stopped old ≡ false) (r : Read (Ok b)) where
+    next : KeepsWord (disk_history history read) → AreTied history old held.list → IsNextBatch history read here w namespace bound b
+    next k tied = r.answers k w is (reads_tied r.on running k tied)
+
+    says : (n : IsNextBatch history read here w namespace bound b)
+        → b.reply ≡ ok_reply (batch_reply (codes "nextBatch") (batch_len_of here.cursor most) here.cursor.rest here.cursor.number namespace)
+    says n = n.says
+        ∙ ap (λ (m : ℕ). ok_reply (batch_reply (codes "nextBatch") m here.cursor.rest here.cursor.number namespace)) (same_count b.count n.counted n.few)
+
+    -- ---- others are left
+
+    module _ (text : Vec ℕ) (some : b.next ≡ Some text) where
+      more : IsNextBatch history read here w namespace bound b
+          → (b.count < length here.cursor.rest) × ReadsRest history read (onwards b.count text.items w) (drop b.count here.cursor.rest)
+      more n = subst
+          (λ (o : Option (Vec ℕ)). MatchOption o (length here.cursor.rest ≤ b.count)
+          (λ t. (b.count < length here.cursor.rest) × ReadsRest history read (onwards b.count t.items w) (drop b.count here.cursor.rest)))
+          some n.next
+
+      pub gives_more : (after_it : Held) → after_it ≡ gone_on held at b.count (option_map (onwards b.count text.items) here.walk)
+          → Gives (Ok b.reply) read after_it
+      gives_more after_it went =
+          let on : after_it ≡ gone_on held at b.count (Some (onwards b.count text.items w)) =
+          went ∙ ap (λ (walk : Option HeldWalk). gone_on held at b.count (option_map (onwards b.count text.items) walk)) is in
+          let x : HeldCursor = after here b.count (Some (onwards b.count text.items w)) in
+          record {
+            goes = then_pins (Ok b) r read (no_pins history read);
+            err = tt;
+            answers = λ k tied.
+                let n = next k tied in
+                record {
+                  says = says n;
+                  left = ap table_of on ∙ gone_on_in_table held at b.count (Some (onwards b.count text.items w)) (more n).0
+                      ∙ ap (λ (m : ℕ). let t : CursorTable = record { list = advanced (cursors_of held) at m; next = held.next } in t)
+                      (same_count b.count n.counted n.few);
+                };
+            tied = λ tied.
+                let on_read = tied_on history old read held.list r.on tied in
+                subst (λ (h : Held). AreTied history read h.list) (sym on)
+                (tied_set history read held.list at there x
+                (ap (λ (walk : Option HeldWalk). with_pin walk []) (sym is)) on_read
+                (λ still k. (more (next k tied)).1));
+          }
+
+    -- ---- it gave its last
+
+    pub gives_last : b.next ≡ None → (new : State D) (after_it : Held) → after_it ≡ without held at → Releases history read new held after_it
+        → Gives (Ok b.reply) new after_it
+    gives_last none new after_it went releases = record {
+      goes = then_pins (Ok b) r new releases.pins;
+      err = tt;
+      answers = λ k tied.
+          let n = next (subst KeepsWord releases.pins.untouched.disk k) tied in
+          let few = subst
+          (λ (o : Option (Vec ℕ)). MatchOption o (length here.cursor.rest ≤ b.count)
+          (λ t. (b.count < length here.cursor.rest) × ReadsRest history read (onwards b.count t.items w) (drop b.count here.cursor.rest)))
+          none n.next in
+          record {
+            says = says n;
+            left = ap table_of went ∙ ended_in_table held at b.count few
+                ∙ ap (λ (m : ℕ). let t : CursorTable = record { list = advanced (cursors_of held) at m; next = held.next } in t)
+                (same_count b.count n.counted n.few);
+          };
+      tied = λ tied. releases.tied (tied_on history old read held.list r.on tied);
+    }
+
+-- A file that has stopped gives nothing.
+pub gives_stopped : {D : Type 0} (history : D → History) (file : State D) (held : Held) (at : ℕ) (namespace : List ℕ) (most : Option ℕ)
+    → is_stopped file ≡ true → GivesNext history at namespace most (Err refusals.StorageFailed) file file held held
+gives_stopped history file held at namespace most stopped = record {
+  goes = record {
+    read = file;
+    on = goes_from_itself history file;
+    unchanged = refl;
+    same = λ start now has. has;
+    pins = no_pins history file;
+  };
+  err = refl;
+  answers = λ k tied. inr (inl (refl, inl stopped));
+  tied = λ tied. tied;
+}

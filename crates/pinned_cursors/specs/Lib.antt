@@ -1,0 +1,4 @@
+pub mod Tied
+pub mod Turns
+pub mod Opening
+pub mod Batches

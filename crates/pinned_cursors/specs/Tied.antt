@@ -1,0 +1,55 @@
+-- Cursors that hold no documents, and the file in which the versions that they read are pinned.
+use Rattle.std.specs.Prelude.{◌≡◌, ⊤, ℕ, false, All, List, [], ◌∷◌, Option, Some, None}
+use Rattle.std.specs.Prelude.{MatchOption}
+use Rattle.std.specs.List.{AllByRecursion}
+use Rattle.bson.specs.Tree.{Pairs}
+use Rattle.page.specs.History.{History, KeepsWord}
+use Rattle.btree.specs.Keys.{times}
+use Rattle.index.specs.State.{Collection}
+use Rattle.collections.specs.Reading.{IsNumbered}
+use Rattle.collections.specs.State.{State}
+use Rattle.collections.specs.Versions.{HasSinceStart, pins_of}
+use Rattle.collections.specs.View.{disk_history, is_stopped}
+use Rattle.database_model.specs.Lawful.{IsStored}
+use Rattle.queries.specs.Batches.{walk_rest}
+use Rattle.cursors.specs.Held.{HeldCursor, HeldWalk}
+
+-- what a walk is still to give of the documents of its collection
+abbrev pub left_of : HeldWalk → List Pairs → List Pairs
+left_of w ds = walk_rest w.filter w.projection 0 w.limit w.from ds
+
+-- These documents are what the walk is still to give of the collection of its number, as its
+-- version has had it since the turn began.
+pub record ReadsRest {D : Type 0} (history : D → History) (file : State D) (w : HeldWalk)
+    (rest : List Pairs) : Type 0 where
+  pub collections : List Collection
+  pub had : HasSinceStart history file w.version collections
+  pub home : Collection
+  pub numbered : IsNumbered collections home w.number
+  pub stored : All IsStored home.documents
+  pub same : rest ≡ left_of w home.documents
+
+-- what is left of a cursor that holds no documents is what its walk is still to give
+abbrev pub IsTied : {D : Type 0} → (D → History) → State D → HeldCursor → Type 0
+IsTied history file h =
+    MatchOption h.walk ⊤ (λ w. ReadsRest history file w h.cursor.rest)
+
+-- ---- pins
+
+-- the commit whose version a walk pins, before others
+abbrev pub with_pin : Option HeldWalk → List ℕ → List ℕ
+with_pin None pins = pins
+with_pin (Some w) pins = w.version.generation ∷ pins
+
+-- the commits that cursors pin, once for each cursor
+abbrev pub pins_by : List HeldCursor → List ℕ
+pins_by [] = []
+pins_by (h ∷ hs) = with_pin h.walk (pins_by hs)
+
+-- While the disk keeps its word and until the file stops, what is left of each cursor is what its
+-- walk gives. Nothing is pinned but for the cursors.
+pub record AreTied {D : Type 0} (history : D → History) (file : State D)
+    (list : List HeldCursor) : Type 0 where
+  pub each : is_stopped file ≡ false → KeepsWord (disk_history history file)
+      → AllByRecursion (IsTied history file) list
+  pub pins : (n : ℕ) → times n (pins_of file) ≡ times n (pins_by list)

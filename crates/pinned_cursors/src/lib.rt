@@ -1,0 +1,11 @@
+//! Cursors that hold no documents, over the file in which the versions that they read are pinned.
+#![tactic(auto)]
+
+mod ending;
+mod giving;
+mod opening;
+mod reading;
+
+pub use ending::end_all;
+pub use giving::give_next;
+pub use opening::{Left, open_pinned};

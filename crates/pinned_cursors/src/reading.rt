@@ -1,0 +1,100 @@
+//! Cursors that hold no documents give their next batches.
+
+ghost use Rattle.std.specs.Prelude.{◌≡◌, ◌≢◌, ◌<◌, ◌≤◌, IfOk, None, length};
+ghost use Rattle.cursors.specs.Held.{cursors_of, held_at};
+ghost use Rattle.database_model.specs.Lawful.{AreLawfulCursors};
+ghost use Rattle.pinned_cursors.specs.Batches.{GivesNext, ReadsAt};
+ghost use Rattle.replies.specs.View.{IsSendable};
+
+use crate::ending::end;
+use bson::SpelledDocument;
+use collections::Collections;
+use cursors::{Cursors, PinnedWalk};
+use page::Disk;
+use path::Refusal;
+use queries::{BatchAsked, GivenBatch, Walk, batch_of_version};
+use replies::BatchKind;
+use std::alloc::Global;
+
+/// The walk by which a cursor goes on, as queries take it.
+fn walk_on(pinned: &PinnedWalk) -> Walk<'_>
+    ensures filter { result.filter.now ≡ pinned.now.filter }
+    ensures projection { result.projection.now ≡ pinned.now.projection }
+    ensures skip { result.skip ≡ 0 }
+    ensures limit { result.limit ≡ pinned.now.limit }
+    ensures from { result.from.now ≡ pinned.now.from.items }
+{
+    Walk {
+        filter: &pinned.filter,
+        projection: &pinned.projection,
+        skip: 0,
+        limit: pinned.limit,
+        from: &pinned.from,
+    }
+}
+
+/// The next batch of the cursor at a place, read from its version.
+fn read_at<D: Disk>(
+    alloc: Global,
+    file: &mut Collections<D>,
+    cursors: &Cursors,
+    at: usize,
+    namespace: &str,
+    most: usize,
+) -> Result<GivenBatch, Refusal>
+    requires there { at < length cursors.now.list }
+    requires pinned { (held_at cursors.now at).walk ≢ None }
+    requires short { length namespace.now ≤ 255 }
+    ensures reads { ReadsAt D.history (held_at cursors.now at) namespace.now most result file.old
+        file.new }
+    ensures sendable { IfOk result (λ b. IsSendable b.reply) }
+{
+    let Some(pinned) = cursors.walk_at(at) else {
+        unreachable!("it reads a pinned version");
+    };
+    let walk = walk_on(pinned);
+    let asked = BatchAsked {
+        kind: BatchKind::Next,
+        namespace,
+        number: cursors.number_at(at),
+        most,
+    };
+    batch_of_version(alloc, file, pinned.version, pinned.number, &walk, &asked)
+}
+
+/// Gives the next documents of the cursor at a place, which holds none: they are read from its version. With its
+/// last one it ends, and its pin with it. A refusal leaves it as it was.
+pub(crate) fn next_batch<D: Disk>(
+    alloc: Global,
+    file: &mut Collections<D>,
+    cursors: &mut Cursors,
+    at: usize,
+    namespace: &str,
+    most: Option<usize>,
+) -> Result<SpelledDocument, Refusal>
+    requires there { at < length cursors.old.list }
+    requires pinned { (held_at cursors.old at).walk ≢ None }
+    requires short { length namespace.now ≤ 255 }
+    ensures gives { GivesNext D.history at namespace.now most result file.old file.new cursors.old
+        cursors.new }
+    ensures lawful { AreLawfulCursors (cursors_of cursors.old)
+        → AreLawfulCursors (cursors_of cursors.new) }
+    ensures sendable { IfOk result (λ d. IsSendable d) }
+{
+    if file.is_stopped() {
+        return Err(Refusal::StorageFailed);
+    }
+    let bound = most.unwrap_or(usize::MAX);
+    let batch = read_at(alloc, file, cursors, at, namespace, bound)?;
+    let GivenBatch { reply, count, next } = batch;
+    match next {
+        Some(from) => {
+            cursors.go_on(at, count, from);
+            Ok(reply)
+        }
+        None => {
+            end(file, cursors, at);
+            Ok(reply)
+        }
+    }
+}
