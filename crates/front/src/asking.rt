@@ -2,7 +2,7 @@
 
 ghost use Rattle.server.specs.Durable.{IsSound};
 
-use crate::cursors::OpenCursor;
+use crate::open_cursors::OpenCursor;
 use bson::{Array, BuildFault, Document, MESSAGE_LIMIT, NoMemory, Value, decode};
 use engine::ConnId;
 use op_msg::{FRAME_BYTES, reply};

@@ -3,10 +3,10 @@
 #![tactic(auto)]
 
 mod asking;
-mod cursors;
 mod front;
 mod job;
 mod lending;
+mod open_cursors;
 mod serving;
 mod socket;
 

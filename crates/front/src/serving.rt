@@ -11,7 +11,7 @@ ghost use Rattle.front.specs.Alone.{AreLentTo, GoesOnAlone, has_begun, is_alone}
 use crate::asking::{
     NotAsked, ask, cursor_left, document_of, end_command, has_ended, namespace_of,
 };
-use crate::cursors::{OpenCursor, OpenCursors};
+use crate::open_cursors::{OpenCursor, OpenCursors};
 use crate::job::{Question, Stage};
 use crate::lending::{Lending, Loan};
 use crate::socket::Socket;
