@@ -1,11 +1,9 @@
 //! `delete`: what its statements leave of a collection.
 
-ghost use Rattle.std.specs.Prelude.{◌≡◌, true, [], IfOk, Ok, OnOk};
+ghost use Rattle.std.specs.Prelude.{◌≡◌, [], map, IfOk, Ok};
 ghost use Rattle.database_model.specs.Delete.{run_delete};
 ghost use Rattle.engine.specs.Looking.{Looks};
 ghost use Rattle.database_model.specs.Merging.{is_deleted};
-ghost use Rattle.index.specs.View.{texts_of};
-ghost use Rattle.queries.specs.ById.{ArePut, TellIds};
 ghost use Rattle.page.specs.History.{KeepsWord};
 ghost use Rattle.engine.specs.Durable.{disk_history, has_changes, IsSound};
 ghost use Rattle.engine.specs.Performing.{Performs};
@@ -22,29 +20,10 @@ use filter::Filter;
 use index::{Catalogued, Edits};
 use page::Disk;
 use path::Refusal;
-use queries::{Selects, put_ids};
+use queries::Selects;
 use replies::{SharedDocument, total_reply};
 use statements::{after_deletions, is_deleted};
 use std::alloc::Global;
-
-/// Puts the key texts of the `_id`s that statements ask for behind others; false where one of them asks for
-/// none.
-fn put_deleted(
-    alloc: Global,
-    ids: &mut Vec<Vec<u8>>,
-    deletions: &[Deletion],
-) -> Result<bool, NoMemory>
-    ensures put { OnOk result (ArePut (texts_of ids.old.items) (texts_of ids.new.items)) }
-    ensures tells { IfOk result (λ told. told ≡ true
-        → TellIds (is_deleted deletions.now) (texts_of ids.new.items)) }
-{
-    'deletions: for deletion in deletions {
-        if !put_ids(alloc, ids, &deletion.filter)? {
-            return Ok(false);
-        }
-    }
-    Ok(true)
-}
 
 /// The documents that a statement of a delete matches.
 #[derive(Drop)]
@@ -55,12 +34,25 @@ struct Matched<'a> {
 impl Selects for Matched<'_> {
     ghost selects = { λ a. is_deleted a.deletions.now };
 
+    ghost filters = { λ a. map (λ d. d.filter) a.deletions.now };
+
     fn selects_raw(&self, alloc: Global, document: &RawDoc<'_>) -> Result<bool, NoMemory> {
         is_deleted(alloc, self.deletions, document)
     }
 
-    fn put_ids(&self, alloc: Global, ids: &mut Vec<Vec<u8>>) -> Result<bool, NoMemory> {
-        put_deleted(alloc, ids, self.deletions)
+    fn filter_count(&self) -> usize {
+        self.deletions.len()
+    }
+
+    fn filter_at(&self, at: usize) -> Option<&Filter> {
+        match self.deletions.get(at) {
+            Some(deletion) => Some(&deletion.filter),
+            None => None,
+        }
+    }
+
+    fn put_ids(&self, _alloc: Global, _ids: &mut Vec<Vec<u8>>) -> Result<bool, NoMemory> {
+        Ok(true)
     }
 
     fn asked_filter(&self) -> Option<&Filter> {

@@ -103,7 +103,11 @@ impl<D: Disk> Engine<D> {
         ensures sendable { IfOk result (λ a. IsSendable (answer_of a)) }
     {
         match Command::read(self.alloc, body) {
-            Ok(command) => self.perform(connection, &command),
+            Ok(command) => {
+                let outcome = self.perform(connection, &command);
+                drop(command);
+                outcome
+            }
             Err(refusal) => Err(refusal),
         }
     }

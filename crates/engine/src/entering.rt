@@ -3,13 +3,16 @@
 ghost use Rattle.std.specs.Prelude.{◌≡◌, ◌≤◌, [], IfOk, length, option_map};
 ghost use Rattle.collections.specs.Reading.{IsWithinLimits};
 ghost use Rattle.index.specs.Entering.{AreKeyed};
+ghost use Rattle.index.specs.LawfulState.{IsStorable};
 ghost use Rattle.engine.specs.Durable.{IsSound};
 ghost use Rattle.engine.specs.Looking.{LooksOf};
 ghost use Rattle.engine.specs.Storing.{AreNoted, IsBeside, IsFull, MayEnter, Notes, TellsDuplicate, TellsTaken, entering};
 ghost use Rattle.engine.specs.Trying.{Tries};
 ghost use Rattle.statements.specs.Updating.{MayBePut};
 ghost use Rattle.engine.specs.View.{world};
+ghost use Rattle.database_model.specs.Documents.{key_of};
 ghost use Rattle.database_model.specs.World.{collection_of};
+ghost use Rattle.value_order.specs.KeyText.{tree_text};
 
 use crate::engine::Engine;
 use bson::Document;
@@ -112,14 +115,41 @@ impl<D: Disk> Engine<D> {
     {
         let id = id_text(self.alloc, document)?;
         let keyed = Keyed::new(self.alloc, &home.indexes, document)?;
-        if self.is_duplicate(edits, home, &id, &keyed, replaced.is_none())? {
+        self.enter_keyed(edits, namespace, home, replaced, &id, &keyed)
+    }
+
+    /// The same of a document whose `_id` has this key text, and that has these keys.
+    fn enter_keyed(
+        &mut self,
+        edits: &mut Edits,
+        namespace: &str,
+        home: &mut Catalogued,
+        replaced: Option<&Document>,
+        id: &[u8],
+        keyed: &Keyed<'_>,
+    ) -> Result<(), Refusal>
+        requires sound { IsSound D.history self.old }
+        requires short { length namespace.now ≤ 255 }
+        requires limits { IsWithinLimits home.old }
+        requires storable { IsStorable keyed.now.document.now }
+        requires text { id.now ≡ tree_text (key_of keyed.now.document.now) }
+        requires keyed { AreKeyed home.old.indexes.items keyed.now }
+        ensures notes { Notes D.history namespace.now
+            (MayEnter (option_map (λ d. d.now) replaced.entry) keyed.now.document.now)
+            (entering (option_map (λ d. d.now) replaced.entry) keyed.now.document.now)
+            home.old home.new edits.old edits.new result self.old self.new }
+        ensures limits { IsWithinLimits home.new }
+    {
+        if self.is_duplicate(edits, home, id, keyed, replaced.is_none())? {
             return Err(Refusal::DuplicateKey);
         }
         match replaced {
-            None => Ok(edits.enter_document(namespace, home, &id, None, &keyed)?),
+            None => Ok(edits.enter_document(namespace, home, id, None, keyed)?),
             Some(old) => {
                 let old = Keyed::new(self.alloc, &home.indexes, old)?;
-                Ok(edits.enter_document(namespace, home, &id, Some(&old), &keyed)?)
+                let entered = edits.enter_document(namespace, home, id, Some(&old), keyed);
+                drop(old);
+                Ok(entered?)
             }
         }
     }

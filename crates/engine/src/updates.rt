@@ -31,7 +31,7 @@ use filter::Filter;
 use index::{Catalogued, Edits};
 use page::Disk;
 use path::Refusal;
-use queries::{Selects, put_id, put_ids};
+use queries::{Selects, put_id};
 use replies::{REPLY_LIMIT, SharedDocument};
 use statements::{
     ID, Ran, Tally, Write, compare_id, read_id, run_on, unless_memory, update_reply,
@@ -126,25 +126,6 @@ fn has_id_of_raw(
     )
 }
 
-/// Puts the key texts of the `_id`s that statements ask for behind others; false where one of them asks for
-/// none.
-fn put_updated(
-    alloc: Global,
-    ids: &mut Vec<Vec<u8>>,
-    statements: &[UpdateStatement],
-) -> Result<bool, NoMemory>
-    ensures put { OnOk result (ArePut (texts_of ids.old.items) (texts_of ids.new.items)) }
-    ensures tells { IfOk result (λ told. told ≡ true
-        → TellIds (is_updated statements.now) (texts_of ids.new.items)) }
-{
-    'statements: for statement in statements {
-        if !put_ids(alloc, ids, &statement.filter)? {
-            return Ok(false);
-        }
-    }
-    Ok(true)
-}
-
 /// Puts the key text of a document's `_id` behind others; false where it has none, or a longer one than a
 /// stored document's.
 fn put_id_of(alloc: Global, ids: &mut Vec<Vec<u8>>, document: &Document) -> Result<bool, NoMemory>
@@ -187,6 +168,8 @@ struct Meaning<'a> {
 impl Selects for Meaning<'_> {
     ghost selects = { λ a. is_meant_by a.statements.now a.made.now };
 
+    ghost filters = { λ a. map (λ s. s.filter) a.statements.now };
+
     fn selects_raw(&self, alloc: Global, document: &RawDoc<'_>) -> Result<bool, NoMemory> {
         if is_updated_raw(alloc, self.statements, document)? {
             return Ok(true);
@@ -194,10 +177,18 @@ impl Selects for Meaning<'_> {
         has_id_of_raw(alloc, self.made, document)
     }
 
-    fn put_ids(&self, alloc: Global, ids: &mut Vec<Vec<u8>>) -> Result<bool, NoMemory> {
-        if !put_updated(alloc, ids, self.statements)? {
-            return Ok(false);
+    fn filter_count(&self) -> usize {
+        self.statements.len()
+    }
+
+    fn filter_at(&self, at: usize) -> Option<&Filter> {
+        match self.statements.get(at) {
+            Some(statement) => Some(&statement.filter),
+            None => None,
         }
+    }
+
+    fn put_ids(&self, alloc: Global, ids: &mut Vec<Vec<u8>>) -> Result<bool, NoMemory> {
         put_ids_of(alloc, ids, self.made)
     }
 

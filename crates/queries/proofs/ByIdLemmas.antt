@@ -1,7 +1,7 @@
 -- Documents that are looked up by `_id` where a filter asks for one: they are those that a walk finds.
 use Rattle.std.proofs.Common.{◌≡◌, inl, inr, ℕ, zero, suc, ◌<◌, Bool, true, false, List, [], ◌∷◌, length, get_or, Option, Some, None, Ok, Err, refl, sym, ap}
 use Rattle.std.proofs.Common.{subst, ◌∙◌, arith}
-use Rattle.std.specs.Prelude.{IfSome, ◌&&◌, ◌||◌, not, is_some, option_and_then, option_map}
+use Rattle.std.specs.Prelude.{IfSome, ◌&&◌, ◌||◌, option_and_then, option_map}
 use Rattle.std.specs.List.{list_any}
 use Rattle.std.specs.Ordering.{is_eq}
 use Rattle.std.specs.declared.cmp.Ordering.{Ordering}
@@ -12,8 +12,8 @@ use Rattle.bson.specs.Lookup.{lookup}
 use Rattle.page.specs.History.{History, KeepsWord}
 use Rattle.path.specs.Reach.{reach, candidates}
 use Rattle.path.specs.declared.refusal.Refusal.TheVariants as refusals
-use Rattle.update.specs.Stored.{limits_fault, id_name, no_array}
-use Rattle.filter.specs.Condition.{equal, at, Conditions}
+use Rattle.update.specs.Stored.{id_name, no_array}
+use Rattle.filter.specs.Condition.{equal, Conditions}
 use Rattle.filter.specs.Matches.{is_equal, matches, is_null, candidate_passes, passes, holds, all_hold, Subject}
 use Rattle.filter.specs.ProjectionReading.{is_id}
 use Rattle.filter.specs.View.{condition_of, conditions_of}

@@ -1,19 +1,17 @@
 -- Documents that an index gives in the order of a sort are the first ones in that order.
-use Rattle.std.proofs.Common.{◌≡◌, ℕ, zero, suc, ◌+◌, ◌<◌, ◌≤◌, Bool, true, List, [], ◌∷◌, ◌++◌, length, map, take, Option, Some, None, refl, sym, ap, subst}
+use Rattle.std.proofs.Common.{◌≡◌, ℕ, zero, suc, ◌<◌, ◌≤◌, Bool, true, List, [], ◌∷◌, ◌++◌, length, map, take, Option, Some, refl, sym, ap, subst}
 use Rattle.std.proofs.Common.{◌∙◌, arith, append_assoc, length-append}
-use Rattle.std.specs.Prelude.{All, Contains, unwrap_or}
+use Rattle.std.specs.Prelude.{Contains, unwrap_or}
 use Rattle.std.specs.List.{AllByRecursion, filter}
-use Rattle.std.specs.declared.cmp.Ordering.TheVariants.{Less}
 use Rattle.std.proofs.lemmas.List.{append-nil, length-take, take_all}
 use Rattle.std.proofs.lemmas.List.Sorted.{length_permutation}
 use Rattle.std.proofs.Math.Seq.{take-append_seam}
-use Rattle.bson.specs.Tree.{Tree, Pairs}
+use Rattle.bson.specs.Tree.{Pairs}
 use Rattle.filter.specs.Condition.{Conditions}
 use Rattle.filter.specs.Matches.{matches}
 use Rattle.filter.specs.Sort.{SortField, compare_by, order}
 use Rattle.filter.specs.SortLaws.{sorted-permuted}
 use Rattle.btree.specs.Keys.{Each, IsUnder, Rises as KeysRise}
-use Rattle.value_order.specs.KeyText.{tree_text}
 use Rattle.value_order.specs.Order.{bytes_cmp}
 use Rattle.index.specs.Definition.{Definition}
 use Rattle.index.specs.LawfulState.{IsKept, IsLawfulState}

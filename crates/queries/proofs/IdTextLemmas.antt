@@ -1,6 +1,6 @@
 -- Texts of `_id`s that are put behind others, and whose documents they tell.
 use Rattle.std.proofs.Common.{◌≡◌, inl, ◌≤◌, ◌<◌, ℕ, Bool, true, false, List, [], ◌∷◌, ◌++◌, length, get_or, Some, refl, sym, ap, subst, ◌∙◌, arith}
-use Rattle.std.specs.Prelude.{◌&&◌, ◌||◌, IfOk, OnOk, Result, Ok, Err}
+use Rattle.std.specs.Prelude.{◌&&◌, ◌||◌}
 use Rattle.std.specs.Global.{Vec}
 use Rattle.std.specs.List.{AllByRecursion}
 use Rattle.std.specs.Ordering.{is_eq, ordering_reverse}
@@ -37,8 +37,7 @@ use Rattle.planner.proofs.RisingLemmas.{pairs_of}
 use Rattle.aggregate.specs.EnoughLaws.{All-append}
 use Rattle.database_model.specs.Lawful.{IsStored}
 use Rattle.queries.specs.Asking.{IsAsked}
-use Rattle.queries.specs.ById.{AreIdsOf, ArePut, HasId, IsIdText, IsPlain, Tell, TellIds, TellValues}
-use Rattle.queries.specs.ByIndex.{AsksMatching}
+use Rattle.queries.specs.ById.{AreIdsOf, ArePut, HasId, IsIdText, IsIn, IsPlain, Tell, TellBeside, TellIds, TellValues}
 use Rattle.queries.proofs.ByIdLemmas.{and_first, equal_eq, holds_at, lookup_of, never_missing, or_none, reached_id}
 use Rattle.queries.proofs.ByIndexLemmas.{rise}
 
@@ -81,41 +80,21 @@ or_next true now one rest kept tells e = ap (λ (b : Bool). b || rest) (kept ref
 or_next false now true rest kept tells e = ap (λ (b : Bool). b || rest) (tells refl)
 or_next false now false rest kept tells e = or_true now rest e
 
--- Whatever passes all has one of these texts, or passes what is left.
-abbrev pub AreLeft : {X : Type 0} → (X → Type 0) → (X → List ℕ) → (X → Bool) → (X → Bool) → List (List ℕ) → Type 0
-AreLeft {X} Is text_of all left texts = (x : X) → Is x → all x ≡ true → (is_among texts (text_of x) || left x) ≡ true
-
 module _ {X : Type 0} (Is : X → Type 0) (text_of : X → List ℕ) (all : X → Bool) where
-  pub left_all : (texts : List (List ℕ)) → AreLeft Is text_of all all texts
+  pub left_all : (texts : List (List ℕ)) → TellBeside Is text_of all all texts
   left_all texts x has e = or_true (is_among texts (text_of x)) (all x) e
 
   pub left_next : (one rest : X → Bool) (texts next : List (List ℕ)) → ArePut texts next → Tell Is text_of one next
-      → AreLeft Is text_of all (λ x. one x || rest x) texts → AreLeft Is text_of all rest next
+      → TellBeside Is text_of all (λ x. one x || rest x) texts → TellBeside Is text_of all rest next
   left_next one rest texts next put tells left x has e =
       or_next (is_among texts (text_of x)) (is_among next (text_of x)) (one x) (rest x) (put.kept (text_of x)) (tells x has) (left x has e)
 
-  pub left_none : (texts : List (List ℕ)) → AreLeft Is text_of all (λ x. false) texts → Tell Is text_of all texts
+  pub left_none : (texts : List (List ℕ)) → TellBeside Is text_of all (λ x. false) texts → Tell Is text_of all texts
   left_none texts left x has e = or_none (is_among texts (text_of x)) (left x has e)
 
--- those that pass one test, and those that pass another
-pub both_tell : {X : Type 0} (Is : X → Type 0) (text_of : X → List ℕ) (p q : X → Bool) (mid new : List (List ℕ)) → ArePut mid new → Tell Is text_of p mid
-    → Tell Is text_of q new → Tell Is text_of (λ x. p x || q x) new
-both_tell Is text_of p q mid new put first second x has e =
-    either (p x) (q x) (is_among new (text_of x)) (λ is_p. put.kept (text_of x) (first x has is_p)) (second x has) e
-  where
-    either : (a b now : Bool) → (a ≡ true → now ≡ true) → (b ≡ true → now ≡ true) → (a || b) ≡ true → now ≡ true
-    either true b now from_a from_b e = from_a refl
-    either false b now from_a from_b e = from_b e
-
-pub if_put : {X E : Type 0} (r : Result X E) (a b c : List (List ℕ)) → ArePut a b → OnOk r (ArePut b c) → OnOk r (ArePut a c)
-if_put (Ok x) a b c first h = put_on a b c first h
-if_put (Err e) a b c first h = tt
-
-pub if_both : {X E : Type 0} (Is : X → Type 0) (text_of : X → List ℕ) (p q : X → Bool) (mid new : List (List ℕ)) (r : Result Bool E) → Tell Is text_of p mid
-    → OnOk r (ArePut mid new) → IfOk r (λ told. told ≡ true → Tell Is text_of q new)
-    → IfOk r (λ told. told ≡ true → Tell Is text_of (λ x. p x || q x) new)
-if_both Is text_of p q mid new (Ok told) first put second = λ e. both_tell Is text_of p q mid new put first (second e)
-if_both Is text_of p q mid new (Err e) first put second = tt
+pub either_tells : (a b now : Bool) → (a ≡ true → now ≡ true) → (b ≡ true → now ≡ true) → (a || b) ≡ true → now ≡ true
+either_tells true b now from_a from_b e = from_a refl
+either_tells false b now from_a from_b e = from_b e
 
 -- ---- conditions on a value
 
@@ -188,7 +167,8 @@ ids_of (k ∷ ks) h = let rest = ids_of ks h.1 in (h.0.id ∷ rest.0, (h.0.spell
 
 -- the documents of a collection that pass are among those of the texts
 pub ids_told : (home : Catalogued) (p : Pairs → Bool) (texts told : List (List ℕ)) (now : List Collection) (c : Collection) → AllByRecursion IsIdText texts
-    → TellIds p texts → told ≡ ascending_set texts → IsLawfulState now → IsAsked home now c → AreIdsOf home.number p told now c
+    → Tell (IsIn c) (λ d. tree_text (key_of d)) p texts → told ≡ ascending_set texts → IsLawfulState now → IsAsked home now c
+    → AreIdsOf home.number p told now c
 ids_told home p texts told now c each tells made state asked =
     let kept = (found_collection now c.name c state asked.numbered.found).0 in
     let set = ascending_set texts in
@@ -201,12 +181,5 @@ ids_told home p texts told now c each tells made state asked =
       all = λ d there passes.
           let here = among_of c.documents d there in
           let has : HasId d = (of_all IsStored c.documents d asked.stored here, id_is_key d (of_all IsStorable c.documents d kept.storable here)) in
-          contains_of set (tree_text (key_of d)) (test_among set (tree_text (key_of d)) (set_among texts (tree_text (key_of d)) ∙ tells d has passes));
+          contains_of set (tree_text (key_of d)) (test_among set (tree_text (key_of d)) (set_among texts (tree_text (key_of d)) ∙ tells d (there, has) passes));
     })
-
--- ---- pipelines
-
--- what a pipeline takes, the filter in front matches
-pub taken_tells : (p : Pairs → Bool) (rs : Conditions) (texts : List (List ℕ)) → AsksMatching p rs → TellIds (λ d. all_hold rs (whole d)) texts
-    → TellIds p texts
-taken_tells p rs texts narrow tells d has passes = tells d has (narrow d passes)

@@ -10,6 +10,7 @@ pub mod LookingUpLemmas
 pub mod ByIndexLemmas
 pub mod IdRangeLemmas
 pub mod IdTextLemmas
+pub mod AskingLemmas
 pub mod OrderingLemmas
 pub mod ByOrderLemmas
 pub mod DepthLemmas

@@ -132,6 +132,19 @@ reads_made history Is P R old new x y reads on = record {
   answers = λ k start now has asked is. on now asked is (reads.answers k start now has asked is);
 }
 
+-- the same, of lawful collections
+pub reads_told : {D A X Y : Type 0} (history : D → History) (Is : List Collection → A → Type 0) (P : List Collection → A → X → Type 0) (R : List Collection
+    → A → Y → Type 0) (old new : State D) (x : X) (y : Y) → is_stopped old ≡ false → ReadsOf history Is P (Ok x) old new
+    → ((now : List Collection) → IsLawfulState now → (asked : A) → Is now asked → P now asked x → R now asked y) → ReadsOf history Is R (Ok y) old new
+reads_told history Is P R old new x y running reads on = record {
+  on = reads.on;
+  unchanged = reads.unchanged;
+  same = reads.same;
+  answers = λ k start now has asked is.
+      let t : IsTurnOf history old start now = has running (word_before history old new reads.on k) in
+      on now t.now_state asked is (reads.answers k start now has asked is);
+}
+
 pub reads_memory : {D A X Y : Type 0} (history : D → History) (Is : List Collection → A → Type 0) (P : List Collection → A → X → Type 0) (R : List Collection
     → A → Y → Type 0) (r : Result X Refusal) (old new : State D) (e : Refusal) → e ≡ refusals.OutOfMemory → ReadsOf history Is P r old new
     → ReadsOf history Is R (Err e) old new

@@ -1,5 +1,5 @@
 -- What is known of documents that a filter matches, where an index has a range for it.
-use Rattle.std.specs.Prelude.{◌≡◌, ◌≤◌, ℕ, Bool, true, List, [], length, take, Some, Contains}
+use Rattle.std.specs.Prelude.{◌≡◌, ◌≤◌, ℕ, Bool, true, List, length, take, Some, Contains}
 use Rattle.std.specs.List.{filter}
 use Rattle.bson.specs.Tree.{Tree, Pairs}
 use Rattle.aggregate.specs.Stage.{Stage}

@@ -103,7 +103,11 @@ fn put_at(alloc: Global, ids: &mut Vec<Vec<u8>>, condition: &Condition) -> Resul
 
 /// Puts the key texts of the `_id`s that a filter asks for behind others: a stored document that it matches has one of them. False
 /// where it asks for none, or for one whose text is too long; some of the texts may stand there then.
-pub fn put_ids(alloc: Global, ids: &mut Vec<Vec<u8>>, filter: &Filter) -> Result<bool, NoMemory>
+pub(crate) fn put_ids(
+    alloc: Global,
+    ids: &mut Vec<Vec<u8>>,
+    filter: &Filter,
+) -> Result<bool, NoMemory>
     ensures put { OnOk result (ArePut (texts_of ids.old.items) (texts_of ids.new.items)) }
     ensures tells { IfOk result (λ told. told ≡ true
         → TellIds (matches filter.now) (texts_of ids.new.items)) }

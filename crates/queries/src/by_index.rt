@@ -19,9 +19,6 @@ use path::Refusal;
 use planner::{IndexRange, Plan, choose, ids_in};
 use std::alloc::Global;
 
-/// Where more entries than this lie in a range, its documents are not looked up one by one: a walk through the collection is quicker.
-const MOST_LOOKED_UP: usize = 4_096;
-
 /// The range of one of these indexes that serves a filter and a sort best, if one serves them.
 pub(crate) fn range_asked<'a>(
     alloc: Global,
@@ -44,13 +41,14 @@ pub(crate) fn range_asked<'a>(
     Ok(Some(range))
 }
 
-/// The texts of the `_id`s in the entries of an index that lie in a range, where these are few.
+/// The texts of the `_id`s in the entries of an index that lie in a range, where these are at most so many.
 fn ids_in_range<D: Disk>(
     alloc: Global,
     file: &mut Collections<D>,
     number: u32,
     index: &IndexSpec,
     range: &IndexRange<'_>,
+    most: usize,
 ) -> Result<Option<Vec<Vec<u8>>>, Refusal>
     requires { (range_of range.now).index ≡ Some index.now }
     ensures { ReadsOf D.history (IsNumberedIndex number index.now.number)
@@ -59,25 +57,21 @@ fn ids_in_range<D: Disk>(
         result file.old file.new }
 {
     let span = range.span(alloc)?;
-    let Some(texts) = file.index_texts(
-        number,
-        index.number(),
-        &span.first,
-        &span.last,
-        MOST_LOOKED_UP,
-    )?
+    let Some(texts) = file.index_texts(number, index.number(), &span.first, &span.last, most)?
     else {
         return Ok(None);
     };
     Ok(Some(ids_in(alloc, index, &texts)?))
 }
 
-/// The ascending texts of the `_id`s among which are those of all documents that a filter matches, where an index serves it.
+/// The ascending texts of the `_id`s among which are those of all documents that a filter matches, where an index serves it, by at
+/// most so many of its entries.
 pub(crate) fn ids_by_index<D: Disk>(
     alloc: Global,
     file: &mut Collections<D>,
     home: &Catalogued,
     filter: &Filter,
+    most: usize,
 ) -> Result<Option<Vec<Vec<u8>>>, Refusal>
     ensures { ReadsOf D.history (IsAsked home.now)
         (λ now c found. IfSome found
@@ -94,5 +88,5 @@ pub(crate) fn ids_by_index<D: Disk>(
     let Some(index) = range.index else {
         return Ok(None);
     };
-    ids_in_range(alloc, file, home.number, index, &range)
+    ids_in_range(alloc, file, home.number, index, &range, most)
 }

@@ -3,6 +3,7 @@
 //! index, they are looked up.
 #![tactic(auto)]
 
+mod asking;
 mod batches;
 mod by_id;
 mod by_index;
@@ -18,7 +19,7 @@ mod selects;
 mod within;
 
 pub use batches::{BatchAsked, GivenBatch, Walk, batch_of_turn, batch_of_version};
-pub use by_id::{put_id, put_ids};
+pub use by_id::put_id;
 pub use counting::count_in;
 pub use looking_up::{looked_up_in, selected_in};
 pub use needed::needed_in;

@@ -9,7 +9,7 @@ ghost use Rattle.planner.specs.IdLaws.{with_found};
 ghost use Rattle.queries.specs.ById.{AreIdsOf};
 ghost use Rattle.queries.specs.Asking.{IsAsked};
 
-use crate::by_index::ids_by_index;
+use crate::asking::asked_ids;
 use crate::scanning::scanned;
 use crate::selects::Selects;
 use crate::within::is_within;
@@ -18,7 +18,6 @@ use collections::Collections;
 use index::Catalogued;
 use page::Disk;
 use path::Refusal;
-use planner::ascending;
 use replies::SharedDocument;
 use std::alloc::Global;
 
@@ -106,31 +105,6 @@ pub(crate) fn selected_by_ids<D: Disk, S: Selects>(
         look_up(alloc, file, number, which, id, &mut found)?;
     }
     Ok(found)
-}
-
-/// The ascending texts of `_id`s among which are those of all documents that are looked for, where they can be told without a walk.
-pub(crate) fn asked_ids<D: Disk, S: Selects>(
-    alloc: Global,
-    file: &mut Collections<D>,
-    home: &Catalogued,
-    which: &S,
-) -> Result<Option<Vec<Vec<u8>>>, Refusal>
-    ensures { ReadsOf D.history (IsAsked home.now)
-        (λ now c found. IfSome found
-        (λ ids. AreIdsOf home.now.number (S.selects which.now) (texts_of ids.items) now c))
-        result file.old file.new }
-{
-    if file.is_stopped() {
-        return Err(Refusal::StorageFailed);
-    }
-    let mut ids = Vec::new(alloc);
-    if which.put_ids(alloc, &mut ids)? {
-        return Ok(Some(ascending(ids)));
-    }
-    match which.asked_filter() {
-        Some(filter) => ids_by_index(alloc, file, home, filter),
-        None => Ok(None),
-    }
 }
 
 /// The documents of a collection in a file that are looked for, in ascending order of `_id`: the first ones, up to so many. They are

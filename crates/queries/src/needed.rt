@@ -15,8 +15,9 @@ ghost use Rattle.queries.specs.Asking.{IsAsked};
 ghost use Rattle.queries.specs.ById.{AreIdsOf};
 ghost use Rattle.queries.specs.Folding.{Needs};
 
+use crate::asking::asked_ids;
 use crate::id_range::fold_asked;
-use crate::looking_up::{asked_ids, spelled_within};
+use crate::looking_up::spelled_within;
 use crate::needed_by_order::needed_by_order;
 use crate::within::built_within;
 use aggregate::Pipeline;

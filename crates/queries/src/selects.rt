@@ -1,34 +1,47 @@
 //! Which documents are looked for.
 
-ghost use Rattle.std.specs.Prelude.{◌≡◌, true, Bool, IfOk, IfSome, OnOk};
+ghost use Rattle.std.specs.Prelude.{◌≡◌, ◌∷◌, [], true, Bool, List, IfOk, IfSome, OnOk, get_or, length, option_to_list};
 ghost use Rattle.aggregate.specs.Taking.{takes};
 ghost use Rattle.aggregate.specs.View.{pipeline_of};
 ghost use Rattle.bson.specs.Tree.{Pairs};
+ghost use Rattle.aggregate.specs.Taking.{leading_match};
+ghost use Rattle.filter.specs.Condition.{Conditions};
 ghost use Rattle.filter.specs.Matches.{matches};
 ghost use Rattle.index.specs.View.{texts_of};
-ghost use Rattle.queries.specs.ById.{ArePut, TellIds};
+ghost use Rattle.queries.specs.ById.{ArePut, TellIdsBeside, one_matches};
 ghost use Rattle.queries.specs.ByIndex.{AsksMatching};
 
-use crate::by_id::put_ids;
 use aggregate::Pipeline;
 use bson::{NoMemory, RawDoc};
 use filter::Filter;
 use std::alloc::Global;
 
-/// Which documents are looked for.
+/// Which documents are looked for: those that one of some filters matches, and others that are told by their `_id`s.
 pub trait Selects {
     /// Whether this one is.
     ghost selects: { Self → Pairs → Bool };
+
+    /// The filters.
+    ghost filters: { Self → List Conditions };
 
     /// Whether one that stays its bytes is. No more of it is read than has to be.
     fn selects_raw(&self, alloc: Global, document: &RawDoc<'_>) -> Result<bool, NoMemory>
         ensures { IfOk result (λ answer. answer ≡ selects self.now document.now) };
 
-    /// Puts key texts of `_id`s behind others, one of which each of them has; false where they aren't looked for by their `_id`s.
+    /// How many filters there are.
+    fn filter_count(&self) -> usize
+        ensures { result ≡ length (filters self.now) };
+
+    /// The filter at a place, if there is one.
+    fn filter_at(&self, at: usize) -> Option<&Filter>
+        ensures { IfSome result (λ f. f.now ≡ get_or (filters self.now) at f.now) };
+
+    /// Puts key texts of `_id`s behind others, one of which each of them has that no filter matches; false where they can't be told.
     fn put_ids(&self, alloc: Global, ids: &mut Vec<Vec<u8>>) -> Result<bool, NoMemory>
         ensures put { OnOk result (ArePut (texts_of ids.old.items) (texts_of ids.new.items)) }
         ensures tells { IfOk result (λ told. told ≡ true
-            → TellIds (selects self.now) (texts_of ids.new.items)) };
+            → TellIdsBeside (selects self.now) (one_matches (filters self.now))
+            (texts_of ids.new.items)) };
 
     /// A filter that matches each of them, if there is one.
     fn asked_filter(&self) -> Option<&Filter>
@@ -38,12 +51,22 @@ pub trait Selects {
 impl Selects for Filter {
     ghost selects = { matches };
 
+    ghost filters = { λ a. a ∷ [] };
+
     fn selects_raw(&self, alloc: Global, document: &RawDoc<'_>) -> Result<bool, NoMemory> {
         self.matches_raw(alloc, document)
     }
 
-    fn put_ids(&self, alloc: Global, ids: &mut Vec<Vec<u8>>) -> Result<bool, NoMemory> {
-        put_ids(alloc, ids, self)
+    fn filter_count(&self) -> usize {
+        1
+    }
+
+    fn filter_at(&self, _at: usize) -> Option<&Filter> {
+        Some(self)
+    }
+
+    fn put_ids(&self, _alloc: Global, _ids: &mut Vec<Vec<u8>>) -> Result<bool, NoMemory> {
+        Ok(true)
     }
 
     fn asked_filter(&self) -> Option<&Filter> {
@@ -55,15 +78,22 @@ impl Selects for Filter {
 impl Selects for Pipeline {
     ghost selects = { λ a. takes (pipeline_of a) };
 
+    ghost filters = { λ a. option_to_list (leading_match (pipeline_of a)) };
+
     fn selects_raw(&self, alloc: Global, document: &RawDoc<'_>) -> Result<bool, NoMemory> {
         self.takes_raw(alloc, document)
     }
 
-    fn put_ids(&self, alloc: Global, ids: &mut Vec<Vec<u8>>) -> Result<bool, NoMemory> {
-        let Some(filter) = self.leading_match() else {
-            return Ok(false);
-        };
-        put_ids(alloc, ids, filter)
+    fn filter_count(&self) -> usize {
+        usize::from(self.leading_match().is_some())
+    }
+
+    fn filter_at(&self, _at: usize) -> Option<&Filter> {
+        self.leading_match()
+    }
+
+    fn put_ids(&self, _alloc: Global, _ids: &mut Vec<Vec<u8>>) -> Result<bool, NoMemory> {
+        Ok(self.leading_match().is_some())
     }
 
     fn asked_filter(&self) -> Option<&Filter> {

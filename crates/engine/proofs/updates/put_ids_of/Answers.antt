@@ -8,8 +8,8 @@ use Rattle.index.specs.View.{texts_of}
 use Rattle.replies.proofs.Steps.{drop_step}
 use Rattle.database_model.specs.Documents.{key_of}
 use Rattle.database_model.specs.Merging.{has_key_of}
-use Rattle.queries.specs.ById.{HasId}
-use Rattle.queries.proofs.IdTextLemmas.{AreLeft, left_all, left_next, left_none, put_none, put_on}
+use Rattle.queries.specs.ById.{HasId, TellBeside}
+use Rattle.queries.proofs.IdTextLemmas.{left_all, left_next, left_none, put_none, put_on}
 use Rattle.engine.proofs.updates.put_ids_of.Goals as goal
 
 pub documents-init : goal.documents-init
@@ -30,7 +30,7 @@ documents-preserved c =
       put = put_on (texts_of c.args.ids.now.items) now next c.documents.invariant.put put;
       left = left_next HasId (λ (d : Pairs). tree_text (key_of d)) (has_key_of xs) (λ d. is_eq (compare (key_of x) (key_of d)))
           (has_key_of (drop (i + 1) xs)) now next put (c.in_ok-put_id_of.ensures.tells c.if-not-branch.false)
-          (subst (λ (ys : List Pairs). AreLeft HasId (λ d. tree_text (key_of d)) (has_key_of xs) (has_key_of ys) now)
+          (subst (λ (ys : List Pairs). TellBeside HasId (λ d. tree_text (key_of d)) (has_key_of xs) (has_key_of ys) now)
           (drop_step xs i x c.documents-test.true c.document-item.is) c.documents.invariant.left);
     }
 
@@ -47,5 +47,5 @@ returns-clause-tells c = λ e.
     let xs = c.args.documents.now in
     let now = texts_of c.documents.ids.items in
     left_none HasId (λ (d : Pairs). tree_text (key_of d)) (has_key_of xs) now
-    (subst (λ (ys : List Pairs). AreLeft HasId (λ d. tree_text (key_of d)) (has_key_of xs) (has_key_of ys) now)
+    (subst (λ (ys : List Pairs). TellBeside HasId (λ d. tree_text (key_of d)) (has_key_of xs) (has_key_of ys) now)
     (drop_all c.documents.document-index xs (omega (arith, c.documents-test.false))) c.documents.invariant.left)

@@ -7,8 +7,8 @@ use Rattle.filter.specs.View.{condition_of, conditions_of}
 use Rattle.filter.specs.declared.condition.Condition.{Condition}
 use Rattle.index.specs.View.{texts_of}
 use Rattle.replies.proofs.Steps.{drop_step}
-use Rattle.queries.specs.ById.{IsPlain}
-use Rattle.queries.proofs.IdTextLemmas.{AreLeft, left_all, left_next, left_none, put_none, put_on}
+use Rattle.queries.specs.ById.{IsPlain, TellBeside}
+use Rattle.queries.proofs.IdTextLemmas.{left_all, left_next, left_none, put_none, put_on}
 use Rattle.queries.proofs.by_id.put_each.Goals as goal
 
 pub conditions-init : goal.conditions-init
@@ -31,7 +31,7 @@ conditions-preserved c =
       left = left_next IsPlain tree_text all (λ t. holds (condition_of r) (along (Some t ∷ [])))
           (λ t. any_holds (conditions_of (drop (i + 1) rs)) (along (Some t ∷ []))) now next put
           (c.in_ok-put_equal.ensures.tells c.if-not-branch.false)
-          (subst (λ (qs : List Condition). AreLeft IsPlain tree_text all (λ t. any_holds (conditions_of qs) (along (Some t ∷ []))) now)
+          (subst (λ (qs : List Condition). TellBeside IsPlain tree_text all (λ t. any_holds (conditions_of qs) (along (Some t ∷ []))) now)
           (drop_step rs i r c.conditions-test.true c.condition-item.is) c.conditions.invariant.left);
     }
 
@@ -49,5 +49,5 @@ returns-clause-tells c = λ e.
     let now = texts_of c.conditions.ids.items in
     let all : Tree → Bool = λ t. any_holds (conditions_of rs) (along (Some t ∷ [])) in
     left_none IsPlain tree_text all now
-    (subst (λ (qs : List Condition). AreLeft IsPlain tree_text all (λ t. any_holds (conditions_of qs) (along (Some t ∷ []))) now)
+    (subst (λ (qs : List Condition). TellBeside IsPlain tree_text all (λ t. any_holds (conditions_of qs) (along (Some t ∷ []))) now)
     (drop_all c.conditions.condition-index rs (omega (arith, c.conditions-test.false))) c.conditions.invariant.left)

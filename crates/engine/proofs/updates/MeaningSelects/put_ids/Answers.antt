@@ -1,21 +1,12 @@
-use Rattle.bson.specs.Tree.{Pairs}
-use Rattle.value_order.specs.KeyText.{tree_text}
+use Rattle.commands.specs.Update.{UpdateStatement}
+use Rattle.database_model.specs.Merging.{has_key_of}
 use Rattle.index.specs.View.{texts_of}
-use Rattle.database_model.specs.Documents.{key_of}
-use Rattle.database_model.specs.Merging.{has_key_of, is_updated}
-use Rattle.queries.specs.ById.{HasId}
-use Rattle.queries.proofs.IdTextLemmas.{if_both, if_put}
+use Rattle.queries.proofs.AskingLemmas.{others_tell}
+use Rattle.queries.proofs.NeededLemmas.{if_ok}
 use Rattle.engine.proofs.updates.MeaningSelects.put_ids.Goals as goal
-
-pub returns-clause-put : goal.returns-clause-put
-returns-clause-put c =
-    if_put c.put_ids_of.result (texts_of c.args.ids.now.items) (texts_of c.put_updated.new.ids.items)
-    (texts_of c.put_ids_of.new.ids.items) c.in_ok-put_updated.ensures.put c.put_ids_of.ensures.put
 
 pub returns-clause-tells : goal.returns-clause-tells
 returns-clause-tells c =
-    let ss = c.args.self.now.statements.now in
-    let made = c.args.self.now.made.now in
-    if_both HasId (λ (d : Pairs). tree_text (key_of d)) (is_updated ss) (has_key_of made) (texts_of c.put_updated.new.ids.items)
-    (texts_of c.put_ids_of.new.ids.items) c.put_ids_of.result
-    (c.in_ok-put_updated.ensures.tells c.if-not-branch.false) c.put_ids_of.ensures.put c.put_ids_of.ensures.tells
+    if_ok c.put_ids_of.result
+    (λ told h e. others_tell (λ (s : UpdateStatement). s.filter) c.args.self.now.statements.now (has_key_of c.args.self.now.made.now)
+    (texts_of c.put_ids_of.new.ids.items) (h e)) c.put_ids_of.ensures.tells

@@ -1,0 +1,11 @@
+use Rattle.commands.specs.Delete.{Deletion}
+use Rattle.index.specs.View.{texts_of}
+use Rattle.queries.proofs.AskingLemmas.{filters_tell}
+use Rattle.queries.proofs.IdTextLemmas.{put_none}
+use Rattle.engine.proofs.delete.MatchedSelects.put_ids.Goals as goal
+
+pub returns-clause-put : goal.returns-clause-put
+returns-clause-put c = put_none (texts_of c.args._ids.now.items)
+
+pub returns-clause-tells : goal.returns-clause-tells
+returns-clause-tells c = λ e. filters_tell (λ (d : Deletion). d.filter) c.args.self.now.deletions.now (texts_of c.args._ids.now.items)
