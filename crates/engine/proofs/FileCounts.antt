@@ -3,13 +3,11 @@ use Rattle.std.proofs.Common.{◌≡◌, inl, ℕ, ◌+◌, true, false, List, [
 use Rattle.std.specs.Prelude.{All}
 use Rattle.std.proofs.lemmas.List.{length-map}
 use Rattle.page.specs.History.{History, KeepsWord, now, reads}
-use Rattle.btree.specs.Keys.{Entry}
 use Rattle.roots.specs.declared.counting.PageCounts.{PageCounts}
 use Rattle.roots.specs.declared.opening.OpenFault.{OpenFault}
 use Rattle.roots.specs.declared.opening.OpenFault.TheVariants as opening
 use Rattle.index.specs.State.{Collection}
 use Rattle.index.proofs.OneStateLaws.{spells_one}
-use Rattle.collections.specs.Calls.{HasFailed}
 use Rattle.collections.specs.Counting.{CountsPages, HasCountCause, HasCounts}
 use Rattle.collections.specs.Entries.{HasEntries}
 use Rattle.collections.specs.Standing.{IsTurnOf}
@@ -18,7 +16,7 @@ use Rattle.collections.specs.View.{is_stopped}
 use Rattle.collections.proofs.EntryLemmas.{tree_rises}
 use Rattle.collections.proofs.StandingLemmas.{stopped_same}
 use Rattle.engine.specs.CheckFaults.{reading_fault}
-use Rattle.engine.specs.Checking.{AreCountsIn, ChecksFile}
+use Rattle.engine.specs.Checking.{ChecksFile}
 use Rattle.opening.specs.Totals.{total_indexes}
 use Rattle.opening.specs.Totals.{total_documents}
 use Rattle.engine.specs.Dump.{HasFaultCause}
@@ -29,7 +27,6 @@ use Rattle.database_model.specs.Lawful.{IsStored}
 use Rattle.opening.specs.Loading.{named_as, progress_of}
 use Rattle.engine.specs.Looking.{OnlyReads}
 use Rattle.engine.specs.View.{turn_start, world}
-use Rattle.engine.specs.declared.check_fault.CheckFault.{CheckFault}
 use Rattle.engine.specs.declared.check_fault.CheckFault.TheVariants as faults
 use Rattle.engine.specs.declared.checking.Counts.{Counts}
 use Rattle.engine.specs.declared.engine.Engine.{Engine}

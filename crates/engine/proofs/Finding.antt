@@ -1,14 +1,11 @@
 -- What a find chooses keeps what was kept of the documents.
 use Rattle.std.proofs.Common.{◌≡◌, ◌≢◌, ℕ, zero, suc, min, ◌+◌, ◌-◌, ◌<◌, ◌≤◌, Bool, true, false, List, [], ◌∷◌, ◌++◌, length, get_or, take, drop, map, refl}
 use Rattle.std.proofs.Common.{sym, ap, ◌∙◌, append_assoc, arith}
-use Rattle.std.specs.Prelude.{◌==◌, ◌^◌, nat_le, All}
+use Rattle.std.specs.Prelude.{◌^◌, nat_le, All}
 use Rattle.std.specs.List.{filter}
-use Rattle.std.specs.declared.cmp.Ordering.{Ordering}
-use Rattle.std.specs.declared.cmp.Ordering.TheVariants.{Less, Equal, Greater}
-use Rattle.std.proofs.lemmas.List.Elements.{All-filter, All-take, All-drop, All-cons, All-map}
+use Rattle.std.proofs.lemmas.List.Elements.{All-filter, All-take, All-drop, All-map}
 use Rattle.std.proofs.lemmas.List.{append-nil, drop_all, length-take, length-drop, take-map, drop-map, take_all, drop-take}
 use Rattle.std.proofs.Math.Seq.{take-append_seam}
-use Rattle.std.proofs.lemmas.Bool.{eqb-true}
 use Rattle.std.proofs.lemmas.Bool.Decides.{nat_tests}
 use Rattle.bson.specs.Tree.{Pairs}
 use Rattle.bson.specs.Spelling.{pairs_bytes}
@@ -17,7 +14,7 @@ use Rattle.filter.specs.Matches.{matches}
 use Rattle.filter.specs.Projection.{Projection, project}
 use Rattle.filter.specs.ProjectionLaws.{project_no_larger}
 use Rattle.database_model.specs.Lawful.{IsStored, IsWithin}
-use Rattle.filter.specs.Sort.{SortField, compare_by, order}
+use Rattle.filter.specs.Sort.{order}
 use Rattle.replies.proofs.Steps.{drop_step}
 use Rattle.queries.proofs.OrderingLemmas.{sorted_kept}
 use Rattle.commands.specs.Find.{Query}

@@ -1,87 +1,37 @@
 -- Lawful collections stay so with one of them put in place of another, and with the indexes of one made or dropped.
-use Rattle.std.proofs.Common.{◌≡◌, ◌⊎◌, inl, inr, ℕ, suc, max, min, ◌+◌, ◌-◌, ◌<◌, ◌≤◌, Bool, true, false, List, [], ◌∷◌, ◌++◌, length, length-append, map, set}
-use Rattle.std.proofs.Common.{insert, take, drop, Option, Some, None, Result, Ok, Err, refl, sym, ap, subst, ◌∙◌, arith, zero, remove, lit≤}
-use Rattle.std.specs.Prelude.{◌&&◌, ◌^◌, not, is_some, nat_le, if◌then◌else◌, codes, unwrap_or, nat_lt, All}
+use Rattle.std.proofs.Common.{◌≡◌, ◌⊎◌, inl, inr, ℕ, ◌<◌, ◌≤◌, Bool, true, false, List, length, set}
+use Rattle.std.proofs.Common.{insert, Option, Some, None, Result, Ok, refl, sym, ap, subst, ◌∙◌, arith}
+use Rattle.std.specs.Prelude.{◌&&◌, not, is_some, nat_le, All}
 use Rattle.std.specs.Cmp.Lexicographic.{slice_cmp}
 use Rattle.std.specs.Ordering.{nat_cmp}
 use Rattle.std.proofs.lemmas.Bool.Decides.{nat_tests}
 use Rattle.std.proofs.lemmas.Cmp.{nat_list_cmp_total}
-use Rattle.std.proofs.lemmas.List.{length-set, take_all}
+use Rattle.std.proofs.lemmas.List.{length-set}
 use Rattle.std.proofs.lemmas.List.Edits.{length-insert}
-use Rattle.std.proofs.lemmas.List.Elements.{All-cons, All-append, All-drop, All-set, All-filter, All-head, All-tail}
-use Rattle.std.proofs.lemmas.List.Quantifiers.{position-Some}
-use Rattle.std.specs.List.{filter, position}
+use Rattle.std.proofs.lemmas.List.Elements.{All-set}
 use Rattle.std.proofs.lemmas.Map.Lookups.{exact_bytes}
-use Rattle.bson.specs.Tree.{Pairs, pair, no_pairs}
-use Rattle.bson.specs.Spelling.{items_bytes}
-use Rattle.bson.specs.declared.fault.BsonFault.{BsonFault}
-use Rattle.database_model.specs.World.{World, Cursor, collection_of, unused, number_or, with_documents, documents_of, documents_or_none}
+use Rattle.database_model.specs.World.{collection_of, unused, number_or, documents_of, documents_or_none}
 use Rattle.index.specs.State.{Collection, find_collection, uses, put_collection}
 use Rattle.index.proofs.PlaceLemmas.{found_name}
-use Rattle.outcome.specs.Outcome.{◌>>=◌, unless, or_refused}
-use Rattle.database_model.specs.Documents.{place, insert_all}
-use Rattle.commands.specs.Find.{Query}
-use Rattle.commands.specs.Count.{Count}
-use Rattle.commands.specs.Aggregate.{Aggregate}
-use Rattle.aggregate.specs.Pipeline.{run as after_pipeline}
-use Rattle.database_model.specs.Aggregate.{run_aggregate}
-use Rattle.engine.proofs.Piping.{piped_within}
-use Rattle.database_model.specs.Find.{query_result as found_by, matching, window, run_find}
-use Rattle.commands.specs.Delete.{Deletion}
-use Rattle.database_model.specs.Delete.{after_deletions, deleted_in, run_delete}
-use Rattle.commands.specs.Update.{UpdateStatement, Update, IsRead}
-use Rattle.database_model.specs.Update.{Updated, not_updated, run_statements, update_reply, judged, run_all, spelled}
-use Rattle.database_model.specs.UpdateCommand.{entered_in, run_update, writes_in}
-use Rattle.statements.specs.WriteLaws.{documents_in}
-use Rattle.index.specs.Entering.{DocumentWrite, enter_each}
-use Rattle.statements.proofs.KeptLemmas.{Kept, stored_at}
-use Rattle.statements.proofs.WriteLawLemmas.{writes_stored}
-use Rattle.commands.specs.ListCollections.{ListCollections}
-use Rattle.database_model.specs.Create.{created, run_create}
+use Rattle.outcome.specs.Outcome.{◌>>=◌}
+use Rattle.statements.proofs.KeptLemmas.{stored_at}
 use Rattle.commands.specs.NewIndex.{IsShortNewIndex, NewIndex}
-use Rattle.database_model.specs.CreateIndexes.{create_indexes_reply, indexed, run_create_indexes, with_new_indexes}
+use Rattle.database_model.specs.CreateIndexes.{indexed, with_new_indexes}
 use Rattle.index_list.proofs.NewIndexLemmas.{with_new_indexes_more, with_new_indexes_short}
 use Rattle.commands.specs.DropIndexes.{DroppedIndexes}
-use Rattle.database_model.specs.DropIndexes.{drop_indexes_reply, dropped_in, index_dropped, left_by, run_drop_indexes, without_indexes}
-use Rattle.database_model.specs.DropCollection.{drop_reply, dropped, index_count, run_drop}
-use Rattle.database_model.specs.ListCollections.{names_in, listed, run_list_collections}
-use Rattle.database_model.specs.ListIndexes.{indexes_reply, run_list_indexes}
-use Rattle.engine.proofs.Creating.{dropped_lawful}
-use Rattle.engine.proofs.Listing.{go_into_one}
-use Rattle.engine.proofs.ListingIndexes.{indexes-sendable}
+use Rattle.database_model.specs.DropIndexes.{dropped_in, index_dropped, left_by, without_indexes}
 use Rattle.statements.proofs.ShortIndexes.{left_short, short_at}
-use Rattle.database_model.specs.Refusals.{int, total, words, ok_reply}
-use Rattle.commands.specs.Command.{Command, ping, insert as insert_of, find as find_of, count as count_of_all, delete, update, aggregate, create as create_of}
-use Rattle.commands.specs.Command.{drop as drop_of, list_collections, create_indexes, drop_indexes, list_indexes, command_of, IsBounded, get_more, kill_cursors}
-use Rattle.commands.specs.Command.{hello}
-use Rattle.database_model.specs.Lawful.{IsStored, IsWithin, IsKept, IsLawfulState, IsLawful, AreLawfulCursors}
+use Rattle.database_model.specs.Lawful.{IsStored, IsKept, IsLawfulState}
 use Rattle.index.specs.LawfulState.{AreNamedApart, AreNumberedApart, IsRising}
 use Rattle.statements.specs.Places.{collection_at, no_collection}
 use Rattle.database_model.specs.Insert.{is_full}
-use Rattle.database_model.specs.Cursors.{items_of_documents, batch_of, cursor_reply, number_after, batch_reply, is_refused, new_cursor, open_cursor}
-use Rattle.database_model.specs.Cursors.{first_batch, is_cursor, no_cursor, cursor_at}
-use Rattle.commands.specs.GetMore.{GetMore}
-use Rattle.commands.specs.KillCursors.{KillCursors}
-use Rattle.database_model.specs.GetMore.{batch_len_of, next_batch, run_get_more}
-use Rattle.database_model.specs.KillCursors.{no_ids, told_apart, has_cursor, is_asked, kill_reply, run_kill_cursors}
-use Rattle.database_model.specs.Hello.{hello_reply}
-use Rattle.database_model.specs.Insert.{run_insert}
-use Rattle.database_model.specs.Count.{run_count}
-use Rattle.database_model.specs.Step.{run, answered, step}
-use Rattle.replies.specs.View.{IsSendable}
 use Rattle.path.specs.declared.refusal.Refusal.{Refusal}
 use Rattle.path.specs.declared.refusal.Refusal.TheVariants as refusals
 use Rattle.commands.specs.OutcomeLaws.{step_of, passed}
-use Rattle.commands.specs.CommandLaws.{bounded}
-use Rattle.statements.proofs.EnteredLemmas.{has_grown, stays_kept}
 use Rattle.statements.proofs.Located.{Gap, There, located}
-use Rattle.engine.proofs.Deleting.{deleted_lawful}
-use Rattle.engine.proofs.Finding.{found_within}
 use Rattle.statements.proofs.Ordered.{Rises, rises_insert, All-inserted, missing, found, added, replaced}
 use Rattle.statements.proofs.Numbers.{found_kept, unused_unused, number_bounds, numbers_set, numbers_insert}
 use Rattle.statements.proofs.NamesApart.{apart_set}
-use Rattle.replies.proofs.SpelledSizes.{create_indexes-sendable, drop_indexes-sendable, ping-sendable, insert-sendable, drop-sendable, refusal-sendable}
-use Rattle.replies.proofs.SpelledSizes.{batch_items, cursor-sendable, kill-sendable, told_few, hello-sendable}
 
 -- ---- collections
 

@@ -8,7 +8,7 @@ use Rattle.std.proofs.lemmas.List.{append-nil, drop_all, length-map, take_all}
 use Rattle.bson.specs.Lawful.{pairs_levels}
 use Rattle.bson.specs.SizingLaws.{frame_of-length, pairs_bytes-none, pairs_size-pair}
 use Rattle.bson.specs.Spelling.{frame_of, items_bytes, pairs_bytes, tree_bytes}
-use Rattle.bson.specs.Tree.{document, scalar, boolean, Pairs, no_pairs, pair}
+use Rattle.bson.specs.Tree.{document, Pairs, no_pairs, pair}
 use Rattle.page.specs.History.{History}
 use Rattle.outcome.specs.Outcome.{◌>>=◌, or_refused}
 use Rattle.path.specs.declared.refusal.Refusal.{Refusal}

@@ -1,10 +1,10 @@
 -- A cursor gives its next documents.
-use Rattle.std.proofs.Common.{◌≡◌, inr, inl, ℕ, List, Option, Some, Result, Ok, Err, refl, sym, ap, ◌∙◌}
+use Rattle.std.proofs.Common.{◌≡◌, inr, inl, ℕ, List, Some, Result, Ok, Err, refl, sym, ap, ◌∙◌}
 use Rattle.std.specs.Prelude.{MatchResult, OnErr, codes}
 use Rattle.std.specs.List.{position}
 use Rattle.bson.specs.Tree.{Pairs}
 use Rattle.commands.specs.GetMore.{GetMore}
-use Rattle.page.specs.History.{History, KeepsWord}
+use Rattle.page.specs.History.{History}
 use Rattle.path.specs.declared.refusal.Refusal.{Refusal}
 use Rattle.collections.specs.Calls.{HasCause}
 use Rattle.collections.specs.State.{State}
@@ -18,7 +18,7 @@ use Rattle.database_model.specs.World.{Cursor, CursorTable, World}
 use Rattle.pinned_cursors.specs.Batches.{GivesNext, IsGivenNext}
 use Rattle.queries.proofs.ReadingLemmas.{of_file}
 use Rattle.replies.specs.View.{with_ok}
-use Rattle.engine.specs.Durable.{IsSound, disk_history}
+use Rattle.engine.specs.Durable.{IsSound}
 use Rattle.engine.specs.Performing.{DoesPlanned, Performs}
 use Rattle.engine.specs.View.{world, world_of}
 use Rattle.engine.specs.declared.engine.Engine.{Engine}

@@ -1,17 +1,13 @@
 -- What a pipeline makes of stored documents is within the limits of documents that are given.
-use Rattle.std.proofs.Common.{◌≡◌, ℕ, suc, Bool, true, false, List, [], ◌∷◌, length, get_or, map, ap, ◌∙◌, Option, Some, None, Result, Ok, Err, refl, arith}
-use Rattle.std.specs.Prelude.{nat_lt, if◌then◌else◌, All, IfOk}
+use Rattle.std.proofs.Common.{◌≡◌, ℕ, List, get_or, None, Result, Ok, Err}
+use Rattle.std.specs.Prelude.{All, IfOk}
 use Rattle.std.specs.Global.{Vec}
 use Rattle.outcome.specs.Outcome.{Gives}
-use Rattle.std.proofs.lemmas.Bool.Decides.{nat_tests}
-use Rattle.std.proofs.lemmas.List.Elements.{All-cons, All-head, All-tail}
 use Rattle.bson.specs.Tree.{Pairs}
-use Rattle.bson.specs.Lawful.{pairs_levels}
-use Rattle.bson.specs.Spelling.{frame_of, pairs_bytes}
 use Rattle.path.specs.declared.refusal.Refusal.{Refusal}
 use Rattle.path.specs.declared.refusal.Refusal.TheVariants as refusals
 use Rattle.aggregate.specs.Stage.{Stage}
-use Rattle.aggregate.specs.Limits.{limit_fault, else_fault, first_fault}
+use Rattle.aggregate.specs.Limits.{first_fault}
 use Rattle.aggregate.specs.Pipeline.{run as after_pipeline}
 use Rattle.aggregate.specs.TakingLaws.{stays_within}
 use Rattle.index.specs.State.{Collection}

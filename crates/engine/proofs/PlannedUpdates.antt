@@ -19,7 +19,6 @@ use Rattle.database_model.specs.Update.{counts_reply, judged, not_updated, run_a
 use Rattle.statements.specs.Updating.{EndsAs, HasNone, IsRan, IsRun, IsRunOf, listed_of, news_of, seen}
 use Rattle.database_model.specs.World.{documents_of, documents_or_none, or_empty, unused}
 use Rattle.statements.specs.WriteLaws.{AreRun, AreThere}
-use Rattle.database_model.specs.Writes.{writes_of}
 use Rattle.statements.specs.declared.statements.Ran.{Ran}
 use Rattle.statements.specs.declared.statements.Run.{Run}
 use Rattle.statements.specs.declared.statements.Tally.{Tally}

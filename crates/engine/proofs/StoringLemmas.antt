@@ -1,13 +1,10 @@
 -- Documents that go to a collection are noted one after the other as edits of the file.
 use Rattle.std.proofs.Common.{◌≡◌, ◌<◌, ◌≤◌, ℕ, Bool, true, false, List, [], ◌∷◌, length, Option, Some, None, Result, Ok, Err, refl, sym, ap, subst, ◌∙◌, arith}
-use Rattle.std.specs.Prelude.{◌&&◌, not, nat_le, is_some, option_map}
-use Rattle.std.specs.declared.cmp.Ordering.{Ordering}
-use Rattle.std.specs.declared.cmp.Ordering.TheVariants as orders
+use Rattle.std.specs.Prelude.{◌&&◌, not, nat_le, is_some}
 use Rattle.std.proofs.lemmas.Bool.Decides.{nat_tests}
 use Rattle.bson.specs.Lawful.{IsDocument}
 use Rattle.bson.specs.Tree.{Tree, Pairs}
 use Rattle.value_order.specs.KeyText.{tree_text}
-use Rattle.value_order.specs.Order.{compare}
 use Rattle.outcome.specs.Outcome.{◌>>=◌, unless}
 use Rattle.path.specs.declared.refusal.Refusal.{Refusal}
 use Rattle.path.specs.declared.refusal.Refusal.TheVariants as refusals
@@ -15,15 +12,15 @@ use Rattle.btree.specs.Keys.{Edit}
 use Rattle.collections.specs.Reading.{catalogued_in, catalogued_of}
 use Rattle.update.specs.Stored.{id_first}
 use Rattle.index.specs.Definition.{Definition}
-use Rattle.index.specs.Documents.{AddsCollection, put_document}
+use Rattle.index.specs.Documents.{AddsCollection}
 use Rattle.index.specs.LawfulState as states
 use Rattle.index.specs.LawfulState.{IsStorable}
-use Rattle.index.specs.State.{Collection, by_order, empty_collection, find_collection, put_collection, uses}
+use Rattle.index.specs.State.{Collection, empty_collection, find_collection, put_collection, uses}
 use Rattle.index.specs.StateEntries.{Leads}
 use Rattle.index.specs.declared.catalogue_reading.Catalogued.{Catalogued}
 use Rattle.index.proofs.PlaceLemmas.{found_name}
 use Rattle.index.proofs.StateEditLaws.{put_same}
-use Rattle.database_model.specs.Documents.{checked, insert_all, insert_one, key_of, place}
+use Rattle.database_model.specs.Documents.{checked, insert_all, insert_one, key_of}
 use Rattle.database_model.specs.Insert.{inserted, is_full}
 use Rattle.database_model.specs.Lawful.{IsStored}
 use Rattle.engine.specs.Storing.{AreNoted, HasNoted, entering}

@@ -1,4 +1,4 @@
-use Rattle.std.proofs.Common.{subst, sym}
+use Rattle.std.proofs.Common.{subst}
 use Rattle.commands.specs.Find.{Query}
 use Rattle.database_model.specs.Find.{Suffices}
 use Rattle.engine.proofs.Finding.{all_suffice, front_suffices}

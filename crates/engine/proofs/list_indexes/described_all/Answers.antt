@@ -1,7 +1,7 @@
 use Rattle.std.proofs.Common.{[], ◌∷◌, ◌++◌, ap, ◌∙◌}
 use Rattle.bson.specs.Tree.{Pairs}
 use Rattle.index.proofs.CatalogueValues.{lawful_end, lawful_more}
-use Rattle.engine.proofs.ListingIndexes.{describes_all, describes_none, describes_one}
+use Rattle.engine.proofs.ListingIndexes.{describes_all, describes_one}
 use Rattle.engine.proofs.list_indexes.described_all.Goals as goal
 
 pub indexes-preserved : goal.indexes-preserved

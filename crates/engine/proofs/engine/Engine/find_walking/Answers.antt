@@ -1,4 +1,4 @@
-use Rattle.std.proofs.Common.{◌≡◌, ◌^◌, ◌-◌, List, Option, Some, Result, [], length, take, refl, sym, ap, subst, ◌∙◌, arith}
+use Rattle.std.proofs.Common.{◌≡◌, ◌^◌, ◌-◌, List, Option, Some, Result, [], length, take, sym, ap, subst, ◌∙◌, arith}
 use Rattle.std.specs.Prelude.{All, IfSome}
 use Rattle.std.specs.Global.{Vec}
 use Rattle.std.proofs.lemmas.List.{take_all}
@@ -8,7 +8,6 @@ use Rattle.commands.specs.Find.{Find, Query}
 use Rattle.database_model.specs.Find.{given, matching, run_find}
 use Rattle.database_model.specs.Lawful.{IsWithin}
 use Rattle.database_model.specs.World.{World, documents_of}
-use Rattle.filter.specs.Sort.{order}
 use Rattle.index.specs.State.{Collection}
 use Rattle.path.specs.declared.refusal.Refusal.{Refusal}
 use Rattle.engine.specs.Looking.{Looks, LooksOf}

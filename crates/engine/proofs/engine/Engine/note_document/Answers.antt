@@ -1,7 +1,6 @@
-use Rattle.std.proofs.Common.{◌≡◌, ◌∙◌, sym, subst}
+use Rattle.std.proofs.Common.{◌∙◌, sym, subst}
 use Rattle.std.proofs.lemmas.Result.{err_from_is_err_and}
 use Rattle.bson.specs.Lawful.{IsDocument}
-use Rattle.update.specs.Stored.{id_first}
 use Rattle.engine.proofs.InsertSteps.{note_entered, note_unchecked}
 use Rattle.engine.proofs.OnlyReading.{reads_none}
 use Rattle.engine.proofs.StoringLemmas.{may_put, stored_storable}

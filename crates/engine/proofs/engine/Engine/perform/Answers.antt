@@ -1,8 +1,5 @@
-use Rattle.std.proofs.Common.{◌≡◌, Some, Result, Ok, refl, sym, ap, subst, ◌∙◌, rules}
+use Rattle.std.proofs.Common.{◌≡◌, Some, sym, ap, subst, ◌∙◌, rules}
 use Rattle.std.specs.Prelude.{unwrap_or}
-use Rattle.bson.specs.Tree.{Pairs}
-use Rattle.database_model.specs.World.{World}
-use Rattle.outcome.specs.Outcome.{◌>>=◌}
 use Rattle.commands.specs.Command as commands
 use Rattle.commands.specs.Find as finds
 use Rattle.commands.specs.GetMore as mores
@@ -15,7 +12,6 @@ use Rattle.database_model.specs.GetMore.{run_get_more}
 use Rattle.commands.specs.View.{command_read, find_read, get_more_read, update_read, aggregate_read}
 use Rattle.engine.specs.View.{world}
 use Rattle.commands.specs.declared.command.Command.{Command}
-use Rattle.path.specs.declared.refusal.Refusal.{Refusal}
 use Rattle.engine.proofs.Running.{run_find-default, run_aggregate-default}
 use Rattle.engine.proofs.Sound.{performs_as, performs_told}
 use Rattle.engine.proofs.engine.Engine.perform.Goals as goal
