@@ -1,4 +1,5 @@
-"""Drives `docpage listen --drivers` by pymongo, and by those of the drivers for Ruby, Perl, Node and C that are installed. Usage: drivers.py PROGRAM [CASE ..]
+"""Drives `docpage listen --drivers` by pymongo, and by those of the drivers for Ruby, Perl, Node, C, PHP and Go that are installed.
+Usage: drivers.py PROGRAM [CASE ..]
 Every wait has an end, and so has the whole. The last line is `N passed, M failed`."""
 import os, resource, shutil, signal, socket, struct, subprocess, sys, tempfile, threading, traceback
 
@@ -493,10 +494,10 @@ def killed(server):
     server.kill()
 
 
-def other_driver(language, probe, words):
+def other_driver(language, probe, words, patience=PATIENCE):
     """The session of another driver, by a program of its own: where that driver is installed."""
     def case(server):
-        ran = subprocess.run(words + [str(server.port)], stdin=subprocess.DEVNULL, capture_output=True, text=True, timeout=PATIENCE)
+        ran = subprocess.run(words + [str(server.port)], stdin=subprocess.DEVNULL, capture_output=True, text=True, timeout=patience)
         if ran.returncode:
             raise AssertionError(ran.stdout + ran.stderr)
 
@@ -508,10 +509,14 @@ def other_driver(language, probe, words):
 HERE = os.path.dirname(os.path.abspath(__file__))
 COMPILE = f"cc -o {FOLDER}/session {HERE}/drivers.c $(pkg-config --cflags --libs libmongoc-1.0)"
 NODE = ["env", "NODE_PATH=/usr/share/nodejs", "nodejs"]
+GO = ["env", "GO111MODULE=off", "GOPATH=/usr/share/gocode", "go"]
 OTHERS = [other_driver("ruby", ["ruby", "-rmongo", "-e", "1"], ["ruby", f"{HERE}/drivers.rb"]),
           other_driver("perl", ["perl", "-MMongoDB", "-e", "1"], ["perl", f"{HERE}/drivers.pl"]),
           other_driver("node", NODE + ["-e", "require('mongodb')"], NODE + [f"{HERE}/drivers.js"]),
-          other_driver("c", ["sh", "-c", COMPILE], [f"{FOLDER}/session"])]
+          other_driver("c", ["sh", "-c", COMPILE], [f"{FOLDER}/session"]),
+          other_driver("php", ["php", "-r", "exit(extension_loaded('mongodb') ? 0 : 1);"], ["php", f"{HERE}/drivers.php"]),
+          # it is compiled first, and at the first time the driver too, which takes twenty seconds
+          other_driver("go", GO + ["list", "go.mongodb.org/mongo-driver/mongo"], GO + ["run", f"{HERE}/drivers.go"], 2 * PATIENCE)]
 
 CASES = [handshake, inserts, raw_inserts, finds, cursors, abandoned_cursors, updates, batches, upserts, modifications, deletes, counts, distincts, indexes,
          collections, refusals, unacknowledged, pool, clients, idle_sockets, killed]
