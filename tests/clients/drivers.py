@@ -540,7 +540,7 @@ def main():
     most = resource.getrlimit(resource.RLIMIT_NOFILE)[1]
     resource.setrlimit(resource.RLIMIT_NOFILE, (most if most < 4_096 else 4_096, most))  # the server's too, which inherits it
     signal.signal(signal.SIGALRM, end)
-    signal.alarm(int(os.environ.get("SECONDS_AT_MOST", 75)))
+    signal.alarm(int(os.environ.get("SECONDS_AT_MOST", 90)))
     server = Server("main.docpage")
     for case in chosen:
         try:
