@@ -8,8 +8,8 @@ ghost use Rattle.front.specs.Alone.{IsNobodyAlone, NobodyBetween, StandsAlone};
 ghost use Rattle.front.specs.Fronting.{frame_to, answers_from, closing, closed_from, answered};
 ghost use Rattle.front.specs.Serving.{HaveGrown};
 
-use crate::open_cursors::OpenCursors;
 use crate::lending::Lending;
+use crate::open_cursors::OpenCursors;
 use crate::serving::{end_cursor, serve_socket, take_closed, take_reply};
 use crate::socket::Socket;
 use bson::{MESSAGE_LIMIT, NoMemory};

@@ -11,9 +11,9 @@ ghost use Rattle.front.specs.Alone.{AreLentTo, GoesOnAlone, has_begun, is_alone}
 use crate::asking::{
     NotAsked, ask, cursor_left, document_of, end_command, has_ended, namespace_of,
 };
-use crate::open_cursors::{OpenCursor, OpenCursors};
 use crate::job::{Question, Stage};
 use crate::lending::{Lending, Loan};
+use crate::open_cursors::{OpenCursor, OpenCursors};
 use crate::socket::Socket;
 use bson::{Document, NoMemory, Text};
 use drivers::ServerInfo;
