@@ -26,7 +26,7 @@ use Rattle.queries.specs.ById.{AreIdsOf, ArePut, IsIdText, IsIn, Tell, TellBesid
 use Rattle.queries.proofs.IdTextLemmas.{either_tells, left_all, left_next, left_none, put_none, put_on}
 use Rattle.queries.proofs.ReadingLemmas.{reads_behind}
 
-id_texts : (texts : List (List ℕ)) (ids : List Tree) → AreIdTexts texts ids → AllByRecursion IsIdText texts
+pub id_texts : (texts : List (List ℕ)) (ids : List Tree) → AreIdTexts texts ids → AllByRecursion IsIdText texts
 id_texts [] [] told = tt
 id_texts [] (id ∷ ids) told = absurd told
 id_texts (text ∷ texts) [] told = absurd told
@@ -36,53 +36,55 @@ pub texts_appended : (vs ws : List (Vec ℕ)) → texts_of (vs ++ ws) ≡ texts_
 texts_appended [] ws = refl
 texts_appended (v ∷ vs) ws = ap (λ (ts : List (List ℕ)). v.items ∷ ts) (texts_appended vs ws)
 
--- those to which an index leads are put behind others
-pub found_tell : (number : ℕ) (p : Pairs → Bool) (before mid found after : List (List ℕ)) (now : List Collection) (c : Collection)
-    → AreIdsOf number p found now c → ArePut before mid → after ≡ mid ++ found → TellOf c p before after
-found_tell number p before mid found after now c ids put made = subst (TellOf c p before) (sym made) (record {
+-- texts that tell some documents are put behind others
+pub tell_behind : (c : Collection) (p : Pairs → Bool) (before mid found after : List (List ℕ)) → TellOf c p [] found → ArePut before mid → after ≡ mid ++ found
+    → TellOf c p before after
+tell_behind c p before mid found after tell put made = subst (TellOf c p before) (sym made) (record {
   put = put_on before mid (mid ++ found) put (record {
-    texts = λ h. All-append IsIdText mid found h (id_texts found ids.ids ids.told);
+    texts = λ h. All-append IsIdText mid found h (tell.put.texts tt);
     kept = λ text h. among_test (mid ++ found) text (among_front text mid found (test_among mid text h));
   });
   tells = λ d has passes.
       let text = tree_text (key_of d) in
-      among_test (mid ++ found) text (among_back text mid found (among_of found text (ids.all d has.0 passes)));
+      among_test (mid ++ found) text (among_back text mid found (test_among found text (tell.tells d has passes)));
 })
 
--- ---- filter after filter
+-- ---- test after test
 
--- What these filters match has one of the texts, or one of those that are left matches it.
-pub record AreTold (c : Collection) (filters left : List Conditions) (before texts : List (List ℕ)) : Type 0 where
+-- What passes has one of the texts, or passes one of the tests that are left.
+pub record AreTold (c : Collection) (all left : Pairs → Bool) (before texts : List (List ℕ)) : Type 0 where
   pub put : ArePut before texts
-  pub tells : TellBeside (IsIn c) (λ d. tree_text (key_of d)) (one_matches filters) (one_matches left) texts
+  pub tells : TellBeside (IsIn c) (λ d. tree_text (key_of d)) all left texts
 
-module _ (c : Collection) (filters : List Conditions) (before : List (List ℕ)) where
-  pub begins_told : AreTold c filters filters before before
-  begins_told = record { put = put_none before; tells = left_all (IsIn c) (λ (d : Pairs). tree_text (key_of d)) (one_matches filters) before }
+module _ (c : Collection) (all : Pairs → Bool) (before : List (List ℕ)) where
+  pub begins_told : AreTold c all all before before
+  begins_told = record { put = put_none before; tells = left_all (IsIn c) (λ (d : Pairs). tree_text (key_of d)) all before }
 
-  pub next_told : (f : Conditions) (rest : List Conditions) (mid after : List (List ℕ)) → AreTold c filters (f ∷ rest) before mid → TellOf c (matches f) mid after
-      → AreTold c filters rest before after
-  next_told f rest mid after so one = record {
-    put = put_on before mid after so.put one.put;
-    tells = left_next (IsIn c) (λ (d : Pairs). tree_text (key_of d)) (one_matches filters) (matches f) (one_matches rest) mid after one.put one.tells so.tells;
+  pub next_told : (one rest : Pairs → Bool) (mid after : List (List ℕ)) → AreTold c all (λ d. one d || rest d) before mid → TellOf c one mid after
+      → AreTold c all rest before after
+  next_told one rest mid after so next = record {
+    put = put_on before mid after so.put next.put;
+    tells = left_next (IsIn c) (λ (d : Pairs). tree_text (key_of d)) all one rest mid after next.put next.tells so.tells;
   }
 
-  pub ends_told : (after : List (List ℕ)) → AreTold c filters [] before after → TellOf c (one_matches filters) before after
-  ends_told after so = record { put = so.put; tells = left_none (IsIn c) (λ (d : Pairs). tree_text (key_of d)) (one_matches filters) after so.tells }
+  pub ends_told : (after : List (List ℕ)) → AreTold c all (λ d. false) before after → TellOf c all before after
+  ends_told after so = record { put = so.put; tells = left_none (IsIn c) (λ (d : Pairs). tree_text (key_of d)) all after so.tells }
 
 -- the next filter's `_id`s were read
 pub one_read : {D : Type 0} (history : D → History) (home : Catalogued) (filters left : List Conditions) (f : Conditions) (rest : List Conditions)
     (before mid after : List (List ℕ)) (old now new : State D) (r : Result Bool Refusal) → left ≡ f ∷ rest
-    → ReadsOf history (IsAsked home) (λ cs c (_ : Unit {0}). AreTold c filters left before mid) (Ok tt) old now
+    → ReadsOf history (IsAsked home) (λ cs c (_ : Unit {0}). AreTold c (one_matches filters) (one_matches left) before mid) (Ok tt) old now
     → ReadsOf history (IsAsked home) (λ cs c told. told ≡ true → TellOf c (matches f) mid after) r now new
-    → ReadsOf history (IsAsked home) (λ cs c told. told ≡ true → AreTold c filters rest before after) r old new
+    → ReadsOf history (IsAsked home) (λ cs c told. told ≡ true → AreTold c (one_matches filters) (one_matches rest) before after) r old new
 one_read history home filters left f rest before mid after old now new r next first second =
-    reads_behind history (IsAsked home) (λ cs c (_ : Unit {0}). AreTold c filters left before mid) (IsAsked home)
-    (λ cs c told. told ≡ true → TellOf c (matches f) mid after) (λ cs c told. told ≡ true → AreTold c filters rest before after) old now new tt r first second
+    reads_behind history (IsAsked home) (λ cs c (_ : Unit {0}). AreTold c (one_matches filters) (one_matches left) before mid) (IsAsked home)
+    (λ cs c told. told ≡ true → TellOf c (matches f) mid after) (λ cs c told. told ≡ true → AreTold c (one_matches filters) (one_matches rest) before after)
+    old now new tt r first second
     (λ cs c asked so. record {
       other = c;
       was = asked;
-      right = λ told tells e. next_told c filters before f rest mid after (subst (λ (fs : List Conditions). AreTold c filters fs before mid) next so) (tells e);
+      right = λ told tells e. next_told c (one_matches filters) before (matches f) (one_matches rest) mid after
+          (subst (λ (fs : List Conditions). AreTold c (one_matches filters) (one_matches fs) before mid) next so) (tells e);
     })
 
 -- those that a filter matches, and those that are told by themselves

@@ -11,6 +11,8 @@ pub mod ByIndexLemmas
 pub mod IdRangeLemmas
 pub mod IdTextLemmas
 pub mod AskingLemmas
+pub mod MembersLemmas
+pub mod AlternativesLemmas
 pub mod OrderingLemmas
 pub mod ByOrderLemmas
 pub mod DepthLemmas

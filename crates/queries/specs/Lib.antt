@@ -1,3 +1,4 @@
+pub mod Alternatives
 pub mod Asking
 pub mod Batches
 pub mod ById

@@ -7,8 +7,8 @@ ghost use Rattle.index.specs.View.{texts_of};
 ghost use Rattle.queries.specs.ById.{AreIdsOf, TellOf, one_matches};
 ghost use Rattle.queries.specs.Asking.{IsAsked};
 
+use crate::alternatives::ids_served;
 use crate::by_id::put_ids;
-use crate::by_index::ids_by_index;
 use crate::selects::Selects;
 use collections::Collections;
 use filter::Filter;
@@ -43,7 +43,7 @@ fn put_matched<D: Disk>(
         return Ok(true);
     }
     let most = MOST_LOOKED_UP.saturating_sub(ids.len());
-    let Some(mut found) = ids_by_index(alloc, file, home, filter, most)? else {
+    let Some(mut found) = ids_served(alloc, file, home, filter, most)? else {
         return Ok(false);
     };
     ids.append(&mut found)?;

@@ -1,8 +1,9 @@
 //! Filters that an index serves: the `_id`s of the documents that have a key in the range that the filter gives there.
 
-ghost use Rattle.std.specs.Prelude.{◌≡◌, IfOk, IfSome, Some};
+ghost use Rattle.std.specs.Prelude.{◌≡◌, [], IfOk, IfSome, Some};
 ghost use Rattle.collections.specs.IndexTexts.{IsNumberedIndex};
 ghost use Rattle.collections.specs.Reading.{ReadsOf};
+ghost use Rattle.filter.specs.Condition.{Conditions};
 ghost use Rattle.filter.specs.Matches.{matches};
 ghost use Rattle.index.specs.View.{texts_of};
 ghost use Rattle.planner.specs.View.{range_of};
@@ -64,8 +65,31 @@ fn ids_in_range<D: Disk>(
     Ok(Some(ids_in(alloc, index, &texts)?))
 }
 
-/// The ascending texts of the `_id`s among which are those of all documents that a filter matches, where an index serves it, by at
-/// most so many of its entries.
+/// The ascending texts of the `_id`s among which are those of all documents that a filter matches, where this is the range that it
+/// gives in an index, by at most so many entries of that.
+pub(crate) fn ids_asked<D: Disk>(
+    alloc: Global,
+    file: &mut Collections<D>,
+    home: &Catalogued,
+    range: &IndexRange<'_>,
+    most: usize,
+) -> Result<Option<Vec<Vec<u8>>>, Refusal>
+    ensures { (rs : Conditions) → IsRangeOf rs [] home.now.indexes.items (range_of range.now)
+        → ReadsOf D.history (IsAsked home.now)
+        (λ now c found. IfSome found
+        (λ ids. AreIdsOf home.now.number (matches rs) (texts_of ids.items) now c))
+        result file.old file.new }
+{
+    if file.is_stopped() {
+        return Err(Refusal::StorageFailed);
+    }
+    let Some(index) = range.index else {
+        return Ok(None);
+    };
+    ids_in_range(alloc, file, home.number, index, range, most)
+}
+
+/// The same, where an index serves the filter.
 pub(crate) fn ids_by_index<D: Disk>(
     alloc: Global,
     file: &mut Collections<D>,
@@ -85,8 +109,5 @@ pub(crate) fn ids_by_index<D: Disk>(
     let Some(range) = range_asked(alloc, filter, &none, &home.indexes)? else {
         return Ok(None);
     };
-    let Some(index) = range.index else {
-        return Ok(None);
-    };
-    ids_in_range(alloc, file, home.number, index, &range, most)
+    ids_asked(alloc, file, home, &range, most)
 }

@@ -3,6 +3,7 @@
 //! index, they are looked up.
 #![tactic(auto)]
 
+mod alternatives;
 mod asking;
 mod batches;
 mod by_id;
@@ -11,6 +12,7 @@ mod by_order;
 mod counting;
 mod id_range;
 mod looking_up;
+mod members;
 mod needed;
 mod needed_by_order;
 mod ordering;

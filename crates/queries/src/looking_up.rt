@@ -108,7 +108,7 @@ pub(crate) fn selected_by_ids<D: Disk, S: Selects>(
 }
 
 /// The documents of a collection in a file that are looked for, in ascending order of `_id`: the first ones, up to so many. They are
-/// looked up, where they are looked for by their `_id`s, or an index serves the filter that asks for them. `None`: only a walk through
+/// looked up, where they are looked for by their `_id`s, or indexes serve the filters that ask for them. `None`: only a walk through
 /// the collection tells them.
 pub fn looked_up_in<D: Disk, S: Selects>(
     alloc: Global,

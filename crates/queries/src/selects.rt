@@ -32,7 +32,7 @@ pub trait Selects {
     fn filter_count(&self) -> usize
         ensures { result ≡ length (filters self.now) };
 
-    /// The filter at a place, if there is one.
+    /// The filter at a place, if there is one; behind the last it may be any.
     fn filter_at(&self, at: usize) -> Option<&Filter>
         ensures { IfSome result (λ f. f.now ≡ get_or (filters self.now) at f.now) };
 

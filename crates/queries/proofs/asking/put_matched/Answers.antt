@@ -1,11 +1,11 @@
-use Rattle.std.proofs.Common.{◌≡◌, ◌++◌, true, ℕ, List, Option, Bool, Vec, Global, ap, sym, subst, ◌∙◌}
+use Rattle.std.proofs.Common.{◌≡◌, ◌++◌, [], true, ℕ, List, Option, Bool, Vec, Global, ap, sym, subst, ◌∙◌}
 use Rattle.std.specs.Prelude.{IfSome}
 use Rattle.std.proofs.lemmas.Result.{err_from_is_err_and}
 use Rattle.filter.specs.Matches.{matches}
 use Rattle.index.specs.View.{texts_of}
 use Rattle.queries.specs.Asking.{IsAsked}
-use Rattle.queries.specs.ById.{AreIdsOf, TellOf}
-use Rattle.queries.proofs.AskingLemmas.{found_tell, texts_appended}
+use Rattle.queries.specs.ById.{TellOf}
+use Rattle.queries.proofs.AskingLemmas.{tell_behind, texts_appended}
 use Rattle.queries.proofs.ReadingLemmas.{reads_made, reads_none, reads_refused}
 use Rattle.queries.proofs.asking.put_matched.Goals as goal
 
@@ -27,8 +27,8 @@ returns-in_err-found g c =
     let mid = texts_of c.put_ids.new.ids.items in
     let e = err_from_is_err_and c.from_residual-in_err-found.result c.from_residual-in_err-found.ensures.1 in
     rw (e.1, e.2) (reads_refused g.D.Disk.history (IsAsked home)
-    (λ now of (found : Option (Vec (Vec ℕ Global) Global)). IfSome found (λ ids. AreIdsOf home.number p (texts_of ids.items) now of))
-    (λ now of (told : Bool). told ≡ true → TellOf of p before mid) c.args.file.now c.ids_by_index.new.file c.in_err-found.field-0.0
+    (λ now of (found : Option (Vec (Vec ℕ Global) Global)). IfSome found (λ ids. TellOf of p [] (texts_of ids.items)))
+    (λ now of (told : Bool). told ≡ true → TellOf of p before mid) c.args.file.now c.ids_served.new.file c.in_err-found.field-0.0
     c.in_err-found.ensures)
 
 pub returns : goal.returns
@@ -40,10 +40,10 @@ returns g c =
     let after = texts_of c.append.new.self.items in
     let found : List (List ℕ) = texts_of c.in-Some.found.items in
     reads_made g.D.Disk.history (IsAsked home)
-    (λ now of (found : Option (Vec (Vec ℕ Global) Global)). IfSome found (λ ids. AreIdsOf home.number p (texts_of ids.items) now of))
-    (λ now of (told : Bool). told ≡ true → TellOf of p before after) c.args.file.now c.ids_by_index.new.file c.in_ok-found.field-0 true
+    (λ now of (found : Option (Vec (Vec ℕ Global) Global)). IfSome found (λ ids. TellOf of p [] (texts_of ids.items)))
+    (λ now of (told : Bool). told ≡ true → TellOf of p before after) c.args.file.now c.ids_served.new.file c.in_ok-found.field-0 true
     c.in_ok-found.ensures
-    (λ now of asked ids e. found_tell home.number p before mid found after now of
-    (subst (λ (o : Option (Vec (Vec ℕ Global) Global)). IfSome o (λ ids. AreIdsOf home.number p (texts_of ids.items) now of)) c.in-Some.is ids)
+    (λ now of asked ids e. tell_behind of p before mid found after
+    (subst (λ (o : Option (Vec (Vec ℕ Global) Global)). IfSome o (λ ids. TellOf of p [] (texts_of ids.items))) c.in-Some.is ids)
     c.in_ok-put_ids.ensures.put
     (ap texts_of {y = c.put_ids.new.ids.items ++ c.in-Some.found.items} c.in_ok-append.ensures.items ∙ texts_appended c.put_ids.new.ids.items c.in-Some.found.items))

@@ -1,0 +1,119 @@
+-- Documents of which one of several conditions holds: the texts of the `_id`s to which each condition leads tell them all.
+use Rattle.std.proofs.Common.{◌≡◌, ◌<◌, ℕ, Bool, true, false, List, [], ◌∷◌, ◌++◌, length, get_or, Option, Some, None, Result, Ok, Err, refl, sym, ap, subst, ◌∙◌}
+use Rattle.std.specs.Prelude.{◌&&◌, ◌||◌, IfSome, option_map}
+use Rattle.std.specs.Borrow.{Bor}
+use Rattle.std.specs.Global.{Vec}
+use Rattle.bson.specs.Tree.{Tree, document, Pairs}
+use Rattle.page.specs.History.{History}
+use Rattle.path.specs.Reach.{reach}
+use Rattle.path.specs.declared.refusal.Refusal.{Refusal}
+use Rattle.collections.specs.Reading.{ReadsOf}
+use Rattle.collections.specs.State.{State}
+use Rattle.collections.specs.View.{is_stopped}
+use Rattle.filter.specs.Condition.{Conditions, equal, is}
+use Rattle.filter.specs.Matches.{Subject, all_hold, along, any_holds, holds, matches, whole}
+use Rattle.filter.specs.View.{condition_of, conditions_of}
+use Rattle.filter.specs.declared.condition.Condition.{Condition as Made}
+use Rattle.filter.specs.declared.condition.Condition.TheVariants as conditions
+use Rattle.index.specs.State.{Collection}
+use Rattle.index.specs.View.{texts_of}
+use Rattle.index.specs.declared.catalogue_reading.Catalogued.{Catalogued}
+use Rattle.index.proofs.MemberLemmas.{among_of}
+use Rattle.index.proofs.KeyOfDocument.{among_test}
+use Rattle.index.specs.State.{key_of}
+use Rattle.value_order.specs.KeyText.{tree_text}
+use Rattle.queries.specs.Alternatives.{AreAlternatives, asked_at, equal_at, one_holds}
+use Rattle.queries.specs.Asking.{IsAsked}
+use Rattle.queries.specs.ById.{AreIdsOf, TellOf}
+use Rattle.queries.proofs.AskingLemmas.{AreTold, id_texts, next_told, tell_behind}
+use Rattle.queries.proofs.ByIdLemmas.{holds_at, if_some_on}
+use Rattle.queries.proofs.IdTextLemmas.{put_none}
+use Rattle.queries.proofs.ReadingLemmas.{IsOther, reads_as, reads_behind}
+
+-- ---- what conditions ask for
+
+-- one of those at a path is that one of these holds
+pub listed : (rs : List Made) (i : ℕ) (r : Made) (ms : Conditions) (s : Subject) → i < length rs → r ≡ get_or rs i r → r ≡ conditions.Any ms
+    → all_hold (conditions_of rs) s ≡ true → any_holds ms s ≡ true
+listed rs i r ms s within there any all =
+    ap (λ (q : Made). holds (condition_of q) s) (sym any ∙ there) ∙ holds_at rs i r s within all
+
+-- one of those that a filter asks for is one that one of its conditions asks for
+pub filter_leads : (rs : List Made) (i : ℕ) (r : Made) (asked : Conditions) (path : Option (List (List ℕ))) (ms : Conditions) → i < length rs
+    → r ≡ get_or rs i r → conditions_of rs ≡ asked → AreAlternatives (λ d. holds (condition_of r) (whole d)) path ms
+    → AreAlternatives (matches asked) path ms
+filter_leads rs i r asked path ms within there same alternatives d matched =
+    alternatives d (ap (λ (q : Made). holds (condition_of q) (whole d)) there
+    ∙ holds_at rs i r (whole d) within (subst (λ (q : Conditions). all_hold q (whole d) ≡ true) (sym same) matched))
+
+pub equal_holds : (path : List (List ℕ)) (v : Tree) (d : Pairs) → holds (is (equal v)) (asked_at (Some path) d) ≡ true → matches (equal_at path v) d ≡ true
+equal_holds path v d holding = rw holding refl
+
+-- ---- to whom `_id`s lead
+
+-- those that lead to all that pass a test tell what passes it, and what passes a narrower one
+pub ids_tell : (number : ℕ) (wide passes : Pairs → Bool) (ids : List (List ℕ)) (now : List Collection) (c : Collection)
+    → ((d : Pairs) → passes d ≡ true → wide d ≡ true) → AreIdsOf number wide ids now c → TellOf c passes [] ids
+ids_tell number wide passes ids now c narrow lead = record {
+  put = record { texts = λ h. id_texts ids lead.ids lead.told; kept = λ text h. absurd cc };
+  tells = λ d has passing. among_test ids (tree_text (key_of d)) (among_of ids (tree_text (key_of d)) (lead.all d has.0 (narrow d passing)));
+}
+
+-- what was read, where it leads to a wider test
+module _ {D : Type 0} (history : D → History) (home : Catalogued) (wide passes : Pairs → Bool) (narrow : (d : Pairs) → passes d ≡ true → wide d ≡ true) where
+  pub tell_narrow : (old new : State D) (r : Result (Option (Vec (Vec ℕ))) Refusal) → is_stopped old ≡ false
+      → ReadsOf history (IsAsked home) (λ now c (found : Option (Vec (Vec ℕ))). IfSome found (λ ids. AreIdsOf home.number wide (texts_of ids.items) now c)) r old new
+      → ReadsOf history (IsAsked home) (λ now c (found : Option (Vec (Vec ℕ))). IfSome found (λ ids. TellOf c passes [] (texts_of ids.items))) r old new
+  tell_narrow old new r running reads =
+      reads_as history (IsAsked home) (IsAsked home)
+      (λ now c (found : Option (Vec (Vec ℕ))). IfSome found (λ ids. AreIdsOf home.number wide (texts_of ids.items) now c))
+      (λ now c (found : Option (Vec (Vec ℕ))). IfSome found (λ ids. TellOf c passes [] (texts_of ids.items))) old new r running reads
+      (λ now state c asked. record {
+        other = c;
+        was = asked;
+        right = λ found lead. if_some_on found (λ ids one. ids_tell home.number wide passes (texts_of ids.items) now c narrow one) lead;
+      })
+
+-- the same, of what is told
+pub told_narrow : (c : Collection) (wide passes : Pairs → Bool) (ids : List (List ℕ)) → ((d : Pairs) → passes d ≡ true → wide d ≡ true)
+    → TellOf c wide [] ids → TellOf c passes [] ids
+told_narrow c wide passes ids narrow tell = record { put = tell.put; tells = λ d has passing. tell.tells d has (narrow d passing) }
+
+-- ---- one after the other
+
+-- one of the conditions that are left holds
+abbrev pub one_left : Option (List (List ℕ)) → List Made → Pairs → Bool
+one_left path qs = one_holds path (conditions_of qs)
+
+module _ {D : Type 0} (history : D → History) (home : Catalogued) where
+  -- whatever was read before
+  pub behind_nothing : {X : Type 0} (Q : List Collection → Collection → X → Type 0) (a b c : State D) (r : Result X Refusal)
+      → ReadsOf history (IsAsked home) (λ cs c (_ : Unit {0}). Unit {0}) (Ok tt) a b → ReadsOf history (IsAsked home) Q r b c
+      → ReadsOf history (IsAsked home) Q r a c
+  behind_nothing Q a b c r first second =
+      reads_behind history (IsAsked home) (λ cs c (_ : Unit {0}). Unit {0}) (IsAsked home) Q Q a b c tt r first second
+      (λ cs c asked so. record { other = c; was = asked; right = λ x q. q })
+
+  module _ (path : Option (List (List ℕ))) (rs : List Made) where
+    -- the `_id`s of the next one were read
+    pub more_read : (left : List Made) (r : Made) (rest : List Made) (mid : List (List ℕ)) (old now new : State D)
+        (result : Result (Option (Vec (Vec ℕ))) Refusal) → left ≡ r ∷ rest
+        → ReadsOf history (IsAsked home) (λ cs c (_ : Unit {0}). AreTold c (one_left path rs) (one_left path left) [] mid) (Ok tt) old now
+        → ReadsOf history (IsAsked home) (λ cs c (found : Option (Vec (Vec ℕ))). IfSome found
+        (λ ids. TellOf c (λ d. holds (condition_of r) (asked_at path d)) [] (texts_of ids.items))) result now new
+        → ReadsOf history (IsAsked home) (λ cs c (found : Option (Vec (Vec ℕ))). IfSome found
+        (λ ids. AreTold c (one_left path rs) (one_left path rest) [] (mid ++ texts_of ids.items))) result old new
+    more_read left r rest mid old now new result next first second =
+        reads_behind history (IsAsked home) (λ cs c (_ : Unit {0}). AreTold c (one_left path rs) (one_left path left) [] mid) (IsAsked home)
+        (λ cs c (found : Option (Vec (Vec ℕ))). IfSome found (λ ids. TellOf c (λ d. holds (condition_of r) (asked_at path d)) [] (texts_of ids.items)))
+        (λ cs c (found : Option (Vec (Vec ℕ))). IfSome found (λ ids. AreTold c (one_left path rs) (one_left path rest) [] (mid ++ texts_of ids.items)))
+        old now new tt result first second
+        (λ cs c asked so. record {
+          other = c;
+          was = asked;
+          right = λ found told. if_some_on found (λ ids tell.
+              let texts = texts_of ids.items in
+              next_told c (one_left path rs) [] (λ d. holds (condition_of r) (asked_at path d)) (one_left path rest) mid (mid ++ texts)
+              (subst (λ (qs : List Made). AreTold c (one_left path rs) (one_left path qs) [] mid) next so)
+              (tell_behind c (λ d. holds (condition_of r) (asked_at path d)) mid mid texts (mid ++ texts) tell (put_none mid) refl)) told;
+        })
