@@ -18,7 +18,7 @@ use crate::collections::Collections;
 use bson::{Document, SpelledDocument};
 use btree::{Batch, Entry, Range, TreeFault, get, scan};
 use index::{
-    Catalogued, catalogue_key, catalogue_told, document_in, document_key, first_key, namespace_in,
+    Catalogued, catalogue_key, catalogue_parts, document_in, document_key, first_key, namespace_in,
 };
 use page::Disk;
 use pager::Pager;
@@ -137,7 +137,7 @@ fn told_in(alloc: Global, value: &[u8]) -> Result<Catalogued, Refusal>
         → OrMemory (λ told. catalogued_of told ≡ catalogued_in c) result }
     ensures limits { IfOk result IsWithinLimits }
 {
-    match catalogue_told(alloc, value)? {
+    match catalogue_parts(alloc, value)? {
         Some(told) => Ok(told),
         None => Err(Refusal::StorageFailed),
     }

@@ -123,14 +123,14 @@ fn plain_number(value: &[u8]) -> Option<u32>
     Some(number)
 }
 
-/// The number and the indexes of the collection of which the catalogue says this.
-pub fn catalogue_told(alloc: Global, value: &[u8]) -> Result<Option<Catalogued>, NoMemory>
+/// The number and the indexes of the collection of which the catalogue says this. Bytes of which it says nothing may be taken for what
+/// it says of some collection, within the limits.
+pub fn catalogue_parts(alloc: Global, value: &[u8]) -> Result<Option<Catalogued>, NoMemory>
+    ensures limits { IfOk result (λ found. IfSome found (λ e. (1 ≤ e.number) × (e.number ≤ 1000)
+        × (length e.indexes.items ≤ 16))) }
     ensures reads { IfOk result (λ found. (c : Collection) → IsKept c → value.now ≡ catalogue_bytes c
         → option_map {U = ℕ × List Definition} (λ e. (e.number, e.indexes.items)) found
         ≡ Some (c.number, c.indexes)) }
-    ensures only { IfOk result (λ found. IfSome found (λ e. (1 ≤ e.number) × (e.number ≤ 1000)
-        × (length e.indexes.items ≤ 16)
-        × (value.now ≡ frame_of (pairs_bytes (catalogue_value e.number e.indexes.items))))) }
 {
     if let Some(number) = plain_number(value) {
         return Ok(Some(Catalogued {
@@ -141,7 +141,19 @@ pub fn catalogue_told(alloc: Global, value: &[u8]) -> Result<Option<Catalogued>,
     let Some(document) = spelled_document(alloc, value)? else {
         return Ok(None);
     };
-    let Some(told) = parts_told(alloc, &document)? else {
+    Ok(parts_told(alloc, &document)?)
+}
+
+/// The same, where it says just this: what was read is spelled again.
+pub fn catalogue_told(alloc: Global, value: &[u8]) -> Result<Option<Catalogued>, NoMemory>
+    ensures reads { IfOk result (λ found. (c : Collection) → IsKept c → value.now ≡ catalogue_bytes c
+        → option_map {U = ℕ × List Definition} (λ e. (e.number, e.indexes.items)) found
+        ≡ Some (c.number, c.indexes)) }
+    ensures only { IfOk result (λ found. IfSome found (λ e. (1 ≤ e.number) × (e.number ≤ 1000)
+        × (length e.indexes.items ≤ 16)
+        × (value.now ≡ frame_of (pairs_bytes (catalogue_value e.number e.indexes.items))))) }
+{
+    let Some(told) = catalogue_parts(alloc, value)? else {
         return Ok(None);
     };
     let bytes = indexed_bytes(alloc, told.number, &told.indexes)?;

@@ -29,7 +29,7 @@ mod state_edits;
 pub mod state_laws;
 mod texts;
 
-pub use catalogue_reading::{Catalogued, catalogue_told};
+pub use catalogue_reading::{Catalogued, catalogue_parts, catalogue_told};
 pub use changes::{KeyChanges, entry_key};
 pub use definition::{IndexField, IndexSpec, copy_fields};
 pub use edits::Edits;

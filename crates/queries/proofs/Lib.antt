@@ -9,6 +9,7 @@ pub mod ByIdLemmas
 pub mod LookingUpLemmas
 pub mod ByIndexLemmas
 pub mod IdRangeLemmas
+pub mod DenseLemmas
 pub mod IdTextLemmas
 pub mod AskingLemmas
 pub mod MembersLemmas

@@ -1,6 +1,6 @@
 //! How many documents of a collection match.
 
-ghost use Rattle.std.specs.Prelude.{◌≡◌, ◌≤◌, IfOk, [], ◌∷◌, length};
+ghost use Rattle.std.specs.Prelude.{◌≡◌, ◌≤◌, IfOk, IfSome, [], ◌∷◌, length};
 ghost use Rattle.collections.specs.Reading.{ReadsOf};
 ghost use Rattle.database_model.specs.Find.{matching};
 ghost use Rattle.filter.specs.Matches.{matches};
@@ -11,6 +11,7 @@ ghost use Rattle.queries.specs.ById.{AreIdsOf};
 ghost use Rattle.queries.specs.Folding.{Counts};
 
 use crate::asking::asked_ids;
+use crate::dense::fold_dense;
 use crate::id_range::fold_asked;
 use bson::{NoMemory, RawDoc, SpelledDocument};
 use collections::{Collections, DocumentFold};
@@ -84,8 +85,8 @@ fn count_found(
 }
 
 /// How many documents of the collection of a number match a filter, where those that do have some of these `_id`s, told by their
-/// ascending key texts.
-fn count_by_ids<D: Disk>(
+/// ascending key texts. Each is looked up by itself.
+fn count_one_by_one<D: Disk>(
     alloc: Global,
     file: &mut Collections<D>,
     number: u32,
@@ -105,6 +106,48 @@ fn count_by_ids<D: Disk>(
         count = count.saturating_add(count_found(alloc, filter, found)?);
     }
     Ok(count)
+}
+
+/// The same by one walk from the first `_id` to the last. `None`: these are few, or lie far apart.
+fn count_side_by_side<D: Disk>(
+    alloc: Global,
+    file: &mut Collections<D>,
+    number: u32,
+    filter: &Filter,
+    ids: &[Vec<u8>],
+) -> Result<Option<usize>, Refusal>
+    ensures { ReadsOf D.history (AreIdsOf number (matches filter.now) (texts_of ids.now))
+        (λ now c found. IfSome found (λ count. count ≡ length (matching filter.now c.documents)))
+        result file.old file.new }
+{
+    let counting = Counting {
+        alloc,
+        filter,
+        count: 0,
+    };
+    match fold_dense(alloc, file, number, ids, counting)? {
+        Some(walked) => Ok(Some(walked.count)),
+        None => Ok(None),
+    }
+}
+
+/// How many documents of the collection of a number match a filter, where those that do have some of these `_id`s, told by their
+/// ascending key texts.
+fn count_by_ids<D: Disk>(
+    alloc: Global,
+    file: &mut Collections<D>,
+    number: u32,
+    filter: &Filter,
+    ids: &[Vec<u8>],
+) -> Result<usize, Refusal>
+    ensures { ReadsOf D.history (AreIdsOf number (matches filter.now) (texts_of ids.now))
+        (λ now c count. count ≡ length (matching filter.now c.documents))
+        result file.old file.new }
+{
+    match count_side_by_side(alloc, file, number, filter, ids)? {
+        Some(count) => Ok(count),
+        None => count_one_by_one(alloc, file, number, filter, ids),
+    }
 }
 
 /// How many documents of a collection in a file match a filter. None of them is kept. Where the filter asks for an `_id`, or an

@@ -10,6 +10,7 @@ mod by_id;
 mod by_index;
 mod by_order;
 mod counting;
+mod dense;
 mod id_range;
 mod looking_up;
 mod members;

@@ -10,7 +10,8 @@ ghost use Rattle.queries.specs.ById.{AreIdsOf};
 ghost use Rattle.queries.specs.Asking.{IsAsked};
 
 use crate::asking::asked_ids;
-use crate::scanning::scanned;
+use crate::dense::fold_dense;
+use crate::scanning::{Selecting, scanned};
 use crate::selects::Selects;
 use crate::within::is_within;
 use bson::{NoMemory, SpelledDocument};
@@ -80,8 +81,8 @@ pub(crate) fn look_up<D: Disk, S: Selects>(
 }
 
 /// The documents of the collection of a number that are looked for and have one of these `_id`s, told by their ascending key texts:
-/// the first ones, up to so many.
-pub(crate) fn selected_by_ids<D: Disk, S: Selects>(
+/// the first ones, up to so many, each looked up by itself.
+fn selected_one_by_one<D: Disk, S: Selects>(
     alloc: Global,
     file: &mut Collections<D>,
     number: u32,
@@ -105,6 +106,54 @@ pub(crate) fn selected_by_ids<D: Disk, S: Selects>(
         look_up(alloc, file, number, which, id, &mut found)?;
     }
     Ok(found)
+}
+
+/// The same by one walk from the first `_id` to the last. `None`: these are few, or lie far apart.
+fn selected_side_by_side<D: Disk, S: Selects>(
+    alloc: Global,
+    file: &mut Collections<D>,
+    number: u32,
+    which: &S,
+    ids: &[Vec<u8>],
+    most: usize,
+) -> Result<Option<Vec<SpelledDocument>>, Refusal>
+    ensures reads { ReadsOf D.history (AreIdsOf number (S.selects which.now) (texts_of ids.now))
+        (λ now c found. IfSome found
+        (λ v. v.items ≡ take most (filter (S.selects which.now) c.documents)))
+        result file.old file.new }
+    ensures within { IfOk result (λ found. IfSome found (λ v. All IsWithin v.items)) }
+{
+    let selecting = Selecting {
+        alloc,
+        which,
+        most,
+        found: Vec::new(alloc),
+    };
+    match fold_dense(alloc, file, number, ids, selecting)? {
+        Some(walked) => Ok(Some(walked.found)),
+        None => Ok(None),
+    }
+}
+
+/// The documents of the collection of a number that are looked for and have one of these `_id`s, told by their ascending key texts:
+/// the first ones, up to so many.
+pub(crate) fn selected_by_ids<D: Disk, S: Selects>(
+    alloc: Global,
+    file: &mut Collections<D>,
+    number: u32,
+    which: &S,
+    ids: &[Vec<u8>],
+    most: usize,
+) -> Result<Vec<SpelledDocument>, Refusal>
+    ensures reads { ReadsOf D.history (AreIdsOf number (S.selects which.now) (texts_of ids.now))
+        (λ now c found. found.items ≡ take most (filter (S.selects which.now) c.documents))
+        result file.old file.new }
+    ensures within { IfOk result (λ found. All IsWithin found.items) }
+{
+    match selected_side_by_side(alloc, file, number, which, ids, most)? {
+        Some(found) => Ok(found),
+        None => selected_one_by_one(alloc, file, number, which, ids, most),
+    }
 }
 
 /// The documents of a collection in a file that are looked for, in ascending order of `_id`: the first ones, up to so many. They are

@@ -1,6 +1,6 @@
 //! The documents of a collection that a pipeline needs.
 
-ghost use Rattle.std.specs.Prelude.{◌≡◌, true, All, IfOk, List, [], ◌∷◌, ◌++◌};
+ghost use Rattle.std.specs.Prelude.{◌≡◌, true, All, IfOk, IfSome, List, [], ◌∷◌, ◌++◌};
 ghost use Rattle.std.specs.List.{filter};
 ghost use Rattle.bson.specs.Tree.{Pairs};
 ghost use Rattle.aggregate.specs.Taking.{takes, IsEnough, SufficesTaken};
@@ -16,6 +16,7 @@ ghost use Rattle.queries.specs.ById.{AreIdsOf};
 ghost use Rattle.queries.specs.Folding.{Needs};
 
 use crate::asking::asked_ids;
+use crate::dense::fold_dense;
 use crate::id_range::fold_asked;
 use crate::looking_up::spelled_within;
 use crate::needed_by_order::needed_by_order;
@@ -174,8 +175,8 @@ fn with_looked_up(
 }
 
 /// The documents of the collection of a number that a pipeline needs, where those that it takes have some of these `_id`s, told by
-/// their ascending key texts.
-fn needed_by_ids<D: Disk>(
+/// their ascending key texts. Each is looked up by itself.
+fn needed_one_by_one<D: Disk>(
     alloc: Global,
     file: &mut Collections<D>,
     number: u32,
@@ -201,6 +202,58 @@ fn needed_by_ids<D: Disk>(
         needed = with_looked_up(alloc, pipeline, needed, &mut room, found)?;
     }
     Ok(only_needed(alloc, pipeline, needed)?)
+}
+
+/// The same by one walk from the first `_id` to the last. `None`: these are few, or lie far apart.
+fn needed_side_by_side<D: Disk>(
+    alloc: Global,
+    file: &mut Collections<D>,
+    number: u32,
+    pipeline: &Pipeline,
+    ids: &[Vec<u8>],
+) -> Result<Option<Vec<Document>>, Refusal>
+    ensures reads { ReadsOf D.history
+        (AreIdsOf number (takes (pipeline_of pipeline.now)) (texts_of ids.now))
+        (λ now c found. IfSome found
+        (λ few. AreEnough (pipeline_of pipeline.now) few.items c.documents))
+        result file.old file.new }
+    ensures within { IfOk result (λ found. IfSome found (λ few. All IsWithin few.items)) }
+{
+    let needing = Needing {
+        alloc,
+        pipeline,
+        needed: Vec::new(alloc),
+        room: ROOM,
+        is_enough: are_enough(pipeline, 0),
+    };
+    let Some(walked) = fold_dense(alloc, file, number, ids, needing)? else {
+        return Ok(None);
+    };
+    if walked.is_enough {
+        return Ok(Some(walked.needed));
+    }
+    Ok(Some(only_needed(alloc, pipeline, walked.needed)?))
+}
+
+/// The documents of the collection of a number that a pipeline needs, where those that it takes have some of these `_id`s, told by
+/// their ascending key texts.
+fn needed_by_ids<D: Disk>(
+    alloc: Global,
+    file: &mut Collections<D>,
+    number: u32,
+    pipeline: &Pipeline,
+    ids: &[Vec<u8>],
+) -> Result<Vec<Document>, Refusal>
+    ensures reads { ReadsOf D.history
+        (AreIdsOf number (takes (pipeline_of pipeline.now)) (texts_of ids.now))
+        (λ now c few. AreEnough (pipeline_of pipeline.now) few.items c.documents)
+        result file.old file.new }
+    ensures within { IfOk result (λ few. All IsWithin few.items) }
+{
+    match needed_side_by_side(alloc, file, number, pipeline, ids)? {
+        Some(few) => Ok(few),
+        None => needed_one_by_one(alloc, file, number, pipeline, ids),
+    }
 }
 
 /// The documents of a collection in a file that a pipeline needs, in ascending order of `_id`: of those that it takes no more than it

@@ -41,11 +41,11 @@ fn selected<S: Selects>(
 
 /// Documents that are looked for, of those that are lent: the first ones, up to so many.
 #[derive(Drop)]
-struct Selecting<'a, S> {
-    alloc: Global,
-    which: &'a S,
-    most: usize,
-    found: Vec<SpelledDocument>,
+pub(crate) struct Selecting<'a, S> {
+    pub(crate) alloc: Global,
+    pub(crate) which: &'a S,
+    pub(crate) most: usize,
+    pub(crate) found: Vec<SpelledDocument>,
 }
 
 impl<S: Selects> DocumentFold for Selecting<'_, S> {

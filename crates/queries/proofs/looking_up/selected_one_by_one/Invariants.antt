@@ -4,7 +4,7 @@ use Rattle.index.specs.View.{texts_of}
 use Rattle.queries.specs.ById.{AreIdsOf}
 use Rattle.queries.proofs.LookingUpLemmas.{HasLookedUp, told_by_ids}
 use Rattle.queries.proofs.SelectLemmas.{AreSelected}
-use Rattle.queries.proofs.looking_up.selected_by_ids.Given as goal
+use Rattle.queries.proofs.looking_up.selected_one_by_one.Given as goal
 
 abbrev pub invariant-ids : goal.invariant-ids
 invariant-ids g l = record {
