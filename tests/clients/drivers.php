@@ -70,6 +70,9 @@ function writes_and_finds(Manager $client): void
     $late = found($client, ["half" => ['$gte' => 149]], ["sort" => ["_id" => -1]]);
     expect(array_column($late, "_id"), [300, 299, 298]);
     expect(array_column(found($client, [], ["batchSize" => 7]), "_id"), range(1, 300));
+    $late = ["sort" => ["half" => -1.0, "_id" => 1.0], "projection" => ["half" => 1.0, "_id" => 0.0], "skip" => 1, "limit" => 2];
+    expect(array_column(found($client, [], $late), "half"), [149, 149]);
+    expect(array_column(asked($client, ["find" => "people", "skip" => 297.0, "limit" => 2.0, "batchSize" => 5.0]), "_id"), [298, 299]);
     $early = $client->executeQuery("php.people", new Query([], ["batchSize" => 2]));
     $early->rewind();
     expect([$early->current()->_id, $early->isDead()], [1, false]);

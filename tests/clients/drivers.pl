@@ -13,6 +13,7 @@ my $people = $client->ns("perl.people");
 $people->insert_one({ _id => 1, name => "Ada" });
 $people->insert_many([map { { _id => $_, half => $_ >> 1 } } 2 .. 300]);
 expect(join(" ", map { $_->{_id} } $people->find({ half => { '$gte' => 149 } })->sort({ _id => -1 })->all), "300 299 298");
+expect(join(" ", map { $_->{_id} } $people->find({ half => { '$gte' => 149 } }, { projection => { half => 0.0 } })->sort({ _id => -1.0 })->all), "300 299 298");
 expect(join(" ", map { $_->{_id} } $people->find({}, { batchSize => 7 })->all), join(" ", 1 .. 300));
 my $bulk = eval { $people->insert_many([{ _id => 301 }, { _id => 1 }, { _id => 302 }], { ordered => 0 }); 1 };
 my $fault = $@;

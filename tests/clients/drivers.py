@@ -5,6 +5,7 @@ import os, resource, shutil, signal, socket, struct, subprocess, sys, tempfile, 
 
 import bson
 import pymongo
+from bson.son import SON
 from pymongo import DeleteOne, InsertOne, ReplaceOne, UpdateMany, UpdateOne
 from pymongo.collection import ReturnDocument
 from pymongo.errors import BulkWriteError, DuplicateKeyError, OperationFailure
@@ -407,6 +408,49 @@ def refusals(server):
     expect(people.count_documents({}), 1)
 
 
+def whole_doubles(server):
+    """Numbers of the commands themselves that are doubles, as clients send them whose numbers all are."""
+    database = server.client().test
+    whole = database.whole
+    whole.insert_many([{"_id": n, "half": n // 2, "name": str(n)} for n in range(20)])
+
+    def batch(*command, **fields):
+        cursor = database.command(*command, **fields)["cursor"]
+        return cursor["id"], cursor.get("firstBatch", cursor.get("nextBatch"))
+
+    def ids(*command, **fields):
+        return [document["_id"] for document in batch(*command, **fields)[1]]
+
+    late = SON([("half", -1.0), ("_id", 1.0)])
+    cursor, first = batch("find", "whole", sort=late, skip=1.0, limit=3.0, batchSize=2.0, projection={"half": 0.0, "name": 0.0})
+    expect(first, [{"_id": 19}, {"_id": 16}])
+    expect(batch("getMore", cursor, collection="whole", batchSize=5.0), (0, [{"_id": 17}]))
+    expect(ids("find", "whole", limit=-0.0, skip=17.0), [17, 18, 19])
+    stages = [{"$sort": {"_id": -1.0}}, {"$skip": 2.0}, {"$limit": 1.0}, {"$project": {"half": 1.0, "_id": 0.0}}]
+    expect(batch("aggregate", "whole", pipeline=stages, cursor={"batchSize": 10.0}), (0, [{"half": 8}]))
+    expect(database.command("count", "whole", skip=5.0, limit=100.0)["n"], 15)
+    keys = [{"key": SON([("half", -1.0), ("name", 1)]), "name": "late"}]
+    database.command("createIndexes", "whole", indexes=keys)
+    database.command("createIndexes", "whole", indexes=[{"key": SON([("half", -1), ("name", 1)]), "name": "late"}])
+    expect(whole.index_information()["late"]["key"], [("half", -1), ("name", 1)])
+    plan = database.command("explain", SON([("find", "whole"), ("filter", {"half": 3}), ("sort", {"name": 1.0}), ("limit", 2.0)]))
+    expect(plan["queryPlanner"]["winningPlan"]["stage"].split()[:2], ["INDEX", "late"])
+    expect(database.command("delete", "whole", deletes=[{"q": {}, "limit": 1.0}])["n"], 1)
+    expect(database.command("findAndModify", "whole", sort={"_id": -1.0}, remove=True)["value"]["_id"], 19)
+    # anything else that is a double is refused, and so is the command
+    for place, command in [("limit", {"find": "whole", "limit": 1.5}), ("skip", {"find": "whole", "skip": float("inf")}),
+                           ("batchSize", {"find": "whole", "limit": 1.0, "batchSize": float("nan")}),
+                           ("limit", {"find": "whole", "limit": 2.0 ** 63}), ("filter.half", {"find": "whole", "filter": {"half": 1.0}, "limit": 1.0}),
+                           ("projection.a.b", {"find": "whole", "projection": {"a": {"b": 1.0}}}), ("ping", {"ping": 1.0}),
+                           ("documents.0.limit", {"insert": "whole", "documents": [{"_id": 100, "limit": 1.0}]}),
+                           ("deletes.0.q.limit", {"delete": "whole", "deletes": [{"q": {"limit": 1.0}, "limit": 1.0}]}),
+                           ("pipeline.0.$match.$limit", {"aggregate": "whole", "pipeline": [{"$match": {"$limit": 1.0}}], "cursor": {}})]:
+        fault = refused(OperationFailure, lambda: database.command(command), 22)
+        expect(fault.details["errmsg"], f"docpage has no BSON type double (at '{place}')")
+    expect(refused(OperationFailure, lambda: ids("find", "whole", limit=-1.0)).code, refused(OperationFailure, lambda: ids("find", "whole", limit=-1)).code)
+    expect(database.command("count", "whole")["n"], 18)
+
+
 def unacknowledged(server):
     client = server.client()
     people = client.test.get_collection("unheard", write_concern=pymongo.WriteConcern(w=0))
@@ -519,7 +563,7 @@ OTHERS = [other_driver("ruby", ["ruby", "-rmongo", "-e", "1"], ["ruby", f"{HERE}
           other_driver("go", GO + ["list", "go.mongodb.org/mongo-driver/mongo"], GO + ["run", f"{HERE}/drivers.go"], 2 * PATIENCE)]
 
 CASES = [handshake, inserts, raw_inserts, finds, cursors, abandoned_cursors, updates, batches, upserts, modifications, deletes, counts, distincts, indexes,
-         collections, refusals, unacknowledged, pool, clients, idle_sockets, killed]
+         collections, refusals, whole_doubles, unacknowledged, pool, clients, idle_sockets, killed]
 
 
 def main():

@@ -11,6 +11,7 @@ people = client[:people]
 expect(people.insert_one(_id: 1, name: "Ada").n, 1)
 people.insert_many((2..300).map { |n| { _id: n, half: n / 2 } })
 expect(people.find(half: { "$gte" => 149 }).sort(_id: -1).map { |d| d["_id"] }, [300, 299, 298])
+expect(people.find({ half: { "$gte" => 149 } }, projection: { half: 0.0 }).sort(_id: -1.0).to_a, [{ "_id" => 300 }, { "_id" => 299 }, { "_id" => 298 }])
 expect(people.find.batch_size(7).map { |d| d["_id"] }, (1..300).to_a)
 early = people.find.batch_size(2).to_enum
 early.next

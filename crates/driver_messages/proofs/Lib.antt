@@ -1,2 +1,5 @@
 mod SeekingLemmas
 mod SectionLemmas
+mod WholeDoubleLemmas
+mod WithIntegersLemmas
+mod LengthLaws

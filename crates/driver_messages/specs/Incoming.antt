@@ -15,6 +15,7 @@ use Rattle.op_msg.specs.Frame.{Frame, front, number_at, is_no_length}
 use Rattle.op_msg.specs.Request.{body_of}
 use Rattle.op_msg.specs.declared.fault.FrameFault.{FrameFault}
 use Rattle.driver_messages.specs.Seeking.{foreign_in, foreign_in_sections}
+use Rattle.driver_messages.specs.WithIntegers.{with_integers}
 use Rattle.driver_messages.specs.declared.foreign.Foreign.{Foreign}
 use Rattle.driver_messages.specs.declared.message.BodyFault.{BodyFault}
 use Rattle.driver_messages.specs.declared.message.BodyFault.TheVariants as bodies
@@ -75,8 +76,23 @@ message_or_fault whole (Ok (Some x)) = Ok (message_in whole x.0)
 message_or_fault whole (Ok None) = Err faults.Length
 message_or_fault whole (Err fault) = Err (faults.Frame fault)
 
+abbrev pub as_sent : List ℕ → Result Message StreamFault
+as_sent whole = message_or_fault whole (front whole)
+
+abbrev pub has_foreign : Result Pairs BodyFault → Bool
+has_foreign (Ok ps) = false
+has_foreign (Err (bodies.Foreign foreign)) = true
+has_foreign (Err bodies.Invalid) = false
+
+-- A message with a value of a type that the database doesn't have is read again, with whole doubles
+-- that are numbers of the command itself as integers.
+abbrev pub read_again : List ℕ → Result Message StreamFault → Result Message StreamFault
+read_again whole (Ok message) =
+    if has_foreign message.body then as_sent (with_integers whole) else Ok message
+read_again whole (Err fault) = Err fault
+
 abbrev pub read_message : List ℕ → Result Message StreamFault
-read_message whole = message_or_fault whole (front whole)
+read_message whole = read_again whole (as_sent whole)
 
 -- ---- OP_QUERY: after the header 32 flags, which are read over, the name of a collection that a
 -- zero ends, two numbers and a document

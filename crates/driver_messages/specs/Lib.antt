@@ -1,6 +1,11 @@
 pub mod ForeignTypes
 pub mod Seeking
 pub mod SeekingView
+pub mod WholeDouble
+pub mod OwnNumbers
+pub mod WithIntegers
+pub mod PassingView
 pub mod Incoming
 pub mod WireView
 pub mod Rows
+pub mod Laws

@@ -1,9 +1,17 @@
 //! Laws of the definitions, as contracts.
 
-ghost use Rattle.driver_messages.specs.Rows.{ForeignRows, QueryRows};
+ghost use Rattle.driver_messages.specs.Laws.{KeepsLength};
+ghost use Rattle.driver_messages.specs.Rows.{DoubleRows, ForeignRows, IntegerRows, QueryRows};
 
-/// Messages and foreign types, worked by hand.
+/// Messages, foreign types and whole doubles, worked by hand.
 pub fn rows()
     ensures queries { QueryRows }
     ensures foreign { ForeignRows }
+    ensures doubles { DoubleRows }
+    ensures integers { IntegerRows }
+{}
+
+/// A message is as long with its whole doubles as integers as it is without.
+pub fn keeps_length()
+    ensures { KeepsLength }
 {}

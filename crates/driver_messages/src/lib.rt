@@ -5,11 +5,15 @@ mod foreign;
 mod incoming;
 pub mod laws;
 mod message;
+mod own_numbers;
+mod passing;
 mod place;
 mod sections;
 mod seeking;
 mod stream_fault;
+mod whole_double;
 mod wire;
+mod with_integers;
 
 pub use foreign::{Foreign, ForeignType};
 pub use incoming::Incoming;

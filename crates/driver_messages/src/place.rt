@@ -1,8 +1,10 @@
 //! Where a value stands in a document.
 
 ghost use Rattle.std.specs.Prelude.{◌≡◌, [], map, IfOk, OnOk};
+ghost use Rattle.driver_messages.specs.OwnNumbers.{is_own_number};
 ghost use Rattle.driver_messages.specs.Seeking.{inside, outside, dotted};
 
+use crate::own_numbers::is_own_number;
 use bson::{NoMemory, Text};
 use std::alloc::Global;
 use std::marker::Model;
@@ -44,6 +46,13 @@ impl<'a> Place<'a> {
         ensures { self.new ≡ outside self.old }
     {
         let _name = self.names.pop();
+    }
+
+    /// Whether the field of this name, in the document at the place, is a number of the command itself.
+    pub(crate) fn has_own_number(&self, name: &str) -> bool
+        ensures { result ≡ is_own_number self.now name.now }
+    {
+        is_own_number(&self.names, name)
     }
 
     /// The names with dots between them.

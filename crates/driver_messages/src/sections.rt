@@ -14,7 +14,7 @@ use itoa::Buffer;
 use std::alloc::Global;
 
 /// Bytes that begin with their own length, and what follows them.
-fn split_part(bytes: &[u8]) -> (&[u8], &[u8])
+pub(crate) fn split_part(bytes: &[u8]) -> (&[u8], &[u8])
     ensures part { result.0.now ≡ take (number_at bytes.now) bytes.now }
     ensures rest { result.1.now ≡ drop (number_at bytes.now) bytes.now }
 {

@@ -36,8 +36,9 @@ pub(crate) fn number_at(bytes: &[u8]) -> usize
 
 /// How many bytes a value of this kind has that begins so.
 #[tactic(auto, unfolding(bson::specs::Raw::len_at))]
-fn value_len(kind: Kind, bytes: &[u8]) -> usize
-    ensures { result ≡ len_at kind bytes.now }
+pub(crate) fn value_len(kind: Kind, bytes: &[u8]) -> usize
+    ensures value { result ≡ len_at kind bytes.now }
+    ensures fits { result < 2 ^ 33 }
 {
     match kind {
         Kind::String => number_at(bytes) + 4,
@@ -53,7 +54,7 @@ fn value_len(kind: Kind, bytes: &[u8]) -> usize
 
 /// The kind that a type byte stands for.
 #[tactic(auto, unfolding(bson::specs::Reading::kind_of))]
-fn kind_of(byte: u8) -> Option<Kind>
+pub(crate) fn kind_of(byte: u8) -> Option<Kind>
     ensures { result ≡ kind_or_none (kind_of byte) }
 {
     match byte {
@@ -75,7 +76,7 @@ fn kind_of(byte: u8) -> Option<Kind>
 }
 
 /// What follows the first so many bytes; nothing where there are fewer.
-fn behind(bytes: &[u8], count: usize) -> &[u8]
+pub(crate) fn behind(bytes: &[u8], count: usize) -> &[u8]
     ensures { result.now ≡ drop count bytes.now }
 {
     let (_, rest) = bytes.split_at(count.min(bytes.len()));

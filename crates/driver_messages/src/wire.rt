@@ -8,7 +8,7 @@ ghost use Rattle.bson.specs.Raw.{only_document};
 ghost use Rattle.bson.specs.declared.fault.BsonFault.{BsonFault};
 ghost use Rattle.op_msg.specs.Frame.{Frame, number_at};
 ghost use Rattle.op_msg.specs.Request.{IsRequest};
-ghost use Rattle.driver_messages.specs.Incoming.{is_no_opcode, whole_at, named_or_invalid, body_fault, body_or_fault, message_in, read_message, form_of, query_of, read_query, read_whole};
+ghost use Rattle.driver_messages.specs.Incoming.{is_no_opcode, whole_at, named_or_invalid, body_fault, body_or_fault, message_in, as_sent, has_foreign, read_message, form_of, query_of, read_query, read_whole};
 ghost use Rattle.driver_messages.specs.WireView.{found_in};
 
 use crate::foreign::Foreign;
@@ -17,6 +17,7 @@ use crate::place::Place;
 use crate::sections::foreign_in_sections;
 use crate::seeking::foreign_in;
 use crate::stream_fault::StreamFault;
+use crate::with_integers::with_integers;
 use bson::{BsonFault, Document, MESSAGE_LIMIT, NoMemory, decode, read_name};
 use op_msg::{FrameFault, Frames, Request};
 use std::alloc::Global;
@@ -104,7 +105,7 @@ fn body_or_fault(
 
 /// The message that an OP_MSG was read as.
 fn message_of(alloc: Global, whole: &[u8], request: Request) -> Result<Message, StreamFault>
-    requires { 26 ≤ length whole.now }
+    requires { 20 ≤ length whole.now }
     ensures { (frame : Frame) → IsRequest frame request
         → Gives StreamFault.Memory (λ m. m) result (Ok (message_in whole.now frame)) }
 {
@@ -118,10 +119,10 @@ fn message_of(alloc: Global, whole: &[u8], request: Request) -> Result<Message, 
     })
 }
 
-/// A whole OP_MSG.
-fn read_message(alloc: Global, whole: &[u8]) -> Result<Message, StreamFault>
-    requires { 26 ≤ length whole.now }
-    ensures { Gives StreamFault.Memory (λ m. m) result (read_message whole.now) }
+/// A whole OP_MSG, as it stands.
+fn read_as_sent(alloc: Global, whole: &[u8]) -> Result<Message, StreamFault>
+    requires { 20 ≤ length whole.now }
+    ensures { Gives StreamFault.Memory (λ m. m) result (as_sent whole.now) }
 {
     let mut frames = Frames::new(alloc);
     let Ok(()) = frames.feed(whole) else {
@@ -133,6 +134,30 @@ fn read_message(alloc: Global, whole: &[u8]) -> Result<Message, StreamFault>
         Err(FrameFault::Memory) => Err(StreamFault::Memory),
         Err(fault) => Err(StreamFault::Frame(fault)),
     }
+}
+
+/// Whether a message has a value of a type that the database doesn't have in place of a document.
+fn has_foreign(message: &Message) -> bool
+    ensures { result ≡ has_foreign message.now.body }
+{
+    match message.body {
+        Err(BodyFault::Foreign(_)) => true,
+        _ => false,
+    }
+}
+
+/// A whole OP_MSG. Where it has a value of a type that the database doesn't have it is read again, with whole
+/// doubles that are numbers of the command itself as integers.
+fn read_message(alloc: Global, whole: &[u8]) -> Result<Message, StreamFault>
+    requires { 26 ≤ length whole.now }
+    ensures { Gives StreamFault.Memory (λ m. m) result (read_message whole.now) }
+{
+    let message = read_as_sent(alloc, whole)?;
+    if !has_foreign(&message) {
+        return Ok(message);
+    }
+    let respelled = with_integers(alloc, whole)?;
+    read_as_sent(alloc, &respelled)
 }
 
 /// The document of an OP_QUERY.
