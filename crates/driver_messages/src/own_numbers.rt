@@ -1,7 +1,7 @@
 //! The numbers of a command that are no part of a document that is kept or sought.
 
 ghost use Rattle.std.specs.Prelude.{◌≡◌, map};
-ghost use Rattle.driver_messages.specs.OwnNumbers.{is_count, is_number_in, is_number_of_item, is_number_in_item, is_number_at, explained, is_own_number};
+ghost use Rattle.driver_messages.specs.OwnNumbers.{is_count, is_number_in, is_number_of_item, is_number_in_item, is_number_at, is_own_number};
 
 /// Of a command: how many documents it passes over, takes or answers at once.
 fn is_count(name: &str) -> bool
