@@ -23,8 +23,8 @@ NAMESPACE is a database's name and a collection's, as test.people. For instance:
 const ASK: &str = "\
 docpage ask FILE [--db NAME] [--all] [--pretty] [COMMAND]..
 
-Asks commands in MongoDB Extended JSON and prints each reply on a line: the commands given, or, where none is, each line of
-standard input. FILE is made if it is missing. The status is 1 where a command was refused.
+Asks commands in MongoDB Extended JSON and prints each reply on a line: the commands given, or, where none
+is, each line of standard input. FILE is made if it is missing. The status is 1 where a command was refused.
 
   --db NAME   the database of commands that name none (test)
   --all       follows a cursor to its end
@@ -36,8 +36,9 @@ standard input. FILE is made if it is missing. The status is 1 where a command w
 const IMPORT: &str = "\
 docpage import FILE NAMESPACE
 
-Inserts the documents of standard input, one a line in MongoDB Extended JSON, in batches of at most 1,000, each of which is
-committed whole. FILE is made if it is missing. A line that is no document ends it, by its number; what came before it stays.
+Inserts the documents of standard input, one a line in MongoDB Extended JSON, in batches of at most 1,000,
+each of which is committed whole. FILE is made if it is missing. A line that is no document ends it, by its
+number; what came before it stays.
 
   docpage import people.docpage test.people <people.json
 ";
@@ -55,9 +56,9 @@ Prints the documents of a collection, one a line in MongoDB Extended JSON, in as
 const CHECK: &str = "\
 docpage check FILE
 
-Reads the whole file, judges every page and document and that its indexes agree with them, and prints how much there is: the number
-of the last commit, collections, documents, indexes (with those on _id), pages, and how many of these are free. FILE is read and
-never written. A file that is not sound is the fault Damaged.
+Reads the whole file, judges every page and document and that its indexes agree with them, and prints how
+much there is: the number of the last commit, collections, documents, indexes (with those on _id), pages, and
+how many of these are free. FILE is read and never written. A file that is not sound is the fault Damaged.
 
   docpage check people.docpage
 ";
@@ -65,8 +66,9 @@ never written. A file that is not sound is the fault Damaged.
 const DUMP: &str = "\
 docpage dump FILE NAMESPACE
 
-Prints the documents of a collection as the file has them: the bytes of each as BSON in lower case hexadecimal, one document a
-line, in ascending order of _id. FILE is read and never written. A collection that is missing is the fault NamespaceNotFound.
+Prints the documents of a collection as the file has them: the bytes of each as BSON in lower case
+hexadecimal, one document a line, in ascending order of _id. FILE is read and never written. A collection
+that is missing is the fault NamespaceNotFound.
 
   docpage dump people.docpage test.people
 ";
@@ -74,7 +76,8 @@ line, in ascending order of _id. FILE is read and never written. A collection th
 const EXEC: &str = "\
 docpage exec FILE
 
-Answers one connection: frames of OP_MSG on standard input, replies on standard output. FILE is made if it is missing.
+Answers one connection: frames of OP_MSG on standard input, replies on standard output. FILE is made if it
+is missing.
 
   docpage exec people.docpage <frames >replies
 ";
@@ -82,7 +85,8 @@ Answers one connection: frames of OP_MSG on standard input, replies on standard 
 const LISTEN: &str = "\
 docpage listen FILE --port P [--idle-seconds S] [--drivers]
 
-Answers every connection to 127.0.0.1:P, 64 at a time, until a signal ends it. Port 0 is any that is free; it is printed.
+Answers every connection to 127.0.0.1:P, 64 at a time, until a signal ends it. Port 0 is any that is free;
+it is printed.
 
   --idle-seconds S   closes a connection that has sent nothing for so long
   --drivers          translates for MongoDB drivers, 1,024 connections at a time

@@ -49,8 +49,18 @@ pub(crate) fn listen_to_drivers<
 >(rt: &R, core: Core<D>, listened: &Listened, output: &mut impl Write) -> Result<(), ProgramFault>
     requires sound { IsSound D.history core }
 {
-    let mut front = Front::new(rt, core);
     let listener = bind(rt, listened.port, output)?;
+    answer_drivers(rt, listener, listened, core)
+}
+
+/// Serves MongoDB drivers on all connections that come to a listener.
+fn answer_drivers<
+    R: AllocGlobal + Clock + Net<Listener = TcpListener, Stream = TcpStream>,
+    D: Disk + Drop,
+>(rt: &R, listener: TcpListener, listened: &Listened, core: Core<D>) -> Result<(), ProgramFault>
+    requires sound { IsSound D.history core }
+{
+    let mut front = Front::new(rt, core);
     Ok(sockets::listen(rt, listener, listened.idle, &mut front)?)
 }
 
