@@ -1,5 +1,6 @@
 pub mod MeasureLemmas
 pub mod WalkLemmas
+pub mod AmongLemmas
 pub mod ReadingLemmas
 pub mod ProjectionLemmas
 pub mod StableSortLemmas

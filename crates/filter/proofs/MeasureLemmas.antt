@@ -15,5 +15,6 @@ way (subjects.Alone v) = 0
 -- the conditions that are asked of what is found
 abbrev pub asked : Probe → ℕ
 asked (probes.Predicate predicate) = 0
+asked (probes.OneOf values) = 0
 asked (probes.Element filter) = weights filter.now
 asked (probes.ElementDocument filter) = weights filter.now

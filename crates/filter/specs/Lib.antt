@@ -3,6 +3,7 @@ pub mod ConditionCode
 pub mod View
 pub mod Sizes
 pub mod Matches
+pub mod Among
 pub mod Probes
 pub mod Words
 pub mod Tables

@@ -8,6 +8,7 @@ use Rattle.path.specs.Reach.{Reached, reach, onwards}
 use Rattle.filter.specs.Matches.{passes, Subject, whole, along, alone, some_element, of_document}
 use Rattle.filter.specs.Matches.{all_hold}
 use Rattle.filter.specs.View.{predicate_of}
+use Rattle.filter.specs.Among.{among_passes}
 use Rattle.filter.specs.declared.matching.Subject.{Subject as Asked}
 use Rattle.filter.specs.declared.matching.Subject.TheVariants as subjects
 use Rattle.filter.specs.declared.matching.Probe.{Probe}
@@ -21,6 +22,7 @@ subject_of (subjects.Alone v) = alone (tree v.now)
 
 abbrev pub probe_passes : Probe → Bool → Reached → Bool
 probe_passes (probes.Predicate predicate) one r = passes (predicate_of predicate.now) one r
+probe_passes (probes.OneOf values) one r = among_passes values.now one r
 probe_passes (probes.Element filter) one r = some_element (λ t. all_hold filter.now (alone t)) r
 probe_passes (probes.ElementDocument filter) one r =
     some_element (of_document (all_hold filter.now)) r

@@ -3,6 +3,7 @@
 ghost use Rattle.std.specs.Prelude.{◌≡◌};
 ghost use Rattle.filter.specs.Matches.{allows};
 
+use crate::value_set::ValueSet;
 use bson::{Kind, Value};
 use path::Path;
 use std::alloc::Global;
@@ -74,6 +75,8 @@ pub enum Condition {
 #[derive(Debug, Drop)]
 pub struct Filter {
     pub(crate) conditions: Vec<Condition>,
+    // the values of which one is asked for, where that is what they ask
+    pub(crate) values: Option<ValueSet>,
 }
 
 impl Model for Filter {
@@ -88,6 +91,10 @@ impl Model for Filter {
     ghost use Rattle.filter.specs.View.{conditions_of};
 
     ghost view = { λ a. conditions_of a.conditions.items };
+
+    ghost use Rattle.filter.specs.Among.{AsksOneOf};
+
+    ghost invariant = { λ a. AsksOneOf a.values (conditions_of a.conditions.items) };
 
     ghost size = { weights };
 
@@ -106,6 +113,7 @@ impl Filter {
     {
         Filter {
             conditions: Vec::new(alloc),
+            values: None,
         }
     }
 

@@ -62,6 +62,10 @@ impl Filter {
         'conditions: for condition in &self.conditions {
             conditions.push(condition.copy()?)?;
         }
-        Ok(Filter { conditions })
+        let values = match &self.values {
+            Some(values) => Some(values.copy()?),
+            None => None,
+        };
+        Ok(Filter { conditions, values })
     }
 }

@@ -15,6 +15,7 @@ ghost use Rattle.filter.specs.Probes.{subject_of, probe_passes, field_passes};
 
 use crate::condition::{Condition, Filter, Predicate};
 use crate::predicate;
+use crate::value_set::ValueSet;
 use bson::{Array, Document, NoMemory, Value};
 use path::{Part, item_of_part};
 
@@ -34,6 +35,8 @@ enum Subject<'a> {
 enum Probe<'a> {
     /// A value that passes a predicate.
     Predicate(&'a Predicate),
+    /// One that is equal to one of many.
+    OneOf(&'a ValueSet),
     /// An array with an element of which conditions hold.
     Element(&'a Filter),
     /// An array with a document of which conditions hold.
@@ -90,6 +93,9 @@ fn all_hold(filter: &Filter, subject: Subject<'_>) -> bool
 fn any_holds(filter: &Filter, subject: Subject<'_>) -> bool
     ensures { result ≡ any_holds filter.now (subject_of subject.entry) }
 {
+    if let Some(values) = &filter.values {
+        return finds(Probe::OneOf(values), subject);
+    }
     'conditions: for condition in filter.conditions() {
         if holds(condition, subject) {
             return true;
@@ -195,7 +201,8 @@ fn missing_passes(probe: Probe<'_>) -> bool
 {
     match probe {
         Probe::Predicate(predicate) => predicate::missing_passes(predicate),
-        _ => false,
+        Probe::OneOf(values) => values.missing_passes(),
+        Probe::Element(_) | Probe::ElementDocument(_) => false,
     }
 }
 
@@ -206,6 +213,7 @@ fn passes(probe: Probe<'_>, alone: bool, value: &Value) -> bool
 {
     match probe {
         Probe::Predicate(predicate) => predicate::passes(predicate, alone, value),
+        Probe::OneOf(values) => values.passes(alone, value),
         Probe::Element(filter) => match value {
             Value::Array(array) => has_element(filter, array),
             _ => false,

@@ -12,9 +12,13 @@ ghost use Rattle.filter.specs.View.{condition_of};
 
 use crate::condition::{Comparison, Condition, Filter, Predicate};
 use crate::operator::{Operator, all_kinds, size_in};
+use crate::value_set::ValueSet;
 use bson::{Array, Document, NoMemory, Value};
 use path::{Path, Refusal, begins_with_dollar};
 use std::alloc::Global;
+
+/// From how many values on one is found by halving, and not by asking one condition after the other.
+const MANY: usize = 8;
 
 /// The path that a name writes, or the refusal of its fault.
 pub fn path_in(alloc: Global, name: &str) -> Result<Path, Refusal>
@@ -41,7 +45,10 @@ pub(crate) fn just(alloc: Global, condition: Condition) -> Result<Filter, NoMemo
     ensures { IfOk result (λ f. f ≡ just (condition_of condition)) }
 {
     let conditions = Vec::from_array(alloc, [condition])?;
-    Ok(Filter { conditions })
+    Ok(Filter {
+        conditions,
+        values: None,
+    })
 }
 
 /// To be equal to a copy of this.
@@ -71,7 +78,10 @@ fn equals(alloc: Global, array: &Array) -> Result<Filter, NoMemory>
     'items: for item in array.items() {
         conditions.push(equal(item)?)?;
     }
-    Ok(Filter { conditions })
+    Ok(Filter {
+        conditions,
+        values: None,
+    })
 }
 
 fn array_in(value: &Value) -> Result<&Array, Refusal>
@@ -89,6 +99,29 @@ fn equals_in(alloc: Global, value: &Value) -> Result<Filter, Refusal>
         (if_ok (array_in (tree value.now)) (λ ts. Ok (equals ts))) }
 {
     Ok(equals(alloc, array_in(value)?)?)
+}
+
+/// The same conditions for where one of them is to hold: with many values it is told by the values in order.
+fn one_of(alloc: Global, value: &Value) -> Result<Filter, Refusal>
+    ensures { Gives Refusal.OutOfMemory (λ f. f) result
+        (if_ok (array_in (tree value.now)) (λ ts. Ok (equals ts))) }
+{
+    let array = array_in(value)?;
+    let Filter {
+        conditions,
+        values: _,
+    } = equals(alloc, array)?;
+    if array.len() < MANY {
+        return Ok(Filter {
+            conditions,
+            values: None,
+        });
+    }
+    let values = ValueSet::of(alloc, array.items())?;
+    Ok(Filter {
+        conditions,
+        values: Some(values),
+    })
 }
 
 /// To be of one of the kinds that a value names.
@@ -141,12 +174,12 @@ pub(crate) fn read_operation(
         Operator::AtLeast => order_operand(Comparison::AtLeast, value),
         Operator::Below => order_operand(Comparison::Below, value),
         Operator::AtMost => order_operand(Comparison::AtMost, value),
-        Operator::In => Ok(Condition::Any(equals_in(alloc, value)?)),
+        Operator::In => Ok(Condition::Any(one_of(alloc, value)?)),
         Operator::Exists => exists(alloc, value),
         Operator::Type => of_kinds(alloc, value),
         Operator::All => Ok(every(equals_in(alloc, value)?)),
         Operator::Size => Ok(Condition::Is(Predicate::Size(size_in(value)?))),
         Operator::NotEqual => Ok(not_equal(alloc, value)?),
-        Operator::NotIn => Ok(Condition::NotAny(equals_in(alloc, value)?)),
+        Operator::NotIn => Ok(Condition::NotAny(one_of(alloc, value)?)),
     }
 }

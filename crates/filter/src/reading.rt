@@ -32,7 +32,10 @@ fn read_filter(alloc: Global, document: &Document) -> Result<Filter, Refusal>
         let condition = read_condition(alloc, pair.name.as_str(), &pair.value)?;
         conditions.push(condition)?;
     }
-    Ok(Filter { conditions })
+    Ok(Filter {
+        conditions,
+        values: None,
+    })
 }
 
 /// One pair: a list of filters, or a path and what is asked there.
@@ -75,7 +78,10 @@ fn read_filters(alloc: Global, array: &Array) -> Result<Filter, Refusal>
         let condition = read_member(alloc, item)?;
         conditions.push(condition)?;
     }
-    Ok(Filter { conditions })
+    Ok(Filter {
+        conditions,
+        values: None,
+    })
 }
 
 #[cycle(reading)]
@@ -108,7 +114,10 @@ fn read_operators(alloc: Global, document: &Document) -> Result<Filter, Refusal>
         let condition = read_operator(alloc, pair.name.as_str(), &pair.value)?;
         conditions.push(condition)?;
     }
-    Ok(Filter { conditions })
+    Ok(Filter {
+        conditions,
+        values: None,
+    })
 }
 
 #[cycle(reading)]

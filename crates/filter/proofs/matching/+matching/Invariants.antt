@@ -14,7 +14,7 @@ abbrev pub decreases-all_hold : goal.decreases-all_hold
 decreases-all_hold l = 8 * weights l.filter.now + 3 * way l.subject + 2
 
 abbrev pub decreases-any_holds : goal.decreases-any_holds
-decreases-any_holds l = 8 * weights l.filter.now + 3 * way l.subject + 2
+decreases-any_holds l = 8 * weights l.filter.now + 3 * way l.subject + 7
 
 abbrev pub decreases-holds : goal.decreases-holds
 decreases-holds l = 8 * weight (condition_of l.condition.now) + 3 * way l.subject + 1
