@@ -17,7 +17,7 @@ use Rattle.index.specs.State.{Collection}
 use Rattle.index.specs.declared.catalogue_reading.Catalogued.{Catalogued}
 use Rattle.cursors.specs.Held.{Held, table_of}
 use Rattle.pinned_cursors.specs.Opening.{IsLeftOf, OpensPinned, rest_behind}
-use Rattle.pinned_cursors.specs.declared.opening.Left.{Left}
+use Rattle.pinned_cursors.specs.declared.opening.WalkSoFar.{WalkSoFar}
 use Rattle.path.specs.declared.refusal.Refusal.{Refusal}
 use Rattle.path.specs.declared.refusal.Refusal.TheVariants as refusals
 use Rattle.database_model.specs.Cursors.{batch_of, batch_reply, first_batch, is_refused, new_cursor}
@@ -143,7 +143,7 @@ at_home now name home f Q h = subst Q (sym (documents_found now name f.collectio
 
 -- ---- the cursor on what is left
 
-module _ {D : Type 0} (history : D → History) (mid : Engine D) (h : IsSound history mid) (connection : ℕ) (name : List ℕ) (left : Left)
+module _ {D : Type 0} (history : D → History) (mid : Engine D) (h : IsSound history mid) (connection : ℕ) (name : List ℕ) (left : WalkSoFar)
     (rest : List Pairs) (rest_is : rest ≡ rest_behind left (documents_of (world mid).collections name)) (file : State D) (held : Held) where
   abbrev new : Engine D
   new = record mid { file = file; cursors = held }

@@ -22,7 +22,7 @@ use index::Catalogued;
 use opening::Told;
 use page::Disk;
 use path::Refusal;
-use pinned_cursors::{Left, open_pinned};
+use pinned_cursors::{WalkSoFar, open_pinned};
 use queries::{BatchAsked, GivenBatch, Walk};
 use replies::{BatchKind, ConnId};
 
@@ -125,7 +125,7 @@ impl<D: Disk> Engine<D> {
             return Err(Refusal::TooMany);
         }
         let rest = rest_from(&self.told, namespace, query, count, &from);
-        let left = Left {
+        let left = WalkSoFar {
             number: home.number,
             walk: &walk,
             count,

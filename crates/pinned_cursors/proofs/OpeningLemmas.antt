@@ -13,11 +13,11 @@ use Rattle.cursors.specs.TableLaws.{opened_in_table}
 use Rattle.pinned_cursors.specs.Opening.{IsLeftOf, OpensPinned, walk_behind}
 use Rattle.pinned_cursors.specs.Tied.{AreTied, ReadsRest}
 use Rattle.pinned_cursors.specs.Turns.{OnlyPins}
-use Rattle.pinned_cursors.specs.declared.opening.Left.{Left}
+use Rattle.pinned_cursors.specs.declared.opening.WalkSoFar.{WalkSoFar}
 use Rattle.pinned_cursors.proofs.TiedLemmas.{tied_opened, tied_pinned, tied_unpinned}
 use Rattle.pinned_cursors.proofs.TurnLemmas.{no_pins, pins_further, pins_of_stays}
 
-module _ {D E : Type 0} (history : D → History) (connection : ℕ) (namespace : List ℕ) (left : Left) (rest : List Pairs) (old : State D) (held : Held) where
+module _ {D E : Type 0} (history : D → History) (connection : ℕ) (namespace : List ℕ) (left : WalkSoFar) (rest : List Pairs) (old : State D) (held : Held) where
   abbrev Opens : Result (Unit {0}) E → State D → Held → Type 0
   Opens result new after = OpensPinned history connection namespace left rest result old new held after
 

@@ -14,16 +14,16 @@ use Rattle.queries.specs.Batches.{walk_rest}
 use Rattle.cursors.specs.Held.{Held, HeldWalk, cursors_of, table_of}
 use Rattle.pinned_cursors.specs.Tied.{AreTied}
 use Rattle.pinned_cursors.specs.Turns.{OnlyPins}
-use Rattle.pinned_cursors.specs.declared.opening.Left.{Left}
+use Rattle.pinned_cursors.specs.declared.opening.WalkSoFar.{WalkSoFar}
 
 -- what is left of the documents of its collection
-abbrev pub rest_behind : Left → List Pairs → List Pairs
+abbrev pub rest_behind : WalkSoFar → List Pairs → List Pairs
 rest_behind left ds =
     walk_rest left.walk.now.filter.now left.walk.now.projection.now 0
     (left.walk.now.limit - left.count) left.from.items ds
 
 -- how a cursor goes on to it in a version
-abbrev pub walk_behind : Version → Left → HeldWalk
+abbrev pub walk_behind : Version → WalkSoFar → HeldWalk
 walk_behind version left = record {
   version = version;
   number = left.number;
@@ -34,7 +34,7 @@ walk_behind version left = record {
 }
 
 -- These documents are what the walk has left of its collection, one of those of now.
-pub record IsLeftOf {D : Type 0} (history : D → History) (file : State D) (left : Left)
+pub record IsLeftOf {D : Type 0} (history : D → History) (file : State D) (left : WalkSoFar)
     (rest : List Pairs) : Type 0 where
   pub start : List Collection
   pub now : List Collection
@@ -47,7 +47,7 @@ pub record IsLeftOf {D : Type 0} (history : D → History) (file : State D) (lef
 -- A cursor on these documents was opened, or all is as it was but for the pins. Where the documents
 -- are what the walk has left, the cursors stay tied to the file.
 pub record OpensPinned {D E : Type 0} (history : D → History) (connection : ℕ)
-    (namespace : List ℕ) (left : Left) (rest : List Pairs) (result : Result (Unit {0}) E)
+    (namespace : List ℕ) (left : WalkSoFar) (rest : List Pairs) (result : Result (Unit {0}) E)
     (old new : State D) (before after : Held) : Type 0 where
   pub ok : OnOk result (table_of after ≡ record {
     list = cursors_of before ++ new_cursor before.next connection namespace rest ∷ [];

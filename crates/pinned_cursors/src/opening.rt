@@ -17,7 +17,7 @@ use replies::ConnId;
 
 /// What a cursor is opened on: what a walk through a collection has left behind a batch.
 #[derive(Drop)]
-pub struct Left<'a> {
+pub struct WalkSoFar<'a> {
     /// The number of the collection.
     pub number: u32,
     pub walk: &'a Walk<'a>,
@@ -28,7 +28,7 @@ pub struct Left<'a> {
 }
 
 /// The walk by which a cursor goes on in a pinned version.
-fn pinned_walk(version: Version, left: Left<'_>, rest: Rest) -> Result<PinnedWalk, NoMemory>
+fn pinned_walk(version: Version, left: WalkSoFar<'_>, rest: Rest) -> Result<PinnedWalk, NoMemory>
     ensures walk { IfOk result (λ w. walk_of w ≡ walk_behind version left.entry) }
     ensures gives { IfOk result (λ w. w.rest.value ≡ rest.value) }
 {
@@ -51,7 +51,7 @@ fn open_in(
     version: Version,
     connection: ConnId,
     namespace: &str,
-    left: Left<'_>,
+    left: WalkSoFar<'_>,
     rest: Rest,
 ) -> Result<(), NoMemory>
     requires number { cursors.old.next < 2 ^ 63 }
@@ -71,7 +71,7 @@ pub fn open_pinned<D: Disk>(
     cursors: &mut Cursors,
     connection: ConnId,
     namespace: &str,
-    left: Left<'_>,
+    left: WalkSoFar<'_>,
     rest: Rest,
 ) -> Result<(), NoMemory>
     requires number { cursors.old.next < 2 ^ 63 }

@@ -22,10 +22,10 @@ use Rattle.index.proofs.MemberLemmas.{among_of}
 use Rattle.index.proofs.KeyOfDocument.{among_test}
 use Rattle.index.specs.State.{key_of}
 use Rattle.value_order.specs.KeyText.{tree_text}
-use Rattle.queries.specs.Alternatives.{AreAlternatives, asked_at, equal_at, one_holds}
+use Rattle.queries.specs.Alternatives.{AreAlternatives, equal_at, one_holds, subject_at}
 use Rattle.queries.specs.Asking.{IsAsked}
 use Rattle.queries.specs.ById.{AreIdsOf, TellOf}
-use Rattle.queries.proofs.AskingLemmas.{AreTold, id_texts, next_told, tell_behind}
+use Rattle.queries.proofs.TellingLemmas.{AreTold, id_texts, next_told, tell_behind}
 use Rattle.queries.proofs.ByIdLemmas.{holds_at, if_some_on}
 use Rattle.queries.proofs.IdTextLemmas.{put_none}
 use Rattle.queries.proofs.ReadingLemmas.{IsOther, reads_as, reads_behind}
@@ -46,7 +46,7 @@ filter_leads rs i r asked path ms within there same alternatives d matched =
     alternatives d (ap (λ (q : Made). holds (condition_of q) (whole d)) there
     ∙ holds_at rs i r (whole d) within (subst (λ (q : Conditions). all_hold q (whole d) ≡ true) (sym same) matched))
 
-pub equal_holds : (path : List (List ℕ)) (v : Tree) (d : Pairs) → holds (is (equal v)) (asked_at (Some path) d) ≡ true → matches (equal_at path v) d ≡ true
+pub equal_holds : (path : List (List ℕ)) (v : Tree) (d : Pairs) → holds (is (equal v)) (subject_at (Some path) d) ≡ true → matches (equal_at path v) d ≡ true
 equal_holds path v d holding = rw holding refl
 
 -- ---- to whom `_id`s lead
@@ -100,12 +100,12 @@ module _ {D : Type 0} (history : D → History) (home : Catalogued) where
         (result : Result (Option (Vec (Vec ℕ))) Refusal) → left ≡ r ∷ rest
         → ReadsOf history (IsAsked home) (λ cs c (_ : Unit {0}). AreTold c (one_left path rs) (one_left path left) [] mid) (Ok tt) old now
         → ReadsOf history (IsAsked home) (λ cs c (found : Option (Vec (Vec ℕ))). IfSome found
-        (λ ids. TellOf c (λ d. holds (condition_of r) (asked_at path d)) [] (texts_of ids.items))) result now new
+        (λ ids. TellOf c (λ d. holds (condition_of r) (subject_at path d)) [] (texts_of ids.items))) result now new
         → ReadsOf history (IsAsked home) (λ cs c (found : Option (Vec (Vec ℕ))). IfSome found
         (λ ids. AreTold c (one_left path rs) (one_left path rest) [] (mid ++ texts_of ids.items))) result old new
     more_read left r rest mid old now new result next first second =
         reads_behind history (IsAsked home) (λ cs c (_ : Unit {0}). AreTold c (one_left path rs) (one_left path left) [] mid) (IsAsked home)
-        (λ cs c (found : Option (Vec (Vec ℕ))). IfSome found (λ ids. TellOf c (λ d. holds (condition_of r) (asked_at path d)) [] (texts_of ids.items)))
+        (λ cs c (found : Option (Vec (Vec ℕ))). IfSome found (λ ids. TellOf c (λ d. holds (condition_of r) (subject_at path d)) [] (texts_of ids.items)))
         (λ cs c (found : Option (Vec (Vec ℕ))). IfSome found (λ ids. AreTold c (one_left path rs) (one_left path rest) [] (mid ++ texts_of ids.items)))
         old now new tt result first second
         (λ cs c asked so. record {
@@ -113,7 +113,7 @@ module _ {D : Type 0} (history : D → History) (home : Catalogued) where
           was = asked;
           right = λ found told. if_some_on found (λ ids tell.
               let texts = texts_of ids.items in
-              next_told c (one_left path rs) [] (λ d. holds (condition_of r) (asked_at path d)) (one_left path rest) mid (mid ++ texts)
+              next_told c (one_left path rs) [] (λ d. holds (condition_of r) (subject_at path d)) (one_left path rest) mid (mid ++ texts)
               (subst (λ (qs : List Made). AreTold c (one_left path rs) (one_left path qs) [] mid) next so)
-              (tell_behind c (λ d. holds (condition_of r) (asked_at path d)) mid mid texts (mid ++ texts) tell (put_none mid) refl)) told;
+              (tell_behind c (λ d. holds (condition_of r) (subject_at path d)) mid mid texts (mid ++ texts) tell (put_none mid) refl)) told;
         })

@@ -11,7 +11,7 @@ pub mod ByIndexLemmas
 pub mod IdRangeLemmas
 pub mod DenseLemmas
 pub mod IdTextLemmas
-pub mod AskingLemmas
+pub mod TellingLemmas
 pub mod MembersLemmas
 pub mod AlternativesLemmas
 pub mod OrderingLemmas

@@ -71,8 +71,8 @@ module _ (path : List (List ℕ)) (t : Tree) (plain : no_array t ≡ Some t) whe
         unsorted ∙ endless ∙ ap (range_of_fields (f ∷ fs) (t ∷ [])) (sym (asked_behind fs other))
         ∙ ap (λ (ts : List Tree). range_of_fields (f ∷ fs) ts (asked_next rs (drop (length ts) (f ∷ fs)))) (sym one)
 
-    pub range_of_value : begins_with path d.fields ≡ true → beginning_with d t ≡ range_in rs [] (Some d)
-    range_of_value begins = range_by_fields d.fields begins
+    pub beginning_is_range : begins_with path d.fields ≡ true → beginning_with d t ≡ range_in rs [] (Some d)
+    beginning_is_range begins = range_by_fields d.fields begins
 
 -- ---- the fields of an index, one after the other
 

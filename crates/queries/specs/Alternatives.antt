@@ -11,13 +11,13 @@ use Rattle.index.specs.Definition.{Field}
 use Rattle.planner.specs.Usable.{is_path}
 
 -- what is asked: a document, or what a path reaches in it
-abbrev pub asked_at : Option (List (List ℕ)) → Pairs → Subject
-asked_at None d = whole d
-asked_at (Some path) d = along (reach path (document d))
+abbrev pub subject_at : Option (List (List ℕ)) → Pairs → Subject
+subject_at None d = whole d
+subject_at (Some path) d = along (reach path (document d))
 
 -- one of the conditions holds of what is asked
 abbrev pub one_holds : Option (List (List ℕ)) → Conditions → Pairs → Bool
-one_holds path rs d = any_holds rs (asked_at path d)
+one_holds path rs d = any_holds rs (subject_at path d)
 
 -- One of the conditions holds of each document that passes.
 abbrev pub AreAlternatives : (Pairs → Bool) → Option (List (List ℕ)) → Conditions → Type 0

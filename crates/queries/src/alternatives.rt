@@ -8,7 +8,7 @@ ghost use Rattle.filter.specs.Matches.{all_hold, along, holds, matches, whole};
 ghost use Rattle.filter.specs.View.{condition_of, conditions_of};
 ghost use Rattle.index.specs.View.{texts_of};
 ghost use Rattle.path.specs.Reach.{reach};
-ghost use Rattle.queries.specs.Alternatives.{AreAlternatives, asked_at, one_holds};
+ghost use Rattle.queries.specs.Alternatives.{AreAlternatives, one_holds, subject_at};
 ghost use Rattle.queries.specs.Asking.{IsAsked};
 ghost use Rattle.queries.specs.ById.{TellOf};
 
@@ -74,7 +74,7 @@ fn ids_of_member<D: Disk>(
 ) -> Result<Option<Vec<Vec<u8>>>, Refusal>
     ensures { ReadsOf D.history (IsAsked home.now)
         (λ now c found. IfSome found (λ ids.
-        TellOf c (λ d. holds (condition_of member.now) (asked_at (Some path.now) d))
+        TellOf c (λ d. holds (condition_of member.now) (subject_at (Some path.now) d))
         [] (texts_of ids.items))) result file.old file.new }
 {
     if file.is_stopped() {
@@ -126,7 +126,7 @@ fn ids_of_one<D: Disk>(
 ) -> Result<Option<Vec<Vec<u8>>>, Refusal>
     ensures { ReadsOf D.history (IsAsked home.now)
         (λ now c found. IfSome found (λ ids. TellOf c (λ d. holds (condition_of condition.now)
-        (asked_at (option_map (λ p. p.now) path.entry) d)) [] (texts_of ids.items)))
+        (subject_at (option_map (λ p. p.now) path.entry) d)) [] (texts_of ids.items)))
         result file.old file.new }
 {
     match path {

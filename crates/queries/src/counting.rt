@@ -10,9 +10,9 @@ ghost use Rattle.queries.specs.Asking.{IsAsked};
 ghost use Rattle.queries.specs.ById.{AreIdsOf};
 ghost use Rattle.queries.specs.Folding.{Counts};
 
-use crate::asking::asked_ids;
 use crate::dense::fold_dense;
 use crate::id_range::fold_asked;
+use crate::telling::asked_ids;
 use bson::{NoMemory, RawDoc, SpelledDocument};
 use collections::{Collections, DocumentFold};
 use filter::Filter;

@@ -4,7 +4,6 @@
 #![tactic(auto)]
 
 mod alternatives;
-mod asking;
 mod batches;
 mod by_id;
 mod by_index;
@@ -19,6 +18,7 @@ mod needed_by_order;
 mod ordering;
 mod scanning;
 mod selects;
+mod telling;
 mod within;
 
 pub use batches::{BatchAsked, GivenBatch, Walk, batch_of_turn, batch_of_version};

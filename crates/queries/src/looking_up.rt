@@ -9,10 +9,10 @@ ghost use Rattle.planner.specs.IdLaws.{with_found};
 ghost use Rattle.queries.specs.ById.{AreIdsOf};
 ghost use Rattle.queries.specs.Asking.{IsAsked};
 
-use crate::asking::asked_ids;
 use crate::dense::fold_dense;
 use crate::scanning::{Selecting, scanned};
 use crate::selects::Selects;
+use crate::telling::asked_ids;
 use crate::within::is_within;
 use bson::{NoMemory, SpelledDocument};
 use collections::Collections;

@@ -15,11 +15,11 @@ ghost use Rattle.queries.specs.Asking.{IsAsked};
 ghost use Rattle.queries.specs.ById.{AreIdsOf};
 ghost use Rattle.queries.specs.Folding.{Needs};
 
-use crate::asking::asked_ids;
 use crate::dense::fold_dense;
 use crate::id_range::fold_asked;
 use crate::looking_up::spelled_within;
 use crate::needed_by_order::needed_by_order;
+use crate::telling::asked_ids;
 use crate::within::built_within;
 use aggregate::Pipeline;
 use bson::{Document, NoMemory, RawDoc, SpelledDocument};

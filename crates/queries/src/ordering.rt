@@ -11,10 +11,10 @@ ghost use Rattle.queries.specs.Asking.{IsAsked};
 ghost use Rattle.queries.specs.ById.{AreIdsOf};
 ghost use Rattle.queries.specs.Folding.{Sorts, TellFirst};
 
-use crate::asking::asked_ids;
 use crate::by_order::first_by_index;
 use crate::id_range::fold_asked;
 use crate::looking_up::{selected_by_ids, spelled_in};
+use crate::telling::asked_ids;
 use crate::within::built_within;
 use bson::{Document, NoMemory, RawDoc, SpelledDocument};
 use collections::{Collections, DocumentFold};

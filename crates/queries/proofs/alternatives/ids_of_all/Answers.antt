@@ -8,7 +8,7 @@ use Rattle.replies.proofs.Steps.{drop_step}
 use Rattle.queries.specs.Asking.{IsAsked}
 use Rattle.queries.specs.ById.{TellOf}
 use Rattle.queries.proofs.AlternativesLemmas.{more_read, one_left}
-use Rattle.queries.proofs.AskingLemmas.{AreTold, begins_told, ends_told, texts_appended}
+use Rattle.queries.proofs.TellingLemmas.{AreTold, begins_told, ends_told, texts_appended}
 use Rattle.queries.proofs.ReadingLemmas.{reads_made, reads_memory, reads_none, reads_refused}
 use Rattle.queries.proofs.alternatives.ids_of_all.Goals as goal
 

@@ -4,7 +4,7 @@ use Rattle.filter.specs.View.{conditions_of}
 use Rattle.index.specs.View.{texts_of}
 use Rattle.queries.specs.Alternatives.{one_holds}
 use Rattle.queries.specs.Asking.{IsAsked}
-use Rattle.queries.proofs.AskingLemmas.{AreTold}
+use Rattle.queries.proofs.TellingLemmas.{AreTold}
 use Rattle.queries.proofs.alternatives.ids_of_all.Given as goal
 
 -- what one of the conditions so far asks for is told

@@ -4,7 +4,7 @@ use Rattle.collections.specs.Reading.{ReadsOf}
 use Rattle.filter.specs.Matches.{holds}
 use Rattle.filter.specs.View.{condition_of}
 use Rattle.index.specs.View.{texts_of}
-use Rattle.queries.specs.Alternatives.{asked_at}
+use Rattle.queries.specs.Alternatives.{subject_at}
 use Rattle.queries.specs.Asking.{IsAsked}
 use Rattle.queries.specs.ById.{TellOf}
 use Rattle.queries.proofs.alternatives.ids_of_one.Goals as goal
@@ -14,7 +14,7 @@ returns-in-Some g c =
     let r = condition_of c.args.condition.now in
     subst (λ (o : Option (Bor (List (List ℕ)))). ReadsOf g.D.Disk.history (IsAsked c.args.home.now)
     (λ now of (found : Option (Vec (Vec ℕ Global) Global)). IfSome found
-    (λ ids. TellOf of (λ d. holds r (asked_at (option_map (λ p. p.now) o) d)) [] (texts_of ids.items)))
+    (λ ids. TellOf of (λ d. holds r (subject_at (option_map (λ p. p.now) o) d)) [] (texts_of ids.items)))
     c.ids_of_member.result c.args.file.now c.ids_of_member.new.file) (sym c.in-Some.is) c.ids_of_member.ensures
 
 pub returns-in-None : goal.returns-in-None
@@ -22,5 +22,5 @@ returns-in-None g c =
     let r = condition_of c.args.condition.now in
     subst (λ (o : Option (Bor (List (List ℕ)))). ReadsOf g.D.Disk.history (IsAsked c.args.home.now)
     (λ now of (found : Option (Vec (Vec ℕ Global) Global)). IfSome found
-    (λ ids. TellOf of (λ d. holds r (asked_at (option_map (λ p. p.now) o) d)) [] (texts_of ids.items)))
+    (λ ids. TellOf of (λ d. holds r (subject_at (option_map (λ p. p.now) o) d)) [] (texts_of ids.items)))
     c.ids_of_branch.result c.args.file.now c.ids_of_branch.new.file) (sym c.in-None.is) c.ids_of_branch.ensures

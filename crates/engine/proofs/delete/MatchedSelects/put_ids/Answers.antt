@@ -1,6 +1,6 @@
 use Rattle.commands.specs.Delete.{Deletion}
 use Rattle.index.specs.View.{texts_of}
-use Rattle.queries.proofs.AskingLemmas.{filters_tell}
+use Rattle.queries.proofs.TellingLemmas.{filters_tell}
 use Rattle.queries.proofs.IdTextLemmas.{put_none}
 use Rattle.engine.proofs.delete.MatchedSelects.put_ids.Goals as goal
 

@@ -1,7 +1,7 @@
 use Rattle.commands.specs.Update.{UpdateStatement}
 use Rattle.database_model.specs.Merging.{has_key_of}
 use Rattle.index.specs.View.{texts_of}
-use Rattle.queries.proofs.AskingLemmas.{others_tell}
+use Rattle.queries.proofs.TellingLemmas.{others_tell}
 use Rattle.queries.proofs.NeededLemmas.{if_ok}
 use Rattle.engine.proofs.updates.MeaningSelects.put_ids.Goals as goal
 

@@ -1,4 +1,4 @@
-use Rattle.queries.proofs.AskingLemmas.{only_at}
+use Rattle.queries.proofs.TellingLemmas.{only_at}
 use Rattle.queries.proofs.selects.FilterSelects.filter_at.Goals as goal
 
 pub returns : goal.returns

@@ -1,5 +1,5 @@
 use Rattle.index.specs.View.{texts_of}
-use Rattle.queries.proofs.AskingLemmas.{alone_tells}
+use Rattle.queries.proofs.TellingLemmas.{alone_tells}
 use Rattle.queries.proofs.IdTextLemmas.{put_none}
 use Rattle.queries.proofs.selects.FilterSelects.put_ids.Goals as goal
 

@@ -2,7 +2,7 @@ use Rattle.std.specs.Borrow.{Bor}
 use Rattle.aggregate.specs.Taking.{leading_match}
 use Rattle.aggregate.specs.View.{pipeline_of}
 use Rattle.filter.specs.Condition.{Conditions}
-use Rattle.queries.proofs.AskingLemmas.{leading_at}
+use Rattle.queries.proofs.TellingLemmas.{leading_at}
 use Rattle.queries.proofs.selects.PipelineSelects.filter_at.Goals as goal
 
 pub returns : goal.returns

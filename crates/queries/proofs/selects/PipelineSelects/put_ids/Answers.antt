@@ -4,7 +4,7 @@ use Rattle.aggregate.specs.Taking.{leading_match}
 use Rattle.aggregate.specs.View.{pipeline_of}
 use Rattle.filter.specs.Condition.{Conditions}
 use Rattle.index.specs.View.{texts_of}
-use Rattle.queries.proofs.AskingLemmas.{leading_tells, one_leads}
+use Rattle.queries.proofs.TellingLemmas.{leading_tells, one_leads}
 use Rattle.queries.proofs.IdTextLemmas.{put_none}
 use Rattle.queries.proofs.selects.PipelineSelects.put_ids.Goals as goal
 

@@ -8,9 +8,9 @@ use Rattle.index.specs.View.{texts_of}
 use Rattle.replies.proofs.Steps.{drop_step}
 use Rattle.queries.specs.Asking.{IsAsked}
 use Rattle.queries.specs.ById.{TellOf, one_matches}
-use Rattle.queries.proofs.AskingLemmas.{AreTold, begins_told, ends_told, one_read}
+use Rattle.queries.proofs.TellingLemmas.{AreTold, begins_told, ends_told, one_read}
 use Rattle.queries.proofs.ReadingLemmas.{reads_made, reads_none, reads_refused}
-use Rattle.queries.proofs.asking.put_all_matched.Goals as goal
+use Rattle.queries.proofs.telling.put_all_matched.Goals as goal
 
 pub filters-init : goal.filters-init
 filters-init g c =

@@ -4,10 +4,10 @@ use Rattle.std.specs.Prelude.{IfSome}
 use Rattle.index.specs.View.{texts_of}
 use Rattle.queries.specs.Asking.{IsAsked}
 use Rattle.queries.specs.ById.{AreIdsOf, IsIdText, TellOf, one_matches}
-use Rattle.queries.proofs.AskingLemmas.{both_tell}
+use Rattle.queries.proofs.TellingLemmas.{both_tell}
 use Rattle.queries.proofs.IdTextLemmas.{ids_told}
 use Rattle.queries.proofs.ReadingLemmas.{reads_told}
-use Rattle.queries.proofs.asking.asked_ids.Goals as goal
+use Rattle.queries.proofs.telling.asked_ids.Goals as goal
 
 pub returns : goal.returns
 returns g c =

@@ -5,9 +5,9 @@ use Rattle.filter.specs.Matches.{matches}
 use Rattle.index.specs.View.{texts_of}
 use Rattle.queries.specs.Asking.{IsAsked}
 use Rattle.queries.specs.ById.{TellOf}
-use Rattle.queries.proofs.AskingLemmas.{tell_behind, texts_appended}
+use Rattle.queries.proofs.TellingLemmas.{tell_behind, texts_appended}
 use Rattle.queries.proofs.ReadingLemmas.{reads_made, reads_none, reads_refused}
-use Rattle.queries.proofs.asking.put_matched.Goals as goal
+use Rattle.queries.proofs.telling.put_matched.Goals as goal
 
 pub returns-then-branch : goal.returns-then-branch
 returns-then-branch g c =

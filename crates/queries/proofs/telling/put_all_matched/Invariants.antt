@@ -3,8 +3,8 @@ use Rattle.collections.specs.Reading.{ReadsOf}
 use Rattle.index.specs.View.{texts_of}
 use Rattle.queries.specs.Asking.{IsAsked}
 use Rattle.queries.specs.ById.{one_matches}
-use Rattle.queries.proofs.AskingLemmas.{AreTold}
-use Rattle.queries.proofs.asking.put_all_matched.Given as goal
+use Rattle.queries.proofs.TellingLemmas.{AreTold}
+use Rattle.queries.proofs.telling.put_all_matched.Given as goal
 
 -- what the filters so far match is told
 abbrev pub invariant-filters : goal.invariant-filters
