@@ -12,7 +12,7 @@ use Rattle.bson.specs.Lookup.{lookup}
 use Rattle.bson.specs.View.{tree, items_of}
 use Rattle.bson.specs.EditPlaces.{append_items-none, append_items-one}
 use Rattle.bson.specs.declared.value.Value.{Value}
-use Rattle.filter.specs.Projection.{add_item}
+use Rattle.projection.specs.Projection.{add_item}
 use Rattle.aggregate.specs.Operands.{dollar_path}
 use Rattle.aggregate.specs.PathValue.{by_field, each_by_field, path_value}
 use Rattle.aggregate.proofs.ReadingLemmas.{drop_step}

@@ -8,8 +8,8 @@ use Rattle.bson.specs.Tree.{Pairs}
 use Rattle.outcome.specs.Outcome.{◌>>=◌}
 use Rattle.path.specs.declared.refusal.Refusal.{Refusal}
 use Rattle.filter.specs.Matches.{matches}
-use Rattle.filter.specs.Sort.{SortField, order, compare_by}
-use Rattle.filter.specs.SortLaws.{SortsInParts, All-sorted, sorted-permuted}
+use Rattle.sort.specs.Sort.{SortField, order, compare_by}
+use Rattle.sort.specs.SortLaws.{SortsInParts, All-sorted, sorted-permuted}
 use Rattle.std.proofs.lemmas.List.Sorted.{length_permutation}
 use Rattle.std.proofs.lemmas.List.Elements.{filter-append}
 use Rattle.aggregate.specs.EnoughLaws.{All-filter, All-append, All-front, All-back, Pass, filter-passes, passed-filter, Within, fault-within, within-fault}

@@ -5,7 +5,7 @@ use Rattle.std.specs.Prelude.{ℕ, Option, Some, None, List, [], ◌∷◌}
 use Rattle.std.specs.Option.{option_and_then}
 use Rattle.bson.specs.Tree.{Tree, scalar, document, array, Items, no_items, item}
 use Rattle.bson.specs.Lookup.{lookup}
-use Rattle.filter.specs.Projection.{add_item}
+use Rattle.projection.specs.Projection.{add_item}
 
 -- on by the field of a name, from a document or from each element of an array
 module _ (go : Tree → Option Tree) (name : List ℕ) where

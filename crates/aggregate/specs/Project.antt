@@ -8,9 +8,9 @@ use Rattle.path.specs.Edits.{set_at, cut_at}
 use Rattle.outcome.specs.Outcome.{◌>>=◌, unless}
 use Rattle.path.specs.declared.refusal.Refusal.{Refusal}
 use Rattle.path.specs.declared.refusal.Refusal.TheVariants as refusals
-use Rattle.filter.specs.Projection.{Projection, project}
-use Rattle.filter.specs.ProjectionReading.{Seen, nothing_seen, read_field, with_computed}
-use Rattle.filter.specs.ProjectionReading.{projection_seen}
+use Rattle.projection.specs.Projection.{Projection, project}
+use Rattle.projection.specs.ProjectionReading.{Seen, nothing_seen, read_field, with_computed}
+use Rattle.projection.specs.ProjectionReading.{projection_seen}
 use Rattle.filter.specs.Reading.{path_in}
 use Rattle.aggregate.specs.Each.{just, each}
 use Rattle.aggregate.specs.Operands.{dollar_path, source_path}

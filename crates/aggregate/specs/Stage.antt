@@ -1,7 +1,7 @@
 -- A pipeline is a list of stages (MongoDB manual, "Aggregation Stages").
 use Rattle.std.specs.Prelude.{ℕ, List}
 use Rattle.filter.specs.Condition.{Conditions}
-use Rattle.filter.specs.Sort.{SortField}
+use Rattle.sort.specs.Sort.{SortField}
 use Rattle.aggregate.specs.Group.{Grouping}
 use Rattle.aggregate.specs.Project.{Projecting}
 

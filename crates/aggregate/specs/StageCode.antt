@@ -4,7 +4,7 @@ use Rattle.std.proofs.Common.{inl, inr}
 use Rattle.std.specs.Coded.{Coded, code_by, coded×, coded⊎, coded_ℕ, coded_bool, coded_list}
 use Rattle.filter.specs.Condition.{Conditions}
 use Rattle.filter.specs.ConditionCode.{coded_conditions}
-use Rattle.filter.specs.Sort.{SortField}
+use Rattle.sort.specs.Sort.{SortField}
 use Rattle.aggregate.specs.Project.{Path, Computed, Projecting}
 use Rattle.bson.specs.Tree.{Tree}
 use Rattle.bson.specs.TreeCode.{coded_tree}

@@ -6,8 +6,8 @@ use Rattle.bson.specs.Tree.{Tree, Pairs}
 use Rattle.outcome.specs.Outcome.{◌>>=◌}
 use Rattle.path.specs.declared.refusal.Refusal.{Refusal}
 use Rattle.filter.specs.Reading.{read_filter}
-use Rattle.filter.specs.Sort.{order}
-use Rattle.filter.specs.SortReading.{read_sort}
+use Rattle.sort.specs.Sort.{order}
+use Rattle.sort.specs.SortReading.{read_sort}
 use Rattle.aggregate.specs.Operands.{document_in, text_in, number_in, dollar_path_in}
 use Rattle.aggregate.specs.Names.{field_name}
 use Rattle.aggregate.specs.Stage.{Stage, match_stage, project_stage, unwind_stage, group_stage}

@@ -7,7 +7,7 @@ use Rattle.std.specs.List.{filter, AllByRecursion}
 use Rattle.bson.specs.Tree.{Pairs}
 use Rattle.filter.specs.Condition.{Conditions}
 use Rattle.filter.specs.Matches.{matches}
-use Rattle.filter.specs.Sort.{SortField, order}
+use Rattle.sort.specs.Sort.{SortField, order}
 use Rattle.outcome.specs.Outcome.{◌>>=◌}
 use Rattle.path.specs.declared.refusal.Refusal.{Refusal}
 use Rattle.aggregate.specs.Group.{Grouping, grouped}

@@ -4,7 +4,7 @@ use Rattle.aggregate.specs.Stage.{Stage, match_stage, project_stage, unwind_stag
 use Rattle.aggregate.specs.Stage.{sort_stage, skip_stage, limit_stage, count_stage}
 use Rattle.aggregate.specs.declared.stage.Stage.{Stage as Made}
 use Rattle.aggregate.specs.declared.stage.Stage.TheVariants as stages
-use Rattle.filter.specs.Seen.{seen_of}
+use Rattle.projection.specs.Seen.{seen_of}
 use Rattle.aggregate.specs.GroupView.{grouping_of}
 use Rattle.aggregate.specs.Project.{Computed, Fields, Projecting}
 use Rattle.aggregate.specs.declared.projecting.Computed.{Computed as Added}

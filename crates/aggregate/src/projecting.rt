@@ -14,8 +14,9 @@ ghost use Rattle.aggregate.specs.View.{computed_of, fields_of, projecting_of};
 use crate::operands::{dollar_path, source_path};
 use crate::path_value::path_value;
 use bson::{Document, NoMemory, Value};
-use filter::{Projection, ProjectionFields, path_in};
+use filter::path_in;
 use path::{Path, Refusal, remove_from, write_into};
+use projection::{Projection, ProjectionFields};
 use std::alloc::Global;
 
 /// A field that is computed: its path and that of what it is to be.

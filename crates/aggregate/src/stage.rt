@@ -3,8 +3,9 @@
 use crate::grouping::Grouping;
 use crate::names::FieldName;
 use crate::projecting::Projecting;
-use filter::{Filter, Sort};
+use filter::Filter;
 use path::Path;
+use sort::Sort;
 
 /// What is done to a list of documents.
 #[derive(Debug, Drop)]

@@ -21,8 +21,9 @@ use crate::stage::Stage;
 use crate::unwinding::unwound;
 use crate::windows::{limited, skipped};
 use bson::{Document, Value};
-use filter::{Filter, Sort};
+use filter::Filter;
 use path::Refusal;
+use sort::Sort;
 use std::alloc::Global;
 
 /// The name of a stage.

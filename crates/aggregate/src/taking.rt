@@ -17,8 +17,9 @@ use crate::matching::matches;
 use crate::pipeline::{Pipeline, run_stages};
 use crate::stage::Stage;
 use bson::{Document, NoMemory, RawDoc};
-use filter::{AsDocument, Filter, Sort, laws};
+use filter::Filter;
 use path::Refusal;
+use sort::{AsDocument, Sort, laws};
 use std::alloc::Global;
 
 /// A `$sort` in front, or behind a `$match` in front, of which a pipeline keeps the first documents alone.

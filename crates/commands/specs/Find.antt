@@ -5,10 +5,10 @@ use Rattle.std.specs.Str.{bytes_eq}
 use Rattle.bson.specs.Tree.{Tree, Pairs}
 use Rattle.filter.specs.Condition.{Conditions, no_conditions}
 use Rattle.filter.specs.Reading.{read_filter}
-use Rattle.filter.specs.Sort.{SortField}
-use Rattle.filter.specs.SortReading.{read_sort}
-use Rattle.filter.specs.Projection.{Projection}
-use Rattle.filter.specs.ProjectionReading.{read_projection}
+use Rattle.sort.specs.Sort.{SortField}
+use Rattle.sort.specs.SortReading.{read_sort}
+use Rattle.projection.specs.Projection.{Projection}
+use Rattle.projection.specs.ProjectionReading.{read_projection}
 use Rattle.outcome.specs.Outcome.{◌>>=◌, or_refused}
 use Rattle.path.specs.declared.refusal.Refusal.{Refusal}
 use Rattle.path.specs.declared.refusal.Refusal.TheVariants as refusals

@@ -5,8 +5,8 @@ ghost use Rattle.bson.specs.View.{tree, pairs_of};
 ghost use Rattle.outcome.specs.Outcome.{Gives, Does};
 ghost use Rattle.commands.specs.Find.{no_find_fields, find_field, projection_field, window_field, query_of, read_find};
 ghost use Rattle.commands.specs.Values.{spelled_in};
-ghost use Rattle.filter.specs.ProjectionReading.{read_projection};
-ghost use Rattle.filter.specs.SortReading.{read_sort};
+ghost use Rattle.projection.specs.ProjectionReading.{read_projection};
+ghost use Rattle.sort.specs.SortReading.{read_sort};
 ghost use Rattle.commands.specs.Command.{as_command, find};
 ghost use Rattle.commands.specs.View.{command_read};
 
@@ -15,8 +15,10 @@ use crate::fields::{CommonFields, Fields, read_fields};
 use crate::names::namespace_of;
 use crate::values::{count_in, document_in, filter_in, text_in};
 use bson::{Pair, Value};
-use filter::{Filter, Projection, Sort};
+use filter::Filter;
 use path::Refusal;
+use projection::Projection;
+use sort::Sort;
 use std::alloc::Global;
 use std::marker::Model;
 

@@ -2,7 +2,7 @@
 -- is pinned.
 use Rattle.std.specs.Prelude.{ℕ, List, map, Option, None, slice_index_or}
 use Rattle.filter.specs.Condition.{Conditions}
-use Rattle.filter.specs.Projection.{Projection}
+use Rattle.projection.specs.Projection.{Projection}
 use Rattle.pager.specs.declared.version.Version.{Version}
 use Rattle.database_model.specs.World.{Cursor, CursorTable}
 use Rattle.database_model.specs.Cursors.{no_cursor}

@@ -3,7 +3,7 @@ use Rattle.std.specs.Prelude.{ℕ, List, Option, refl}
 use Rattle.std.specs.Coded.{Coded, code_by, coded×, coded_ℕ, coded_bool, coded_list, coded_option}
 use Rattle.filter.specs.Condition.{Conditions}
 use Rattle.filter.specs.ConditionCode.{coded_conditions}
-use Rattle.filter.specs.Projection.{Projection}
+use Rattle.projection.specs.Projection.{Projection}
 use Rattle.pager.specs.declared.version.Version.{Version}
 use Rattle.database_model.specs.World.{Cursor}
 use Rattle.database_model.specs.Lawful.{cursor_code}

@@ -5,7 +5,7 @@
 
 ghost use Rattle.std.specs.Prelude.{◌≡◌, ◌≢◌, ◌==◌, ◌<◌, ◌≤◌, ◌^◌, ◌+◌, ◌++◌, [], ◌∷◌, false, true, All, length, map, None, Some, remove, OnOk, OnErr, IfOk, IfErr, IfSome, IfNone, option_map};
 ghost use Rattle.std.specs.List.{filter, list_any, position};
-ghost use Rattle.filter.specs.Projection.{project};
+ghost use Rattle.projection.specs.Projection.{project};
 ghost use Rattle.database_model.specs.World.{at_rest, count_of};
 ghost use Rattle.database_model.specs.Lawful.{IsWithin};
 ghost use Rattle.database_model.specs.Refusals.{ok_reply};
@@ -25,9 +25,9 @@ use crate::open_cursor::OpenCursor;
 use crate::source::Source;
 use crate::walk::PinnedWalk;
 use bson::{NoMemory, SpelledDocument};
-use filter::Projection;
 use pager::Version;
 use path::Refusal;
+use projection::Projection;
 use replies::{BatchKind, ConnId, Gives, batch_reply};
 use std::alloc::Global;
 use std::marker::Model;

@@ -1,14 +1,14 @@
 //! Documents that a cursor keeps as their bytes.
 
 ghost use Rattle.std.specs.Prelude.{◌≡◌, ◌<◌, ◌≤◌, ◌^◌, All, IfOk, length, map, drop, unwrap_or};
-ghost use Rattle.filter.specs.Projection.{project};
+ghost use Rattle.projection.specs.Projection.{project};
 ghost use Rattle.database_model.specs.Cursors.{batch_of, batch_reply};
 ghost use Rattle.database_model.specs.Lawful.{IsWithin};
 ghost use Rattle.database_model.specs.Refusals.{ok_reply};
 ghost use Rattle.replies.specs.View.{batch_name, IsSendable};
 
 use bson::{NoMemory, SpelledDocument};
-use filter::Projection;
+use projection::Projection;
 use replies::{BatchKind, batch_reply};
 use std::alloc::Global;
 use std::marker::Model;
@@ -28,7 +28,7 @@ impl Model for KeptDocuments {
     ghost use Rattle.std.specs.Coded.{coded_list};
     ghost use Rattle.bson.specs.Tree.{Pairs};
     ghost use Rattle.bson.specs.TreeCode.{coded_pairs};
-    ghost use Rattle.filter.specs.Projection.{project};
+    ghost use Rattle.projection.specs.Projection.{project};
 
     ghost Value = { List Pairs };
 

@@ -3,8 +3,9 @@
 ghost use Rattle.std.specs.Prelude.{◌≡◌, drop};
 
 use crate::rest::Rest;
-use filter::{Filter, Projection};
+use filter::Filter;
 use pager::Version;
+use projection::Projection;
 
 /// Where a walk through a pinned version of the collections goes on, and what it is still to give.
 #[derive(Drop)]

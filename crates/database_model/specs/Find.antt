@@ -6,8 +6,8 @@ use Rattle.std.specs.List.{filter}
 use Rattle.bson.specs.Tree.{Pairs}
 use Rattle.filter.specs.Condition.{Conditions}
 use Rattle.filter.specs.Matches.{matches}
-use Rattle.filter.specs.Sort.{order}
-use Rattle.filter.specs.Projection.{project}
+use Rattle.sort.specs.Sort.{order}
+use Rattle.projection.specs.Projection.{project}
 use Rattle.path.specs.declared.refusal.Refusal.{Refusal}
 use Rattle.commands.specs.Find.{Query, Find}
 use Rattle.database_model.specs.World.{World, documents_of}

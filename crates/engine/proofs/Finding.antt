@@ -11,10 +11,10 @@ use Rattle.bson.specs.Tree.{Pairs}
 use Rattle.bson.specs.Spelling.{pairs_bytes}
 use Rattle.bson.specs.SizingLaws.{frame_of-length}
 use Rattle.filter.specs.Matches.{matches}
-use Rattle.filter.specs.Projection.{Projection, project}
-use Rattle.filter.specs.ProjectionLaws.{project_no_larger}
+use Rattle.projection.specs.Projection.{Projection, project}
+use Rattle.projection.specs.ProjectionLaws.{project_no_larger}
 use Rattle.database_model.specs.Lawful.{IsStored, IsWithin}
-use Rattle.filter.specs.Sort.{order}
+use Rattle.sort.specs.Sort.{order}
 use Rattle.replies.proofs.Steps.{drop_step}
 use Rattle.queries.proofs.OrderingLemmas.{sorted_kept}
 use Rattle.commands.specs.Find.{Query}

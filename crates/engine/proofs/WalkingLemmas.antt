@@ -9,7 +9,7 @@ use Rattle.bson.specs.Tree.{Pairs}
 use Rattle.commands.specs.Find.{Find, Query}
 use Rattle.filter.specs.Condition.{Conditions}
 use Rattle.filter.specs.Matches.{matches}
-use Rattle.filter.specs.Projection.{Projection}
+use Rattle.projection.specs.Projection.{Projection}
 use Rattle.page.specs.History.{History, KeepsWord}
 use Rattle.collections.specs.Reading.{IsNumbered}
 use Rattle.collections.specs.State.{State}
@@ -22,7 +22,7 @@ use Rattle.path.specs.declared.refusal.Refusal.{Refusal}
 use Rattle.path.specs.declared.refusal.Refusal.TheVariants as refusals
 use Rattle.database_model.specs.Cursors.{batch_of, batch_reply, first_batch, is_refused, new_cursor}
 use Rattle.database_model.specs.Find.{Suffices, given, matching, query_result, run_find}
-use Rattle.filter.specs.Sort.{SortField, order}
+use Rattle.sort.specs.Sort.{SortField, order}
 use Rattle.queries.proofs.OrderingLemmas.{unsorted}
 use Rattle.database_model.specs.Lawful.{IsLawful, IsStored, IsWithin}
 use Rattle.database_model.specs.Refusals.{ok_reply}

@@ -1,7 +1,7 @@
 //! `find`: which documents, in which order, and what is given of each.
 
 ghost use Rattle.std.specs.Prelude.{◌≡◌, ◌≢◌, ◌≤◌, ◌<◌, Some, IfOk, IfErr, All, length, map, take, drop};
-ghost use Rattle.filter.specs.Projection.{project};
+ghost use Rattle.projection.specs.Projection.{project};
 ghost use Rattle.database_model.specs.Cursors.{batch_of, first_batch};
 ghost use Rattle.engine.specs.Durable.{has_changes, IsSound};
 ghost use Rattle.database_model.specs.Find.{window, given, run_find, Suffices};
@@ -14,9 +14,9 @@ ghost use Rattle.engine.specs.View.{world};
 use crate::engine::Engine;
 use bson::{NoMemory, SpelledDocument};
 use commands::Query;
-use filter::Projection;
 use page::Disk;
 use path::Refusal;
+use projection::Projection;
 use replies::ConnId;
 
 /// The documents from a place on.

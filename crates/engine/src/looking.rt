@@ -4,7 +4,7 @@ ghost use Rattle.std.specs.Prelude.{◌≡◌, ◌<◌, ◌≤◌, ◌^◌, All,
 ghost use Rattle.std.specs.List.{filter};
 ghost use Rattle.std.specs.Option.{option_map};
 ghost use Rattle.collections.specs.Reading.{IsWithinLimits, catalogued_in, catalogued_of};
-ghost use Rattle.filter.specs.Sort.{order};
+ghost use Rattle.sort.specs.Sort.{order};
 ghost use Rattle.index.specs.State.{find_collection};
 ghost use Rattle.collections.specs.View.{is_changed};
 ghost use Rattle.engine.specs.Durable.{IsSound, file_of};

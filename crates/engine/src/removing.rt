@@ -4,9 +4,9 @@ ghost use Rattle.std.specs.Prelude.{[], ◌∷◌, map};
 ghost use Rattle.engine.specs.TakingOut.{Removes};
 
 use bson::Document;
-use filter::AsDocument;
 use index::{Catalogued, Edits, Keyed};
 use path::Refusal;
+use sort::AsDocument;
 use statements::id_text;
 use std::alloc::Global;
 

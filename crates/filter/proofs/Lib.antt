@@ -2,9 +2,3 @@ pub mod MeasureLemmas
 pub mod WalkLemmas
 pub mod AmongLemmas
 pub mod ReadingLemmas
-pub mod ProjectionLemmas
-pub mod StableSortLemmas
-pub mod FrontLemmas
-pub mod SortLemmas
-pub mod TakenOutLemmas
-pub mod FirstKeyLemmas

@@ -8,14 +8,6 @@ pub mod Probes
 pub mod Words
 pub mod Tables
 pub mod Reading
+pub mod IdPaths
 pub mod Elements
-pub mod Sort
-pub mod SortReading
-pub mod SortKeys
-pub mod SortLaws
-pub mod Projection
-pub mod PathLists
-pub mod ProjectionReading
-pub mod ProjectionLaws
-pub mod Seen
 pub mod Rows

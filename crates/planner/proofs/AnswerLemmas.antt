@@ -10,8 +10,8 @@ use Rattle.value_order.specs.Laws.{IsKey}
 use Rattle.value_order.specs.Order.{value, compare}
 use Rattle.value_order.specs.TotalLaws.{compare_total}
 use Rattle.filter.specs.Matches.{matches}
-use Rattle.filter.specs.Sort.{SortField, compare_by, order}
-use Rattle.filter.proofs.SortLemmas.{orders_stably}
+use Rattle.sort.specs.Sort.{SortField, compare_by, order}
+use Rattle.sort.proofs.SortLemmas.{orders_stably}
 use Rattle.index.specs.IndexKeys.{is_multikey}
 use Rattle.index.specs.LawfulState.{IsStorable, IsRising}
 use Rattle.index.specs.State.{key_of}

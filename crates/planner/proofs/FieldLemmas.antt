@@ -10,7 +10,7 @@ use Rattle.std.specs.Str.{bytes_eq}
 use Rattle.bson.specs.Tree.{Tree}
 use Rattle.bson.specs.declared.value.Value.{Value}
 use Rattle.filter.specs.Condition.{Conditions}
-use Rattle.filter.specs.Sort.{SortField}
+use Rattle.sort.specs.Sort.{SortField}
 use Rattle.index.specs.Definition.{Field}
 use Rattle.planner.specs.Usable.{nothing, is_path}
 use Rattle.planner.specs.Plan.{asked_of, and_then, leading, asked_next, is_sorted_at, sorts_as}

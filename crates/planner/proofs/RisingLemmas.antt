@@ -7,7 +7,7 @@ use Rattle.std.specs.Ordering.{ordering_then, ordering_reverse}
 use Rattle.std.specs.declared.cmp.Ordering.{Ordering}
 use Rattle.std.specs.declared.cmp.Ordering.TheVariants.{Less, Equal, Greater}
 use Rattle.std.proofs.lemmas.Cmp.{tied_itself}
-use Rattle.filter.specs.Sort.{put_before, insert_in_order, sorted}
+use Rattle.sort.specs.Sort.{put_before, insert_in_order, sorted}
 use Rattle.index.proofs.MemberLemmas.{Among}
 
 module _ {X : Type 0} (cmp : X → X → Ordering) where

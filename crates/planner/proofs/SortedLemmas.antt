@@ -12,7 +12,7 @@ use Rattle.value_order.specs.Order.{Key, compare, key_cmp}
 use Rattle.value_order.specs.KeyText.{directed_cmp}
 use Rattle.value_order.specs.declared.texts.Direction.{Direction}
 use Rattle.value_order.specs.declared.texts.Direction.TheVariants.{Ascending, Descending}
-use Rattle.filter.specs.Sort.{SortField, keys_of as sort_keys_of, key_among, sort_key, in_direction, compare_by}
+use Rattle.sort.specs.Sort.{SortField, keys_of as sort_keys_of, key_among, sort_key, in_direction, compare_by}
 use Rattle.index.specs.Definition.{Field}
 use Rattle.index.specs.IndexKeys.{keys_of, or_missing, field_keys, index_keys, field_meets_array, is_multikey}
 use Rattle.index.specs.Laws.{IsIndexKey, index_key_cmp}

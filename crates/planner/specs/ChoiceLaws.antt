@@ -3,7 +3,7 @@ use Rattle.std.specs.Prelude.{◌≡◌, ◌<◌, ◌⊎◌, true, false, Some, 
 use Rattle.std.specs.Prelude.{map}
 use Rattle.std.specs.List.{AllByRecursion}
 use Rattle.filter.specs.Condition.{Conditions}
-use Rattle.filter.specs.Sort.{SortField}
+use Rattle.sort.specs.Sort.{SortField}
 use Rattle.index.specs.Definition.{Definition}
 use Rattle.planner.specs.Plan.{Range, Plan, scan, by_index, range_in, has_end, choose}
 

@@ -8,7 +8,7 @@ use Rattle.value_order.specs.KeyText.{tree_text}
 use Rattle.value_order.specs.Order.{bytes_cmp}
 use Rattle.filter.specs.Condition.{Conditions}
 use Rattle.filter.specs.Matches.{matches}
-use Rattle.filter.specs.Sort.{SortField, order}
+use Rattle.sort.specs.Sort.{SortField, order}
 use Rattle.index.specs.Definition.{Definition}
 use Rattle.index.specs.LawfulState.{IsStorable, IsRising}
 use Rattle.index.specs.State.{key_of}

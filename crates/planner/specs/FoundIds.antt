@@ -7,7 +7,7 @@ use Rattle.bson.specs.Tree.{Pairs}
 use Rattle.value_order.specs.KeyText.{tree_text}
 use Rattle.filter.specs.Condition.{Conditions}
 use Rattle.filter.specs.Matches.{matches}
-use Rattle.filter.specs.Sort.{SortField}
+use Rattle.sort.specs.Sort.{SortField}
 use Rattle.index.specs.Definition.{Field, Definition}
 use Rattle.index.specs.KeyTexts.{ascending_set}
 use Rattle.index.specs.LawfulState.{IsStorable, IsRising}

@@ -5,7 +5,7 @@ use Rattle.bson.specs.Tree.{Pairs}
 use Rattle.value_order.specs.KeyText.{tree_text}
 use Rattle.filter.specs.Condition.{Conditions}
 use Rattle.filter.specs.Matches.{matches}
-use Rattle.filter.specs.Sort.{SortField}
+use Rattle.sort.specs.Sort.{SortField}
 use Rattle.index.specs.LawfulState.{IsStorable}
 use Rattle.index.specs.State.{key_of}
 use Rattle.planner.specs.KeyRange.{IsSpellable}

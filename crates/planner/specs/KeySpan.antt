@@ -7,7 +7,7 @@ use Rattle.value_order.specs.KeyText.{directed_text}
 use Rattle.value_order.specs.declared.texts.Direction.{Direction}
 use Rattle.value_order.specs.declared.texts.Direction.TheVariants.{Ascending, Descending}
 use Rattle.filter.specs.Condition.{Conditions}
-use Rattle.filter.specs.Sort.{SortField}
+use Rattle.sort.specs.Sort.{SortField}
 use Rattle.index.specs.Definition.{Field, Definition}
 use Rattle.planner.specs.Usable.{Bound}
 use Rattle.planner.specs.Plan.{Range, fields_of, range_in}

@@ -5,7 +5,7 @@ use Rattle.std.specs.Prelude.{codes, is_some}
 use Rattle.bson.specs.Tree.{Tree}
 use Rattle.path.specs.Parts.{parts_of}
 use Rattle.filter.specs.Condition.{Conditions}
-use Rattle.filter.specs.Sort.{SortField}
+use Rattle.sort.specs.Sort.{SortField}
 use Rattle.value_order.specs.declared.texts.Direction.{Direction}
 use Rattle.value_order.specs.declared.texts.Direction.TheVariants.{Ascending, Descending}
 use Rattle.index.specs.Definition.{Field, Definition}

@@ -7,7 +7,7 @@ use Rattle.value_order.specs.KeyText.{tree_text}
 use Rattle.value_order.specs.Order.{bytes_cmp}
 use Rattle.filter.specs.Condition.{Conditions}
 use Rattle.filter.specs.Matches.{matches}
-use Rattle.filter.specs.Sort.{SortField}
+use Rattle.sort.specs.Sort.{SortField}
 use Rattle.index.specs.Definition.{Definition}
 use Rattle.index.specs.KeyTexts.{encoded_keys}
 use Rattle.index.specs.LawfulState.{IsStorable}

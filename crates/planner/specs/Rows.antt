@@ -7,7 +7,7 @@ use Rattle.path.specs.Edits.{if_ok}
 use Rattle.value_order.specs.declared.texts.Direction.TheVariants.{Ascending, Descending}
 use Rattle.filter.specs.Reading.{read_filter}
 use Rattle.filter.specs.Rows.{number, nothing, one, two, single, asks, between}
-use Rattle.filter.specs.SortReading.{read_sort}
+use Rattle.sort.specs.SortReading.{read_sort}
 use Rattle.index.specs.Definition.{Field, Definition}
 use Rattle.planner.specs.Plan.{choose}
 use Rattle.planner.specs.Explaining.{explain_text}

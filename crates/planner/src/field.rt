@@ -1,7 +1,7 @@
 //! The fields of an index, and what a filter and a sort say of them. That on `_id` has one.
 
 ghost use Rattle.std.specs.Prelude.{◌≡◌, ◌≤◌, length, drop, codes, option_map, slice_get};
-ghost use Rattle.filter.specs.SortKeys.{field_of as sort_field_of};
+ghost use Rattle.sort.specs.SortKeys.{field_of as sort_field_of};
 ghost use Rattle.filter.specs.View.{condition_of};
 ghost use Rattle.path.specs.Parts.{parts_of};
 ghost use Rattle.planner.specs.Usable.{is_path, usable_there, usable};
@@ -9,9 +9,10 @@ ghost use Rattle.planner.specs.Plan.{fields_of, is_direction, is_sorted_at, aske
 ghost use Rattle.planner.specs.View.{usable_of, field_of, index_of};
 
 use crate::usable::{Usable, all_usable};
-use filter::{Condition, Filter, Sort, SortField};
+use filter::{Condition, Filter};
 use index::{IndexField, IndexSpec};
 use path::Path;
+use sort::{Sort, SortField};
 use value_order::Direction;
 
 /// A field of an index.

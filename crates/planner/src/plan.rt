@@ -7,8 +7,9 @@ ghost use Rattle.planner.specs.View.{range_of, plan_of};
 
 use crate::range::IndexRange;
 use bson::NoMemory;
-use filter::{Filter, Sort};
+use filter::Filter;
 use index::IndexSpec;
+use sort::Sort;
 use std::alloc::Global;
 
 /// How the documents of a find are found.

@@ -7,8 +7,9 @@ ghost use Rattle.planner.specs.View.{bound_of, index_of, leading_of, range_of};
 use crate::field::{asked_at, sorts_as};
 use crate::usable::Bound;
 use bson::Value;
-use filter::{Filter, Sort};
+use filter::Filter;
 use index::IndexSpec;
+use sort::Sort;
 
 /// The values that the leading fields of an index have to be equal to, up to the first field without one. An index has
 /// four fields at most.

@@ -15,7 +15,7 @@ use Rattle.path.specs.declared.refusal.Refusal.TheVariants as refusals
 use Rattle.update.specs.Stored.{id_name, no_array}
 use Rattle.filter.specs.Condition.{equal, Conditions}
 use Rattle.filter.specs.Matches.{is_equal, matches, is_null, candidate_passes, passes, holds, all_hold, Subject}
-use Rattle.filter.specs.ProjectionReading.{is_id}
+use Rattle.filter.specs.IdPaths.{is_id}
 use Rattle.filter.specs.View.{condition_of, conditions_of}
 use Rattle.filter.specs.declared.condition.Condition.{Condition as Made}
 use Rattle.value_order.specs.Order.{compare}

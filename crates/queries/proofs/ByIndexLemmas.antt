@@ -9,7 +9,7 @@ use Rattle.std.specs.declared.cmp.Ordering.TheVariants.{Less}
 use Rattle.bson.specs.Tree.{Pairs}
 use Rattle.filter.specs.Condition.{Conditions}
 use Rattle.filter.specs.Matches.{matches}
-use Rattle.filter.specs.Sort.{SortField}
+use Rattle.sort.specs.Sort.{SortField}
 use Rattle.value_order.specs.KeyText.{tree_text}
 use Rattle.value_order.specs.Order.{bytes_cmp}
 use Rattle.index.specs.Definition.{Definition}

@@ -9,8 +9,8 @@ use Rattle.std.proofs.Math.Seq.{take-append_seam}
 use Rattle.bson.specs.Tree.{Pairs}
 use Rattle.filter.specs.Condition.{Conditions}
 use Rattle.filter.specs.Matches.{matches}
-use Rattle.filter.specs.Sort.{SortField, compare_by, order}
-use Rattle.filter.specs.SortLaws.{sorted-permuted}
+use Rattle.sort.specs.Sort.{SortField, compare_by, order}
+use Rattle.sort.specs.SortLaws.{sorted-permuted}
 use Rattle.btree.specs.Keys.{Each, IsUnder, Rises as KeysRise}
 use Rattle.value_order.specs.Order.{bytes_cmp}
 use Rattle.index.specs.Definition.{Definition}

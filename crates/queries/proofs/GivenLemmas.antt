@@ -27,7 +27,7 @@ use Rattle.database_model.specs.Find.{limited, matching, window}
 use Rattle.database_model.specs.Lawful.{IsStored, IsWithin}
 use Rattle.database_model.specs.Refusals.{ok_reply}
 use Rattle.filter.specs.Matches.{matches}
-use Rattle.filter.specs.Projection.{project}
+use Rattle.projection.specs.Projection.{project}
 use Rattle.index.specs.LawfulState.{IsLawfulState, IsRising, IsStorable}
 use Rattle.index.specs.State.{Collection}
 use Rattle.index.specs.declared.catalogue_reading.Catalogued.{Catalogued}

@@ -18,7 +18,7 @@ use Rattle.path.specs.Reach.{Reached}
 use Rattle.update.specs.Stored.{id_name}
 use Rattle.filter.specs.Condition.{equal, at, is, Conditions}
 use Rattle.filter.specs.Matches.{all_hold, along, holds, is_equal, passes, whole, Subject}
-use Rattle.filter.specs.ProjectionReading.{is_id}
+use Rattle.filter.specs.IdPaths.{is_id}
 use Rattle.filter.specs.View.{condition_of, conditions_of}
 use Rattle.filter.specs.declared.condition.Condition.{Condition as Made}
 use Rattle.index.specs.Changes.{is_among}

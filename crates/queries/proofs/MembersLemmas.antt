@@ -4,7 +4,7 @@ use Rattle.std.specs.Prelude.{◌&&◌, not, drop, take}
 use Rattle.std.proofs.lemmas.List.{take_all}
 use Rattle.bson.specs.Tree.{Tree}
 use Rattle.filter.specs.Condition.{Conditions}
-use Rattle.filter.specs.Sort.{SortField}
+use Rattle.sort.specs.Sort.{SortField}
 use Rattle.index.specs.Definition.{Definition, Field}
 use Rattle.planner.specs.Plan.{Range, and_then, asked_next, asked_of, leading, range_in, sorts_as, upper_beside}
 use Rattle.planner.specs.Usable.{Bound, Usable, no_array, nothing}

@@ -5,7 +5,7 @@ use Rattle.std.specs.List.{filter}
 use Rattle.bson.specs.Tree.{Pairs}
 use Rattle.filter.specs.Condition.{Conditions, no_conditions}
 use Rattle.filter.specs.Matches.{matches}
-use Rattle.filter.specs.Sort.{SortField, order}
+use Rattle.sort.specs.Sort.{SortField, order}
 use Rattle.aggregate.specs.EnoughLaws.{enough_of_all, filter-passes}
 use Rattle.aggregate.specs.Stage.{Stage, match_stage}
 use Rattle.aggregate.specs.Taking.{IsEnough, KeepsFirst, leading_match, takes}

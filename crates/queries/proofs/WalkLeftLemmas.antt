@@ -23,9 +23,9 @@ use Rattle.btree.specs.Keys.{is_within, key_cmp}
 use Rattle.commands.specs.Find.{Query}
 use Rattle.filter.specs.Condition.{Conditions}
 use Rattle.filter.specs.Matches.{matches}
-use Rattle.filter.specs.Projection.{Projection, project}
-use Rattle.filter.specs.ProjectionLaws.{project_no_larger}
-use Rattle.filter.specs.Sort.{SortField, order}
+use Rattle.projection.specs.Projection.{Projection, project}
+use Rattle.projection.specs.ProjectionLaws.{project_no_larger}
+use Rattle.sort.specs.Sort.{SortField, order}
 use Rattle.index.specs.LawfulState.{IsRising, IsStorable}
 use Rattle.index.specs.State.{key_of}
 use Rattle.index.proofs.EntryLemmas.{id_is_key}

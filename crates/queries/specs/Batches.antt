@@ -9,7 +9,7 @@ use Rattle.value_order.specs.KeyText.{tree_text}
 use Rattle.btree.specs.Keys.{key_cmp}
 use Rattle.filter.specs.Condition.{Conditions}
 use Rattle.filter.specs.Matches.{matches}
-use Rattle.filter.specs.Projection.{Projection, project}
+use Rattle.projection.specs.Projection.{Projection, project}
 use Rattle.index.specs.LawfulState.{IsStorable}
 use Rattle.index.specs.State.{key_of}
 use Rattle.database_model.specs.Cursors.{batch_of, batch_reply, cursor_reply}

@@ -6,7 +6,7 @@ use Rattle.aggregate.specs.Stage.{Stage}
 use Rattle.aggregate.specs.Taking.{takes}
 use Rattle.filter.specs.Condition.{Conditions}
 use Rattle.filter.specs.Matches.{matches}
-use Rattle.filter.specs.Sort.{SortField, order}
+use Rattle.sort.specs.Sort.{SortField, order}
 use Rattle.index.specs.Definition.{Definition}
 use Rattle.index.specs.State.{Collection}
 use Rattle.collections.specs.IndexTexts.{AreFirstTexts, AreTextsBetween, Indexed}

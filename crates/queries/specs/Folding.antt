@@ -3,7 +3,7 @@ use Rattle.std.specs.Prelude.{◌≡◌, ℕ, ◌+◌, ◌-◌, ◌^◌, min, Bo
 use Rattle.std.specs.Prelude.{length, take}
 use Rattle.std.specs.List.{filter}
 use Rattle.bson.specs.Tree.{Pairs}
-use Rattle.filter.specs.Sort.{SortField, order}
+use Rattle.sort.specs.Sort.{SortField, order}
 use Rattle.aggregate.specs.Taking.{IsEnough, SufficesTaken, takes}
 use Rattle.aggregate.specs.View.{pipeline_of}
 use Rattle.database_model.specs.Find.{matching}

@@ -4,7 +4,7 @@ ghost use Rattle.std.specs.Prelude.{◌≡◌, true, IfOk, IfSome, OnOk, Some, [
 ghost use Rattle.std.specs.Ordering.{is_eq};
 ghost use Rattle.bson.specs.View.{tree};
 ghost use Rattle.filter.specs.Matches.{along, any_holds, holds, matches, whole};
-ghost use Rattle.filter.specs.ProjectionReading.{is_id};
+ghost use Rattle.filter.specs.IdPaths.{is_id};
 ghost use Rattle.filter.specs.View.{condition_of, conditions_of};
 ghost use Rattle.index.specs.View.{texts_of};
 ghost use Rattle.queries.specs.ById.{ArePut, TellIds, TellValues};

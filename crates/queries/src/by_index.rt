@@ -13,11 +13,12 @@ ghost use Rattle.queries.specs.ByIndex.{AreIdsInRange, IsRangeOf};
 
 use bson::NoMemory;
 use collections::Collections;
-use filter::{Filter, Sort};
+use filter::Filter;
 use index::{Catalogued, IndexSpec};
 use page::Disk;
 use path::Refusal;
 use planner::{IndexRange, Plan, choose, ids_in};
+use sort::Sort;
 use std::alloc::Global;
 
 /// The range of one of these indexes that serves a filter and a sort best, if one serves them.

@@ -5,7 +5,7 @@ ghost use Rattle.collections.specs.IndexTexts.{IsNumberedIndex};
 ghost use Rattle.collections.specs.Reading.{ReadsOf};
 ghost use Rattle.database_model.specs.Find.{matching};
 ghost use Rattle.database_model.specs.Lawful.{IsWithin};
-ghost use Rattle.filter.specs.Sort.{SortField, order};
+ghost use Rattle.sort.specs.Sort.{SortField, order};
 ghost use Rattle.index.specs.View.{texts_of};
 ghost use Rattle.planner.specs.View.{range_of};
 ghost use Rattle.queries.specs.Asking.{IsAsked};
@@ -15,11 +15,12 @@ use crate::by_index::range_asked;
 use crate::looking_up::look_up;
 use bson::SpelledDocument;
 use collections::Collections;
-use filter::{Filter, Sort};
+use filter::Filter;
 use index::{Catalogued, IndexSpec};
 use page::Disk;
 use path::Refusal;
 use planner::{IndexRange, ids_of};
+use sort::Sort;
 use std::alloc::Global;
 
 /// So many entries are read where the filter passes over some: where these don't suffice, a walk through the collection is quicker.

@@ -12,11 +12,12 @@ use crate::selects::Selects;
 use bson::NoMemory;
 use btree::Bounds;
 use collections::{Collections, DocumentFold};
-use filter::{Filter, Sort};
+use filter::Filter;
 use index::{Catalogued, end_of};
 use page::Disk;
 use path::Refusal;
 use planner::{IndexRange, Plan, choose};
+use sort::Sort;
 use std::alloc::Global;
 
 /// Between which key texts of `_id`s a walk goes: from the first to below the end, where there is one.

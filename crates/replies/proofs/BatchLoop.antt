@@ -10,7 +10,7 @@ use Rattle.bson.specs.Tree.{Pairs}
 use Rattle.bson.specs.Lawful.{IsDocument}
 use Rattle.bson.specs.Spelling.{element, tree_bytes, pairs_bytes, items_bytes, frame_of}
 use Rattle.bson.specs.SizingLaws.{items_bytes-none}
-use Rattle.filter.specs.Projection.{Projection, project}
+use Rattle.projection.specs.Projection.{Projection, project}
 use Rattle.database_model.specs.Cursors.{item_size, batch_len, batch_of, items_of_documents}
 use Rattle.database_model.specs.Lawful.{IsWithin}
 use Rattle.replies.specs.OpenBatch.{HasGiven, IsBegun, IsOffered, AreOffered, has_room, before_array, before_cursor, zeros}

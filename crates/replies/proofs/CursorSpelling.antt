@@ -17,7 +17,7 @@ use Rattle.database_model.specs.Cursors.{batch_of, items_of_documents, cursor_pa
 use Rattle.replies.specs.declared.batch_spelling.BatchKind.{BatchKind}
 use Rattle.replies.specs.declared.batch_spelling.BatchKind.TheVariants as batches
 use Rattle.database_model.specs.Lawful.{IsWithin}
-use Rattle.filter.specs.Projection.{Projection, project}
+use Rattle.projection.specs.Projection.{Projection, project}
 use Rattle.replies.specs.OpenBatch.{zeros}
 use Rattle.replies.specs.View.{projected, batch_name, IsSendable}
 use Rattle.replies.proofs.Replying.{items_levels-within}

@@ -1,8 +1,8 @@
 -- Documents of which all is given.
 use Rattle.std.proofs.Common.{◌≡◌, false, List, [], ◌∷◌, map, refl, ap, ◌∙◌}
 use Rattle.bson.specs.Tree.{Pairs}
-use Rattle.filter.specs.Projection.{Projection, project}
-use Rattle.filter.specs.ProjectionLaws.{all_stays}
+use Rattle.projection.specs.Projection.{Projection, project}
+use Rattle.projection.specs.ProjectionLaws.{all_stays}
 use Rattle.replies.specs.View.{projected}
 
 -- a projection that leaves all leaves the documents

@@ -2,7 +2,7 @@
 use Rattle.std.specs.Prelude.{◌≡◌, ◌≤◌, ℕ, List, length, map, codes, Result, Ok, Err}
 use Rattle.bson.specs.Tree.{Pairs}
 use Rattle.bson.specs.Spelling.{frame_of, pairs_bytes}
-use Rattle.filter.specs.Projection.{Projection, project}
+use Rattle.projection.specs.Projection.{Projection, project}
 use Rattle.database_model.specs.World.{World}
 use Rattle.database_model.specs.Refusals.{ok_reply}
 use Rattle.outcome.specs.Outcome.{Fails}

@@ -8,7 +8,7 @@ ghost use Rattle.replies.specs.View.{projected};
 use crate::giving::Gives;
 use crate::open_batch::OpenBatch;
 use bson::NoMemory;
-use filter::Projection;
+use projection::Projection;
 
 /// Puts the first documents, as a projection leaves them, into a batch that has none, and says how many: as many as go
 /// into it.

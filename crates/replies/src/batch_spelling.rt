@@ -14,7 +14,7 @@ use crate::open_batch::OpenBatch;
 use bson::{
     EncodeFault, Kind, NoMemory, SpelledDocument, Value, end_frame, put_head, put_string, put_value,
 };
-use filter::Projection;
+use projection::Projection;
 use std::alloc::{AllocError, Global};
 
 /// Which batch of a cursor a reply holds.

@@ -3,14 +3,14 @@
 ghost use Rattle.std.specs.Prelude.{◌≡◌, ◌++◌, All, IfOk, OnOk, List, map};
 ghost use Rattle.bson.specs.Lawful.{IsDocument};
 ghost use Rattle.bson.specs.Spelling.{frame_of, pairs_bytes};
-ghost use Rattle.filter.specs.Projection.{project};
+ghost use Rattle.projection.specs.Projection.{project};
 ghost use Rattle.database_model.specs.Lawful.{IsWithin};
 
 use bson::{
     BsonFault, Document, EncodeFault, NoMemory, RawDoc, SpelledDocument, decode, encode,
     encode_onto, laws,
 };
-use filter::Projection;
+use projection::Projection;
 use std::alloc::{AllocError, Global};
 
 /// What a batch gives: a document, however it is kept.

@@ -5,7 +5,7 @@ ghost use Rattle.std.specs.Fmt.{decimal};
 ghost use Rattle.bson.specs.Lawful.{IsDocument};
 ghost use Rattle.bson.specs.Spelling.{element, frame_of, pairs_bytes};
 ghost use Rattle.bson.specs.Tree.{Pairs};
-ghost use Rattle.filter.specs.Projection.{project};
+ghost use Rattle.projection.specs.Projection.{project};
 ghost use Rattle.database_model.specs.Cursors.{cursor_reply};
 ghost use Rattle.database_model.specs.Lawful.{IsWithin};
 ghost use Rattle.database_model.specs.Refusals.{ok_reply};
@@ -16,8 +16,8 @@ use crate::BATCH_LIMIT;
 use crate::batch_spelling::{BatchKind, end, put, put_number, put_text};
 use crate::giving::Gives;
 use bson::{Kind, NoMemory, SpelledDocument, Value, begin_frame, laws, put_head};
-use filter::Projection;
 use itoa::Buffer;
+use projection::Projection;
 use std::alloc::Global;
 
 /// The bytes that a reply begins with room for: a batch of a few short documents takes no more.

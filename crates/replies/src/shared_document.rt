@@ -3,7 +3,7 @@
 ghost use Rattle.std.specs.Prelude.{◌≡◌, IfOk};
 
 use bson::{Document, NoMemory};
-use filter::AsDocument;
+use sort::AsDocument;
 use std::alloc::Global;
 use std::marker::Model;
 use std::rc::Rc;

@@ -22,7 +22,7 @@ use Rattle.path.specs.declared.refusal.Refusal.{Refusal}
 use Rattle.path.specs.declared.refusal.Refusal.TheVariants as refusals
 use Rattle.filter.specs.Condition.{Predicate, equal, of_kinds, size, Condition, all, any, not_all, not_any, at, is, element, element_document}
 use Rattle.filter.specs.Condition.{Conditions, no_conditions, condition, equals}
-use Rattle.filter.specs.ProjectionReading.{begins_with_id, is_id}
+use Rattle.filter.specs.IdPaths.{begins_with_id, is_id}
 use Rattle.filter.specs.Reading.{array_in, every, exists, has_operators, just, named_condition, operation, or_refusal, order_operand, path_in}
 use Rattle.filter.specs.Reading.{read_element, read_filter}
 use Rattle.filter.specs.Reading.{read_known, read_members, read_not, read_operand, read_operators}

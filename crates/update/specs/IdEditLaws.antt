@@ -15,7 +15,7 @@ use Rattle.path.specs.Edits.{cut_at}
 use Rattle.path.specs.EditLaws.{if_ok_value}
 use Rattle.path.specs.Place.{value_at, passes_array}
 use Rattle.filter.specs.Condition.{Condition}
-use Rattle.filter.specs.ProjectionReading.{begins_with_id}
+use Rattle.filter.specs.IdPaths.{begins_with_id}
 use Rattle.update.specs.Update.{Path, Action, set, unset, increment, at_most, at_least}
 use Rattle.update.specs.Update.{push, pull, rename, Edit, edits}
 use Rattle.update.specs.Stored.{id_name}

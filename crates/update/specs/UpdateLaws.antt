@@ -25,7 +25,7 @@ use Rattle.value_order.specs.Order.{compare}
 use Rattle.filter.specs.Condition.{Condition}
 use Rattle.filter.specs.Elements.{read_element_condition}
 use Rattle.filter.specs.Matches.{is_equal}
-use Rattle.filter.specs.ProjectionReading.{begins_with_id}
+use Rattle.filter.specs.IdPaths.{begins_with_id}
 use Rattle.filter.specs.Reading.{path_in, has_operators}
 use Rattle.update.specs.Update.{Path, Number, Action, set, unset, increment, at_most, at_least}
 use Rattle.update.specs.Update.{push, pull, rename, Edit, Update, replacement, edits, paths_with}

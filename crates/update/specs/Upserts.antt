@@ -7,7 +7,7 @@ use Rattle.path.specs.declared.refusal.Refusal.TheVariants as refusals
 use Rattle.path.specs.Edits.{if_ok, set_at}
 use Rattle.filter.specs.Condition.{Predicate, equal, Condition, at, is, Conditions, no_conditions}
 use Rattle.filter.specs.Condition.{condition}
-use Rattle.filter.specs.ProjectionReading.{begins_with_id, is_id}
+use Rattle.filter.specs.IdPaths.{begins_with_id, is_id}
 use Rattle.update.specs.Update.{Path}
 
 abbrev pub is_below_id : Path → Bool

@@ -6,7 +6,7 @@
 ghost use Rattle.std.specs.Prelude.{◌≡◌};
 ghost use Rattle.bson.specs.View.{tree};
 ghost use Rattle.outcome.specs.Outcome.{Gives};
-ghost use Rattle.filter.specs.ProjectionReading.{begins_with_id};
+ghost use Rattle.filter.specs.IdPaths.{begins_with_id};
 ghost use Rattle.update.specs.Operators.{operator_of, editable_path, new_path, read_action, apply_action};
 ghost use Rattle.update.specs.View.{action_of};
 

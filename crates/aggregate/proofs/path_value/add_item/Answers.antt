@@ -4,7 +4,7 @@ use Rattle.bson.specs.Tree.{no_items, append_items}
 use Rattle.bson.specs.View.{tree, items_of}
 use Rattle.bson.specs.EditPlaces.{append_items-none}
 use Rattle.bson.specs.EditsLaws.{items_of-push}
-use Rattle.filter.specs.Projection.{add_item}
+use Rattle.projection.specs.Projection.{add_item}
 use Rattle.aggregate.proofs.path_value.add_item.Goals as goal
 
 pub returns-in_ok-push-in-Some : goal.returns-in_ok-push-in-Some

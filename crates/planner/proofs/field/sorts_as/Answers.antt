@@ -1,7 +1,7 @@
 use Rattle.std.proofs.Common.{◌≡◌, ℕ, suc, ◌+◌, Bool, List, drop, map, sym, ap, ◌∙◌, arith}
 use Rattle.std.specs.Prelude.{option_map, ◌&&◌}
-use Rattle.filter.specs.Sort.{SortField}
-use Rattle.filter.specs.SortKeys.{field_of as sort_field_of}
+use Rattle.sort.specs.Sort.{SortField}
+use Rattle.sort.specs.SortKeys.{field_of as sort_field_of}
 use Rattle.planner.specs.Plan.{fields_of, sorts_as}
 use Rattle.planner.specs.View.{field_of, index_of}
 use Rattle.planner.proofs.FieldLemmas.{sorts_on, sorts_past, sorts_all}

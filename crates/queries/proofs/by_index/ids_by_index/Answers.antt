@@ -1,6 +1,6 @@
 use Rattle.std.proofs.Common.{List, [], Option, subst}
 use Rattle.std.specs.Prelude.{IfSome}
-use Rattle.filter.specs.Sort.{SortField}
+use Rattle.sort.specs.Sort.{SortField}
 use Rattle.index.specs.Definition.{Definition}
 use Rattle.planner.specs.View.{range_of}
 use Rattle.planner.specs.declared.range.IndexRange.{IndexRange}

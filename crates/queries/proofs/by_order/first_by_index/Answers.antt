@@ -3,7 +3,7 @@ use Rattle.std.specs.Prelude.{IfSome}
 use Rattle.std.proofs.lemmas.Result.{err_from_is_err_and}
 use Rattle.bson.specs.Tree.{Pairs}
 use Rattle.database_model.specs.Find.{matching}
-use Rattle.filter.specs.Sort.{order}
+use Rattle.sort.specs.Sort.{order}
 use Rattle.index.specs.Definition.{Definition}
 use Rattle.planner.specs.View.{range_of}
 use Rattle.planner.specs.declared.range.IndexRange.{IndexRange}

@@ -4,7 +4,7 @@ use Rattle.std.proofs.lemmas.Result.{err_from_is_err_and}
 use Rattle.bson.specs.Tree.{Pairs}
 use Rattle.collections.specs.IndexTexts.{IsNumberedIndex}
 use Rattle.database_model.specs.Find.{matching}
-use Rattle.filter.specs.Sort.{order}
+use Rattle.sort.specs.Sort.{order}
 use Rattle.index.specs.Definition.{Definition}
 use Rattle.index.specs.State.{Collection}
 use Rattle.index.specs.View.{texts_of}

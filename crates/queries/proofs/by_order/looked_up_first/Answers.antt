@@ -7,7 +7,7 @@ use Rattle.bson.specs.Tree.{Pairs}
 use Rattle.collections.specs.Reading.{stored_at}
 use Rattle.database_model.specs.Find.{matching}
 use Rattle.filter.specs.Matches.{matches}
-use Rattle.filter.specs.Sort.{order}
+use Rattle.sort.specs.Sort.{order}
 use Rattle.index.specs.View.{texts_of}
 use Rattle.planner.specs.IdLaws.{found_by, with_found}
 use Rattle.queries.specs.ByIndex.{LeadInOrder}

@@ -1,6 +1,6 @@
 use Rattle.std.specs.Prelude.{All, List, drop}
 use Rattle.database_model.specs.Lawful.{IsWithin}
-use Rattle.filter.specs.Sort.{SortField}
+use Rattle.sort.specs.Sort.{SortField}
 use Rattle.index.specs.View.{texts_of}
 use Rattle.queries.specs.ByIndex.{LeadInOrder}
 use Rattle.queries.proofs.ByOrderLemmas.{AreInFront, told_in_order}

@@ -5,7 +5,7 @@ use Rattle.aggregate.specs.Taking.{KeepsFirst}
 use Rattle.aggregate.specs.View.{pipeline_of}
 use Rattle.database_model.specs.Aggregate.{AreEnough}
 use Rattle.database_model.specs.Find.{matching}
-use Rattle.filter.specs.Sort.{order}
+use Rattle.sort.specs.Sort.{order}
 use Rattle.queries.specs.Asking.{IsAsked}
 use Rattle.queries.proofs.NeededByOrderLemmas.{first_needed}
 use Rattle.queries.proofs.ReadingLemmas.{reads_made, reads_none}

@@ -2,7 +2,7 @@ use Rattle.std.proofs.Common.{List, take, sym, ap, subst, ◌∙◌}
 use Rattle.std.specs.Prelude.{All}
 use Rattle.bson.specs.Tree.{Pairs}
 use Rattle.database_model.specs.Lawful.{IsWithin}
-use Rattle.filter.specs.Sort.{order}
+use Rattle.sort.specs.Sort.{order}
 use Rattle.queries.proofs.NeededLemmas.{if_ok}
 use Rattle.queries.proofs.ordering.first_found.Goals as goal
 

@@ -1,7 +1,7 @@
 use Rattle.std.proofs.Common.{◌≡◌, take, ap, sym, subst, ◌∙◌}
 use Rattle.std.specs.Prelude.{All}
 use Rattle.database_model.specs.Lawful.{IsWithin}
-use Rattle.filter.specs.Sort.{order}
+use Rattle.sort.specs.Sort.{order}
 use Rattle.queries.proofs.OrderingLemmas.{first_kept}
 use Rattle.queries.proofs.ordering.first_ones.Goals as goal
 

@@ -2,8 +2,8 @@ use Rattle.std.proofs.Common.{◌++◌, List, Vec, Global, take, ap, ◌∙◌, 
 use Rattle.std.specs.Prelude.{All}
 use Rattle.bson.specs.Tree.{Pairs}
 use Rattle.database_model.specs.Lawful.{IsWithin}
-use Rattle.filter.specs.Sort.{order}
-use Rattle.filter.proofs.SortLemmas.{sorts_in_parts}
+use Rattle.sort.specs.Sort.{order}
+use Rattle.sort.proofs.SortLemmas.{sorts_in_parts}
 use Rattle.queries.proofs.ordering.let_late_go.Goals as goal
 
 pub returns-clause-first : goal.returns-clause-first

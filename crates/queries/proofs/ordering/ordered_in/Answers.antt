@@ -5,7 +5,7 @@ use Rattle.bson.specs.Tree.{Pairs}
 use Rattle.index.specs.State.{Collection}
 use Rattle.collections.specs.Reading.{ReadsOf}
 use Rattle.database_model.specs.Find.{matching}
-use Rattle.filter.specs.Sort.{order}
+use Rattle.sort.specs.Sort.{order}
 use Rattle.queries.specs.Asking.{IsAsked}
 use Rattle.queries.proofs.OrderingLemmas.{no_sort}
 use Rattle.queries.proofs.ReadingLemmas.{reads_behind, reads_made, reads_refused}

@@ -8,7 +8,7 @@ use Rattle.collections.proofs.ReadingLemmas.{asked_on, asked_refused}
 use Rattle.database_model.specs.Find.{matching}
 use Rattle.database_model.specs.Lawful.{IsWithin}
 use Rattle.filter.specs.Matches.{matches}
-use Rattle.filter.specs.Sort.{order}
+use Rattle.sort.specs.Sort.{order}
 use Rattle.queries.specs.Asking.{IsAsked}
 use Rattle.queries.specs.Folding.{Sorts}
 use Rattle.queries.specs.IdRange.{IsWalked}

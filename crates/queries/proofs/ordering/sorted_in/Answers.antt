@@ -4,7 +4,7 @@ use Rattle.std.proofs.lemmas.Result.{err_from_is_err_and}
 use Rattle.bson.specs.Tree.{Pairs}
 use Rattle.database_model.specs.Find.{matching}
 use Rattle.filter.specs.Matches.{matches}
-use Rattle.filter.specs.Sort.{order}
+use Rattle.sort.specs.Sort.{order}
 use Rattle.index.specs.View.{texts_of}
 use Rattle.queries.specs.Asking.{IsAsked}
 use Rattle.queries.specs.ById.{AreIdsOf}

@@ -1,5 +1,5 @@
 use Rattle.std.proofs.Common.{◌≡◌, ◌+◌, Bool, length, map, drop, refl, sym, subst, arith}
-use Rattle.filter.specs.Projection.{project}
+use Rattle.projection.specs.Projection.{project}
 use Rattle.replies.specs.OpenBatch.{IsOffered}
 use Rattle.replies.specs.View.{projected}
 use Rattle.replies.proofs.BatchLoop.{projected_step, one_within, goes_further, ends, offered_all}

@@ -3,7 +3,7 @@ use Rattle.std.proofs.lemmas.List.{take-map}
 use Rattle.bson.specs.Tree.{Pairs}
 use Rattle.aggregate.specs.Taking.{IsEnough}
 use Rattle.aggregate.specs.View.{pipeline_of}
-use Rattle.filter.specs.Sort.{order}
+use Rattle.sort.specs.Sort.{order}
 use Rattle.aggregate.proofs.pipeline.Pipeline.still_needed.Goals as goal
 
 pub returns : goal.returns

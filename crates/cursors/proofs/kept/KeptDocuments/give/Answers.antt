@@ -1,6 +1,6 @@
 use Rattle.std.proofs.Common.{drop, map, sym, ap, ◌∙◌}
 use Rattle.std.proofs.lemmas.List.{drop-drop, drop-map}
-use Rattle.filter.specs.Projection.{project}
+use Rattle.projection.specs.Projection.{project}
 use Rattle.cursors.proofs.kept.KeptDocuments.give.Goals as goal
 
 pub returns : goal.returns

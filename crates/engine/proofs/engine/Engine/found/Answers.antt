@@ -3,7 +3,7 @@ use Rattle.std.proofs.lemmas.List.{take_all}
 use Rattle.std.proofs.lemmas.Result.{err_from_is_err_and}
 use Rattle.bson.specs.Tree.{Pairs}
 use Rattle.database_model.specs.Find.{matching}
-use Rattle.filter.specs.Sort.{order}
+use Rattle.sort.specs.Sort.{order}
 use Rattle.database_model.specs.World.{documents_of}
 use Rattle.engine.proofs.LookingLemmas.{looks_refused}
 use Rattle.engine.proofs.CataloguedLemmas.{IsCatalogueOf}

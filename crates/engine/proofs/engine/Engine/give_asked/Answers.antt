@@ -4,7 +4,7 @@ use Rattle.std.proofs.lemmas.List.{drop-map, length-map, map-id}
 use Rattle.std.proofs.lemmas.List.Elements.{All-drop}
 use Rattle.std.proofs.lemmas.Result.{err_from_is_err_and}
 use Rattle.bson.specs.Tree.{Pairs}
-use Rattle.filter.specs.Projection.{project}
+use Rattle.projection.specs.Projection.{project}
 use Rattle.cursors.specs.Held.{table_of}
 use Rattle.database_model.specs.World.{World}
 use Rattle.database_model.specs.Cursors.{new_cursor}

@@ -3,7 +3,7 @@ use Rattle.bson.specs.Tree.{Pairs}
 use Rattle.collections.specs.Reading.{ReadsOf}
 use Rattle.commands.specs.Find.{Query}
 use Rattle.database_model.specs.Find.{matching}
-use Rattle.filter.specs.Sort.{order}
+use Rattle.sort.specs.Sort.{order}
 use Rattle.queries.specs.Asking.{IsAsked}
 use Rattle.engine.proofs.LookingLemmas.{looks_so_of}
 use Rattle.engine.proofs.NamedLemmas.{asked_at_home}

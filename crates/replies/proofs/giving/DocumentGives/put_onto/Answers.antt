@@ -3,8 +3,8 @@ use Rattle.std.specs.Prelude.{OnOk}
 use Rattle.bson.specs.Tree.{Pairs}
 use Rattle.bson.specs.Lawful.{IsDocument}
 use Rattle.bson.specs.Spelling.{frame_of, pairs_bytes}
-use Rattle.filter.specs.Projection.{project}
-use Rattle.filter.specs.ProjectionLaws.{whole_stays}
+use Rattle.projection.specs.Projection.{project}
+use Rattle.projection.specs.ProjectionLaws.{whole_stays}
 use Rattle.database_model.specs.Lawful.{IsWithin}
 use Rattle.replies.proofs.giving.DocumentGives.put_onto.Goals as goal
 

@@ -2,8 +2,8 @@ use Rattle.std.proofs.Common.{◌≡◌, ◌++◌, ℕ, List, ap, subst, sym, �
 use Rattle.bson.specs.Tree.{Pairs}
 use Rattle.bson.specs.Lawful.{IsDocument}
 use Rattle.bson.specs.Spelling.{frame_of, pairs_bytes}
-use Rattle.filter.specs.Projection.{project}
-use Rattle.filter.specs.ProjectionLaws.{whole_stays}
+use Rattle.projection.specs.Projection.{project}
+use Rattle.projection.specs.ProjectionLaws.{whole_stays}
 use Rattle.replies.proofs.giving.SpelledDocumentGives.put_onto.Goals as goal
 
 pub returns-then-keeps_all-clause-bytes : goal.returns-then-keeps_all-clause-bytes

@@ -3,7 +3,7 @@ use Rattle.std.specs.Prelude.{◌==◌, ◌||◌, nat_le}
 use Rattle.std.specs.Fmt.{decimal}
 use Rattle.std.proofs.lemmas.Bool.Decides.{nat_tests}
 use Rattle.bson.specs.Spelling.{element, frame_of, pairs_bytes}
-use Rattle.filter.specs.Projection.{project}
+use Rattle.projection.specs.Projection.{project}
 use Rattle.database_model.specs.Cursors.{item_size}
 use Rattle.replies.proofs.BatchLoop.{goes_in}
 use Rattle.replies.proofs.open_batch.OpenBatch.offer.Goals as goal

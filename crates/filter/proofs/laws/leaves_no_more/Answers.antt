@@ -1,5 +1,0 @@
-use Rattle.filter.specs.ProjectionLaws.{project_no_larger}
-use Rattle.filter.proofs.laws.leaves_no_more.Goals as goal
-
-pub returns : goal.returns
-returns c = project_no_larger

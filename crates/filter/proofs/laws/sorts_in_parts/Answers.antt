@@ -1,5 +1,0 @@
-use Rattle.filter.proofs.SortLemmas.{sorts_in_parts}
-use Rattle.filter.proofs.laws.sorts_in_parts.Goals as goal
-
-pub returns : goal.returns
-returns c = sorts_in_parts

@@ -1,5 +1,0 @@
-use Rattle.std.proofs.Common.{◌≡◌, take}
-use Rattle.filter.proofs.projection.Projection.copy.Given as goal
-
-abbrev pub invariant-paths : goal.invariant-paths
-invariant-paths l = l.paths.items ≡ take l.path-index l.path-items

@@ -1,5 +1,0 @@
-use Rattle.std.proofs.Common.{◌≡◌, take, map}
-use Rattle.filter.proofs.projection.Projection.of.Given as goal
-
-abbrev pub invariant-paths : goal.invariant-paths
-invariant-paths l = map (λ p. p.now) l.paths.items ≡ take l.path-index l.path-items

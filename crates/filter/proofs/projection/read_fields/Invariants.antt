@@ -1,8 +1,0 @@
-use Rattle.std.proofs.Common.{◌≡◌, drop}
-use Rattle.bson.specs.View.{pairs_of}
-use Rattle.filter.specs.ProjectionReading.{nothing_seen, read_flags}
-use Rattle.filter.specs.Seen.{seen_of}
-use Rattle.filter.proofs.projection.read_fields.Given as goal
-
-abbrev pub invariant-pairs : goal.invariant-pairs
-invariant-pairs l = read_flags (seen_of l.seen) (pairs_of (drop l.pair-index l.pair-items)) ≡ read_flags nothing_seen l.document

@@ -1,5 +1,0 @@
-use Rattle.std.proofs.Common.{◌≡◌, take, map}
-use Rattle.filter.proofs.sort.Sort.places.Given as goal
-
-abbrev pub invariant-all : goal.invariant-all
-invariant-all l = l.places.items ≡ map (λ r. r.place) (take l.ranked-index l.ranked-items)

@@ -1,0 +1,5 @@
+pub mod StableSortLemmas
+pub mod FrontLemmas
+pub mod SortLemmas
+pub mod TakenOutLemmas
+pub mod FirstKeyLemmas

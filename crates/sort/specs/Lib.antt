@@ -1,0 +1,5 @@
+pub mod Sort
+pub mod SortReading
+pub mod SortKeys
+pub mod SortLaws
+pub mod Rows
