@@ -60,14 +60,25 @@ def refused(kind, call, code=None):
     raise AssertionError(f"answered {answer!r}")
 
 
+def answer_to(server, opcode, content):
+    """What follows the header of the answer to a message."""
+    with socket.create_connection(("127.0.0.1", server.port), PATIENCE) as connection, connection.makefile("rb") as reader:
+        connection.sendall(struct.pack("<iiii", len(content) + 16, 1, 0, opcode) + content)
+        length = struct.unpack("<i", reader.read(4))[0]
+        return reader.read(length - 4)[12:]
+
+
 def sent(server, body, documents):
     """The reply to a message whose documents stand behind its body."""
     behind = b"documents\0" + b"".join(bson.encode(document) for document in documents)
     content = struct.pack("<I", 0) + b"\0" + bson.encode(body) + b"\1" + struct.pack("<i", len(behind) + 4) + behind
-    with socket.create_connection(("127.0.0.1", server.port), PATIENCE) as connection, connection.makefile("rb") as reader:
-        connection.sendall(struct.pack("<iiii", len(content) + 16, 1, 0, 2013) + content)
-        length = struct.unpack("<i", reader.read(4))[0]
-        return bson.decode(reader.read(length - 4)[17:])
+    return bson.decode(answer_to(server, 2013, content)[5:])
+
+
+def greeted(server, body):
+    """The reply to a handshake of the older form."""
+    content = struct.pack("<i", 0) + b"admin.$cmd\0" + struct.pack("<ii", 0, -1) + bson.encode(body)
+    return bson.decode(answer_to(server, 2004, content)[20:])
 
 
 def all_of(threads):
@@ -460,6 +471,8 @@ def whole_doubles(server):
     expect(database.command("delete", "whole", deletes=[{"q": {}, "limit": 1.0}])["n"], 1)
     expect(database.command("findAndModify", "whole", sort={"_id": -1.0}, remove=True)["value"]["_id"], 19)
     directly_in_commands(client)
+    expect(greeted(server, {"isMaster": 1.0})["ismaster"], True)
+    expect(greeted(server, {"isMaster": 0.5})["code"], 22)
     # anything else that is a double is refused, and so is the command
     for place, command in [("limit", {"find": "whole", "limit": 1.5}), ("skip", {"find": "whole", "skip": float("inf")}),
                            ("batchSize", {"find": "whole", "limit": 1.0, "batchSize": float("nan")}),

@@ -25,21 +25,23 @@ abbrev pub is_master : List ℕ
 is_master = le_32 19 ++ 16 ∷ codes "ismaster" ++ 0 ∷ le_32 1 ++ 0 ∷ []
 
 -- an OP_QUERY with the number 1, of this length, to a collection of this name
-abbrev pub query : ℕ → List ℕ → List ℕ
-query len name =
+abbrev pub query_of : List ℕ → ℕ → List ℕ → List ℕ
+query_of body len name =
     le_32 len ++ le_32 1 ++ le_32 0 ++ le_32 2004 ++ le_32 4 ++ name ++ 0 ∷ le_32 0
-    ++ (255 ∷ 255 ∷ 255 ∷ 255 ∷ []) ++ is_master
+    ++ (255 ∷ 255 ∷ 255 ∷ 255 ∷ []) ++ body
 
-abbrev pub taken : Form → Result (Option (Message × List ℕ)) StreamFault
-taken form = Ok (Some (
-  record {
-    number = 1;
-    form = form;
-    more_to_come = false;
-    body = Ok (pair (codes "ismaster") (scalar (int32 (pos 1))) no_pairs);
-  },
+abbrev pub query : ℕ → List ℕ → List ℕ
+query len name = query_of is_master len name
+
+abbrev pub read_in : Form → Result Pairs BodyFault
+    → Result (Option (Message × List ℕ)) StreamFault
+read_in form body = Ok (Some (
+  record { number = 1; form = form; more_to_come = false; body = body },
   [],
 ))
+
+abbrev pub taken : Form → Result (Option (Message × List ℕ)) StreamFault
+taken form = read_in form (Ok (pair (codes "ismaster") (scalar (int32 (pos 1))) no_pairs))
 
 pub record QueryRows : Type 0 where
   pub handshake : next_message (query 58 (codes "admin.$cmd")) ≡ taken forms.Command
@@ -147,10 +149,11 @@ count_with bits =
     ++ double (codes "limit") bits))
 
 abbrev pub read_as : Result Pairs BodyFault → Result (Option (Message × List ℕ)) StreamFault
-read_as body = Ok (Some (
-  record { number = 1; form = forms.Message; more_to_come = false; body = body },
-  [],
-))
+read_as body = read_in forms.Message body
+
+-- {ismaster: ..}
+abbrev pub is_master_by : ℕ → List ℕ
+is_master_by bits = frame_of (double (codes "ismaster") bits)
 
 pub record IntegerRows : Type 0 where
   pub whole : document_with [] (find_with (double (codes "a") 0xbff0000000000000)
@@ -180,3 +183,9 @@ pub record IntegerRows : Type 0 where
       (double (codes "wtimeout") 0x40b3880000000000))
       ≡ concern_with (long (codes "w") 1) (long (codes "wtimeout") 5000)
   pub inserted : section_with 1 insert_of_double ≡ insert_of_double
+  pub handshake : next_message (query_of (is_master_by 0x3ff0000000000000) 62 (codes "admin.$cmd"))
+      ≡ read_in forms.Command (Ok (pair (codes "ismaster") (scalar (int64 (pos 1))) no_pairs))
+  pub no_handshake
+      : next_message (query_of (is_master_by 0x3fe0000000000000) 62 (codes "admin.$cmd"))
+      ≡ read_in forms.Command (Err (bodies.Foreign (
+      record { kind = types.Double; path = codes "ismaster" })))

@@ -72,4 +72,6 @@ returns-clause-integers c = record {
   explained = refl;
   concern = refl;
   inserted = refl;
+  handshake = refl;
+  no_handshake = refl;
 }
