@@ -60,14 +60,25 @@ def refused(kind, call, code=None):
     raise AssertionError(f"answered {answer!r}")
 
 
+def answer_to(server, opcode, content):
+    """What follows the header of the answer to a message."""
+    with socket.create_connection(("127.0.0.1", server.port), PATIENCE) as connection, connection.makefile("rb") as reader:
+        connection.sendall(struct.pack("<iiii", len(content) + 16, 1, 0, opcode) + content)
+        length = struct.unpack("<i", reader.read(4))[0]
+        return reader.read(length - 4)[12:]
+
+
 def sent(server, body, documents):
     """The reply to a message whose documents stand behind its body."""
     behind = b"documents\0" + b"".join(bson.encode(document) for document in documents)
     content = struct.pack("<I", 0) + b"\0" + bson.encode(body) + b"\1" + struct.pack("<i", len(behind) + 4) + behind
-    with socket.create_connection(("127.0.0.1", server.port), PATIENCE) as connection, connection.makefile("rb") as reader:
-        connection.sendall(struct.pack("<iiii", len(content) + 16, 1, 0, 2013) + content)
-        length = struct.unpack("<i", reader.read(4))[0]
-        return bson.decode(reader.read(length - 4)[17:])
+    return bson.decode(answer_to(server, 2013, content)[5:])
+
+
+def greeted(server, body):
+    """The reply to a handshake of the older form."""
+    content = struct.pack("<i", 0) + b"admin.$cmd\0" + struct.pack("<ii", 0, -1) + bson.encode(body)
+    return bson.decode(answer_to(server, 2004, content)[20:])
 
 
 def all_of(threads):
@@ -408,9 +419,31 @@ def refusals(server):
     expect(people.count_documents({}), 1)
 
 
+def directly_in_commands(client):
+    """What an old shell sends around its work: whole doubles beside the commands' names, and how long they may take."""
+    database = client.shell
+    for name in ["ping", "hello", "isMaster", "ismaster", "buildInfo", "buildinfo"]:
+        expect(database.command({name: 1.0, "forShell": 1.0} if name == "isMaster" else {name: 1.0})["ok"], 1)
+    expect(database.command({"ping": 1.0, "maxTimeMS": 5000.0})["ok"], 1)
+    one = {"insert": "one", "documents": [{"_id": 1}], "writeConcern": {"w": 1.0, "wtimeout": 5000.0}}
+    expect(database.command(one)["n"], 1)
+    expect(database.command({"find": "one", "limit": 5.0, "maxTimeMS": 5000.0})["cursor"]["firstBatch"], [{"_id": 1}])
+    explained = {"explain": {"find": "one", "maxTimeMS": 5000.0}, "verbosity": "queryPlanner"}
+    expect(database.command(explained)["queryPlanner"]["winningPlan"], {"stage": "SCAN"})
+    listed = database.command("listCollections", 1.0, nameOnly=True, authorizedCollections=True)
+    expect([entry["name"] for entry in listed["cursor"]["firstBatch"]], ["one"])
+    for name in ["listDatabases", "serverStatus", "replSetGetStatus"]:
+        refused(OperationFailure, lambda: database.command({name: 1.0, "forShell": 1.0}), 59)
+    refused(OperationFailure, lambda: database.command({**one, "writeConcern": {"w": 2.0}}), 2)
+    refused(OperationFailure, lambda: database.command({"findAndModify": "one", "update": {}, "new": 1.0}), 14)
+    expect(database.command("dropDatabase", 1.0)["ok"], 1)
+    expect(database.list_collection_names(), [])
+
+
 def whole_doubles(server):
     """Numbers of the commands themselves that are doubles, as clients send them whose numbers all are."""
-    database = server.client().test
+    client = server.client()
+    database = client.test
     whole = database.whole
     whole.insert_many([{"_id": n, "half": n // 2, "name": str(n)} for n in range(20)])
 
@@ -437,11 +470,17 @@ def whole_doubles(server):
     expect(plan["queryPlanner"]["winningPlan"]["stage"].split()[:2], ["INDEX", "late"])
     expect(database.command("delete", "whole", deletes=[{"q": {}, "limit": 1.0}])["n"], 1)
     expect(database.command("findAndModify", "whole", sort={"_id": -1.0}, remove=True)["value"]["_id"], 19)
+    directly_in_commands(client)
+    expect(greeted(server, {"isMaster": 1.0})["ismaster"], True)
+    expect(greeted(server, {"isMaster": 0.5})["code"], 22)
     # anything else that is a double is refused, and so is the command
     for place, command in [("limit", {"find": "whole", "limit": 1.5}), ("skip", {"find": "whole", "skip": float("inf")}),
                            ("batchSize", {"find": "whole", "limit": 1.0, "batchSize": float("nan")}),
                            ("limit", {"find": "whole", "limit": 2.0 ** 63}), ("filter.half", {"find": "whole", "filter": {"half": 1.0}, "limit": 1.0}),
-                           ("projection.a.b", {"find": "whole", "projection": {"a": {"b": 1.0}}}), ("ping", {"ping": 1.0}),
+                           ("projection.a.b", {"find": "whole", "projection": {"a": {"b": 1.0}}}), ("ping", {"ping": 0.5}),
+                           ("maxTimeMS", {"ping": 1.0, "maxTimeMS": 0.5}), ("getMore", {"getMore": 1.0, "collection": "whole"}),
+                           ("cursors.0", {"killCursors": "whole", "cursors": [1.0]}),
+                           ("updates.0.u.$set.half", {"update": "whole", "updates": [{"q": {}, "u": {"$set": {"half": 1.0}}}]}),
                            ("documents.0.limit", {"insert": "whole", "documents": [{"_id": 100, "limit": 1.0}]}),
                            ("deletes.0.q.limit", {"delete": "whole", "deletes": [{"q": {"limit": 1.0}, "limit": 1.0}]}),
                            ("pipeline.0.$match.$limit", {"aggregate": "whole", "pipeline": [{"$match": {"$limit": 1.0}}], "cursor": {}})]:

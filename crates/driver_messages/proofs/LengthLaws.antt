@@ -13,7 +13,7 @@ use Rattle.bson.specs.declared.fault.BsonFault.{BsonFault}
 use Rattle.bson.specs.declared.fault.BsonFault.TheVariants as faults
 use Rattle.bson.specs.declared.kind.Kind.{Kind}
 use Rattle.bson.specs.declared.kind.Kind.TheVariants as kinds
-use Rattle.driver_messages.specs.Laws.{KeepsLength}
+use Rattle.driver_messages.specs.Laws.{CommandKeepsLength, KeepsLength}
 use Rattle.driver_messages.specs.OwnNumbers.{is_own_number}
 use Rattle.driver_messages.specs.Seeking.{Place}
 use Rattle.driver_messages.specs.WholeDouble.{integer_at}
@@ -168,3 +168,6 @@ sections_keep (suc most) (kind ∷ bytes) =
 
 pub keeps_length : KeepsLength
 keeps_length whole = put_keeps 20 whole _ (sections_keep (length whole) (drop 20 whole))
+
+pub command_keeps_length : CommandKeepsLength
+command_keeps_length bytes = document_keeps [] bytes

@@ -15,7 +15,7 @@ use Rattle.op_msg.specs.Frame.{Frame, front, number_at, is_no_length}
 use Rattle.op_msg.specs.Request.{body_of}
 use Rattle.op_msg.specs.declared.fault.FrameFault.{FrameFault}
 use Rattle.driver_messages.specs.Seeking.{foreign_in, foreign_in_sections}
-use Rattle.driver_messages.specs.WithIntegers.{with_integers}
+use Rattle.driver_messages.specs.WithIntegers.{document_with, with_integers}
 use Rattle.driver_messages.specs.declared.foreign.Foreign.{Foreign}
 use Rattle.driver_messages.specs.declared.message.BodyFault.{BodyFault}
 use Rattle.driver_messages.specs.declared.message.BodyFault.TheVariants as bodies
@@ -100,12 +100,20 @@ read_message whole = read_again whole (as_sent whole)
 abbrev pub form_of : List ℕ → Form
 form_of name = if bytes_eq name (codes "admin.$cmd") then forms.Command else forms.Query
 
+abbrev pub document_sent : List ℕ → Result Pairs BodyFault
+document_sent bytes = body_or_fault (foreign_in [] bytes) (only_document (document_at bytes))
+
+-- It is read again as an OP_MSG is.
+abbrev pub document_again : List ℕ → Result Pairs BodyFault → Result Pairs BodyFault
+document_again bytes body =
+    if has_foreign body then document_sent (document_with [] bytes) else body
+
 abbrev pub query_of : ℕ → List ℕ → List ℕ → Message
 query_of number name bytes = record {
   number = number;
   form = form_of name;
   more_to_come = false;
-  body = body_or_fault (foreign_in [] bytes) (only_document (document_at bytes));
+  body = document_again bytes (document_sent bytes);
 }
 
 abbrev pub query_behind : ℕ → Result (List ℕ × List ℕ) BsonFault → Result Message StreamFault

@@ -1,20 +1,22 @@
--- The numbers of a command that are its own and no part of a document that is kept or sought
--- (MongoDB manual, database commands): how many documents it passes over, takes or answers at once,
--- directions of a sort and of an index, and what a projection says of a field. They are told by the
--- place of the document that holds them, and by their name there.
-use Rattle.std.specs.Prelude.{Bool, false, ◌&&◌, ◌||◌, if◌then◌else◌, ℕ, List, [], ◌∷◌, codes}
+-- The numbers of a command that are its own and no part of a document that is kept, sought or
+-- answered (MongoDB manual, database commands). They are told by the place of the document that
+-- holds them, and by their name there.
+use Rattle.std.specs.Prelude.{Bool, false, not, ◌&&◌, ◌||◌, if◌then◌else◌, ℕ, List, [], ◌∷◌, codes}
 use Rattle.std.specs.Str.{bytes_eq}
 use Rattle.driver_messages.specs.Seeking.{Place}
 
-abbrev pub is_count : List ℕ → Bool
-is_count name =
-    bytes_eq name (codes "skip") || bytes_eq name (codes "limit")
-    || bytes_eq name (codes "batchSize")
+-- Directly in the command: how many documents it passes over, takes or answers at once, how long it
+-- may take, what stands beside the name of a `ping`. But a cursor's number, beside the name of a
+-- `getMore`, was answered as an int64, and is taken as that alone.
+abbrev pub is_number_of_command : List ℕ → Bool
+is_number_of_command name = not (bytes_eq name (codes "getMore"))
 
--- in the document of this field: of a find, a findAndModify, an aggregate
+-- In the document of this field: a direction of a sort, what a projection says of a field, the
+-- batch of an aggregate's cursor, how many servers are to have a write.
 abbrev pub is_number_in : List ℕ → List ℕ → Bool
 is_number_in field name =
-    bytes_eq field (codes "sort") || bytes_eq field (codes "projection")
+    bytes_eq field (codes "writeConcern")
+    || bytes_eq field (codes "sort") || bytes_eq field (codes "projection")
     || bytes_eq field (codes "cursor") && bytes_eq name (codes "batchSize")
 
 -- in an item of this array: a statement of a delete, a stage of a pipeline
@@ -32,7 +34,7 @@ is_number_in_item list field =
     && (bytes_eq field (codes "$sort") || bytes_eq field (codes "$project"))
 
 abbrev pub is_number_at : Place → List ℕ → Bool
-is_number_at [] name = is_count name
+is_number_at [] name = is_number_of_command name
 is_number_at (field ∷ []) name = is_number_in field name
 is_number_at (list ∷ item ∷ []) name = is_number_of_item list name
 is_number_at (list ∷ item ∷ field ∷ []) name = is_number_in_item list field

@@ -25,21 +25,23 @@ abbrev pub is_master : List ℕ
 is_master = le_32 19 ++ 16 ∷ codes "ismaster" ++ 0 ∷ le_32 1 ++ 0 ∷ []
 
 -- an OP_QUERY with the number 1, of this length, to a collection of this name
-abbrev pub query : ℕ → List ℕ → List ℕ
-query len name =
+abbrev pub query_of : List ℕ → ℕ → List ℕ → List ℕ
+query_of body len name =
     le_32 len ++ le_32 1 ++ le_32 0 ++ le_32 2004 ++ le_32 4 ++ name ++ 0 ∷ le_32 0
-    ++ (255 ∷ 255 ∷ 255 ∷ 255 ∷ []) ++ is_master
+    ++ (255 ∷ 255 ∷ 255 ∷ 255 ∷ []) ++ body
 
-abbrev pub taken : Form → Result (Option (Message × List ℕ)) StreamFault
-taken form = Ok (Some (
-  record {
-    number = 1;
-    form = form;
-    more_to_come = false;
-    body = Ok (pair (codes "ismaster") (scalar (int32 (pos 1))) no_pairs);
-  },
+abbrev pub query : ℕ → List ℕ → List ℕ
+query len name = query_of is_master len name
+
+abbrev pub read_in : Form → Result Pairs BodyFault
+    → Result (Option (Message × List ℕ)) StreamFault
+read_in form body = Ok (Some (
+  record { number = 1; form = form; more_to_come = false; body = body },
   [],
 ))
+
+abbrev pub taken : Form → Result (Option (Message × List ℕ)) StreamFault
+taken form = read_in form (Ok (pair (codes "ismaster") (scalar (int32 (pos 1))) no_pairs))
 
 pub record QueryRows : Type 0 where
   pub handshake : next_message (query 58 (codes "admin.$cmd")) ≡ taken forms.Command
@@ -115,6 +117,31 @@ deletes_with type bits =
     le_32 40 ++ codes "deletes" ++ 0 ∷ frame_of (element 0x03 (codes "q") (frame_of [])
     ++ element type (codes "limit") (to_le_bytes w64 bits))
 
+-- {explain: {count: "c", ..}}
+abbrev pub explain_with : List ℕ → List ℕ
+explain_with field =
+    frame_of (element 0x03 (codes "explain")
+    (frame_of (element 0x02 (codes "count") (le_32 2 ++ 99 ∷ 0 ∷ []) ++ field)))
+
+-- {writeConcern: {w: .., wtimeout: ..}}
+abbrev pub concern_with : List ℕ → List ℕ → List ℕ
+concern_with servers time =
+    frame_of (element 0x03 (codes "writeConcern") (frame_of (servers ++ time)))
+
+-- the section of kind 1 of {insert: .., documents: [{ping: 1.0}]} behind its kind
+abbrev pub insert_of_double : List ℕ
+insert_of_double =
+    le_32 33 ++ codes "documents" ++ 0 ∷ frame_of (double (codes "ping") 0x3ff0000000000000)
+
+-- {ping: .., maxTimeMS: ..}, as a message
+abbrev pub ping_with : ℕ → ℕ → List ℕ
+ping_with bits time =
+    frame_bytes 1 0 (frame_of (double (codes "ping") bits ++ double (codes "maxTimeMS") time))
+
+-- {getMore: 5.0}
+abbrev pub get_more : List ℕ
+get_more = frame_of (double (codes "getMore") 0x4014000000000000)
+
 -- {count: "c", limit: ..}, as a message
 abbrev pub count_with : ℕ → List ℕ
 count_with bits =
@@ -122,10 +149,11 @@ count_with bits =
     ++ double (codes "limit") bits))
 
 abbrev pub read_as : Result Pairs BodyFault → Result (Option (Message × List ℕ)) StreamFault
-read_as body = Ok (Some (
-  record { number = 1; form = forms.Message; more_to_come = false; body = body },
-  [],
-))
+read_as body = read_in forms.Message body
+
+-- {ismaster: ..}
+abbrev pub is_master_by : ℕ → List ℕ
+is_master_by bits = frame_of (double (codes "ismaster") bits)
 
 pub record IntegerRows : Type 0 where
   pub whole : document_with [] (find_with (double (codes "a") 0xbff0000000000000)
@@ -142,3 +170,22 @@ pub record IntegerRows : Type 0 where
       (pair (codes "limit") (scalar (int64 (pos 5))) no_pairs)))
   pub not_counted : next_message (count_with 0x3ff8000000000000)
       ≡ read_as (Err (bodies.Foreign (record { kind = types.Double; path = codes "limit" })))
+  -- beside the name of a command, and how long it may take
+  pub pinged : next_message (ping_with 0x3ff0000000000000 0x40b3880000000000)
+      ≡ read_as (Ok (pair (codes "ping") (scalar (int64 (pos 1)))
+      (pair (codes "maxTimeMS") (scalar (int64 (pos 5000))) no_pairs)))
+  pub not_pinged : next_message (ping_with 0x3fe0000000000000 0x40b3880000000000)
+      ≡ read_as (Err (bodies.Foreign (record { kind = types.Double; path = codes "ping" })))
+  pub of_cursor : document_with [] get_more ≡ get_more
+  pub explained : document_with [] (explain_with (double (codes "maxTimeMS") 0x40b3880000000000))
+      ≡ explain_with (long (codes "maxTimeMS") 5000)
+  pub concern : document_with [] (concern_with (double (codes "w") 0x3ff0000000000000)
+      (double (codes "wtimeout") 0x40b3880000000000))
+      ≡ concern_with (long (codes "w") 1) (long (codes "wtimeout") 5000)
+  pub inserted : section_with 1 insert_of_double ≡ insert_of_double
+  pub handshake : next_message (query_of (is_master_by 0x3ff0000000000000) 62 (codes "admin.$cmd"))
+      ≡ read_in forms.Command (Ok (pair (codes "ismaster") (scalar (int64 (pos 1))) no_pairs))
+  pub no_handshake
+      : next_message (query_of (is_master_by 0x3fe0000000000000) 62 (codes "admin.$cmd"))
+      ≡ read_in forms.Command (Err (bodies.Foreign (
+      record { kind = types.Double; path = codes "ismaster" })))

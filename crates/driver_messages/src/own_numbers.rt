@@ -1,19 +1,22 @@
 //! The numbers of a command that are no part of a document that is kept or sought.
 
 ghost use Rattle.std.specs.Prelude.{◌≡◌, map};
-ghost use Rattle.driver_messages.specs.OwnNumbers.{is_count, is_number_in, is_number_of_item, is_number_in_item, is_number_at, is_own_number};
+ghost use Rattle.driver_messages.specs.OwnNumbers.{is_number_of_command, is_number_in, is_number_of_item, is_number_in_item, is_number_at, is_own_number};
 
-/// Of a command: how many documents it passes over, takes or answers at once.
-fn is_count(name: &str) -> bool
-    ensures { result ≡ is_count name.now }
+/// Directly in a command: any but the number of a cursor, which is beside the name of a `getMore`.
+fn is_number_of_command(name: &str) -> bool
+    ensures { result ≡ is_number_of_command name.now }
 {
-    name == "skip" || name == "limit" || name == "batchSize"
+    name != "getMore"
 }
 
-/// In the document of a field of a command: a direction, what a projection says, a cursor's batch.
+/// In the document of a field of a command: a direction, what a projection says, a cursor's batch, a write concern.
 fn is_number_in(field: &str, name: &str) -> bool
     ensures { result ≡ is_number_in field.now name.now }
 {
+    if field == "writeConcern" {
+        return true;
+    }
     field == "sort" || field == "projection" || field == "cursor" && name == "batchSize"
 }
 
@@ -38,7 +41,7 @@ fn is_number_at(place: &[&str], name: &str) -> bool
     ensures { result ≡ is_number_at (map (λ s. s.now) place.now) name.now }
 {
     match place {
-        [] => is_count(name),
+        [] => is_number_of_command(name),
         [field] => is_number_in(field, name),
         [list, _] => is_number_of_item(list, name),
         [list, _, field] => is_number_in_item(list, field),

@@ -8,7 +8,7 @@ ghost use Rattle.bson.specs.Raw.{only_document};
 ghost use Rattle.bson.specs.declared.fault.BsonFault.{BsonFault};
 ghost use Rattle.op_msg.specs.Frame.{Frame, number_at};
 ghost use Rattle.op_msg.specs.Request.{IsRequest};
-ghost use Rattle.driver_messages.specs.Incoming.{is_no_opcode, whole_at, named_or_invalid, body_fault, body_or_fault, message_in, as_sent, has_foreign, read_message, form_of, query_of, read_query, read_whole};
+ghost use Rattle.driver_messages.specs.Incoming.{is_no_opcode, whole_at, named_or_invalid, body_fault, body_or_fault, message_in, as_sent, has_foreign, read_message, form_of, document_sent, document_again, query_of, read_query, read_whole};
 ghost use Rattle.driver_messages.specs.WireView.{found_in};
 
 use crate::foreign::Foreign;
@@ -17,7 +17,7 @@ use crate::place::Place;
 use crate::sections::foreign_in_sections;
 use crate::seeking::foreign_in;
 use crate::stream_fault::StreamFault;
-use crate::with_integers::with_integers;
+use crate::with_integers::{command_with_integers, with_integers};
 use bson::{BsonFault, Document, MESSAGE_LIMIT, NoMemory, decode, read_name};
 use op_msg::{FrameFault, Frames, Request};
 use std::alloc::Global;
@@ -136,11 +136,11 @@ fn read_as_sent(alloc: Global, whole: &[u8]) -> Result<Message, StreamFault>
     }
 }
 
-/// Whether a message has a value of a type that the database doesn't have in place of a document.
-fn has_foreign(message: &Message) -> bool
-    ensures { result ≡ has_foreign message.now.body }
+/// Whether a value of a type that the database doesn't have stands in place of a document.
+fn has_foreign(body: &Result<Document, BodyFault>) -> bool
+    ensures { result ≡ has_foreign body.now }
 {
-    match message.body {
+    match body {
         Err(BodyFault::Foreign(_)) => true,
         _ => false,
     }
@@ -153,7 +153,7 @@ fn read_message(alloc: Global, whole: &[u8]) -> Result<Message, StreamFault>
     ensures { Gives StreamFault.Memory (λ m. m) result (read_message whole.now) }
 {
     let message = read_as_sent(alloc, whole)?;
-    if !has_foreign(&message) {
+    if !has_foreign(&message.body) {
         return Ok(message);
     }
     let respelled = with_integers(alloc, whole)?;
@@ -170,6 +170,28 @@ fn read_document(alloc: Global, bytes: &[u8]) -> Result<Document, BsonFault>
     }
 }
 
+/// The document of an OP_QUERY as it stands, or why it has none.
+fn document_sent(alloc: Global, bytes: &[u8]) -> Result<Result<Document, BodyFault>, StreamFault>
+    ensures { Gives StreamFault.Memory (λ x. x) result (Ok (document_sent bytes.now)) }
+{
+    let document = read_document(alloc, bytes);
+    body_or_fault(alloc, document, Spelled::Document(bytes))
+}
+
+/// The document of an OP_QUERY, or why it has none. Where a value has a type that the database doesn't have it is
+/// read again, with whole doubles that are numbers of the command itself as integers.
+fn document_again(alloc: Global, bytes: &[u8]) -> Result<Result<Document, BodyFault>, StreamFault>
+    ensures { Gives StreamFault.Memory (λ x. x) result
+        (Ok (document_again bytes.now (document_sent bytes.now))) }
+{
+    let body = document_sent(alloc, bytes)?;
+    if !has_foreign(&body) {
+        return Ok(body);
+    }
+    let respelled = command_with_integers(alloc, bytes)?;
+    document_sent(alloc, &respelled)
+}
+
 fn form_of(name: &str) -> Form
     ensures { result ≡ form_of name.now }
 {
@@ -184,8 +206,7 @@ fn query_of(alloc: Global, number: u32, name: &str, bytes: &[u8]) -> Result<Mess
     ensures { Gives StreamFault.Memory (λ m. m) result
         (Ok (query_of number name.now bytes.now)) }
 {
-    let document = read_document(alloc, bytes);
-    let body = body_or_fault(alloc, document, Spelled::Document(bytes))?;
+    let body = document_again(alloc, bytes)?;
     Ok(Message {
         number,
         form: form_of(name),

@@ -144,6 +144,15 @@ fn put_sections(out: &mut Vec<u8>, bytes: &[u8], most: usize) -> Result<(), NoMe
     Ok(())
 }
 
+/// The bytes of a command in which these doubles stand as integers.
+pub(crate) fn command_with_integers(alloc: Global, bytes: &[u8]) -> Result<Vec<u8>, NoMemory>
+    ensures { IfOk result (λ v. v.items ≡ document_with [] bytes.now) }
+{
+    let mut out = Vec::new(alloc);
+    put_document(&mut out, Place::new(alloc), bytes)?;
+    Ok(out)
+}
+
 /// The bytes of an OP_MSG in which these doubles stand as integers.
 pub(crate) fn with_integers(alloc: Global, whole: &[u8]) -> Result<Vec<u8>, NoMemory>
     ensures { IfOk result (λ v. v.items ≡ with_integers whole.now) }

@@ -66,4 +66,12 @@ returns-clause-integers c = record {
   in_section = refl;
   counted = refl;
   not_counted = refl;
+  pinged = refl;
+  not_pinged = refl;
+  of_cursor = refl;
+  explained = refl;
+  concern = refl;
+  inserted = refl;
+  handshake = refl;
+  no_handshake = refl;
 }
