@@ -5,10 +5,12 @@
 #![tactic(auto)]
 
 mod array;
+mod beside;
 mod binary;
 mod checking;
 mod composing;
 mod copying;
+mod depths;
 mod distinct;
 mod document;
 mod elements;
@@ -17,8 +19,10 @@ mod frames;
 mod kind;
 pub mod laws;
 mod names;
+mod nesting;
 mod numbers;
 mod object_id;
+mod overview;
 mod raw;
 mod reading;
 mod scalars;
