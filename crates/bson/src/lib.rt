@@ -1,7 +1,7 @@
 //! Documents of BSON 1.1 (bsonspec.org): values, building, reading and writing.
 //!
-//! `value` has the types and what contracts see of them, `document` and `array` the building, `copying` the
-//! copies; `frames` and `scalars` what stands at the front of bytes, `reading` and `writing` whole documents.
+//! `value` has the types and what contracts see of them, `document` and `array` the building, over what `beside`
+//! and `nesting` keep, `copying` copies; `frames` and `scalars` the front of bytes, `reading` and `writing` all.
 #![tactic(auto)]
 
 mod array;

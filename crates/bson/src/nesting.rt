@@ -17,7 +17,7 @@ use std::mem;
 /// through them.
 const OFTEN: u32 = 4;
 
-/// How deep an array's items nest, and how many of them how deep where they are many and one often gives way to another.
+/// How deep an array's items nest, and how many of them how deep where they are many and often replaced.
 #[derive(Debug, Drop)]
 pub(crate) enum Nesting {
     /// Without the counts, after so many edits.
@@ -104,8 +104,8 @@ impl Nesting {
         }
     }
 
-    /// That of these items, which are many, after an edit is counted. After enough of them it is counted how many nest how
-    /// deep; where memory runs out for that, it is left out.
+    /// That of these items, which are many, after an edit is counted. After enough edits it is counted how many nest
+    /// how deep; where memory runs out for that, it is left out.
     pub(crate) fn counted(self, alloc: Global, items: &[Value]) -> Nesting
         ensures levels { nested result ≡ nested self }
         ensures fits { FitsItems self (items_of items.now)
