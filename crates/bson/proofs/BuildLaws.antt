@@ -59,7 +59,7 @@ Lacks-from_stands (p ∷ ps) name e =
     let parts = or_false (bytes_eq name p.name) (stands_in (names_of ps) name) e in
     (ne-bytes_eq name p.name parts.0, Lacks-from_stands ps name parts.1)
 
-stands-from_Lacks : (ps : List Pair) (name : List ℕ) → Lacks (pairs_of ps) name → stands_in (names_of ps) name ≡ false
+pub stands-from_Lacks : (ps : List Pair) (name : List ℕ) → Lacks (pairs_of ps) name → stands_in (names_of ps) name ≡ false
 stands-from_Lacks [] name h = refl
 stands-from_Lacks (p ∷ ps) name h = rw (bytes_eq-ne name p.name h.0) (stands-from_Lacks ps name h.1)
 

@@ -1,5 +1,6 @@
 pub mod BuildLaws
 pub mod CheckLaws
+pub mod DepthLaws
 pub mod DistinctLaws
 pub mod ElementFaultLaws
 pub mod FaultLaws
@@ -7,6 +8,8 @@ pub mod FirstFaultLaws
 pub mod FrameLaws
 pub mod FrontLaws
 pub mod NameLaws
+pub mod NestingLaws
+pub mod OverviewLaws
 pub mod PairLaws
 pub mod RawLaws
 pub mod ReadLoopLaws

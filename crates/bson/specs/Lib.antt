@@ -1,4 +1,5 @@
 pub mod CountLaws
+pub mod Depths
 pub mod EditPlaces
 pub mod Edits
 pub mod EditsLaws
@@ -7,6 +8,7 @@ pub mod FirstFault
 pub mod Kinds
 pub mod Lawful
 pub mod Limits
+pub mod Overview
 pub mod Lookup
 pub mod Raw
 pub mod RawNames

@@ -8,32 +8,13 @@ ghost use Rattle.bson.specs.Lawful.{IsArray, items_levels};
 
 use crate::MOST_LEVELS;
 use crate::fault::BuildFault;
+use crate::nesting::{Nesting, deepest, deepest_after};
 use crate::value::{Array, Value};
 use std::alloc::Global;
 use std::mem;
 
-/// How deep these values nest.
-fn deepest(items: &[Value]) -> u32
-    ensures { result ≡ items_levels (items_of items.now) }
-{
-    let mut levels = 0u32;
-    'items: for item in items {
-        levels = levels.max(item.levels());
-    }
-    levels
-}
-
-/// How deep these nest, after one that nested `old` levels gave way to one of `new` (0 where it only went)
-/// and they nested `levels` before. They are looked at only where the one that went may have been the deepest.
-fn deepest_after(levels: u32, old: u32, new: u32, items: &[Value]) -> u32
-    requires { old ≤ new → max levels new ≡ items_levels (items_of items.now) }
-    ensures { result ≡ items_levels (items_of items.now) }
-{
-    if old <= new {
-        return levels.max(new);
-    }
-    deepest(items)
-}
+/// How many items are many: of fewer the deepest is found soon enough by looking through them.
+const MANY: usize = 64;
 
 impl Array {
     /// The empty array. It takes no memory yet.
@@ -42,7 +23,10 @@ impl Array {
     {
         Array {
             items: Vec::new(alloc),
-            inner_levels: 0,
+            nesting: Nesting::Plain {
+                levels: 0,
+                edits: 0,
+            },
         }
     }
 
@@ -51,7 +35,7 @@ impl Array {
         ensures levels { result ≡ items_levels self.now + 1 }
         ensures lawful { IsArray self.now }
     {
-        self.inner_levels + 1
+        self.nesting.levels() + 1
     }
 
     /// The values, in order.
@@ -92,7 +76,7 @@ impl Array {
         let levels = deepest(&items);
         Array {
             items,
-            inner_levels: levels,
+            nesting: Nesting::Plain { levels, edits: 0 },
         }
     }
 
@@ -108,11 +92,12 @@ impl Array {
             return Err(BuildFault::Deep);
         }
         self.items.push(value)?;
-        self.inner_levels = self.inner_levels.max(levels);
+        let nesting = self.nesting.take();
+        self.nesting = nesting.with_one(levels);
         Ok(())
     }
 
-    /// Puts another item in the place of the one there, which is handed back. It takes no memory: `Deep`,
+    /// Puts another item in the place of the one there, which is handed back. It needs no memory: `Deep`,
     /// where the item nests more than 98 levels, is its only error, and leaves the array as it was.
     pub fn replace_at(&mut self, at: usize, value: Value) -> Result<Value, BuildFault>
         requires { at < items_len self.old }
@@ -126,8 +111,22 @@ impl Array {
             return Err(BuildFault::Deep);
         }
         let old = mem::replace(&mut self.items[at], value);
-        self.inner_levels = deepest_after(self.inner_levels, old.levels(), new_levels, &self.items);
+        let nesting = self.nesting.take();
+        self.nesting = nesting.with_other(&self.items, old.levels(), new_levels);
+        self.count_edit();
         Ok(old)
+    }
+
+    // Counts an edit where there are many items, after enough of which it is counted how many nest how deep.
+    fn count_edit(&mut self)
+        ensures { self.new ≡ self.old }
+    {
+        if self.items.len() < MANY {
+            return;
+        }
+        let alloc = *self.items.allocator();
+        let nesting = self.nesting.take();
+        self.nesting = nesting.counted(alloc, &self.items);
     }
 
     /// Takes out the item at a place. Those behind it move up.
@@ -137,7 +136,8 @@ impl Array {
         ensures rest { self.new ≡ without_item self.old at }
     {
         let value = self.items.remove(at);
-        self.inner_levels = deepest_after(self.inner_levels, value.levels(), 0, &self.items);
+        let levels = deepest_after(self.nesting.levels(), value.levels(), 0, &self.items);
+        self.nesting = Nesting::Plain { levels, edits: 0 };
         value
     }
 }

@@ -2,7 +2,9 @@
 
 ghost use Rattle.std.specs.Prelude.{◌≡◌, IfOk};
 
+use crate::beside::Beside;
 use crate::fault::NoMemory;
+use crate::nesting::Nesting;
 use crate::value::{Array, Document, Pair, Value};
 
 impl Value {
@@ -43,9 +45,10 @@ impl Document {
             let value = pair.value.copy()?;
             pairs.push(Pair { name, value })?;
         }
+        let levels = self.beside.levels();
         Ok(Document {
             pairs,
-            inner_levels: self.inner_levels,
+            beside: Beside::Plain { levels, edits: 0 },
         })
     }
 }
@@ -61,9 +64,10 @@ impl Array {
             let item = item.copy()?;
             items.push(item)?;
         }
+        let levels = self.nesting.levels();
         Ok(Array {
             items,
-            inner_levels: self.inner_levels,
+            nesting: Nesting::Plain { levels, edits: 0 },
         })
     }
 }

@@ -1,43 +1,24 @@
 //! Documents: look-up and building.
 
-ghost use Rattle.std.specs.Prelude.{◌≡◌, ◌==◌, ◌+◌, ◌<◌, Some, OnOk, OnErr, IfOk, IfErr, option_map, max, ◌≤◌};
+ghost use Rattle.std.specs.Prelude.{◌≡◌, ◌==◌, ◌+◌, ◌<◌, Some, None, OnOk, OnErr, IfOk, IfErr, option_map, max, ◌≤◌};
 ghost use Rattle.bson.specs.Tree.{pair, no_pairs, append};
 ghost use Rattle.bson.specs.Lookup.{lookup};
 ghost use Rattle.bson.specs.Edits.{pairs_len, place, pair_at, with_value, without_pair, put, cut, PushFault, SetFault, ReplaceFault, Refused};
-ghost use Rattle.bson.specs.View.{tree, pairs_of, names_of};
+ghost use Rattle.bson.specs.View.{tree, pairs_of};
 ghost use Rattle.bson.specs.Lawful.{IsDocument, HoldsDocument, pairs_levels};
 
 use crate::MOST_LEVELS;
+use crate::beside::{Beside, deepest, deepest_after};
 use crate::fault::BuildFault;
 use crate::frames::first_zero;
-use crate::names::{Names, has_name};
+use crate::names::Names;
 use crate::text::Text;
 use crate::value::{Document, Pair, Value};
 use std::alloc::Global;
 use std::mem;
 
-/// How deep the values of these pairs nest.
-fn deepest(pairs: &[Pair]) -> u32
-    ensures { result ≡ pairs_levels (pairs_of pairs.now) }
-{
-    let mut levels = 0u32;
-    'pairs: for pair in pairs {
-        levels = levels.max(pair.value.levels());
-    }
-    levels
-}
-
-/// How deep these nest, after one that nested `old` levels gave way to one of `new` (0 where it only went)
-/// and they nested `levels` before. They are looked at only where the one that went may have been the deepest.
-fn deepest_after(levels: u32, old: u32, new: u32, pairs: &[Pair]) -> u32
-    requires { old ≤ new → max levels new ≡ pairs_levels (pairs_of pairs.now) }
-    ensures { result ≡ pairs_levels (pairs_of pairs.now) }
-{
-    if old <= new {
-        return levels.max(new);
-    }
-    deepest(pairs)
-}
+/// How many pairs are many: among fewer a name is found soon enough by looking through them.
+const MANY: usize = 64;
 
 /// How deep the values of these pairs nest, where they make a document.
 fn check_all(alloc: Global, pairs: &[Pair]) -> Result<u32, BuildFault>
@@ -66,6 +47,18 @@ fn check_all(alloc: Global, pairs: &[Pair]) -> Result<u32, BuildFault>
     Ok(levels)
 }
 
+/// The place of a name among these pairs.
+fn place_among(pairs: &[Pair], name: &str) -> Option<usize>
+    ensures { result ≡ place (pairs_of pairs.now) name.now }
+{
+    'pairs: for (at, pair) in pairs.iter().enumerate() {
+        if name == pair.name.as_str() {
+            return Some(at);
+        }
+    }
+    None
+}
+
 impl Document {
     /// The empty document. It takes no memory yet.
     pub fn new(alloc: Global) -> Document
@@ -73,7 +66,10 @@ impl Document {
     {
         Document {
             pairs: Vec::new(alloc),
-            inner_levels: 0,
+            beside: Beside::Plain {
+                levels: 0,
+                edits: 0,
+            },
         }
     }
 
@@ -82,7 +78,7 @@ impl Document {
         ensures levels { result ≡ pairs_levels self.now + 1 }
         ensures lawful { IsDocument self.now }
     {
-        self.inner_levels + 1
+        self.beside.levels() + 1
     }
 
     /// The names with their values, in order.
@@ -111,24 +107,21 @@ impl Document {
     pub fn get(&self, name: &str) -> Option<&Value>
         ensures { option_map (λ v. tree v.now) result ≡ lookup self.now name.now }
     {
-        'pairs: for pair in &self.pairs {
-            if name == pair.name.as_str() {
-                return Some(&pair.value);
-            }
+        match self.position(name) {
+            Some(at) => Some(&self.pairs[at].value),
+            None => None,
         }
-        None
     }
 
-    /// The place of a name.
+    /// The place of a name. It takes time in proportion to the number of pairs, or to its logarithm where the
+    /// document has many and was changed often.
     pub fn position(&self, name: &str) -> Option<usize>
         ensures { result ≡ place self.now name.now }
     {
-        'pairs: for (at, pair) in self.pairs.iter().enumerate() {
-            if name == pair.name.as_str() {
-                return Some(at);
-            }
+        match &self.beside {
+            Beside::Plain { .. } => place_among(&self.pairs, name),
+            Beside::Many { overview, .. } => overview.place(name),
         }
-        None
     }
 
     /// The pairs, to be changed and put back by `from_pairs`.
@@ -147,7 +140,7 @@ impl Document {
         let levels = deepest(&pairs);
         Document {
             pairs,
-            inner_levels: levels,
+            beside: Beside::Plain { levels, edits: 0 },
         }
     }
 
@@ -161,15 +154,29 @@ impl Document {
         let levels = check_all(alloc, &pairs)?;
         Ok(Document {
             pairs,
-            inner_levels: levels,
+            beside: Beside::Plain { levels, edits: 0 },
         })
     }
 
-    /// Adds a pair at the end, in time in proportion to the number of pairs. An error leaves the document
-    /// as it was; it is the first of these that fits: `Name` where the name has a zero byte, `Repeated`
-    /// where it stands in the document, `Deep` where the value nests more than 99 levels, `Memory` where
-    /// memory ran out.
+    /// Adds a pair at the end, in the time of `position`. An error leaves the document as it was; it is the
+    /// first of these that fits: `Name` where the name has a zero byte, `Repeated` where it stands in the
+    /// document, `Deep` where the value nests more than 99 levels, `Memory` where memory ran out.
     pub fn push(&mut self, name: &str, value: Value) -> Result<(), BuildFault>
+        ensures ok { OnOk result
+            (self.new ≡ append self.old (pair name.now (tree value) no_pairs)) }
+        ensures err { OnErr result (self.new ≡ self.old) }
+        ensures fault { IfErr result (λ e. PushFault self.old name.now (tree value) e) }
+    {
+        let _lawful = self.levels();
+        if self.position(name).is_some() {
+            return Err(BuildFault::Repeated);
+        }
+        self.add(name, value)
+    }
+
+    // Adds a pair under a new name at the end.
+    fn add(&mut self, name: &str, value: Value) -> Result<(), BuildFault>
+        requires { place self.old name.now ≡ None }
         ensures ok { OnOk result
             (self.new ≡ append self.old (pair name.now (tree value) no_pairs)) }
         ensures err { OnErr result (self.new ≡ self.old) }
@@ -178,21 +185,33 @@ impl Document {
         if first_zero(name.as_bytes()).is_some() {
             return Err(BuildFault::Name);
         }
-        if has_name(&self.pairs, name) {
-            return Err(BuildFault::Repeated);
-        }
         let levels = value.levels();
         if MOST_LEVELS <= levels {
             return Err(BuildFault::Deep);
         }
         let alloc = *self.pairs.allocator();
-        let name = Text::from_str(alloc, name)?;
-        self.pairs.push(Pair { name, value })?;
-        self.inner_levels = self.inner_levels.max(levels);
+        let text = Text::from_str(alloc, name)?;
+        let at = self.pairs.len();
+        self.pairs.push(Pair { name: text, value })?;
+        let beside = self.beside.take();
+        self.beside = beside.with_pair(alloc, name, at, levels);
+        self.count_edit();
         Ok(())
     }
 
-    /// Puts another value in the place of the one there, which is handed back. It takes no memory: `Deep`,
+    // Counts an edit where there are many pairs, after enough of which they get an overview.
+    fn count_edit(&mut self)
+        ensures { self.new ≡ self.old }
+    {
+        if self.pairs.len() < MANY {
+            return;
+        }
+        let alloc = *self.pairs.allocator();
+        let beside = self.beside.take();
+        self.beside = beside.counted(alloc, &self.pairs);
+    }
+
+    /// Puts another value in the place of the one there, which is handed back. It needs no memory: `Deep`,
     /// where the value nests more than 99 levels, is its only error, and leaves the document as it was.
     pub fn replace_at(&mut self, at: usize, value: Value) -> Result<Value, BuildFault>
         requires { at < pairs_len self.old }
@@ -207,7 +226,9 @@ impl Document {
             return Err(BuildFault::Deep);
         }
         let old = mem::replace(&mut self.pairs[at].value, value);
-        self.inner_levels = deepest_after(self.inner_levels, old.levels(), new_levels, &self.pairs);
+        let beside = self.beside.take();
+        self.beside = beside.with_value(&self.pairs, old.levels(), new_levels);
+        self.count_edit();
         Ok(old)
     }
 
@@ -218,7 +239,8 @@ impl Document {
         ensures rest { self.new ≡ without_pair self.old at }
     {
         let pair = self.pairs.remove(at);
-        self.inner_levels = deepest_after(self.inner_levels, pair.value.levels(), 0, &self.pairs);
+        let levels = deepest_after(self.beside.levels(), pair.value.levels(), 0, &self.pairs);
+        self.beside = Beside::Plain { levels, edits: 0 };
         pair
     }
 
@@ -234,7 +256,7 @@ impl Document {
                 let _ = self.replace_at(at, value)?;
                 Ok(())
             }
-            None => self.push(name, value),
+            None => self.add(name, value),
         }
     }
 

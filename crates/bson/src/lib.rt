@@ -1,14 +1,16 @@
 //! Documents of BSON 1.1 (bsonspec.org): values, building, reading and writing.
 //!
-//! `value` has the types and what contracts see of them, `document` and `array` the building, `copying` the
-//! copies; `frames` and `scalars` what stands at the front of bytes, `reading` and `writing` whole documents.
+//! `value` has the types and what contracts see of them, `document` and `array` the building, over what `beside`
+//! and `nesting` keep, `copying` copies; `frames` and `scalars` the front of bytes, `reading` and `writing` all.
 #![tactic(auto)]
 
 mod array;
+mod beside;
 mod binary;
 mod checking;
 mod composing;
 mod copying;
+mod depths;
 mod distinct;
 mod document;
 mod elements;
@@ -17,8 +19,10 @@ mod frames;
 mod kind;
 pub mod laws;
 mod names;
+mod nesting;
 mod numbers;
 mod object_id;
+mod overview;
 mod raw;
 mod reading;
 mod scalars;

@@ -11,18 +11,6 @@ use std::alloc::Global;
 use std::collections::BTreeSet;
 use std::marker::Model;
 
-/// Whether a pair has this name.
-pub(crate) fn has_name(pairs: &[Pair], name: &str) -> bool
-    ensures { result ≡ stands_in (names_of pairs.now) name.now }
-{
-    for pair in pairs {
-        if name == pair.name.as_str() {
-            return true;
-        }
-    }
-    false
-}
-
 /// How many names are compared one by one, before a set is made of those that follow.
 const FEW: usize = 24;
 

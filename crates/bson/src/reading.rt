@@ -13,10 +13,12 @@ ghost use Rattle.bson.specs.Spelling.{Spells, HasNoDocument};
 ghost use Rattle.bson.specs.Tree.{Pairs};
 ghost use Rattle.bson.specs.declared.fault.BsonFault.TheVariants as faults;
 
+use crate::beside::Beside;
 use crate::fault::BsonFault;
 use crate::frames::{read_content, read_ended, read_name};
 use crate::kind::Kind;
 use crate::names::Names;
+use crate::nesting::Nesting;
 use crate::scalars::{read_kind, read_scalar};
 use crate::text::Text;
 use crate::value::{Array, Document, Pair, Value};
@@ -130,7 +132,7 @@ fn read_pairs(alloc: Global, more: u32, content: &[u8]) -> Result<Document, Bson
     }
     Ok(Document {
         pairs,
-        inner_levels: levels,
+        beside: Beside::Plain { levels, edits: 0 },
     })
 }
 
@@ -150,7 +152,7 @@ fn read_items(alloc: Global, more: u32, content: &[u8]) -> Result<Array, BsonFau
     }
     Ok(Array {
         items,
-        inner_levels: levels,
+        nesting: Nesting::Plain { levels, edits: 0 },
     })
 }
 

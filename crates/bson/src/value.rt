@@ -2,8 +2,10 @@
 
 ghost use Rattle.std.specs.Prelude.{◌≡◌, ◌≤◌};
 
+use crate::beside::Beside;
 use crate::binary::Binary;
 use crate::kind::Kind;
+use crate::nesting::Nesting;
 use crate::object_id::ObjectId;
 use crate::text::Text;
 use std::marker::Model;
@@ -54,8 +56,8 @@ pub struct Pair {
 #[derive(Debug, Drop)]
 pub struct Document {
     pub(crate) pairs: Vec<Pair>,
-    // how deep the values nest
-    pub(crate) inner_levels: u32,
+    // how deep the values nest, and how to find names where there are many
+    pub(crate) beside: Beside,
 }
 
 /// Values in order, nesting at most 99 levels, the array itself among them.
@@ -63,8 +65,8 @@ pub struct Document {
 #[derive(Debug, Drop)]
 pub struct Array {
     pub(crate) items: Vec<Value>,
-    // how deep the values nest
-    pub(crate) inner_levels: u32,
+    // how deep the items nest, and how many how deep where there are many
+    pub(crate) nesting: Nesting,
 }
 
 impl Model for Document {
@@ -77,10 +79,12 @@ impl Model for Document {
 
     ghost use Rattle.bson.specs.View.{pairs_of};
     ghost use Rattle.bson.specs.Lawful.{HoldsDocument};
+    ghost use Rattle.bson.specs.Overview.{levels_of, Fits};
 
     ghost view = { λ a. pairs_of a.pairs.items };
 
-    ghost invariant = { λ a. HoldsDocument a.inner_levels (pairs_of a.pairs.items) };
+    ghost invariant = { λ a. HoldsDocument (levels_of a.beside) (pairs_of a.pairs.items)
+        × Fits a.beside (pairs_of a.pairs.items) };
 
     ghost size = { count_pairs };
 
@@ -99,10 +103,12 @@ impl Model for Array {
 
     ghost use Rattle.bson.specs.View.{items_of};
     ghost use Rattle.bson.specs.Lawful.{HoldsArray};
+    ghost use Rattle.bson.specs.Overview.{nested, FitsItems};
 
     ghost view = { λ a. items_of a.items.items };
 
-    ghost invariant = { λ a. HoldsArray a.inner_levels (items_of a.items.items) };
+    ghost invariant = { λ a. HoldsArray (nested a.nesting) (items_of a.items.items)
+        × FitsItems a.nesting (items_of a.items.items) };
 
     ghost size = { count_items };
 

@@ -73,10 +73,10 @@ pub read_items-returns : goal.read_items-returns
 read_items-returns t c = items_whole t c
 
 pub read_items-invariant_of-result : goal.read_items-invariant_of-result
-read_items-invariant_of-result t c = record {
-  counted = c.items.invariant.1;
-  lawful = array_holds c.args.more c.args.content.now (items_of c.items.items.items) c.requires (λ i. omega (arith, c.type_inv.content i)) (items_whole t c);
-}
+read_items-invariant_of-result t c =
+    let holds = array_holds c.args.more c.args.content.now (items_of c.items.items.items) c.requires (λ i. omega (arith, c.type_inv.content i))
+    (items_whole t c) in
+    (record { counted = c.items.invariant.1; lawful = holds }, tt)
 
 -- ---- documents
 
@@ -143,10 +143,8 @@ pub read_pairs-invariant_of-result : goal.read_pairs-invariant_of-result
 read_pairs-invariant_of-result t c =
     let whole = pairs_over c.args.more c.pairs.pairs.items c.pairs.rest.now
     (pairs_in (value_at c.args.more) c.args.content.now) c.pairs.invariant.0 c.in_default.ensures.cases in
-    record {
-      counted = c.pairs.invariant.1;
-      lawful = document_holds c.args.more c.args.content.now (pairs_of c.pairs.pairs.items) c.requires (λ i. omega (arith, c.type_inv.content i)) whole;
-    }
+    let holds = document_holds c.args.more c.args.content.now (pairs_of c.pairs.pairs.items) c.requires (λ i. omega (arith, c.type_inv.content i)) whole in
+    (record { counted = c.pairs.invariant.1; lawful = holds }, tt)
 
 -- ---- values
 

@@ -12,10 +12,16 @@ remove-value-requires c = omega (arith, items_within c.self.inside.items.items c
 
 pub invariant_of-self : goal.invariant_of-self
 invariant_of-self c =
-    HoldsArray-edit (items_of c.remove-value.new.self.items) (without_item c.args.self.now c.args.at) c.deepest_after-self-inside.result
-    (items_removed c.self.inside.items.items c.remove-value.new.self.items c.args.self.now c.args.at c.self.view_is c.remove-value.ensures.items)
-    (IsArray-without_item c.args.self.now c.args.at (subst IsArray c.self.view_is c.self.invariant.lawful))
-    (c.deepest_after-self-inside.ensures ∙ ap (λ (xs : List Value). items_levels (items_of xs)) c.deref.ensures.value)
+    let flat = items_removed_levels c.self.inside.items.items c.remove-value.new.self.items c.deref.result.now c.args.self.now c.args.at c.remove-value.result
+    c.levels.result c.levels-2.result c.self.view_is
+    (items_within c.self.inside.items.items c.args.self.now c.args.at c.self.view_is c.requires) c.remove-value.ensures.value c.remove-value.ensures.items
+    c.deref.ensures.value (c.levels.ensures ∙ c.self.invariant.0.counted) c.levels-2.ensures.levels in (
+      HoldsArray-edit (items_of c.remove-value.new.self.items) (without_item c.args.self.now c.args.at) c.deepest_after-levels.result
+          (items_removed c.self.inside.items.items c.remove-value.new.self.items c.args.self.now c.args.at c.self.view_is c.remove-value.ensures.items)
+          (IsArray-without_item c.args.self.now c.args.at (subst IsArray c.self.view_is c.self.invariant.0.lawful))
+          (c.deepest_after-levels.ensures flat ∙ ap (λ (xs : List Value). items_levels (items_of xs)) c.deref.ensures.value),
+      tt,
+    )
 
 pub returns-clause-item : goal.returns-clause-item
 returns-clause-item c =
@@ -25,10 +31,3 @@ returns-clause-item c =
 pub returns-clause-rest : goal.returns-clause-rest
 returns-clause-rest c =
     items_removed c.self.inside.items.items c.remove-value.new.self.items c.args.self.now c.args.at c.self.view_is c.remove-value.ensures.items
-
-pub deepest_after-self-inside-requires : goal.deepest_after-self-inside-requires
-deepest_after-self-inside-requires c = λ flat.
-    items_removed_levels c.self.inside.items.items c.remove-value.new.self.items c.deref.result.now c.args.self.now c.args.at c.remove-value.result
-    c.self.inside.inner_levels c.levels.result c.self.view_is
-    (items_within c.self.inside.items.items c.args.self.now c.args.at c.self.view_is c.requires) c.remove-value.ensures.value c.remove-value.ensures.items
-    c.deref.ensures.value c.self.invariant.counted c.levels.ensures.levels flat

@@ -12,10 +12,16 @@ remove-pair-requires c = omega (arith, pairs_within c.self.inside.pairs.items c.
 
 pub invariant_of-self : goal.invariant_of-self
 invariant_of-self c =
-    HoldsDocument-edit (pairs_of c.remove-pair.new.self.items) (without_pair c.args.self.now c.args.at) c.deepest_after-self-inside.result
-    (pairs_removed c.self.inside.pairs.items c.remove-pair.new.self.items c.args.self.now c.args.at c.self.view_is c.remove-pair.ensures.items)
-    (IsDocument-without_pair c.args.self.now c.args.at (subst IsDocument c.self.view_is c.self.invariant.lawful))
-    (c.deepest_after-self-inside.ensures ∙ ap (λ (xs : List Pair). pairs_levels (pairs_of xs)) c.deref.ensures.value)
+    let flat = pairs_removed_levels c.self.inside.pairs.items c.remove-pair.new.self.items c.deref.result.now c.args.self.now c.args.at c.remove-pair.result
+    c.levels.result c.levels-2.result c.self.view_is
+    (pairs_within c.self.inside.pairs.items c.args.self.now c.args.at c.self.view_is c.requires) c.remove-pair.ensures.value c.remove-pair.ensures.items
+    c.deref.ensures.value (c.levels.ensures ∙ c.self.invariant.0.counted) c.levels-2.ensures.levels in (
+      HoldsDocument-edit (pairs_of c.remove-pair.new.self.items) (without_pair c.args.self.now c.args.at) c.deepest_after-levels.result
+          (pairs_removed c.self.inside.pairs.items c.remove-pair.new.self.items c.args.self.now c.args.at c.self.view_is c.remove-pair.ensures.items)
+          (IsDocument-without_pair c.args.self.now c.args.at (subst IsDocument c.self.view_is c.self.invariant.0.lawful))
+          (c.deepest_after-levels.ensures flat ∙ ap (λ (xs : List Pair). pairs_levels (pairs_of xs)) c.deref.ensures.value),
+      tt,
+    )
 
 pub returns-clause-pair : goal.returns-clause-pair
 returns-clause-pair c =
@@ -25,10 +31,3 @@ returns-clause-pair c =
 pub returns-clause-rest : goal.returns-clause-rest
 returns-clause-rest c =
     pairs_removed c.self.inside.pairs.items c.remove-pair.new.self.items c.args.self.now c.args.at c.self.view_is c.remove-pair.ensures.items
-
-pub deepest_after-self-inside-requires : goal.deepest_after-self-inside-requires
-deepest_after-self-inside-requires c = λ flat.
-    pairs_removed_levels c.self.inside.pairs.items c.remove-pair.new.self.items c.deref.result.now c.args.self.now c.args.at c.remove-pair.result
-    c.self.inside.inner_levels c.levels.result c.self.view_is
-    (pairs_within c.self.inside.pairs.items c.args.self.now c.args.at c.self.view_is c.requires) c.remove-pair.ensures.value c.remove-pair.ensures.items
-    c.deref.ensures.value c.self.invariant.counted c.levels.ensures.levels flat

@@ -23,8 +23,8 @@ returns-in_ok-replace_at-in-Some-clause-ok c =
 
 pub returns-in-None-clause-ok : goal.returns-in-None-clause-ok
 returns-in-None-clause-ok c =
-    subst (λ (ps : Pairs). OnOk c.push.result (c.push.new.self ≡ ps))
-    (sym (put-absent c.args.self.now c.args.name.now (tree c.args.value) (sym c.in-None.ensures))) c.push.ensures.ok
+    subst (λ (ps : Pairs). OnOk c.add.result (c.add.new.self ≡ ps))
+    (sym (put-absent c.args.self.now c.args.name.now (tree c.args.value) (sym c.in-None.ensures))) c.add.ensures.ok
 
 pub returns-in-None-clause-fault : goal.returns-in-None-clause-fault
-returns-in-None-clause-fault c = set_faults c.args.self.now c.args.name.now (tree c.args.value) c.push.result (sym c.in-None.ensures) c.push.ensures.fault
+returns-in-None-clause-fault c = set_faults c.args.self.now c.args.name.now (tree c.args.value) c.add.result (sym c.in-None.ensures) c.add.ensures.fault

@@ -1,6 +1,6 @@
 use Rattle.std.proofs.Common.{arith}
 use Rattle.bson.proofs.BuildLaws.{items_levels-more}
-use Rattle.bson.proofs.array.deepest.Goals as goal
+use Rattle.bson.proofs.nesting.deepest.Goals as goal
 
 pub items-preserved : goal.items-preserved
 items-preserved c =

@@ -1,7 +1,7 @@
 use Rattle.std.proofs.Common.{take}
 use Rattle.bson.specs.View.{pairs_of}
 use Rattle.bson.specs.Lawful.{Lacks}
-use Rattle.bson.proofs.value.Document.position.Given as goal
+use Rattle.bson.proofs.document.place_among.Given as goal
 
 abbrev pub invariant-pairs : goal.invariant-pairs
-invariant-pairs l = Lacks (pairs_of (take l.at l.pair-items)) l.name
+invariant-pairs l = Lacks (pairs_of (take l.at l.pairs)) l.name

@@ -1,6 +1,6 @@
 use Rattle.std.proofs.Common.{arith}
 use Rattle.bson.proofs.BuildLaws.{pairs_levels-more}
-use Rattle.bson.proofs.document.deepest.Goals as goal
+use Rattle.bson.proofs.beside.deepest.Goals as goal
 
 pub pairs-preserved : goal.pairs-preserved
 pairs-preserved c =
