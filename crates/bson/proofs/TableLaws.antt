@@ -1,6 +1,6 @@
 -- Names that are compared by sorting some of them in a table.
-use Rattle.std.proofs.Common.{◌≡◌, ◌⊎◌, ℕ, suc, ◌+◌, ◌-◌, ◌<◌, ◌≤◌, Bool, false, not, ◌||◌, ◌==◌, Option, Some, List, [], ◌∷◌, ◌++◌, length, map, take, drop}
-use Rattle.std.proofs.Common.{get_or, set, IfSome, Result, Ok, Err, Bor, refl, sym, ap, subst, ◌∙◌, append_assoc, arith, inl, inr}
+use Rattle.std.proofs.Common.{◌≡◌, ◌⊎◌, ℕ, zero, suc, ◌+◌, ◌-◌, ◌<◌, ◌≤◌, Bool, false, not, ◌||◌, ◌==◌, Option, Some, List, [], ◌∷◌, ◌++◌, length, map, take, drop}
+use Rattle.std.proofs.Common.{get_or, set, IfSome, Result, Ok, Err, Bor, refl, sym, ap, subst, ◌∙◌, append_assoc, arith, inl, inr, drop-cons}
 use Rattle.std.specs.Result.{is_ok}
 use Rattle.std.specs.Str.{bytes_eq}
 use Rattle.std.specs.List.{list_any, IsDistinct, AllByRecursion}
@@ -115,6 +115,40 @@ within_names names earlier later name n e none = omega (arith, ap length e, leng
 pub others_all : (others names : List Name) (n most : ℕ) → AreOthers n others names → drop n names ≡ [] → AreOthers most others names
 others_all others names n most h none earlier name later e lt = h earlier name later e (within_names names earlier later name n e none)
 
+-- ---- a name that isn't one of those before it
+
+pub take_front : (xs ys : List Name) (n : ℕ) → length xs ≡ n → take n (xs ++ ys) ≡ xs
+take_front xs ys n e = ap (λ (m : ℕ). take m (xs ++ ys)) (sym e) ∙ take-append_seam xs ys
+
+pub new_start : (names : List Name) → AreNew 0 names
+new_start names earlier name later e lt = absurd (omega arith)
+
+new_more : (names rest : List Name) (n : ℕ) (next : Name) → AreNew n names → drop n names ≡ next ∷ rest → stands_in (take n names) next ≡ false
+    → AreNew (n + 1) names
+new_more names rest n next h found fresh earlier name later e lt = by (cases_lt (length earlier) n)
+  where
+    by : (length earlier < n) ⊎ (n ≤ length earlier) → stands_in earlier name ≡ false
+    by (inl less) = h earlier name later e less
+    by (inr same) =
+        let one = cons_is name next later rest (sym (at_place names earlier later name n e (omega arith)) ∙ found) in
+        let front : take n names ≡ earlier = ap (take n) e ∙ take_front earlier (name ∷ later) n (omega arith) in
+        ap (λ (ns : List Name). stands_in ns name) (sym front) ∙ ap (stands_in (take n names)) one ∙ fresh
+
+pub new_lent : (table : List Lent) (n : ℕ) (d : Lent) → n < length table → AreNew n (lent table)
+    → stands_in (lent (take n table)) (get_or table n d).now ≡ false → AreNew (n + 1) (lent table)
+new_lent table n d within h fresh =
+    let next : suc n ≡ n + 1 = omega arith in
+    let long = lent_len table in
+    new_more (lent table) (drop (n + 1) (lent table)) n (get_or table n d).now h
+    (drop-cons (lent table) n d.now (omega arith)
+    ∙ (λ i. get_or-map (λ (b : Lent). b.now) table n d d.now within i ∷ drop (next i) (lent table)))
+    (ap (λ (ns : List Name). stands_in ns (get_or table n d).now) (sym (lent_front table n)) ∙ fresh)
+  where
+    lent_front : (table : List Lent) (n : ℕ) → lent (take n table) ≡ take n (lent table)
+    lent_front table zero = refl
+    lent_front [] (suc n) = refl
+    lent_front (b ∷ table) (suc n) = ap (λ (ns : List Name). b.now ∷ ns) (lent_front table n)
+
 -- ---- names of a table that differ
 
 all_differ : (x name : Name) (earlier later : List Name) → IsDistinct (eq_by_cmp before) (x ∷ (earlier ++ name ∷ later)) → bytes_eq name x ≡ false
@@ -180,9 +214,6 @@ equal_turned orders.Greater = refl
 
 drop_front : (xs ys : List Name) (n : ℕ) → length xs ≡ n → drop n (xs ++ ys) ≡ ys
 drop_front xs ys n e = ap (λ (m : ℕ). drop m (xs ++ ys)) (sym e) ∙ drop-append_seam xs ys
-
-pub take_front : (xs ys : List Name) (n : ℕ) → length xs ≡ n → take n (xs ++ ys) ≡ xs
-take_front xs ys n e = ap (λ (m : ℕ). take m (xs ++ ys)) (sym e) ∙ take-append_seam xs ys
 
 -- a name that stands in the first of two lists
 front_is : (xs ys earlier later : List Name) (name : Name) → xs ++ ys ≡ earlier ++ name ∷ later → length earlier < length xs

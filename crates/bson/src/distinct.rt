@@ -9,10 +9,10 @@ ghost use Rattle.bson.specs.RawNames.{AreNew, AreOthers, AreApart};
 
 use std::cmp::Ordering;
 
-/// How many names are compared one by one: more are sorted.
+/// How many names are compared with each other: more are sorted.
 const FEW: usize = 32;
 
-/// The names in fewer bytes are taken for few.
+/// Names in fewer bytes aren't sorted.
 const SHORT: usize = 256;
 
 /// How many names are sorted together.
@@ -32,14 +32,51 @@ pub trait NamedParts {
             × (length x.1.now < length bytes.now)) };
 }
 
-/// How many of the first names are such that none of them stood before. There may be more: of up to 32 names, those that
-/// ascend are counted; of more, all before the first one that stands twice. It takes about as many comparisons as their
-/// number times its logarithm, and reads the parts once for every 8,192 names.
+/// How many of the first names are such that none of them stood before: all before the first one that stands twice, or, of more
+/// than 32 names in fewer than 256 bytes, those that ascend. It takes about as many comparisons as their number times its
+/// logarithm, past the first few, and reads the parts once for every 8,192 names.
 pub fn count_distinct<P: NamedParts>(bytes: &[u8]) -> usize
     ensures { AreNew result (P.names bytes.now) }
 {
+    let mut table: [&[u8]; FEW] = [&[]; FEW];
+    let (count, rest) = fill_table::<P>(&mut table, bytes);
+    match P::split_name(rest) {
+        Some(_) => count_of_many::<P>(bytes),
+        None => count_new(&table[..count]),
+    }
+}
+
+/// How many of the first of these names are such that none of them stood before.
+fn count_new(names: &[&[u8]]) -> usize
+    ensures { AreNew result (map (λ n. n.now) names.now) }
+{
+    'names: for at in 0..names.len() {
+        let name = names[at];
+        if is_among(&names[..at], name) {
+            return at;
+        }
+    }
+    names.len()
+}
+
+fn is_among(names: &[&[u8]], name: &[u8]) -> bool
+    ensures { result ≡ stands_in (map (λ n. n.now) names.now) name.now }
+{
+    'names: for other in names {
+        if name == *other {
+            return true;
+        }
+    }
+    false
+}
+
+/// The same count of more names than are compared with each other.
+#[inline(never)]
+fn count_of_many<P: NamedParts>(bytes: &[u8]) -> usize
+    ensures { AreNew result (P.names bytes.now) }
+{
     let (count, rest) = count_ascending::<P>(bytes);
-    if rest.is_empty() || bytes.len() < SHORT || !has_more_names::<P>(FEW, bytes) {
+    if rest.is_empty() || bytes.len() < SHORT {
         return count;
     }
     count_by_tables::<P>(bytes)
@@ -72,20 +109,6 @@ fn count_ascending<P: NamedParts>(bytes: &[u8]) -> (usize, &[u8])
         rest = after;
     }
     (count, rest)
-}
-
-/// Whether there are more names than this.
-fn has_more_names<P: NamedParts>(most: usize, bytes: &[u8]) -> bool {
-    let mut count = 0usize;
-    let mut rest = bytes;
-    'names: while let Some((_, after)) = P::split_name(rest) {
-        if count == most {
-            return true;
-        }
-        count += 1;
-        rest = after;
-    }
-    false
 }
 
 /// Writes the first names into a table, as many as it holds. It gives their number and the bytes behind them.
