@@ -28,6 +28,7 @@ no_device = record {
   clock = 0;
   moment = λ t k. record { read = []; synced = []; pending = [] };
   failures = 0;
+  failed_writes = 0;
 }
 
 -- What is said of a call holds while the device keeps its word after it.

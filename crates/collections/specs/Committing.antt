@@ -1,6 +1,6 @@
 -- What the commit of a turn gives.
-use Rattle.std.specs.Prelude.{◌≡◌, ◌≢◌, ◌⊎◌, ◌+◌, ◌-◌, ◌≤◌, ◌^◌, false, true, List, Result, Err}
-use Rattle.std.specs.Prelude.{OnOk, OnErr}
+use Rattle.std.specs.Prelude.{◌≡◌, ◌≢◌, ◌⊎◌, ◌+◌, ◌-◌, ◌<◌, ◌≤◌, ◌^◌, false, true, List, Result}
+use Rattle.std.specs.Prelude.{Err, OnOk, OnErr}
 use Rattle.page.specs.History.{History, KeepsWord}
 use Rattle.page.specs.Crash.{GoesOn, LeavesOnly, LeavesNow}
 use Rattle.btree.specs.Store.{HasNoPage}
@@ -8,7 +8,6 @@ use Rattle.roots.specs.declared.store.CommitFault.{CommitFault}
 use Rattle.roots.specs.declared.store.CommitFault.TheVariants as faults
 use Rattle.index.specs.State.{Collection}
 use Rattle.collections.specs.State.{State}
-use Rattle.collections.specs.Calls.{HasFailed}
 use Rattle.collections.specs.Holding.{Holds}
 use Rattle.collections.specs.Marks.{IsUntouched}
 use Rattle.collections.specs.Standing.{HasState}
@@ -37,6 +36,11 @@ abbrev pub FindsNoRoom : {D : Type 0} → (D → History) → State D → State 
 FindsNoRoom history old new =
     ((generation old ≡ 2 ^ 64 - 1) × (new ≡ old)) ⊎ FindsNoPage history old new
 
+-- A write or a sync had failed before the call, or failed in it.
+abbrev pub HasFailedToWrite : {D : Type 0} → (D → History) → State D → State D → Type 0
+HasFailedToWrite history old new = (is_stopped old ≡ true)
+    ⊎ ((disk_history history old).failed_writes < (disk_history history new).failed_writes)
+
 -- The turn was made durable, or not.
 pub record Commits {D : Type 0} (history : D → History)
     (result : Result (Unit {0}) CommitFault) (old new : State D) : Type 0 where
@@ -54,7 +58,7 @@ pub record Commits {D : Type 0} (history : D → History)
   pub full : result ≡ Err faults.Full → FindsNoRoom history old new
   pub stops : result ≡ Err faults.Device → is_stopped new ≡ true
   pub device : result ≡ Err faults.Device → KeepsWord (disk_history history new)
-      → HasFailed history old new
+      → HasFailedToWrite history old new
   pub idle : is_stopped old ≡ true → new ≡ old
   pub moves : is_stopped old ≡ false → (start now : List Collection)
       → HasState history old start now → Moves history start now result old new

@@ -51,9 +51,10 @@ pub record Commits {D : Type 0} (history : D → History) (result : Result (Unit
   pub acknowledged : IsRunning old
       → OnOk result
       (LeavesNow (disk_history history new) (λ image. Holds image (world old).collections))
+  -- Device comes only where a write or a sync had failed before the call, or failed in it
   pub device : result ≡ Err faults.Device → KeepsWord (disk_history history new)
       → (is_stopped old ≡ true)
-      ⊎ ((disk_history history old).failures < (disk_history history new).failures)
+      ⊎ ((disk_history history old).failed_writes < (disk_history history new).failed_writes)
   pub idle : is_stopped old ≡ true → disk_history history new ≡ disk_history history old
   -- where the commands changed nothing, there is nothing to write
   pub quiet : has_changes old ≡ false

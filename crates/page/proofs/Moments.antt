@@ -1,6 +1,6 @@
 -- How a run of device calls goes on.
 use Rattle.std.proofs.Common.{◌≡◌, inl, inr, ℕ, ◌+◌, ◌≤◌, Bool, true, false, List, refl, ap, ◌∙◌, subst, arith}
-use Rattle.std.specs.Prelude.{if◌then◌else◌}
+use Rattle.std.specs.Prelude.{if◌then◌else◌, ◌&&◌, not}
 use Rattle.std.proofs.lemmas.Bool.{cases_lt}
 use Rattle.page.specs.History.{History, Sector, KeepsWord, now, IsImage, LeftSince, Ticks, Syncs}
 use Rattle.page.specs.Crash.{GoesOn, LeavesOnly, LeavesNow, ReadsOnly, OnlySyncs}
@@ -13,6 +13,7 @@ goes_nowhere h = record {
   clock = omega arith;
   past = λ k t le. refl;
   failures = λ k. omega arith;
+  failed_writes = λ k. omega arith;
 }
 
 -- the sectors as they are now, where no time went by
@@ -25,18 +26,23 @@ pub started : (h : History) (P : (ℕ → List ℕ) → Type 0) → LeavesNow h 
 started h P here k image left = here k image (only_now h image left)
 
 -- one call
-pub goes_one : (old new : History) (ok : Bool) → Ticks old new ok → GoesOn old new
-goes_one old new ok tick = record {
+pub goes_one : {writes : Bool} (old new : History) (ok : Bool) → Ticks writes old new ok → GoesOn old new
+goes_one {writes = writes} old new ok tick = record {
   kept = tick.kept;
   keeps = λ k time. tick.keeps k (omega (arith, tick.later, time));
   clock = tick.later;
   past = tick.past;
   failures = λ k. le_if ok old.failures new.failures (tick.failures k);
+  failed_writes = λ k. le_more (writes && not ok) old.failed_writes new.failed_writes (tick.failed_writes k);
 }
   where
     le_if : (ok : Bool) (m n : ℕ) → n ≡ (if ok then m else m + 1) → m ≤ n
     le_if true m n is = omega arith
     le_if false m n is = omega arith
+
+    le_more : (more : Bool) (m n : ℕ) → n ≡ (if more then m + 1 else m) → m ≤ n
+    le_more true m n is = omega arith
+    le_more false m n is = omega arith
 
 -- two runs, one after the other
 pub goes_further : (a b c : History) → GoesOn a b → GoesOn b c → GoesOn a c
@@ -46,6 +52,7 @@ goes_further a b c first second = record {
   clock = omega (arith, first.clock, second.clock);
   past = λ k t le. second.past k t (omega (arith, le, first.clock)) ∙ first.past (second.kept k) t le;
   failures = λ k. omega (arith, first.failures (second.kept k), second.failures k);
+  failed_writes = λ k. omega (arith, first.failed_writes (second.kept k), second.failed_writes k);
 }
 
 -- what held up to b and from b on holds of the whole
@@ -63,7 +70,7 @@ leaves_further a b c P goes first second k image left =
     ]
 
 -- one call more, after which a crash leaves what has P
-pub leaves_call : (a b c : History) (ok : Bool) (P : (ℕ → List ℕ) → Type 0) → Ticks b c ok → LeavesOnly a b P → LeavesNow c P → LeavesOnly a c P
+pub leaves_call : {writes : Bool} (a b c : History) (ok : Bool) (P : (ℕ → List ℕ) → Type 0) → Ticks writes b c ok → LeavesOnly a b P → LeavesNow c P → LeavesOnly a c P
 leaves_call a b c ok P tick so_far here k image left =
     elim (cases_lt b.clock left.at) [
       | inl late ↦
@@ -113,7 +120,7 @@ reads_further a b c first second = record {
 }
 
 -- one call that left the sectors as they are
-pub reads_one : (old new : History) (ok : Bool) → Ticks old new ok → (KeepsWord new → now new ≡ now old) → ReadsOnly old new
+pub reads_one : {writes : Bool} (old new : History) (ok : Bool) → Ticks writes old new ok → (KeepsWord new → now new ≡ now old) → ReadsOnly old new
 reads_one old new ok tick same = record {
   on = goes_one old new ok tick;
   same = same;
@@ -125,7 +132,7 @@ reads_one old new ok tick same = record {
 }
 
 -- a sync after them
-pub then_syncs : (a b c : History) (ok : Bool) → ReadsOnly a b → Ticks b c ok → (KeepsWord c → (k : ℕ) → Syncs (now b k) (now c k)) → OnlySyncs a c
+pub then_syncs : {writes : Bool} (a b c : History) (ok : Bool) → ReadsOnly a b → Ticks writes b c ok → (KeepsWord c → (k : ℕ) → Syncs (now b k) (now c k)) → OnlySyncs a c
 then_syncs a b c ok first tick syncs = record {
   still = λ keeps t low high. still_further a b c first (goes_one b c ok tick) keeps t low (omega (arith, tick.clock keeps));
   syncs = λ keeps k. subst (λ (s : ℕ → Sector). Syncs (s k) (now c k)) (first.same (tick.kept keeps)) (syncs keeps k);

@@ -11,6 +11,7 @@ pub record GoesOn (old new : History) : Type 0 where
   pub clock : old.clock ≤ new.clock
   pub past : KeepsWord new → (t : ℕ) → t ≤ old.clock → new.moment t ≡ old.moment t
   pub failures : KeepsWord new → old.failures ≤ new.failures
+  pub failed_writes : KeepsWord new → old.failed_writes ≤ new.failed_writes
 
 -- a crash at any moment from old to new leaves an image that has P
 abbrev pub LeavesOnly : History → History → ((ℕ → List ℕ) → Type 0) → Type 0
@@ -45,6 +46,7 @@ pub record IsFresh (h : History) : Type 0 where
   pub word : KeepsWord h
   pub clock : h.clock ≡ 0
   pub failures : h.failures ≡ 0
+  pub failed_writes : h.failed_writes ≡ 0
   pub durable : AreDurable (now h)
 
 -- an image of these sectors, but for some of them

@@ -1,6 +1,6 @@
 //! A disk as its users see it: what a read gives, and what a crash may leave.
 ghost use Rattle.std.specs.Prelude.{◌≡◌, ◌≢◌, ℕ, OnOk, OnErr, is_ok};
-ghost use Rattle.page.specs.History.{History, Sector, KeepsWord, now, Ticks, Takes, Syncs};
+ghost use Rattle.page.specs.History.{History, Sector, KeepsWord, now, Ticks, Takes, Syncs, reading, writing};
 
 /// The device failed, or found no memory for the call.
 #[derive(Clone, Copy, Debug, PartialEq, Eq)]
@@ -28,7 +28,7 @@ pub trait Disk {
 
     /// Reads a sector. One that was never written reads as zeros.
     fn read(&mut self, sector: u64, bytes: &mut [u8; 512]) -> Result<(), DeviceFault>
-        ensures time { Ticks (history self.old) (history self.new) (is_ok result) }
+        ensures time { Ticks reading (history self.old) (history self.new) (is_ok result) }
         ensures value { KeepsWord (history self.new)
             → OnOk result (bytes.new ≡ (now (history self.old) sector).read) }
         ensures same { KeepsWord (history self.new)
@@ -36,7 +36,7 @@ pub trait Disk {
 
     /// Writes a sector. Until a sync succeeds, a crash may leave what was written or what was there.
     fn write(&mut self, sector: u64, bytes: &[u8; 512]) -> Result<(), DeviceFault>
-        ensures time { Ticks (history self.old) (history self.new) (is_ok result) }
+        ensures time { Ticks writing (history self.old) (history self.new) (is_ok result) }
         ensures takes { let before = now (history self.old) sector in
             KeepsWord (history self.new)
             → Takes bytes.now (is_ok result) before (now (history self.new) sector) }
@@ -45,7 +45,7 @@ pub trait Disk {
 
     /// After a sync that succeeds, a crash leaves what a read gives.
     fn sync(&mut self) -> Result<(), DeviceFault>
-        ensures time { Ticks (history self.old) (history self.new) (is_ok result) }
+        ensures time { Ticks writing (history self.old) (history self.new) (is_ok result) }
         ensures syncs { let before = now (history self.old) in
             KeepsWord (history self.new)
             → OnOk result ((k : ℕ) → Syncs (before k) (now (history self.new) k)) }

@@ -53,7 +53,7 @@ impl Disk for FailDisk {
     fn read(&mut self, sector: u64, bytes: &mut [u8; 512]) -> Result<(), DeviceFault> {
         if self.calls_left == 1 {
             self.calls_left = 0;
-            self.disk.fail();
+            self.disk.fail(false);
             return Err(DeviceFault);
         }
         self.calls_left = self.calls_left.saturating_sub(1);
@@ -64,7 +64,7 @@ impl Disk for FailDisk {
         if self.calls_left == 1 {
             self.calls_left = 0;
             if !self.lands {
-                self.disk.fail();
+                self.disk.fail(true);
                 return Err(DeviceFault);
             }
             self.disk.write(sector, bytes)?;
@@ -78,7 +78,7 @@ impl Disk for FailDisk {
     fn sync(&mut self) -> Result<(), DeviceFault> {
         if self.calls_left == 1 {
             self.calls_left = 0;
-            self.disk.fail();
+            self.disk.fail(true);
             return Err(DeviceFault);
         }
         self.calls_left = self.calls_left.saturating_sub(1);

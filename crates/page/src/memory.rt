@@ -32,9 +32,12 @@ pub struct MemDisk {
     latest: BTreeMap<u64, [u8; 512]>,
     clock: u64,
     failures: u64,
+    // how often a write or a sync has failed
+    failed_writes: u64,
     ended: bool,
     ghost recorded: { All (λ c. c.moment ≤ clock) calls.items },
     ghost counted: { failures ≤ clock },
+    ghost apart: { failed_writes ≤ failures },
     ghost current: { (k : ℕ) → bytes_in latest k ≡ (replay clock calls.items blank k).read },
 }
 
@@ -103,7 +106,7 @@ fn is_kept(mask: u16, after: usize, len: usize, i: usize) -> bool
 }
 
 impl MemDisk {
-    ghost use Rattle.std.specs.Prelude.{◌≡◌, OnOk, OnErr, is_ok, None, false};
+    ghost use Rattle.std.specs.Prelude.{◌≡◌, OnOk, OnErr, is_ok, is_some, None, false};
     ghost use Rattle.std.specs.Prelude.{IfOk};
     ghost use Rattle.page.specs.History.{KeepsWord, now, Ticks, IsImage, reads};
     ghost use Rattle.page.specs.Crash.{IsFresh};
@@ -122,7 +125,7 @@ impl MemDisk {
     fn over(alloc: Global, calls: Vec<Call>, latest: BTreeMap<u64, [u8; 512]>) -> Self
         requires stamped { All (λ c. c.moment ≤ 0) calls.items }
         requires current { (k : ℕ) → bytes_in latest k ≡ (replay 0 calls.items blank k).read }
-        ensures { memory_history result ≡ history_of calls.items 0 0 false }
+        ensures { memory_history result ≡ history_of calls.items 0 0 0 false }
     {
         MemDisk {
             alloc,
@@ -130,6 +133,7 @@ impl MemDisk {
             latest,
             clock: 0,
             failures: 0,
+            failed_writes: 0,
             ended: false,
         }
     }
@@ -168,9 +172,9 @@ impl MemDisk {
         Ok(MemDisk::over(self.alloc, calls, latest))
     }
 
-    /// A call that fails, and does nothing else.
-    pub(crate) fn fail(&mut self)
-        ensures time { Ticks (memory_history self.old) (memory_history self.new) false }
+    /// A call that fails, and does nothing else: one that writes or syncs, or else reads.
+    pub(crate) fn fail(&mut self, writes: bool)
+        ensures time { Ticks writes (memory_history self.old) (memory_history self.new) false }
         ensures same { KeepsWord (memory_history self.new)
             → now (memory_history self.new) ≡ now (memory_history self.old) }
     {
@@ -179,12 +183,16 @@ impl MemDisk {
         } else {
             self.clock += 1;
             self.failures += 1;
+            if writes {
+                self.failed_writes += 1;
+            }
         }
     }
 
     // One call: counts it, and records its step.
     fn advance(&mut self, step: Option<Step>) -> Result<(), DeviceFault>
-        ensures time { Ticks (memory_history self.old) (memory_history self.new) (is_ok result) }
+        ensures time { Ticks (is_some step) (memory_history self.old) (memory_history self.new)
+            (is_ok result) }
         ensures ok { let before = now (memory_history self.old) in
             OnOk result (now (memory_history self.new) ≡ apply_some step before) }
         ensures err { let before = now (memory_history self.old) in
@@ -208,6 +216,7 @@ impl MemDisk {
             Err(_) => {
                 self.clock = moment;
                 self.failures += 1;
+                self.failed_writes += 1;
                 Err(DeviceFault)
             }
         }

@@ -20,7 +20,7 @@ pub fn write_page<D: Disk>(disk: &mut D, page: u32, bytes: &[u8; 4096]) -> Resul
     ensures written { KeepsWord (D.history disk.new)
         → OnOk result (page_at (reads (now (D.history disk.new))) page ≡ bytes.now) }
     ensures failed { KeepsWord (D.history disk.new)
-        → OnErr result ((D.history disk.old).failures < (D.history disk.new).failures) }
+        → OnErr result ((D.history disk.old).failed_writes < (D.history disk.new).failed_writes) }
 {
     for i in 0..8u64 {
         let at = 512 * i as usize;

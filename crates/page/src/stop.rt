@@ -42,7 +42,7 @@ impl Disk for StopDisk {
 
     fn write(&mut self, sector: u64, bytes: &[u8; 512]) -> Result<(), DeviceFault> {
         if self.calls_left == 0 {
-            self.disk.fail();
+            self.disk.fail(true);
             return Err(DeviceFault);
         }
         self.calls_left -= 1;
@@ -51,7 +51,7 @@ impl Disk for StopDisk {
 
     fn sync(&mut self) -> Result<(), DeviceFault> {
         if self.calls_left == 0 {
-            self.disk.fail();
+            self.disk.fail(true);
             return Err(DeviceFault);
         }
         self.calls_left -= 1;

@@ -9,8 +9,8 @@ use Rattle.roots.specs.Root.{IsKnown}
 use Rattle.roots.specs.Image.{HoldsMap, OpensAs, StandsFor, sheet_at}
 use Rattle.roots.specs.Opening.{IsOpened}
 
-pub opened : {D : Type 0} (history : D → History) (before disk : D) (root : Root) (h1 : History) (ok : Bool) → ReadsOnly (history before) h1
-    → (KeepsWord h1 → OpensAs (reads (now (history before))) root) → Ticks h1 (history disk) ok
+pub opened : {D : Type 0} {writes : Bool} (history : D → History) (before disk : D) (root : Root) (h1 : History) (ok : Bool) → ReadsOnly (history before) h1
+    → (KeepsWord h1 → OpensAs (reads (now (history before))) root) → Ticks writes h1 (history disk) ok
     → (KeepsWord (history disk) → (k : ℕ) → Syncs (now h1 k) (now (history disk) k)) → IsKnown root
     → IsOpened history before (record { disk = disk; root = root; stopped = false })
 opened history before disk root h1 ok only opens tick syncs known =

@@ -43,9 +43,9 @@ pub record IsCommitted {D : Type 0} (history : D → History) (store : Store D) 
   pub running : IsRunning store
   pub keeps : Keeps (disk_history history store) (durable_root store) live entries
 
--- Why a call from old to new met a failed device: a write or a sync had failed before, or failed in
--- the call.
+-- Why a commit from old to new met a failed device: a write or a sync had failed before, or failed
+-- in the call.
 abbrev pub HasDeviceCause : {D : Type 0} → (D → History) → Store D → Store D → Type 0
 HasDeviceCause history old new =
     (is_stopped old ≡ true)
-    ⊎ ((disk_history history old).failures < (disk_history history new).failures)
+    ⊎ ((disk_history history old).failed_writes < (disk_history history new).failed_writes)

@@ -25,7 +25,7 @@ pub(crate) fn replace<D: Disk>(
     ensures others { KeepsWord (D.history disk.new) → (k : ℕ) → k ≢ sector
         → reads (now (D.history disk.new)) k ≡ reads (now (D.history disk.old)) k }
     ensures failed { KeepsWord (D.history disk.new)
-        → OnErr result ((D.history disk.old).failures < (D.history disk.new).failures) }
+        → OnErr result ((D.history disk.old).failed_writes < (D.history disk.new).failed_writes) }
 {
     disk.sync()?;
     disk.write(sector, bytes)?;

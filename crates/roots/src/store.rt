@@ -108,7 +108,7 @@ fn write_shared<D: Disk>(disk: &mut D, shared: &SharedPage) -> Result<(), Device
     ensures written { KeepsWord (D.history disk.new) → OnOk result
         (page_at (reads (now (D.history disk.new))) shared.now.page ≡ page_bytes shared.now) }
     ensures failed { KeepsWord (D.history disk.new)
-        → OnErr result ((D.history disk.old).failures < (D.history disk.new).failures) }
+        → OnErr result ((D.history disk.old).failed_writes < (D.history disk.new).failed_writes) }
 {
     let image = shared.image();
     let mut bytes = [0; 4096];
@@ -130,7 +130,7 @@ fn write_made<D: Disk>(disk: &mut D, made: &[SharedPage]) -> Result<(), DeviceFa
     ensures written { KeepsWord (D.history disk.new) → LieBehind 0 made.now
         → OnOk result (AreWritten (reads (now (D.history disk.new))) made.now) }
     ensures failed { KeepsWord (D.history disk.new)
-        → OnErr result ((D.history disk.old).failures < (D.history disk.new).failures) }
+        → OnErr result ((D.history disk.old).failed_writes < (D.history disk.new).failed_writes) }
 {
     for shared in made {
         write_shared(disk, shared)?;
@@ -148,7 +148,7 @@ fn write_commit<D: Disk>(disk: &mut D, made: &[SharedPage], root: Root) -> Resul
     ensures written { KeepsWord (D.history disk.new) → LieBehind 0 made.now
         → OnOk result (AreWritten (reads (now (D.history disk.new))) made.now) }
     ensures failed { KeepsWord (D.history disk.new)
-        → OnErr result ((D.history disk.old).failures < (D.history disk.new).failures) }
+        → OnErr result ((D.history disk.old).failed_writes < (D.history disk.new).failed_writes) }
 {
     write_made(disk, made)?;
     replace(disk, root.generation % 2, &root.sector())

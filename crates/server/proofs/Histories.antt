@@ -361,7 +361,7 @@ module _ {D : Type 0} (history : D → History) (first : Core D) (all : List Ste
       → FollowsInTurn (moment_of history now) (moment_of history last)
       → (failing fault ≢ failing (stops.Turn turns.Stopped) → is_stopped last ≡ is_stopped now)
       → (failing fault ≡ failing (stops.Turn turns.Stopped) → KeepsWord (disk_history history last)
-      → (is_stopped now ≡ true) ⊎ ((disk_history history now).failures < (disk_history history last).failures))
+      → (is_stopped now ≡ true) ⊎ ((disk_history history now).failed_writes < (disk_history history last).failed_writes))
       → Drives history first all (stopped_at fault new) last
   stops_at (stops.Feed feeds.Memory) new last does sound safe turn runs cause = record {
     given = frames_in new.replies.items;
@@ -427,7 +427,7 @@ module _ {D : Type 0} (history : D → History) (first : Core D) (all : List Ste
     running = λ goes. absurd (goes tt);
     device = λ stop k. ⊎_elim
         (λ stopped_now. inl (sym s.running ∙ stopped_now))
-        (λ failed. inr (omega (arith, s.on.failures (safe.on.kept k), failed)))
+        (λ failed. inr (omega (arith, s.on.failed_writes (safe.on.kept k), failed)))
         (cause refl k);
   }
   stops_at stops.Gather new last does sound safe turn runs cause =

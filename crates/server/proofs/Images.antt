@@ -100,13 +100,13 @@ module _ {D : Type 0} (history : D → History) (old mid new : Engine D) (sound 
 
     -- the device failed in the commit
     pub failed_further : KeepsWord (engines.disk_history history new) → engines.is_stopped mid ≡ engines.is_stopped old
-        → (engines.is_stopped mid ≡ true) ⊎ ((engines.disk_history history mid).failures < (engines.disk_history history new).failures)
-        → (engines.disk_history history old).failures < (engines.disk_history history new).failures
+        → (engines.is_stopped mid ≡ true) ⊎ ((engines.disk_history history mid).failed_writes < (engines.disk_history history new).failed_writes)
+        → (engines.disk_history history old).failed_writes < (engines.disk_history history new).failed_writes
     failed_further k same (inl stopped) = absurd (both_ways (engines.is_stopped mid) stopped (same ∙ running))
       where
         both_ways : (b : Bool) → b ≡ true → b ≡ false → ⊥
         both_ways b t f = absurd cc
-    failed_further k same (inr failed) = omega (arith, goes.reads.on.failures (on.kept k), failed)
+    failed_further k same (inr failed) = omega (arith, goes.reads.on.failed_writes (on.kept k), failed)
 
 -- a disk that stays as it is goes on
 pub on_same : (old new : History) → new ≡ old → GoesOn old new

@@ -1,14 +1,14 @@
 -- The headline. For every list of steps, in whatever chunks the bytes come and however connections
 -- interleave, what the server hands out, as long as its disk keeps its word, is a history's output:
 -- these frames, in this order, and so these bytes for each connection. A run goes on to the end of
--- its steps, or stops at one of them, for want of memory or because the device failed. Bytes that
--- found no memory, and a turn that took no message, changed nothing; where the frames of a turn
--- found no memory the turn is done, and what is missing is that turn's replies and no other; a turn
--- in which the device failed handed out nothing.
+-- its steps, or stops at one of them, for want of memory or because a write or a sync failed. Bytes
+-- that found no memory, and a turn that took no message, changed nothing; where the frames of a
+-- turn found no memory the turn is done, and what is missing is that turn's replies and no other; a
+-- turn that stopped handed out nothing.
 --
 -- A crash leaves the collections after some whole turns of that history, in order of time: between
 -- two turns' ends those of the one or of the other, and at the end of the run those after all turns
--- that answered, or after one more where the device failed in it.
+-- that answered, or after one more where the run stopped in it.
 use Rattle.std.specs.Prelude.{◌≡◌, ◌⊎◌, ◌<◌, ℕ, ◌+◌, Bool, true, List, [], ◌∷◌, ◌++◌, take}
 use Rattle.std.specs.Prelude.{slice_get, Option, Some, None, Vec}
 use Rattle.std.specs.Global.{Global}
@@ -89,7 +89,7 @@ turns_done (Some (i, stops.Feed fault)) all = turns_in (take i all)
 turns_done (Some (i, stops.Turn fault)) all = turns_in (take i all)
 turns_done (Some (i, stops.Gather)) all = turns_in (take i all) + 1
 
--- the run stopped at a turn because the device failed
+-- the run stopped at a turn because a write or a sync failed
 abbrev pub IsStopped : Option (ℕ × DriveFault) → Type 0
 IsStopped None = ⊥
 IsStopped (Some (i, stops.Turn turns.Stopped)) = Unit {0}
@@ -128,6 +128,7 @@ pub record Drives {D : Type 0} (history : D → History) (first : Core D) (all :
       (HoldsEither (last_collections (collections_of first) ends) (collections_of last))
   pub idle : is_stopped first ≡ true → disk_history history last ≡ disk_history history first
   pub running : (IsStopped out.stopped → ⊥) → is_stopped last ≡ is_stopped first
+  -- it stops so only where a write or a sync has failed, in the run or before
   pub device : IsStopped out.stopped → KeepsWord (disk_history history last)
       → (is_stopped first ≡ true)
-      ⊎ ((disk_history history first).failures < (disk_history history last).failures)
+      ⊎ ((disk_history history first).failed_writes < (disk_history history last).failed_writes)

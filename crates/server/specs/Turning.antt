@@ -43,15 +43,15 @@ pub record TakesTurn {D : Type 0} (history : D → History) (old : Core D)
   pub acknowledged : IsRunning old
       → OnOk result
       (LeavesNow (disk_history history new) (λ image. Holds image (collections_of new)))
-  -- a server that had stopped answers so, and leaves the disk as it is; another stops only where
-  -- the device failed
+  -- a server that had stopped answers so, and leaves the disk as it is; another stops only where a
+  -- write or a sync failed
   pub running : result ≢ Err turn_faults.Stopped → is_stopped new ≡ is_stopped old
   pub stops : result ≡ Err turn_faults.Stopped → is_stopped new ≡ true
   pub idle : is_stopped old ≡ true
       → (result ≡ Err turn_faults.Stopped) × (disk_history history new ≡ disk_history history old)
   pub device : result ≡ Err turn_faults.Stopped → KeepsWord (disk_history history new)
       → (is_stopped old ≡ true)
-      ⊎ ((disk_history history old).failures < (disk_history history new).failures)
+      ⊎ ((disk_history history old).failed_writes < (disk_history history new).failed_writes)
   -- what is counted has not fallen, and it has committed once at most: once, where it answers and
   -- changed the collections
   pub moment : FollowsInTurn (moment_of history old) (moment_of history new)

@@ -46,8 +46,8 @@ impl<D: Disk> Core<D> {
         ensures moment { FollowsInTurn (moment_of D.history self.old) (moment_of D.history self.new) }
         ensures device { result ≡ Err (DriveFault.Turn TurnFault.Stopped)
             → KeepsWord (disk_history D.history self.new)
-            → (is_stopped self.old ≡ true) ⊎ ((disk_history D.history self.old).failures
-            < (disk_history D.history self.new).failures) }
+            → (is_stopped self.old ≡ true) ⊎ ((disk_history D.history self.old).failed_writes
+            < (disk_history D.history self.new).failed_writes) }
         ensures running { result ≢ Err (DriveFault.Turn TurnFault.Stopped)
             → is_stopped self.new ≡ is_stopped self.old }
     {

@@ -165,7 +165,7 @@ fn serve_connections<D: Disk>(
 
 /// Answers the message at the front of each connection, and ends the turn. What the messages changed is made durable, or it is
 /// taken back where memory runs out for a frame, or memory or room for the commit: the frames are then the refusals, which
-/// were made before. `None` says that the device failed.
+/// were made before. `None` says that a write or a sync failed.
 pub(crate) fn run_messages<D: Disk>(
     engine: &mut Engine<D>,
     connections: &mut Vec<Connection>,
@@ -199,8 +199,8 @@ pub(crate) fn run_messages<D: Disk>(
     ensures running { IfSome result (λ _. is_stopped engine.new ≡ is_stopped engine.old) }
     ensures stops { result ≡ None → is_stopped engine.new ≡ true }
     ensures device { result ≡ None → KeepsWord (disk_history D.history engine.new)
-        → (disk_history D.history engine.old).failures
-        < (disk_history D.history engine.new).failures }
+        → (disk_history D.history engine.old).failed_writes
+        < (disk_history D.history engine.new).failed_writes }
     ensures moment { FollowsInTurn (engine_moment D.history engine.old)
         (engine_moment D.history engine.new) }
     ensures commits { IfSome result (λ _.

@@ -122,8 +122,8 @@ impl<D: Disk> Core<D> {
     /// number, makes what they changed durable, and hands out the replies. Where memory runs out for a reply
     /// or for the commit, or the commit finds no greater generation or no free page, the turn is undone and
     /// each reply is the refusal that says so. A connection with a fault at its front is closed. `Memory`
-    /// took no message and changed nothing. `Stopped` hands out nothing and closes no connection: the device
-    /// failed in this turn, or before it, and then nothing changed.
+    /// took no message and changed nothing. `Stopped` hands out nothing and closes no connection: a write or a
+    /// sync failed in this turn, or before it, and then nothing changed.
     pub fn turn(&mut self) -> Result<TurnOut, TurnFault>
         requires sound { IsSound D.history self.old }
         ensures { TakesTurn D.history self.old result self.new }

@@ -1,6 +1,6 @@
 use Rattle.std.proofs.Common.{◌≡◌, Bool, true, false, ℕ, refl, arith}
 use Rattle.std.specs.Prelude.{Err, ◌+◌, if◌then◌else◌}
-use Rattle.page.specs.History.{History, Ticks}
+use Rattle.page.specs.History.{History, Ticks, writing}
 use Rattle.page.specs.Memory.{memory_history}
 use Rattle.page.specs.Replay.{replay, blank}
 use Rattle.page.specs.declared.disk.DeviceFault.{DeviceFault}
@@ -19,8 +19,14 @@ not_failed true left spent one = absurd (omega (arith, spent refl, one))
 not_failed false left spent one = refl
 
 -- a call that was done and is answered as failed
-counted : (old new : History) (b : Bool) → b ≡ false → Ticks old new true
-    → Ticks (record old { failures = if b then old.failures + 1 else old.failures }) (record new { failures = new.failures + 1 }) false
+counted : (old new : History) (b : Bool) → b ≡ false → Ticks writing old new true
+    → Ticks writing
+    (record old {
+      failures = if b then old.failures + 1 else old.failures;
+      failed_writes = if b then old.failed_writes + 1 else old.failed_writes;
+    })
+    (record new { failures = new.failures + 1; failed_writes = new.failed_writes + 1 })
+    false
 counted old new true e t = absurd cc
 counted old new false e t = record {
   kept = t.kept;
@@ -29,6 +35,7 @@ counted old new false e t = record {
   clock = t.clock;
   past = t.past;
   failures = λ keeps. omega (arith, t.failures keeps);
+  failed_writes = λ keeps. omega (arith, t.failed_writes keeps);
 }
 
 pub returns-then-self-eq1-clause-time : goal.returns-then-self-eq1-clause-time
