@@ -8,11 +8,11 @@ use Rattle.btree.specs.Keys.{Edit, Entry, change}
 use Rattle.path.specs.declared.refusal.Refusal.{Refusal}
 use Rattle.path.specs.declared.refusal.Refusal.TheVariants as refusals
 use Rattle.index.specs.Definition.{Definition}
-use Rattle.index.specs.OtherKeys.{has_other_key}
-use Rattle.index.specs.State.{Collection}
+use Rattle.entries.specs.OtherKeys.{has_other_key}
+use Rattle.entries.specs.State.{Collection}
 use Rattle.index.specs.View.{texts_of}
-use Rattle.index.specs.StateEntries.{Spells}
-use Rattle.index.proofs.SpelledLaws.{spelled_once}
+use Rattle.entries.specs.StateEntries.{Spells}
+use Rattle.entries.proofs.SpelledLaws.{spelled_once}
 use Rattle.collections.specs.Calls.{GoesFrom, Reads}
 use Rattle.collections.specs.OtherKeys.{TellsOf, any_other_key, is_taken}
 use Rattle.collections.specs.Standing.{HasState, IsTurnOf}

@@ -3,7 +3,7 @@ use Rattle.std.proofs.Common.{inl, inr, List, sym, ◌∙◌, arith}
 use Rattle.page.specs.History.{History, KeepsWord}
 use Rattle.btree.specs.Store.{HasNoPage}
 use Rattle.path.specs.declared.refusal.Refusal.{Refusal}
-use Rattle.index.specs.State.{Collection}
+use Rattle.entries.specs.State.{Collection}
 use Rattle.collections.specs.Calls.{GoesFrom, HasCause, HasFailed, HasWriteCause}
 use Rattle.collections.specs.State.{State}
 use Rattle.collections.specs.View.{disk_history, pages_of}

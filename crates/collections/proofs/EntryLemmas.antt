@@ -22,7 +22,7 @@ use Rattle.btree.proofs.KeyLemmas.{not_both, not_under_itself, under_then_up_to}
 use Rattle.btree.proofs.ListLemmas.{each_map, map_append, map_map, rises_append}
 use Rattle.btree.proofs.OnceLemmas.{old_trees_stay}
 use Rattle.btree.proofs.StoreLemmas.{grows_itself}
-use Rattle.index.specs.StateEntries.{entry_keys}
+use Rattle.entries.specs.StateEntries.{entry_keys}
 use Rattle.path.specs.declared.refusal.Refusal.{Refusal}
 use Rattle.path.specs.declared.refusal.Refusal.TheVariants as refusals
 use Rattle.pager.specs.State.{State as PagerState}

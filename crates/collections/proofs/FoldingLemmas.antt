@@ -18,12 +18,12 @@ use Rattle.btree.specs.Store.{Grows, IsSame, KeepsWord as KeepsStore}
 use Rattle.btree.specs.Tree.{Body, IsTree, entries_of}
 use Rattle.btree.specs.declared.folding.Bounds.{Bounds}
 use Rattle.btree.specs.declared.pages.TreeFault.{TreeFault}
-use Rattle.index.specs.LawfulState.{IsKept, IsStorable}
-use Rattle.index.specs.State.{Collection, key_of}
-use Rattle.index.specs.StateEntries.{document_entry, key_under}
-use Rattle.index.proofs.BatchLaws.{lists_documents_from}
-use Rattle.index.proofs.FoundLawLemmas.{found_collection}
-use Rattle.index.proofs.HomeLemmas.{number_fits}
+use Rattle.entries.specs.LawfulState.{IsKept, IsStorable}
+use Rattle.entries.specs.State.{Collection, key_of}
+use Rattle.entries.specs.StateEntries.{document_entry, key_under}
+use Rattle.entries.proofs.BatchLaws.{lists_documents_from}
+use Rattle.entries.proofs.FoundLawLemmas.{found_collection}
+use Rattle.entries.proofs.HomeLemmas.{number_fits}
 use Rattle.pager.specs.Capacity.{TreesFit}
 use Rattle.pager.specs.State.{State as PagerState}
 use Rattle.pager.specs.View.{store_of}

@@ -17,14 +17,14 @@ use Rattle.btree.specs.declared.scanning.Batch.{Batch}
 use Rattle.btree.specs.declared.scanning.Entry.{Entry as OwnEntry}
 use Rattle.btree.specs.declared.scanning.Range.{Range}
 use Rattle.index.specs.Definition.{Definition}
-use Rattle.index.specs.LawfulState.{IsKept, IsStorable}
-use Rattle.index.specs.State.{Collection, find_collection, words}
-use Rattle.index.specs.StateEntries.{catalogue_entry, document_entry, key_under}
-use Rattle.index.specs.StateReads.{catalogue_bytes}
-use Rattle.index.specs.declared.catalogue_reading.Catalogued.{Catalogued}
-use Rattle.index.proofs.FoundLawLemmas.{found_collection, found_document}
-use Rattle.index.proofs.ListingLaws.{lists_collections}
-use Rattle.index.proofs.ReadLaws.{finds_collection, finds_document}
+use Rattle.entries.specs.LawfulState.{IsKept, IsStorable}
+use Rattle.entries.specs.State.{Collection, find_collection, words}
+use Rattle.entries.specs.StateEntries.{catalogue_entry, document_entry, key_under}
+use Rattle.entries.specs.StateReads.{catalogue_bytes}
+use Rattle.entries.specs.declared.catalogue_reading.Catalogued.{Catalogued}
+use Rattle.entries.proofs.FoundLawLemmas.{found_collection, found_document}
+use Rattle.entries.proofs.ListingLaws.{lists_collections}
+use Rattle.entries.proofs.ReadLaws.{finds_collection, finds_document}
 use Rattle.collections.specs.Reading.{AreBytesAt, AreEach, IsBatchOf, IsInTree, IsOfCollection, IsOfDocument, IsPlaceOf, IsValueAt, OrMemory, Place}
 use Rattle.collections.specs.Reading.{catalogued_in, catalogued_of, stored_at}
 

@@ -23,19 +23,19 @@ use Rattle.btree.specs.declared.scanning.Range.{Range}
 use Rattle.btree.proofs.KeyLemmas.{under_trans}
 use Rattle.index.specs.Definition.{Definition}
 use Rattle.index.specs.KeyTexts.{encoded_keys}
-use Rattle.index.specs.LawfulState.{IsKept}
-use Rattle.index.specs.OtherKeys.{IsEndOf}
-use Rattle.index.specs.State.{Collection, key_of}
-use Rattle.index.specs.StateEntries.{entry_keys, index_entries, index_entry, key_under}
-use Rattle.index.specs.StateLaws.{entries_in}
-use Rattle.index.specs.StateReads.{entries_under}
-use Rattle.index.proofs.EntryLemmas.{key_among, same_rest}
-use Rattle.index.proofs.FrontLemmas.{starts_so, starts_there}
-use Rattle.index.proofs.FoundLawLemmas.{found_collection}
-use Rattle.index.proofs.HomeLemmas.{listed_of, number_fits}
-use Rattle.index.proofs.ListingLaws.{lists_index}
-use Rattle.index.proofs.MemberLemmas.{Among, among_append, among_each, among_flat, among_front, among_map, among_of, contains_of}
-use Rattle.index.proofs.WindowLemmas.{among_window, inside_there, is_inside, window_among, window_rises}
+use Rattle.entries.specs.LawfulState.{IsKept}
+use Rattle.entries.specs.OtherKeys.{IsEndOf}
+use Rattle.entries.specs.State.{Collection, key_of}
+use Rattle.entries.specs.StateEntries.{entry_keys, index_entries, index_entry, key_under}
+use Rattle.entries.specs.StateLaws.{entries_in}
+use Rattle.entries.specs.StateReads.{entries_under}
+use Rattle.entries.proofs.EntryLemmas.{key_among, same_rest}
+use Rattle.entries.proofs.FrontLemmas.{starts_so, starts_there}
+use Rattle.entries.proofs.FoundLawLemmas.{found_collection}
+use Rattle.entries.proofs.HomeLemmas.{listed_of, number_fits}
+use Rattle.entries.proofs.ListingLaws.{lists_index}
+use Rattle.entries.proofs.MemberLemmas.{Among, among_append, among_each, among_flat, among_front, among_map, among_of, contains_of}
+use Rattle.entries.proofs.WindowLemmas.{among_window, inside_there, is_inside, window_among, window_rises}
 use Rattle.collections.specs.IndexTexts.{AreFirstTexts, AreTextsBetween, Indexed, IsEntryText, IsNumberedIndex, LiesBetween, text_behind, texts_behind}
 use Rattle.collections.specs.Reading.{IsBatchOf, IsInTree}
 use Rattle.collections.proofs.ReadingLemmas.{next_same}

@@ -15,10 +15,10 @@ use Rattle.roots.proofs.TurnLemmas.{stands_now}
 use Rattle.pager.specs.View.{store_of}
 use Rattle.pager.proofs.BeginLemmas.{begun_map}
 use Rattle.pager.proofs.TurnLemmas.{committed_still}
-use Rattle.index.proofs.OneStateLaws.{spells_one}
-use Rattle.index.specs.LawfulState.{IsLawfulState}
-use Rattle.index.specs.State.{Collection}
-use Rattle.index.specs.StateEntries.{Spells}
+use Rattle.entries.proofs.OneStateLaws.{spells_one}
+use Rattle.entries.specs.LawfulState.{IsLawfulState}
+use Rattle.entries.specs.State.{Collection}
+use Rattle.entries.specs.StateEntries.{Spells}
 use Rattle.collections.specs.State.{State}
 use Rattle.collections.specs.Laws.{GoesFromItself, GoesFurther, HasOneState, HoldsOne, LeavesStart, RestsAtStart, ZerosHoldNothing}
 use Rattle.collections.specs.Standing.{IsTurnOf}

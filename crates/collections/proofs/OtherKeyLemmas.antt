@@ -12,12 +12,12 @@ use Rattle.btree.specs.Scan.{entry_in, within}
 use Rattle.btree.specs.declared.scanning.Batch.{Batch}
 use Rattle.btree.specs.declared.scanning.Range.{Range}
 use Rattle.index.specs.Changes.{is_among}
-use Rattle.index.specs.EditList.{edit_at}
-use Rattle.index.specs.OtherKeys.{is_another, leaves_another, puts_another, IsEndOf}
-use Rattle.index.specs.State.{Collection}
-use Rattle.index.specs.StateEntries.{key_under}
-use Rattle.index.proofs.EditLookLemmas.{put_what_they_have}
-use Rattle.index.proofs.OtherEditLaws.{after_edits, in_range}
+use Rattle.entries.specs.EditList.{edit_at}
+use Rattle.entries.specs.OtherKeys.{is_another, leaves_another, puts_another, IsEndOf}
+use Rattle.entries.specs.State.{Collection}
+use Rattle.entries.specs.StateEntries.{key_under}
+use Rattle.entries.proofs.EditLookLemmas.{put_what_they_have}
+use Rattle.entries.proofs.OtherEditLaws.{after_edits, in_range}
 use Rattle.collections.specs.OtherKeys.{TellsDocument, TellsOtherKey}
 use Rattle.collections.specs.Reading.{IsBatchOf, IsInTree, IsValueAt}
 use Rattle.collections.proofs.FoundLemmas.{whole_batch}

@@ -19,7 +19,7 @@ use Rattle.btree.specs.declared.pages.TreeFault.TheVariants as faults
 use Rattle.btree.proofs.StoreLemmas.{grows_itself}
 use Rattle.pager.specs.State.{State as PagerState}
 use Rattle.pager.specs.View.{store_of}
-use Rattle.index.specs.State.{Collection}
+use Rattle.entries.specs.State.{Collection}
 use Rattle.collections.specs.Applying.{refusal_of}
 use Rattle.collections.specs.Calls.{HasCause, Reads}
 use Rattle.collections.specs.Entries.{ReadsEntries}

@@ -7,15 +7,15 @@ use Rattle.btree.specs.Keys.{Entry}
 use Rattle.value_order.specs.KeyText.{tree_text}
 use Rattle.index.specs.Changes.{is_among}
 use Rattle.index.specs.Definition.{Definition}
-use Rattle.index.specs.Entering.{clashes, is_other, share_key}
+use Rattle.entries.specs.Entering.{clashes, is_other, share_key}
 use Rattle.index.specs.KeyTexts.{encoded_keys}
-use Rattle.index.specs.LawfulState.{IsStorable}
-use Rattle.index.specs.OtherKeys.{another_has}
-use Rattle.index.specs.State.{Collection, find_collection, key_of}
-use Rattle.index.specs.StateReads.{SpellsLawful}
-use Rattle.index.proofs.MemberLemmas.{Among, contains_of}
-use Rattle.index.proofs.OtherKeyLaws.{tells_other_key}
-use Rattle.index.proofs.SharedKeyLemmas.{is_there, swapped}
+use Rattle.entries.specs.LawfulState.{IsStorable}
+use Rattle.entries.specs.OtherKeys.{another_has}
+use Rattle.entries.specs.State.{Collection, find_collection, key_of}
+use Rattle.entries.specs.StateReads.{SpellsLawful}
+use Rattle.entries.proofs.MemberLemmas.{Among, contains_of}
+use Rattle.entries.proofs.OtherKeyLaws.{tells_other_key}
+use Rattle.entries.proofs.SharedKeyLemmas.{is_there, swapped}
 use Rattle.collections.specs.OtherKeys.{any_other_key, is_taken}
 
 module _ (entries : List Entry) (cs : List Collection) (c : Collection) (d : Pairs) (spells : SpellsLawful entries cs)

@@ -14,11 +14,11 @@ use Rattle.btree.specs.declared.scanning.Range.{Range}
 use Rattle.path.specs.declared.refusal.Refusal.{Refusal}
 use Rattle.path.specs.declared.refusal.Refusal.TheVariants as refusals
 use Rattle.index.specs.Definition.{Definition}
-use Rattle.index.specs.OtherKeys.{IsEndOf, has_other_key, is_another}
-use Rattle.index.specs.State.{Collection}
-use Rattle.index.specs.StateEntries.{key_under}
+use Rattle.entries.specs.OtherKeys.{IsEndOf, has_other_key, is_another}
+use Rattle.entries.specs.State.{Collection}
+use Rattle.entries.specs.StateEntries.{key_under}
 use Rattle.index.specs.View.{texts_of}
-use Rattle.index.proofs.OtherEditLaws.{in_range}
+use Rattle.entries.proofs.OtherEditLaws.{in_range}
 use Rattle.collections.specs.Calls.{GoesFrom, HasCause}
 use Rattle.collections.specs.Entries.{HasEntries, ReadsTree}
 use Rattle.collections.specs.IndexChecks.{has_entry, lacks_any, lacks_key, lacks_one}

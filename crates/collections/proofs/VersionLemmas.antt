@@ -26,9 +26,9 @@ use Rattle.pager.proofs.BookLemmas.{flag_most, one_time}
 use Rattle.pager.proofs.CapacityLemmas.{has_times}
 use Rattle.pager.proofs.MemberLemmas.{times_append, times_reverse}
 use Rattle.pager.proofs.StayLemmas.{versions_stay as pages_stay}
-use Rattle.index.proofs.OneStateLaws.{spells_one}
-use Rattle.index.specs.State.{Collection}
-use Rattle.index.specs.StateEntries.{Spells}
+use Rattle.entries.proofs.OneStateLaws.{spells_one}
+use Rattle.entries.specs.State.{Collection}
+use Rattle.entries.specs.StateEntries.{Spells}
 use Rattle.collections.specs.Calls.{GoesFrom}
 use Rattle.collections.specs.Laws.{HasOneVersion}
 use Rattle.collections.specs.Standing.{IsTurnOf}

@@ -13,11 +13,11 @@ use Rattle.value_order.specs.KeyText.{tree_text}
 use Rattle.btree.specs.Keys.{Entry, IsNotUnder, is_within, keep_if, key_cmp, window}
 use Rattle.btree.specs.declared.folding.Bounds.{Bounds}
 use Rattle.btree.proofs.KeyLemmas.{under_trans}
-use Rattle.index.specs.Batches.{documents_at}
-use Rattle.index.specs.State.{key_of}
-use Rattle.index.specs.StateEntries.{document_entry, key_under}
-use Rattle.index.proofs.BatchLaws.{not_below_first}
-use Rattle.index.proofs.WindowLemmas.{under_cmp}
+use Rattle.entries.specs.Batches.{documents_at}
+use Rattle.entries.specs.State.{key_of}
+use Rattle.entries.specs.StateEntries.{document_entry, key_under}
+use Rattle.entries.proofs.BatchLaws.{not_below_first}
+use Rattle.entries.proofs.WindowLemmas.{under_cmp}
 use Rattle.collections.specs.Folding.{documents_within, end_under, lies_within}
 
 -- ---- a window up to an earlier end

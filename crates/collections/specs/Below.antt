@@ -4,9 +4,9 @@ use Rattle.page.specs.History.{History, KeepsWord}
 use Rattle.btree.specs.Keys.{Entry}
 use Rattle.btree.specs.Reach.{HasMap}
 use Rattle.path.specs.declared.refusal.Refusal.{Refusal}
-use Rattle.index.specs.LawfulState.{IsLawfulState}
-use Rattle.index.specs.State.{Collection}
-use Rattle.index.specs.StateEntries.{Spells}
+use Rattle.entries.specs.LawfulState.{IsLawfulState}
+use Rattle.entries.specs.State.{Collection}
+use Rattle.entries.specs.StateEntries.{Spells}
 use Rattle.collections.specs.Calls.{GoesFrom, HasCause}
 use Rattle.collections.specs.Standing.{HasState}
 use Rattle.collections.specs.State.{State}

@@ -6,7 +6,7 @@ use Rattle.page.specs.Crash.{GoesOn, LeavesOnly, LeavesNow}
 use Rattle.btree.specs.Store.{HasNoPage}
 use Rattle.roots.specs.declared.store.CommitFault.{CommitFault}
 use Rattle.roots.specs.declared.store.CommitFault.TheVariants as faults
-use Rattle.index.specs.State.{Collection}
+use Rattle.entries.specs.State.{Collection}
 use Rattle.collections.specs.State.{State}
 use Rattle.collections.specs.Holding.{Holds}
 use Rattle.collections.specs.Marks.{IsUntouched}

@@ -5,7 +5,7 @@ use Rattle.std.specs.Prelude.{None}
 use Rattle.btree.specs.Keys.{Entry, value_at}
 use Rattle.index.specs.Definition.{Definition}
 use Rattle.index.specs.KeyTexts.{entry_key}
-use Rattle.index.specs.OtherKeys.{has_other_key}
+use Rattle.entries.specs.OtherKeys.{has_other_key}
 
 -- an empty value stands there
 abbrev pub is_empty_at : Option (List ℕ) → Bool

@@ -3,7 +3,7 @@ use Rattle.std.specs.Prelude.{◌≡◌, ℕ, false, List, [], replicate}
 use Rattle.page.specs.History.{History, KeepsWord}
 use Rattle.page.specs.Crash.{LeavesNow}
 use Rattle.roots.specs.declared.counting.PageCounts.{PageCounts}
-use Rattle.index.specs.State.{Collection}
+use Rattle.entries.specs.State.{Collection}
 use Rattle.pager.specs.declared.version.Version.{Version}
 use Rattle.collections.specs.State.{State}
 use Rattle.collections.specs.Calls.{GoesFrom}

@@ -2,9 +2,9 @@
 use Rattle.std.specs.Prelude.{◌≡◌, ℕ, Bool, false, ◌&&◌, ◌||◌, List, [], ◌∷◌, is_some}
 use Rattle.btree.specs.Keys.{Edit, Entry, change, value_at}
 use Rattle.index.specs.Definition.{Definition}
-use Rattle.index.specs.OtherKeys.{has_other_key}
-use Rattle.index.specs.State.{Collection}
-use Rattle.index.specs.StateEntries.{key_under}
+use Rattle.entries.specs.OtherKeys.{has_other_key}
+use Rattle.entries.specs.State.{Collection}
+use Rattle.entries.specs.StateEntries.{key_under}
 use Rattle.collections.specs.Reading.{IsInTree}
 
 -- Right for the map that the edits make of the one which spells the collections: an entry of the

@@ -7,7 +7,7 @@ ghost use Rattle.pager.specs.View.{store_of};
 
 use crate::collections::Collections;
 use btree::{TreeFault, change};
-use index::Edits;
+use entries::Edits;
 use page::Disk;
 use pager::Pager;
 use path::Refusal;

@@ -3,7 +3,7 @@
 ghost use Rattle.std.specs.Prelude.{◌≡◌, length, map};
 ghost use Rattle.std.specs.List.{list_any};
 ghost use Rattle.btree.specs.Scan.{entry_in};
-ghost use Rattle.index.specs.OtherKeys.{has_other_key, is_another};
+ghost use Rattle.entries.specs.OtherKeys.{has_other_key, is_another};
 ghost use Rattle.index.specs.View.{texts_of};
 ghost use Rattle.collections.specs.Entries.{ReadsTree};
 ghost use Rattle.collections.specs.IndexChecks.{has_entry, is_empty_at, lacks_any, lacks_key, lacks_one};
@@ -14,7 +14,8 @@ use crate::applying::refusal_of;
 use crate::collections::Collections;
 use crate::reading::{entries_below, value_below};
 use btree::{Batch, Entry, Range};
-use index::{IndexSpec, end_of, entry_key, index_key, is_another};
+use entries::{end_of, index_key, is_another};
+use index::{IndexSpec, entry_key};
 use page::Disk;
 use path::Refusal;
 

@@ -10,7 +10,7 @@ ghost use Rattle.collections.specs.Reading.{OrMemory, ReadsOf};
 use crate::collections::Collections;
 use bson::NoMemory;
 use btree::{Entry, Range};
-use index::{end_of, first_key, index_key};
+use entries::{end_of, first_key, index_key};
 use page::Disk;
 use path::Refusal;
 use std::alloc::Global;

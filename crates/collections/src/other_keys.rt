@@ -3,15 +3,16 @@
 ghost use Rattle.std.specs.Prelude.{◌≡◌, ◌||◌, length, map};
 ghost use Rattle.std.specs.List.{list_any};
 ghost use Rattle.btree.specs.Scan.{entry_in};
-ghost use Rattle.index.specs.EditList.{IsEditList};
-ghost use Rattle.index.specs.OtherKeys.{leaves_another, puts_another};
+ghost use Rattle.entries.specs.EditList.{IsEditList};
+ghost use Rattle.entries.specs.OtherKeys.{leaves_another, puts_another};
 ghost use Rattle.collections.specs.Calls.{Reads};
 ghost use Rattle.index.specs.View.{texts_of};
 ghost use Rattle.collections.specs.OtherKeys.{TellsDocument, TellsOf, TellsOtherKey, any_other_key, is_taken};
 
 use crate::collections::Collections;
 use btree::{Entry, Range};
-use index::{Edits, IndexSpec, document_key, end_of, index_key, is_another};
+use entries::{Edits, document_key, end_of, index_key, is_another};
+use index::IndexSpec;
 use page::Disk;
 use path::Refusal;
 

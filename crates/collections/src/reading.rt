@@ -5,9 +5,9 @@ ghost use Rattle.std.specs.Option.{option_map};
 ghost use Rattle.bson.specs.Spelling.{frame_of, pairs_bytes};
 ghost use Rattle.bson.specs.Tree.{Pairs};
 ghost use Rattle.btree.specs.Scan.{entry_in};
-ghost use Rattle.index.specs.LawfulState.{IsKept, IsStorable};
-ghost use Rattle.index.specs.State.{Collection, find_collection};
-ghost use Rattle.index.specs.StateEntries.{catalogue_entry};
+ghost use Rattle.entries.specs.LawfulState.{IsKept, IsStorable};
+ghost use Rattle.entries.specs.State.{Collection, find_collection};
+ghost use Rattle.entries.specs.StateEntries.{catalogue_entry};
 ghost use Rattle.collections.specs.Below.{IsNothing, ReadsBelow};
 ghost use Rattle.collections.specs.Calls.{Reads};
 ghost use Rattle.collections.specs.Entries.{AreNextEntries, ReadsEntries, ReadsTree};
@@ -17,7 +17,7 @@ use crate::applying::refusal_of;
 use crate::collections::Collections;
 use bson::{Document, SpelledDocument};
 use btree::{Batch, Entry, Range, TreeFault, get, scan};
-use index::{
+use entries::{
     Catalogued, catalogue_key, catalogue_parts, document_in, document_key, first_key, namespace_in,
 };
 use page::Disk;

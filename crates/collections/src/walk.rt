@@ -8,7 +8,7 @@ use crate::collections::Collections;
 use crate::reading::{documents_of, spelled_of};
 use bson::{Document, NoMemory, SpelledDocument};
 use btree::{Entry, Range};
-use index::first_key;
+use entries::first_key;
 use page::Disk;
 use path::Refusal;
 

@@ -13,8 +13,8 @@ use Rattle.path.specs.declared.refusal.Refusal.TheVariants as refusals
 use Rattle.commands.specs.CreateIndexes.{CreateIndexes}
 use Rattle.commands.specs.NewIndex.{NewIndex, defined}
 use Rattle.index.specs.Definition.{Field, Definition}
-use Rattle.index.specs.IndexMaking.{with_index}
-use Rattle.index.specs.State.{Collection, empty_collection, find_collection, put_collection}
+use Rattle.entries.specs.IndexMaking.{with_index}
+use Rattle.entries.specs.State.{Collection, empty_collection, find_collection, put_collection}
 use Rattle.database_model.specs.DropCollection.{index_count}
 use Rattle.database_model.specs.Insert.{is_full}
 use Rattle.database_model.specs.Refusals.{int}

@@ -7,7 +7,7 @@ use Rattle.filter.specs.Matches.{matches}
 use Rattle.path.specs.declared.refusal.Refusal.{Refusal}
 use Rattle.commands.specs.Delete.{Deletion, Delete}
 use Rattle.database_model.specs.World.{World, documents_of}
-use Rattle.index.specs.State.{Collection, find_collection, put_collection}
+use Rattle.entries.specs.State.{Collection, find_collection, put_collection}
 use Rattle.database_model.specs.Refusals.{total}
 
 -- the list without the element of an index

@@ -4,7 +4,7 @@ use Rattle.bson.specs.Tree.{Pairs, no_pairs, pair}
 use Rattle.path.specs.declared.refusal.Refusal.{Refusal}
 use Rattle.commands.specs.Find.{Query}
 use Rattle.commands.specs.Explain.{Explain}
-use Rattle.index.specs.State.{Collection, find_collection}
+use Rattle.entries.specs.State.{Collection, find_collection}
 use Rattle.planner.specs.Plan.{Plan, scan, choose}
 use Rattle.planner.specs.Explaining.{explain_text}
 use Rattle.database_model.specs.Refusals.{words}

@@ -11,13 +11,13 @@ use Rattle.path.specs.declared.refusal.Refusal.{Refusal}
 use Rattle.path.specs.declared.refusal.Refusal.TheVariants as refusals
 use Rattle.commands.specs.NewIndex.{NewIndex}
 use Rattle.collections.proofs.LawLemmas as laws
-use Rattle.index.specs.LawfulState as states
-use Rattle.index.specs.State.{Collection, find_collection, put_collection}
-use Rattle.index.specs.StateEntries.{Leads}
-use Rattle.index.specs.declared.catalogue_reading.Catalogued.{Catalogued}
-use Rattle.index.proofs.FoundLawLemmas.{finds_put}
-use Rattle.index.proofs.PlaceLemmas.{found_name}
-use Rattle.index.proofs.StateEditLaws.{put_same}
+use Rattle.entries.specs.LawfulState as states
+use Rattle.entries.specs.State.{Collection, find_collection, put_collection}
+use Rattle.entries.specs.StateEntries.{Leads}
+use Rattle.entries.specs.declared.catalogue_reading.Catalogued.{Catalogued}
+use Rattle.entries.proofs.FoundLawLemmas.{finds_put}
+use Rattle.entries.proofs.PlaceLemmas.{found_name}
+use Rattle.entries.proofs.StateEditLaws.{put_same}
 use Rattle.database_model.specs.CreateIndexes.{create_indexes_reply, indexed, run_create_indexes, with_new_indexes}
 use Rattle.database_model.specs.DropCollection.{index_count}
 use Rattle.engine.specs.Durable.{disk_history, has_changes, is_stopped, IsRunning, IsSound}

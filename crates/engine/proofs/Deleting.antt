@@ -16,10 +16,10 @@ use Rattle.filter.specs.Matches.{matches}
 use Rattle.bson.specs.Lawful.{IsDocument}
 use Rattle.value_order.specs.Order.{compare}
 use Rattle.std.specs.declared.cmp.Ordering.TheVariants as orders
-use Rattle.index.specs.State.{Collection, find_collection}
+use Rattle.entries.specs.State.{Collection, find_collection}
 use Rattle.database_model.specs.Documents.{key_of}
 use Rattle.database_model.specs.Lawful.{IsStored, IsHeld, IsKept, IsLawfulState}
-use Rattle.index.specs.LawfulState.{AreNamedApart}
+use Rattle.entries.specs.LawfulState.{AreNamedApart}
 use Rattle.statements.proofs.Ordered.{missing, found, replaced}
 use Rattle.statements.proofs.Located.{Gap, There, located}
 use Rattle.statements.proofs.NamesApart.{apart_set}

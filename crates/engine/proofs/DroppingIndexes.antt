@@ -13,20 +13,20 @@ use Rattle.collections.specs.Reading.{IsWithinLimits}
 use Rattle.collections.proofs.LawLemmas as laws
 use Rattle.commands.specs.DropIndexes.{DroppedIndexes}
 use Rattle.index.specs.Definition.{Definition}
-use Rattle.index.specs.IndexBuilding.{HasRemovedEntries}
-use Rattle.index.specs.IndexMaking.{DropsIndexAt, without_index_at}
+use Rattle.entries.specs.IndexBuilding.{HasRemovedEntries}
+use Rattle.entries.specs.IndexMaking.{DropsIndexAt, without_index_at}
 use Rattle.index.specs.KeyTexts.{encoded_keys, keys_in}
-use Rattle.index.specs.LawfulState as states
-use Rattle.index.specs.State.{Collection, find_collection, put_collection}
-use Rattle.index.specs.StateEntries.{Leads}
-use Rattle.index.specs.declared.catalogue_reading.Catalogued.{Catalogued}
-use Rattle.index.proofs.FoundLawLemmas.{finds_put, put_twice}
-use Rattle.index.proofs.HomeLemmas.{kept_of, listed_of, storable_of}
-use Rattle.index.proofs.IndexMakingLaws.{cut_at}
-use Rattle.index.proofs.LawfulLaws.{all_of}
-use Rattle.index.proofs.MemberLemmas.{Among, among_back, of_all}
-use Rattle.index.proofs.PlaceLemmas.{found_in, found_name}
-use Rattle.index.proofs.StateEditLaws.{put_same}
+use Rattle.entries.specs.LawfulState as states
+use Rattle.entries.specs.State.{Collection, find_collection, put_collection}
+use Rattle.entries.specs.StateEntries.{Leads}
+use Rattle.entries.specs.declared.catalogue_reading.Catalogued.{Catalogued}
+use Rattle.entries.proofs.FoundLawLemmas.{finds_put, put_twice}
+use Rattle.entries.proofs.HomeLemmas.{kept_of, listed_of, storable_of}
+use Rattle.entries.proofs.IndexMakingLaws.{cut_at}
+use Rattle.entries.proofs.LawfulLaws.{all_of}
+use Rattle.entries.proofs.MemberLemmas.{Among, among_back, of_all}
+use Rattle.entries.proofs.PlaceLemmas.{found_in, found_name}
+use Rattle.entries.proofs.StateEditLaws.{put_same}
 use Rattle.database_model.specs.DropCollection.{index_count}
 use Rattle.database_model.specs.DropIndexes.{dropped_in, drop_indexes_reply, index_dropped, is_dropped, left_by, remaining, run_drop_indexes}
 use Rattle.engine.specs.Durable.{disk_history, has_changes, is_stopped, IsRunning, IsSound}

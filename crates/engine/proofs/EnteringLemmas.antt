@@ -13,25 +13,24 @@ use Rattle.path.specs.declared.refusal.Refusal.TheVariants as refusals
 use Rattle.collections.specs.OtherKeys.{is_taken}
 use Rattle.collections.proofs.TakenLemmas.{taken_told}
 use Rattle.index.specs.Definition.{Definition, Field}
-use Rattle.index.specs.Entering.{Enters, clashes, is_duplicate, with_document}
-use Rattle.index.specs.KeptLaws.{noted}
-use Rattle.index.specs.IndexKeys.{has_parallel_arrays}
+use Rattle.entries.specs.Entering.{Enters, clashes, is_duplicate, with_document}
+use Rattle.index.specs.IndexKeys.{has_parallel_arrays, noted}
 use Rattle.index.specs.KeyTexts.{encoded_keys, is_too_long, keys_in, keys_in_all}
-use Rattle.index.specs.LawfulState as states
-use Rattle.index.specs.LawfulState.{IsStorable}
-use Rattle.index.specs.State.{Collection, find_collection, put_collection}
-use Rattle.index.specs.StateEntries.{Leads, Spells, key_under}
-use Rattle.index.specs.StateReads.{SpellsLawful, find_document}
+use Rattle.entries.specs.LawfulState as states
+use Rattle.entries.specs.LawfulState.{IsStorable}
+use Rattle.entries.specs.State.{Collection, find_collection, put_collection}
+use Rattle.entries.specs.StateEntries.{Leads, Spells, key_under}
+use Rattle.entries.specs.StateReads.{SpellsLawful, find_document}
 use Rattle.index.specs.View.{texts_of}
-use Rattle.index.specs.declared.catalogue_reading.Catalogued.{Catalogued}
-use Rattle.index.proofs.EnteringLemmas.{has_entered}
-use Rattle.index.proofs.EntryLemmas.{id_is_key}
-use Rattle.index.proofs.FoundLawLemmas.{finds_put, put_twice}
-use Rattle.index.proofs.IndexedLaws.{known}
-use Rattle.index.proofs.HomeLemmas.{kept_of}
-use Rattle.index.proofs.MemberLemmas.{Among, of_all}
-use Rattle.index.proofs.PlaceLemmas.{found_in}
-use Rattle.index.proofs.ReadLaws.{document_some, finds_document}
+use Rattle.entries.specs.declared.catalogue_reading.Catalogued.{Catalogued}
+use Rattle.entries.proofs.EnteringLemmas.{has_entered}
+use Rattle.entries.proofs.EntryLemmas.{id_is_key}
+use Rattle.entries.proofs.FoundLawLemmas.{finds_put, put_twice}
+use Rattle.entries.proofs.IndexedLaws.{known}
+use Rattle.entries.proofs.HomeLemmas.{kept_of}
+use Rattle.entries.proofs.MemberLemmas.{Among, of_all}
+use Rattle.entries.proofs.PlaceLemmas.{found_in}
+use Rattle.entries.proofs.ReadLaws.{document_some, finds_document}
 use Rattle.database_model.specs.Documents.{key_of}
 use Rattle.engine.specs.Storing.{AreNoted, HasNoted, IsReplaced, entering, write_of}
 

@@ -12,16 +12,16 @@ use Rattle.collections.specs.Calls.{HasCause, Reads}
 use Rattle.collections.specs.OtherKeys.{TellsDocument, TellsOf, is_taken}
 use Rattle.collections.specs.State.{State}
 use Rattle.index.specs.Definition.{Definition}
-use Rattle.index.specs.Entering.{AreKeyed, Enters, clashes, is_duplicate}
-use Rattle.index.specs.KeptLaws.{noted}
+use Rattle.entries.specs.Entering.{AreKeyed, Enters, clashes, is_duplicate}
+use Rattle.index.specs.IndexKeys.{noted}
 use Rattle.index.specs.KeyTexts.{encoded_keys, keys_in_all}
-use Rattle.index.specs.LawfulState.{IsStorable}
-use Rattle.index.specs.State.{Collection}
-use Rattle.index.specs.StateEntries.{key_under}
-use Rattle.index.specs.StateReads.{find_document}
+use Rattle.entries.specs.LawfulState.{IsStorable}
+use Rattle.entries.specs.State.{Collection}
+use Rattle.entries.specs.StateEntries.{key_under}
+use Rattle.entries.specs.StateReads.{find_document}
 use Rattle.index.specs.View.{texts_of}
-use Rattle.index.specs.declared.catalogue_reading.Catalogued.{Catalogued}
-use Rattle.index.specs.declared.entering.Keyed.{Keyed}
+use Rattle.entries.specs.declared.catalogue_reading.Catalogued.{Catalogued}
+use Rattle.entries.specs.declared.entering.Keyed.{Keyed}
 use Rattle.database_model.specs.Documents.{key_of}
 use Rattle.engine.specs.Durable.{disk_history, file_of, IsSound}
 use Rattle.engine.specs.Looking.{LooksOf, OnlyReads}

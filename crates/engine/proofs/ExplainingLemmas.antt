@@ -7,8 +7,8 @@ use Rattle.path.specs.declared.refusal.Refusal.{Refusal}
 use Rattle.commands.specs.Explain.{Explain}
 use Rattle.commands.specs.Find.{Query}
 use Rattle.index.specs.Definition.{Definition}
-use Rattle.index.specs.State.{Collection, find_collection}
-use Rattle.index.specs.declared.catalogue_reading.Catalogued.{Catalogued}
+use Rattle.entries.specs.State.{Collection, find_collection}
+use Rattle.entries.specs.declared.catalogue_reading.Catalogued.{Catalogued}
 use Rattle.planner.specs.Plan.{Plan, scan, choose}
 use Rattle.planner.specs.Explaining.{explain_text}
 use Rattle.planner.specs.ExplainingLaws.{explain_short}

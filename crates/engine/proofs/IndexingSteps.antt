@@ -8,15 +8,15 @@ use Rattle.path.specs.declared.refusal.Refusal.{Refusal}
 use Rattle.path.specs.declared.refusal.Refusal.TheVariants as refusals
 use Rattle.commands.specs.NewIndex.{NewIndex, defined}
 use Rattle.index.specs.Definition.{Definition, IsDefinition}
-use Rattle.index.specs.IndexMaking.{Begins, MakesIndexOf, with_index}
-use Rattle.index.specs.LawfulState as states
-use Rattle.index.specs.State.{Collection, find_collection, put_collection}
-use Rattle.index.specs.StateEntries.{Leads}
-use Rattle.index.specs.declared.catalogue_reading.Catalogued.{Catalogued}
-use Rattle.index.specs.declared.making.NewEntries.{NewEntries}
-use Rattle.index.proofs.FoundLawLemmas.{finds_put, put_twice}
-use Rattle.index.proofs.HomeLemmas.{kept_of}
-use Rattle.index.proofs.PlaceLemmas.{found_in}
+use Rattle.entries.specs.IndexMaking.{Begins, MakesIndexOf, with_index}
+use Rattle.entries.specs.LawfulState as states
+use Rattle.entries.specs.State.{Collection, find_collection, put_collection}
+use Rattle.entries.specs.StateEntries.{Leads}
+use Rattle.entries.specs.declared.catalogue_reading.Catalogued.{Catalogued}
+use Rattle.entries.specs.declared.making.NewEntries.{NewEntries}
+use Rattle.entries.proofs.FoundLawLemmas.{finds_put, put_twice}
+use Rattle.entries.proofs.HomeLemmas.{kept_of}
+use Rattle.entries.proofs.PlaceLemmas.{found_in}
 use Rattle.database_model.specs.CreateIndexes.{is_in_conflict, is_there, unused_index, with_new_index, with_new_indexes}
 use Rattle.engine.specs.Durable.{disk_history, is_stopped, IsRunning, IsSound}
 use Rattle.engine.specs.Indexing.{HasDocumentsOf, Indexed, IsIndexed, IsUnbegun, IsUnindexable}

@@ -13,12 +13,12 @@ use Rattle.commands.specs.View.{documents_at}
 use Rattle.collections.specs.Calls.{HasCause}
 use Rattle.collections.specs.Reading.{IsWithinLimits, catalogued_in, catalogued_of}
 use Rattle.update.specs.Stored.{id_first}
-use Rattle.index.specs.Documents.{AddsCollection}
-use Rattle.index.specs.LawfulState as states
-use Rattle.index.specs.LawfulState.{IsStorable}
-use Rattle.index.specs.State.{Collection, find_collection, put_collection}
-use Rattle.index.specs.StateEntries.{Leads}
-use Rattle.index.specs.declared.catalogue_reading.Catalogued.{Catalogued}
+use Rattle.entries.specs.Documents.{AddsCollection}
+use Rattle.entries.specs.LawfulState as states
+use Rattle.entries.specs.LawfulState.{IsStorable}
+use Rattle.entries.specs.State.{Collection, find_collection, put_collection}
+use Rattle.entries.specs.StateEntries.{Leads}
+use Rattle.entries.specs.declared.catalogue_reading.Catalogued.{Catalogued}
 use Rattle.database_model.specs.Documents.{checked, insert_all, insert_one, key_of}
 use Rattle.engine.specs.Durable.{disk_history, file_of, IsRunning}
 use Rattle.database_model.specs.Insert.{inserted}

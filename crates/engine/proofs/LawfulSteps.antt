@@ -11,7 +11,7 @@ use Rattle.bson.specs.Tree.{Pairs, pair, no_pairs}
 use Rattle.bson.specs.Spelling.{items_bytes}
 use Rattle.bson.specs.declared.fault.BsonFault.{BsonFault}
 use Rattle.database_model.specs.World.{World, Cursor, collection_of, unused, number_or, with_documents, documents_of}
-use Rattle.index.specs.State.{Collection, find_collection, put_collection}
+use Rattle.entries.specs.State.{Collection, find_collection, put_collection}
 use Rattle.outcome.specs.Outcome.{◌>>=◌, unless, or_refused}
 use Rattle.database_model.specs.Documents.{place, insert_all}
 use Rattle.commands.specs.Find.{Query}
@@ -27,7 +27,7 @@ use Rattle.commands.specs.Update.{UpdateStatement, Update, IsRead}
 use Rattle.database_model.specs.Update.{Updated, not_updated, run_statements, update_reply, judged, run_all, spelled}
 use Rattle.database_model.specs.UpdateCommand.{entered_in, run_update, writes_in}
 use Rattle.statements.specs.WriteLaws.{documents_in}
-use Rattle.index.specs.Entering.{DocumentWrite, enter_each}
+use Rattle.entries.specs.Entering.{DocumentWrite, enter_each}
 use Rattle.statements.proofs.KeptLemmas.{Kept, stored_at}
 use Rattle.statements.proofs.WriteLawLemmas.{writes_stored}
 use Rattle.commands.specs.ListCollections.{ListCollections}

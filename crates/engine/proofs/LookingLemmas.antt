@@ -5,7 +5,7 @@ use Rattle.bson.specs.Tree.{Pairs}
 use Rattle.page.specs.History.{History, KeepsWord}
 use Rattle.path.specs.declared.refusal.Refusal.{Refusal}
 use Rattle.path.specs.declared.refusal.Refusal.TheVariants as refusals
-use Rattle.index.specs.State.{Collection}
+use Rattle.entries.specs.State.{Collection}
 use Rattle.collections.specs.Calls.{GoesFrom, HasCause, Reads}
 use Rattle.collections.specs.Reading.{ReadsOf}
 use Rattle.collections.specs.Standing.{HasState}

@@ -6,9 +6,9 @@ use Rattle.path.specs.declared.refusal.Refusal.{Refusal}
 use Rattle.path.specs.declared.refusal.Refusal.TheVariants as refusals
 use Rattle.outcome.specs.Outcome.{◌>>=◌}
 use Rattle.btree.specs.Keys.{Edit}
-use Rattle.index.specs.LawfulState.{IsLawfulState}
-use Rattle.index.specs.State.{Collection}
-use Rattle.index.specs.StateEntries.{Leads}
+use Rattle.entries.specs.LawfulState.{IsLawfulState}
+use Rattle.entries.specs.State.{Collection}
+use Rattle.entries.specs.StateEntries.{Leads}
 use Rattle.collections.specs.Calls.{HasCause, HasWriteCause, IsOfFile}
 use Rattle.collections.proofs.LawLemmas as laws
 use Rattle.engine.specs.Durable.{disk_history, file_of, IsRunning, IsSound}

@@ -11,7 +11,7 @@ use Rattle.path.specs.declared.refusal.Refusal.{Refusal}
 use Rattle.path.specs.declared.refusal.Refusal.TheVariants as refusals
 use Rattle.commands.specs.Update.{UpdateStatement, IsRead}
 use Rattle.collections.specs.Calls.{HasCause}
-use Rattle.index.specs.State.{Collection, find_collection}
+use Rattle.entries.specs.State.{Collection, find_collection}
 use Rattle.engine.specs.Durable.{disk_history, file_of, IsSound}
 use Rattle.engine.specs.Looking.{Looks, LooksOf, OnlyReads}
 use Rattle.database_model.specs.Merging.{is_meant, makes_any}
@@ -25,7 +25,7 @@ use Rattle.engine.specs.declared.updates.Meant.{Meant}
 use Rattle.statements.specs.declared.statements.Ran.{Ran}
 use Rattle.engine.proofs.LookingLemmas.{looks_behind}
 use Rattle.engine.specs.TakingOut.{IsHome}
-use Rattle.index.specs.declared.catalogue_reading.Catalogued.{Catalogued}
+use Rattle.entries.specs.declared.catalogue_reading.Catalogued.{Catalogued}
 use Rattle.engine.proofs.CataloguedLemmas.{IsCatalogueOf, has_home, not_catalogued}
 use Rattle.engine.proofs.OnlyReading.{cause_from, now_same, reads_none, reads_on, word_before}
 use Rattle.engine.proofs.PlannedUpdates.{ran_update}

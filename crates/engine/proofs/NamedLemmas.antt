@@ -4,8 +4,8 @@ use Rattle.std.specs.Option.{option_map}
 use Rattle.bson.specs.Tree.{Pairs}
 use Rattle.page.specs.History.{History}
 use Rattle.path.specs.declared.refusal.Refusal.{Refusal}
-use Rattle.index.specs.State.{Collection, find_collection}
-use Rattle.index.proofs.PlaceLemmas.{found_name}
+use Rattle.entries.specs.State.{Collection, find_collection}
+use Rattle.entries.proofs.PlaceLemmas.{found_name}
 use Rattle.collections.specs.Reading.{IsNumbered}
 use Rattle.engine.specs.Looking.{Looks, LooksOf}
 use Rattle.engine.specs.Durable.{IsSound}
@@ -13,7 +13,7 @@ use Rattle.engine.specs.View.{world}
 use Rattle.engine.specs.declared.engine.Engine.{Engine}
 use Rattle.database_model.specs.World.{documents_of}
 use Rattle.queries.specs.Asking.{IsAsked}
-use Rattle.index.specs.declared.catalogue_reading.Catalogued.{Catalogued}
+use Rattle.entries.specs.declared.catalogue_reading.Catalogued.{Catalogued}
 use Rattle.engine.specs.TakingOut.{HasHome, IsHome}
 use Rattle.engine.proofs.CataloguedLemmas.{IsCatalogueOf, has_home, not_catalogued}
 use Rattle.statements.proofs.Numbers.{found_kept}

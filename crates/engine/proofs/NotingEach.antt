@@ -5,8 +5,8 @@ use Rattle.btree.specs.Keys.{Edit}
 use Rattle.outcome.specs.Outcome.{◌>>=◌}
 use Rattle.path.specs.declared.refusal.Refusal.{Refusal}
 use Rattle.collections.specs.Reading.{IsWithinLimits}
-use Rattle.index.specs.State.{Collection}
-use Rattle.index.specs.declared.catalogue_reading.Catalogued.{Catalogued}
+use Rattle.entries.specs.State.{Collection}
+use Rattle.entries.specs.declared.catalogue_reading.Catalogued.{Catalogued}
 use Rattle.engine.specs.Durable.{disk_history}
 use Rattle.engine.specs.Looking.{OnlyReads}
 use Rattle.engine.specs.Storing.{AreNoted, HasNoted, Notes}

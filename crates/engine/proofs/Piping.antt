@@ -10,7 +10,7 @@ use Rattle.aggregate.specs.Stage.{Stage}
 use Rattle.aggregate.specs.Limits.{first_fault}
 use Rattle.aggregate.specs.Pipeline.{run as after_pipeline}
 use Rattle.aggregate.specs.TakingLaws.{stays_within}
-use Rattle.index.specs.State.{Collection}
+use Rattle.entries.specs.State.{Collection}
 use Rattle.database_model.specs.World.{documents_of}
 use Rattle.statements.proofs.KeptLemmas.{stored_at}
 use Rattle.database_model.specs.Lawful.{IsLawfulState, IsStored, IsWithin}

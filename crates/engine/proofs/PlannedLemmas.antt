@@ -6,7 +6,7 @@ use Rattle.bson.specs.Tree.{Pairs, no_pairs, pair}
 use Rattle.outcome.specs.Outcome.{unless}
 use Rattle.path.specs.declared.refusal.Refusal.{Refusal}
 use Rattle.path.specs.declared.refusal.Refusal.TheVariants as refusals
-use Rattle.index.specs.State.{Collection, find_collection, put_collection}
+use Rattle.entries.specs.State.{Collection, find_collection, put_collection}
 use Rattle.commands.specs.NewIndex.{IsShortNewIndex, NewIndex}
 use Rattle.database_model.specs.Create.{created, run_create}
 use Rattle.commands.specs.DropIndexes.{DroppedIndexes}

@@ -8,10 +8,10 @@ use Rattle.outcome.specs.Outcome.{◌>>=◌}
 use Rattle.path.specs.declared.refusal.Refusal.{Refusal}
 use Rattle.path.specs.declared.refusal.Refusal.TheVariants as refusals
 use Rattle.commands.specs.Update.{UpdateStatement, IsRead}
-use Rattle.index.specs.LawfulState.{IsRising}
-use Rattle.index.specs.State.{Collection, find_collection}
-use Rattle.index.proofs.PlaceLemmas.{found_name}
-use Rattle.index.proofs.StateEditLaws.{put_same}
+use Rattle.entries.specs.LawfulState.{IsRising}
+use Rattle.entries.specs.State.{Collection, find_collection}
+use Rattle.entries.proofs.PlaceLemmas.{found_name}
+use Rattle.entries.proofs.StateEditLaws.{put_same}
 use Rattle.database_model.specs.Lawful.{IsLawfulState, IsStored}
 use Rattle.database_model.specs.Merging.{Listed, listed_in, makes_any, not_listed, put_each, run_each, upsert_listed}
 use Rattle.engine.specs.Putting.{AreMeantOf, EndsIn, IsFullFor, IsMeant, IsUpdate, MeansIn}

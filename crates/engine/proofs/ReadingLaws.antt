@@ -19,7 +19,7 @@ use Rattle.database_model.specs.Explain.{run_explain}
 use Rattle.database_model.specs.ListCollections.{run_list_collections}
 use Rattle.commands.specs.Command.{Command, ping, insert, find, count, delete, update, aggregate, create, drop as drop_of, list_collections, create_indexes}
 use Rattle.commands.specs.Command.{drop_indexes, list_indexes, explain, command_of, get_more, kill_cursors, hello}
-use Rattle.index.specs.State.{Collection, find_collection}
+use Rattle.entries.specs.State.{Collection, find_collection}
 use Rattle.database_model.specs.World.{World, documents_of}
 use Rattle.database_model.specs.Cursors.{batch_of, batch_reply, open_cursor, is_refused, new_cursor, first_batch, is_cursor}
 use Rattle.commands.specs.GetMore.{GetMore}

@@ -13,12 +13,12 @@ use Rattle.commands.specs.Delete.{Deletion}
 use Rattle.collections.specs.Calls.{HasCause}
 use Rattle.collections.proofs.LawLemmas as laws
 use Rattle.index.specs.Definition.{Definition}
-use Rattle.index.specs.LawfulState.{AreNamedApart, IsKept, IsLawfulState}
-use Rattle.index.specs.State.{Collection, find_collection, put_collection}
-use Rattle.index.specs.StateEntries.{Leads}
-use Rattle.index.proofs.HomeLemmas.{kept_of}
-use Rattle.index.proofs.PlaceLemmas.{found_in, found_name}
-use Rattle.index.proofs.StateEditLaws.{put_same}
+use Rattle.entries.specs.LawfulState.{AreNamedApart, IsKept, IsLawfulState}
+use Rattle.entries.specs.State.{Collection, find_collection, put_collection}
+use Rattle.entries.specs.StateEntries.{Leads}
+use Rattle.entries.proofs.HomeLemmas.{kept_of}
+use Rattle.entries.proofs.PlaceLemmas.{found_in, found_name}
+use Rattle.entries.proofs.StateEditLaws.{put_same}
 use Rattle.database_model.specs.Delete.{after_deletion, after_deletions, deleted_in, run_delete}
 use Rattle.engine.specs.Durable.{disk_history, file_of, IsSound}
 use Rattle.engine.specs.Looking.{Looks, OnlyReads}

@@ -7,7 +7,7 @@ use Rattle.page.specs.History.{History, KeepsWord}
 use Rattle.collections.specs.Standing.{HasState}
 use Rattle.collections.specs.State.{State}
 use Rattle.database_model.specs.World.{World, Cursor, forget, after_undo}
-use Rattle.index.specs.State.{Collection}
+use Rattle.entries.specs.State.{Collection}
 use Rattle.database_model.specs.Lawful.{IsWithin, IsLawfulState, IsLawful}
 use Rattle.commands.specs.Command.{Command, IsBounded}
 use Rattle.database_model.specs.Step.{run, answered, RefusedBeside}

@@ -12,14 +12,14 @@ use Rattle.btree.specs.Keys.{Edit}
 use Rattle.collections.specs.Reading.{catalogued_in, catalogued_of}
 use Rattle.update.specs.Stored.{id_first}
 use Rattle.index.specs.Definition.{Definition}
-use Rattle.index.specs.Documents.{AddsCollection}
-use Rattle.index.specs.LawfulState as states
-use Rattle.index.specs.LawfulState.{IsStorable}
-use Rattle.index.specs.State.{Collection, empty_collection, find_collection, put_collection, uses}
-use Rattle.index.specs.StateEntries.{Leads}
-use Rattle.index.specs.declared.catalogue_reading.Catalogued.{Catalogued}
-use Rattle.index.proofs.PlaceLemmas.{found_name}
-use Rattle.index.proofs.StateEditLaws.{put_same}
+use Rattle.entries.specs.Documents.{AddsCollection}
+use Rattle.entries.specs.LawfulState as states
+use Rattle.entries.specs.LawfulState.{IsStorable}
+use Rattle.entries.specs.State.{Collection, empty_collection, find_collection, put_collection, uses}
+use Rattle.entries.specs.StateEntries.{Leads}
+use Rattle.entries.specs.declared.catalogue_reading.Catalogued.{Catalogued}
+use Rattle.entries.proofs.PlaceLemmas.{found_name}
+use Rattle.entries.proofs.StateEditLaws.{put_same}
 use Rattle.database_model.specs.Documents.{checked, insert_all, insert_one, key_of}
 use Rattle.database_model.specs.Insert.{inserted, is_full}
 use Rattle.database_model.specs.Lawful.{IsStored}

@@ -14,21 +14,21 @@ use Rattle.btree.specs.Keys.{Edit}
 use Rattle.path.specs.declared.refusal.Refusal.{Refusal}
 use Rattle.path.specs.declared.refusal.Refusal.TheVariants as refusals
 use Rattle.index.specs.Definition.{Definition}
-use Rattle.index.specs.Documents.{with_documents, without_document}
-use Rattle.index.specs.Indexed.{DeletesFrom}
+use Rattle.entries.specs.Documents.{with_documents, without_document}
+use Rattle.entries.specs.Indexed.{DeletesFrom}
 use Rattle.index.specs.KeyTexts.{encoded_keys, keys_in, keys_in_all}
-use Rattle.index.specs.LawfulState.{IsKept, IsLawfulState}
-use Rattle.index.specs.State.{Collection, put_collection}
-use Rattle.index.specs.StateEntries.{Leads}
-use Rattle.index.specs.StateLaws.{MayBecome}
-use Rattle.index.specs.StateReads.{find_document}
-use Rattle.index.proofs.FoundLawLemmas.{finds_put, put_twice}
-use Rattle.index.proofs.HomeLemmas.{kept_of, listed_of, storable_of}
-use Rattle.index.proofs.KeptSteps.{kept_without_document}
-use Rattle.index.proofs.LawfulLaws.{all_of, stays_lawful}
-use Rattle.index.proofs.MemberLemmas.{of_all}
-use Rattle.index.proofs.PlaceLemmas.{found_in}
-use Rattle.index.proofs.StateEditLaws.{put_same}
+use Rattle.entries.specs.LawfulState.{IsKept, IsLawfulState}
+use Rattle.entries.specs.State.{Collection, put_collection}
+use Rattle.entries.specs.StateEntries.{Leads}
+use Rattle.entries.specs.StateLaws.{MayBecome}
+use Rattle.entries.specs.StateReads.{find_document}
+use Rattle.entries.proofs.FoundLawLemmas.{finds_put, put_twice}
+use Rattle.entries.proofs.HomeLemmas.{kept_of, listed_of, storable_of}
+use Rattle.entries.proofs.KeptSteps.{kept_without_document}
+use Rattle.entries.proofs.LawfulLaws.{all_of, stays_lawful}
+use Rattle.entries.proofs.MemberLemmas.{of_all}
+use Rattle.entries.proofs.PlaceLemmas.{found_in}
+use Rattle.entries.proofs.StateEditLaws.{put_same}
 use Rattle.database_model.specs.Documents.{key_of}
 use Rattle.statements.specs.Redoing.{without_each}
 use Rattle.engine.specs.TakingOut.{AreThere, IsIndexable, TakesOut}

@@ -18,13 +18,13 @@ use Rattle.collections.specs.Walk.{BeginsWalk, IsWalk, StepsOn}
 use Rattle.collections.specs.declared.walk.Walk.{Walk}
 use Rattle.collections.proofs.StandingLemmas.{stopped_same}
 use Rattle.index.specs.Definition.{Definition}
-use Rattle.index.specs.IndexBuilding.{HasRemovedEntries}
+use Rattle.entries.specs.IndexBuilding.{HasRemovedEntries}
 use Rattle.index.specs.KeyTexts.{encoded_keys, keys_in}
-use Rattle.index.specs.Indexed.{GoesOnBy}
-use Rattle.index.specs.State.{Collection}
-use Rattle.index.specs.StateEntries.{index_entries, removal_of, removals}
-use Rattle.index.proofs.BuildingLaws.{removes_one_more}
-use Rattle.index.proofs.ManyEditsLaws.{goes_on}
+use Rattle.entries.specs.Indexed.{GoesOnBy}
+use Rattle.entries.specs.State.{Collection}
+use Rattle.entries.specs.StateEntries.{index_entries, removal_of, removals}
+use Rattle.entries.proofs.BuildingLaws.{removes_one_more}
+use Rattle.entries.proofs.ManyEditsLaws.{goes_on}
 use Rattle.engine.specs.Durable.{disk_history, IsRunning, IsSound}
 use Rattle.engine.specs.Looking.{LooksOf, OnlyReads}
 use Rattle.engine.specs.Unindexing.{HasKeysIn, HasUnindexed, IsIndexedBy, IsUnindexed, IsUnindexing}

@@ -13,10 +13,10 @@ use Rattle.collections.specs.Calls.{HasCause}
 use Rattle.commands.specs.Command.{update}
 use Rattle.commands.specs.OutcomeLaws.{step_of}
 use Rattle.commands.specs.Update.{UpdateStatement, IsRead}
-use Rattle.index.specs.Entering.{DocumentWrite}
-use Rattle.index.specs.LawfulState as states
-use Rattle.index.specs.State.{Collection}
-use Rattle.index.specs.StateEntries.{Leads}
+use Rattle.entries.specs.Entering.{DocumentWrite}
+use Rattle.entries.specs.LawfulState as states
+use Rattle.entries.specs.State.{Collection}
+use Rattle.entries.specs.StateEntries.{Leads}
 use Rattle.engine.specs.Durable.{disk_history, file_of, has_changes, IsRunning}
 use Rattle.opening.specs.Known.{Known}
 use Rattle.database_model.specs.Lawful.{IsLawfulState}

@@ -13,8 +13,8 @@ use Rattle.projection.specs.Projection.{Projection}
 use Rattle.page.specs.History.{History, KeepsWord}
 use Rattle.collections.specs.Reading.{IsNumbered}
 use Rattle.collections.specs.State.{State}
-use Rattle.index.specs.State.{Collection}
-use Rattle.index.specs.declared.catalogue_reading.Catalogued.{Catalogued}
+use Rattle.entries.specs.State.{Collection}
+use Rattle.entries.specs.declared.catalogue_reading.Catalogued.{Catalogued}
 use Rattle.cursors.specs.Held.{Held, table_of}
 use Rattle.pinned_cursors.specs.Opening.{IsLeftOf, OpensPinned, rest_behind}
 use Rattle.pinned_cursors.specs.declared.opening.WalkSoFar.{WalkSoFar}

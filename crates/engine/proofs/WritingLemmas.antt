@@ -4,9 +4,9 @@ use Rattle.page.specs.History.{History, KeepsWord}
 use Rattle.btree.specs.Keys.{Edit}
 use Rattle.path.specs.declared.refusal.Refusal.{Refusal}
 use Rattle.path.specs.declared.refusal.Refusal.TheVariants as refusals
-use Rattle.index.specs.LawfulState as states
-use Rattle.index.specs.State.{Collection}
-use Rattle.index.specs.StateEntries.{Leads}
+use Rattle.entries.specs.LawfulState as states
+use Rattle.entries.specs.State.{Collection}
+use Rattle.entries.specs.StateEntries.{Leads}
 use Rattle.collections.specs.Calls.{Applies}
 use Rattle.collections.specs.Standing.{HasState}
 use Rattle.collections.specs.State.{State}

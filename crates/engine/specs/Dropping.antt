@@ -5,11 +5,11 @@ use Rattle.bson.specs.Tree.{Pairs}
 use Rattle.btree.specs.Keys.{Edit}
 use Rattle.collections.specs.Walk.{IsWalk}
 use Rattle.collections.specs.declared.walk.Walk.{Walk}
-use Rattle.index.specs.Documents.{with_documents}
-use Rattle.index.specs.LawfulState.{IsLawfulState}
-use Rattle.index.specs.State.{Collection}
-use Rattle.index.specs.StateEntries.{Leads}
-use Rattle.index.specs.declared.catalogue_reading.Catalogued.{Catalogued}
+use Rattle.entries.specs.Documents.{with_documents}
+use Rattle.entries.specs.LawfulState.{IsLawfulState}
+use Rattle.entries.specs.State.{Collection}
+use Rattle.entries.specs.StateEntries.{Leads}
+use Rattle.entries.specs.declared.catalogue_reading.Catalogued.{Catalogued}
 use Rattle.engine.specs.TakingOut.{IsHome, IsIndexable}
 
 -- The edits lead to the collections with these documents alone in one of them.

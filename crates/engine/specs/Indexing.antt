@@ -9,11 +9,11 @@ use Rattle.path.specs.declared.refusal.Refusal.{Refusal}
 use Rattle.path.specs.declared.refusal.Refusal.TheVariants as refusals
 use Rattle.commands.specs.NewIndex.{NewIndex}
 use Rattle.index.specs.Definition.{Definition}
-use Rattle.index.specs.IndexMaking.{HasEntries, with_index}
-use Rattle.index.specs.LawfulState as states
-use Rattle.index.specs.State.{Collection, find_collection, put_collection}
-use Rattle.index.specs.StateEntries.{Leads}
-use Rattle.index.specs.declared.making.NewEntries.{NewEntries}
+use Rattle.entries.specs.IndexMaking.{HasEntries, with_index}
+use Rattle.entries.specs.LawfulState as states
+use Rattle.entries.specs.State.{Collection, find_collection, put_collection}
+use Rattle.entries.specs.StateEntries.{Leads}
+use Rattle.entries.specs.declared.making.NewEntries.{NewEntries}
 use Rattle.database_model.specs.CreateIndexes.{with_new_indexes}
 use Rattle.database_model.specs.Insert.{is_full}
 use Rattle.database_model.specs.World.{collection_of, documents_of}

@@ -4,7 +4,7 @@ use Rattle.page.specs.History.{History, KeepsWord, now, reads, IsImage}
 use Rattle.page.specs.Crash.{GoesOn, LeavesOnly, LeavesNow}
 use Rattle.trusted_disk.specs.Trusting.{trusted_history}
 use Rattle.trusted_disk.specs.declared.disk.TrustedDisk.{TrustedDisk}
-use Rattle.index.specs.State.{Collection}
+use Rattle.entries.specs.State.{Collection}
 use Rattle.collections.specs.Trusting as files
 use Rattle.opening.specs.Holding.{Holds}
 use Rattle.engine.specs.View.{world, turn_start}

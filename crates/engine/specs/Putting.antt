@@ -1,6 +1,7 @@
 -- What an update puts into the file: clauses of private functions.
 use Rattle.std.specs.Prelude.{◌≡◌, ◌⊎◌, ◌≤◌, ◌<◌, ℕ, Bool, true, false, not, is_some, List, [], ◌∷◌}
-use Rattle.std.specs.Prelude.{◌-◌, ◌^◌, length, map, take, Option, Some, None, Result, Ok, Err, MatchResult}
+use Rattle.std.specs.Prelude.{◌-◌, ◌^◌, length, map, take, Option, Some, None, Result, Ok, Err}
+use Rattle.std.specs.Prelude.{MatchResult}
 use Rattle.std.specs.List.{filter}
 use Rattle.bson.specs.Tree.{Pairs, no_items}
 use Rattle.page.specs.History.{History, KeepsWord}
@@ -9,11 +10,11 @@ use Rattle.path.specs.declared.refusal.Refusal.{Refusal}
 use Rattle.path.specs.declared.refusal.Refusal.TheVariants as refusals
 use Rattle.collections.specs.Calls.{HasCause}
 use Rattle.commands.specs.Update.{UpdateStatement}
-use Rattle.index.specs.Documents.{put_document}
-use Rattle.index.specs.LawfulState as states
-use Rattle.index.specs.LawfulState.{IsStorable}
-use Rattle.index.specs.State.{Collection, find_collection}
-use Rattle.index.specs.StateEntries.{Leads}
+use Rattle.entries.specs.Documents.{put_document}
+use Rattle.entries.specs.LawfulState as states
+use Rattle.entries.specs.LawfulState.{IsStorable}
+use Rattle.entries.specs.State.{Collection, find_collection}
+use Rattle.entries.specs.StateEntries.{Leads}
 use Rattle.engine.specs.Durable.{disk_history, file_of}
 use Rattle.engine.specs.Looking.{OnlyReads}
 use Rattle.database_model.specs.Merging.{is_meant, made_of, makes_any}

@@ -9,14 +9,14 @@ use Rattle.path.specs.declared.refusal.Refusal.{Refusal}
 use Rattle.path.specs.declared.refusal.Refusal.TheVariants as refusals
 use Rattle.collections.specs.Calls.{HasCause}
 use Rattle.value_order.specs.KeyText.{tree_text}
-use Rattle.index.specs.Entering.{AreKeyed, DocumentWrite, clashes, entered, is_duplicate}
-use Rattle.index.specs.LawfulState as states
-use Rattle.index.specs.LawfulState.{IsStorable}
-use Rattle.index.specs.State.{Collection, put_collection}
-use Rattle.index.specs.StateEntries.{Leads}
-use Rattle.index.specs.StateReads.{find_document}
-use Rattle.index.specs.declared.catalogue_reading.Catalogued.{Catalogued}
-use Rattle.index.specs.declared.entering.Keyed.{Keyed}
+use Rattle.entries.specs.Entering.{AreKeyed, DocumentWrite, clashes, entered, is_duplicate}
+use Rattle.entries.specs.LawfulState as states
+use Rattle.entries.specs.LawfulState.{IsStorable}
+use Rattle.entries.specs.State.{Collection, put_collection}
+use Rattle.entries.specs.StateEntries.{Leads}
+use Rattle.entries.specs.StateReads.{find_document}
+use Rattle.entries.specs.declared.catalogue_reading.Catalogued.{Catalogued}
+use Rattle.entries.specs.declared.entering.Keyed.{Keyed}
 use Rattle.database_model.specs.Documents.{key_of}
 use Rattle.engine.specs.Durable.{disk_history, file_of}
 use Rattle.database_model.specs.Insert.{is_full}

@@ -9,11 +9,11 @@ use Rattle.collections.specs.declared.walk.Walk.{Walk}
 use Rattle.path.specs.declared.refusal.Refusal.{Refusal}
 use Rattle.commands.specs.DropIndexes.{DroppedIndexes}
 use Rattle.index.specs.Definition.{Definition}
-use Rattle.index.specs.IndexBuilding.{HasRemovedEntries}
-use Rattle.index.specs.IndexMaking.{without_index_at}
+use Rattle.entries.specs.IndexBuilding.{HasRemovedEntries}
+use Rattle.entries.specs.IndexMaking.{without_index_at}
 use Rattle.index.specs.KeyTexts.{encoded_keys, keys_in}
-use Rattle.index.specs.LawfulState.{IsStorable}
-use Rattle.index.specs.State.{Collection, find_collection}
+use Rattle.entries.specs.LawfulState.{IsStorable}
+use Rattle.entries.specs.State.{Collection, find_collection}
 use Rattle.database_model.specs.DropIndexes.{remaining}
 
 -- ---- documents

@@ -11,7 +11,7 @@ ghost use Rattle.engine.specs.Writing.{Makes};
 
 use crate::engine::Engine;
 use bson::Document;
-use index::Edits;
+use entries::Edits;
 use page::Disk;
 use path::Refusal;
 use replies::ping_reply;

@@ -15,7 +15,7 @@ ghost use Rattle.engine.specs.Writing.{Makes};
 use crate::engine::Engine;
 use bson::Document;
 use commands::NewIndex;
-use index::Edits;
+use entries::Edits;
 use page::Disk;
 use path::Refusal;
 use replies::create_indexes_reply;

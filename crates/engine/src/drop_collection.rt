@@ -16,7 +16,7 @@ use crate::engine::Engine;
 use crate::removing::note_removed;
 use bson::Document;
 use collections::Walk;
-use index::{Catalogued, Edits};
+use entries::{Catalogued, Edits};
 use page::Disk;
 use path::Refusal;
 use queries::BATCH;

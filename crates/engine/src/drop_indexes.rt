@@ -15,7 +15,7 @@ ghost use Rattle.collections.specs.Reading.{IsWithinLimits};
 use crate::engine::Engine;
 use bson::Document;
 use commands::DroppedIndexes;
-use index::{Catalogued, Edits};
+use entries::{Catalogued, Edits};
 use index_list::{check_dropped, first_dropped};
 use page::Disk;
 use path::Refusal;

@@ -2,8 +2,8 @@
 
 ghost use Rattle.std.specs.Prelude.{◌≡◌, ◌≤◌, [], IfOk, length, option_map};
 ghost use Rattle.collections.specs.Reading.{IsWithinLimits};
-ghost use Rattle.index.specs.Entering.{AreKeyed};
-ghost use Rattle.index.specs.LawfulState.{IsStorable};
+ghost use Rattle.entries.specs.Entering.{AreKeyed};
+ghost use Rattle.entries.specs.LawfulState.{IsStorable};
 ghost use Rattle.engine.specs.Durable.{IsSound};
 ghost use Rattle.engine.specs.Looking.{LooksOf};
 ghost use Rattle.engine.specs.Storing.{AreNoted, IsBeside, IsFull, MayEnter, Notes, TellsDuplicate, TellsTaken, entering};
@@ -16,7 +16,7 @@ ghost use Rattle.value_order.specs.KeyText.{tree_text};
 
 use crate::engine::Engine;
 use bson::Document;
-use index::{Catalogued, Edits, Keyed};
+use entries::{Catalogued, Edits, Keyed};
 use page::Disk;
 use path::Refusal;
 use statements::id_text;

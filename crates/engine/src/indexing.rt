@@ -14,7 +14,7 @@ use crate::engine::Engine;
 use bson::Document;
 use collections::Walk;
 use commands::NewIndex;
-use index::{Catalogued, Edits, NewEntries};
+use entries::{Catalogued, Edits, NewEntries};
 use index_list::{is_in_conflict, is_there, unused_number};
 use page::Disk;
 use path::Refusal;

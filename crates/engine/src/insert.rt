@@ -16,7 +16,7 @@ ghost use Rattle.engine.specs.Writing.{Makes};
 
 use crate::engine::Engine;
 use bson::Document;
-use index::{Catalogued, Edits};
+use entries::{Catalogued, Edits};
 use page::Disk;
 use path::Refusal;
 use replies::insert_reply;

@@ -5,7 +5,7 @@ ghost use Rattle.std.specs.List.{filter};
 ghost use Rattle.std.specs.Option.{option_map};
 ghost use Rattle.collections.specs.Reading.{IsWithinLimits, catalogued_in, catalogued_of};
 ghost use Rattle.sort.specs.Sort.{order};
-ghost use Rattle.index.specs.State.{find_collection};
+ghost use Rattle.entries.specs.State.{find_collection};
 ghost use Rattle.collections.specs.View.{is_changed};
 ghost use Rattle.engine.specs.Durable.{IsSound, file_of};
 ghost use Rattle.database_model.specs.Find.{matching};
@@ -20,8 +20,8 @@ ghost use Rattle.database_model.specs.World.{documents_of};
 use crate::engine::Engine;
 use bson::SpelledDocument;
 use commands::Query;
+use entries::Catalogued;
 use filter::Filter;
-use index::Catalogued;
 use page::Disk;
 use path::Refusal;
 use queries::{

@@ -4,7 +4,7 @@ ghost use Rattle.std.specs.Prelude.{[], ◌∷◌, map};
 ghost use Rattle.engine.specs.TakingOut.{Removes};
 
 use bson::Document;
-use index::{Catalogued, Edits, Keyed};
+use entries::{Catalogued, Edits, Keyed};
 use path::Refusal;
 use sort::AsDocument;
 use statements::id_text;

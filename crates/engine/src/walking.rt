@@ -18,7 +18,7 @@ use crate::find::enough;
 use bson::SpelledDocument;
 use commands::Query;
 use cursors::Rest;
-use index::Catalogued;
+use entries::Catalogued;
 use opening::Told;
 use page::Disk;
 use path::Refusal;

@@ -2,16 +2,16 @@
 
 ghost use Rattle.std.specs.Prelude.{◌≡◌, List};
 ghost use Rattle.page.specs.History.{KeepsWord};
-ghost use Rattle.index.specs.LawfulState as states;
-ghost use Rattle.index.specs.State.{Collection};
-ghost use Rattle.index.specs.StateEntries.{Leads};
+ghost use Rattle.entries.specs.LawfulState as states;
+ghost use Rattle.entries.specs.State.{Collection};
+ghost use Rattle.entries.specs.StateEntries.{Leads};
 ghost use Rattle.engine.specs.Durable.{disk_history, IsRunning, IsSound};
 ghost use Rattle.database_model.specs.Lawful.{IsLawfulState};
 ghost use Rattle.engine.specs.View.{world};
 ghost use Rattle.engine.specs.Writing.{Writes};
 
 use crate::engine::Engine;
-use index::Edits;
+use entries::Edits;
 use page::Disk;
 use path::Refusal;
 

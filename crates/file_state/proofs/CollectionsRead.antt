@@ -6,16 +6,16 @@ use Rattle.bson.specs.Tree.{Pairs}
 use Rattle.bson.proofs.RawLaws.{document_spelled-is}
 use Rattle.btree.specs.Keys.{Entry}
 use Rattle.index.specs.Definition.{Definition}
-use Rattle.index.specs.LawfulState.{AreNamedApart, IsStorable}
-use Rattle.index.specs.State.{Collection, find_collection}
-use Rattle.index.specs.StateEntries.{catalogue_entry, catalogue_value, document_entry}
-use Rattle.index.specs.StateReads.{SpellsLawful}
-use Rattle.index.proofs.CatalogueReadLaws.{all_back, kept_lawful, kept_spells}
-use Rattle.index.proofs.HomeLemmas.{kept_of, storable_of}
-use Rattle.index.proofs.ListingLaws.{lists_collections, lists_documents}
-use Rattle.index.proofs.MemberLemmas.{Among}
-use Rattle.index.proofs.PlaceLemmas.{found_split, none_without, without_other}
-use Rattle.index.proofs.ReadingLemmas.{name_behind, storable_spells}
+use Rattle.entries.specs.LawfulState.{AreNamedApart, IsStorable}
+use Rattle.entries.specs.State.{Collection, find_collection}
+use Rattle.entries.specs.StateEntries.{catalogue_entry, catalogue_value, document_entry}
+use Rattle.entries.specs.StateReads.{SpellsLawful}
+use Rattle.entries.proofs.CatalogueReadLaws.{all_back, kept_lawful, kept_spells}
+use Rattle.entries.proofs.HomeLemmas.{kept_of, storable_of}
+use Rattle.entries.proofs.ListingLaws.{lists_collections, lists_documents}
+use Rattle.entries.proofs.MemberLemmas.{Among}
+use Rattle.entries.proofs.PlaceLemmas.{found_split, none_without, without_other}
+use Rattle.entries.proofs.ReadingLemmas.{name_behind, storable_spells}
 use Rattle.file_state.specs.Collections.{collection_told, collections_among, collections_in, documents_told, indexes_of, name_told, number_of}
 use Rattle.file_state.specs.Laws.{ReadsCollections, ReadsHeld}
 use Rattle.file_state.proofs.EntriesRead.{reads_entries}

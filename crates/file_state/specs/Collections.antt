@@ -7,11 +7,11 @@ use Rattle.bson.specs.Lookup.{lookup}
 use Rattle.bson.specs.Raw.{document_spelled}
 use Rattle.bson.specs.Tree.{Tree, scalar, int32, array, Pairs}
 use Rattle.btree.specs.Keys.{Entry}
-use Rattle.index.specs.CatalogueReading.{definitions_in}
+use Rattle.entries.specs.CatalogueReading.{definitions_in}
 use Rattle.index.specs.Definition.{Definition}
-use Rattle.index.specs.Escaping.{unescaped}
-use Rattle.index.specs.State.{Collection}
-use Rattle.index.specs.StateReads.{entries_under}
+use Rattle.entries.specs.Escaping.{unescaped}
+use Rattle.entries.specs.State.{Collection}
+use Rattle.entries.specs.StateReads.{entries_under}
 use Rattle.file_state.specs.Entries.{entries_in}
 use Rattle.file_state.specs.StateTests.{is_lawful}
 

@@ -1,6 +1,7 @@
 -- The keys of a document in an index (MongoDB manual, "Multikey Indexes"): one value for each
 -- field, in every combination, where an array gives each of its elements.
-use Rattle.std.specs.Prelude.{ℕ, nat_lt, Bool, true, false, Some, None, List, [], ◌∷◌, map}
+use Rattle.std.specs.Prelude.{ℕ, nat_lt, Bool, true, false, if◌then◌else◌, Some, None, List}
+use Rattle.std.specs.Prelude.{[], ◌∷◌, map}
 use Rattle.std.specs.List.{flat_map, list_any, count_by}
 use Rattle.bson.specs.Tree.{Tree, scalar, null, document, array, Pairs, Items, no_items, item}
 use Rattle.bson.specs.Lookup.{lookup}
@@ -8,7 +9,7 @@ use Rattle.value_order.specs.Order.{Key, empty_array, value}
 use Rattle.path.specs.Parts.{parts_of}
 use Rattle.path.specs.Place.{some_passes}
 use Rattle.path.specs.Reach.{Reached, reach, items_list}
-use Rattle.index.specs.Definition.{Field}
+use Rattle.index.specs.Definition.{Field, Definition}
 
 -- the elements of an array, and a key of its own for an empty one
 abbrev pub array_keys : Items → List Key
@@ -51,6 +52,10 @@ field_meets_array ps f = meets_array (parts_of f.path) (document ps)
 -- an array on one of the paths makes an index multikey
 abbrev pub is_multikey : List Field → Pairs → Bool
 is_multikey fields ps = list_any (field_meets_array ps) fields
+
+-- the indexes, where those are multikey on whose paths the document has an array
+abbrev pub noted : Pairs → Definition → Definition
+noted d i = if is_multikey i.fields d then record i { is_multi = true } else i
 
 -- arrays on two of them are refused
 abbrev pub has_parallel_arrays : List Field → Pairs → Bool

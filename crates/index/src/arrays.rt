@@ -4,8 +4,7 @@ ghost use Rattle.std.specs.Prelude.{◌≡◌};
 ghost use Rattle.bson.specs.Tree.{document};
 ghost use Rattle.bson.specs.View.{tree};
 ghost use Rattle.path.specs.Place.{is_array};
-ghost use Rattle.index.specs.KeptLaws.{noted};
-ghost use Rattle.index.specs.IndexKeys.{meets_array, field_meets_array, is_multikey, has_parallel_arrays};
+ghost use Rattle.index.specs.IndexKeys.{meets_array, field_meets_array, is_multikey, has_parallel_arrays, noted};
 
 use crate::definition::{IndexField, IndexSpec};
 use bson::{Document, Value};
@@ -61,7 +60,7 @@ impl IndexSpec {
     }
 
     /// Notes that it is multikey, where a document that is stored makes it so.
-    pub(crate) fn note_arrays(&mut self, document: &Document)
+    pub fn note_arrays(&mut self, document: &Document)
         ensures { self.new ≡ noted document.now self.old }
     {
         if self.is_multikey_with(document) {

@@ -16,7 +16,7 @@ use std::alloc::{AllocError, Global};
 use value_order::Direction;
 
 /// Adds a field that isn't there yet.
-pub(crate) fn put(document: &mut Document, name: &str, value: Value) -> Result<(), NoMemory>
+pub fn put_field(document: &mut Document, name: &str, value: Value) -> Result<(), NoMemory>
     requires name { list_any (λ b. b == 0) name.now ≡ false }
     requires new { lookup document.old name.now ≡ None }
     requires flat { levels (tree value) ≤ 99 }
@@ -69,12 +69,12 @@ impl IndexSpec {
         ensures { IfOk result (λ document. document ≡ spelled self.now) }
     {
         let mut document = Document::new(alloc);
-        put(&mut document, "i", Value::Int32(self.number() as i32))?;
+        put_field(&mut document, "i", Value::Int32(self.number() as i32))?;
         let name = Text::from_str(alloc, self.name())?;
-        put(&mut document, "name", Value::String(name))?;
-        put(&mut document, "key", Value::Document(self.key(alloc)?))?;
-        put(&mut document, "unique", Value::Bool(self.is_unique()))?;
-        put(&mut document, "multi", Value::Bool(self.is_multi()))?;
+        put_field(&mut document, "name", Value::String(name))?;
+        put_field(&mut document, "key", Value::Document(self.key(alloc)?))?;
+        put_field(&mut document, "unique", Value::Bool(self.is_unique()))?;
+        put_field(&mut document, "multi", Value::Bool(self.is_multi()))?;
         Ok(document)
     }
 }

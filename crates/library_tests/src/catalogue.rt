@@ -1,8 +1,9 @@
 //! What the catalogue says of collections and indexes, and bytes that say nothing.
 
 use bson::encode;
+use entries::{catalogue_told, namespace_in};
 use ext_json::read;
-use index::{IndexSpec, catalogue_told, namespace_in};
+use index::IndexSpec;
 use std::alloc::Global;
 use std::test::Fail;
 

@@ -1,5 +1,5 @@
-//! Tests of the libraries of values, by rows worked by hand: what of `value_order`, `index`, `planner` and `ext_json` no
-//! command reaches. The rows of BSON and Extended JSON are scripts (crates/scripts/data).
+//! Tests of the libraries of values, by rows worked by hand: what of `value_order`, `index`, `entries`, `planner` and
+//! `ext_json` no command reaches. The rows of BSON and Extended JSON are scripts (crates/scripts/data).
 #![tactic(auto)]
 
 #[cfg(test)]

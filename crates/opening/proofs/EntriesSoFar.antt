@@ -8,12 +8,12 @@ use Rattle.bson.specs.Tree.{Pairs}
 use Rattle.value_order.specs.KeyText.{tree_text}
 use Rattle.btree.specs.Keys.{Entry, keep_if}
 use Rattle.index.specs.Definition.{Definition}
-use Rattle.index.specs.LawfulState.{IsKept as IsIndexKept}
-use Rattle.index.specs.State.{Collection, key_of, put_collection, words}
-use Rattle.index.specs.StateEntries.{catalogue_entry, key_under}
-use Rattle.index.proofs.EntryLemmas.{IsDocumentOf, IsKeyOf}
-use Rattle.index.proofs.HomeLemmas.{listed_of as indexed_of}
-use Rattle.index.proofs.MemberLemmas.{Among, among_append, among_back, among_front}
+use Rattle.entries.specs.LawfulState.{IsKept as IsIndexKept}
+use Rattle.entries.specs.State.{Collection, key_of, put_collection, words}
+use Rattle.entries.specs.StateEntries.{catalogue_entry, key_under}
+use Rattle.entries.proofs.EntryLemmas.{IsDocumentOf, IsKeyOf}
+use Rattle.entries.proofs.HomeLemmas.{listed_of as indexed_of}
+use Rattle.entries.proofs.MemberLemmas.{Among, among_append, among_back, among_front}
 use Rattle.opening.specs.Totals.{total_documents}
 use Rattle.opening.specs.Judging.{AreLoaded, Progress, TakesKey, TakesName, index_in, is_of_index, listed_of, nothing_read}
 use Rattle.opening.proofs.OnceLists.{AreOnce, only, only_append}

@@ -9,15 +9,15 @@ use Rattle.bson.specs.Tree.{Pairs}
 use Rattle.btree.specs.Keys.{Entry}
 use Rattle.path.specs.declared.refusal.Refusal.{Refusal}
 use Rattle.index.specs.Definition.{Definition, IsDefinition}
-use Rattle.index.specs.Entering.{becomes_multikey}
+use Rattle.entries.specs.Entering.{becomes_multikey}
 use Rattle.index.specs.KeyTexts.{keys_in_all}
-use Rattle.index.specs.LawfulState.{IsIndexOf, IsKept as IsIndexKept, IsStorable}
-use Rattle.index.specs.State.{Collection}
-use Rattle.index.specs.StateEntries.{document_entry}
-use Rattle.index.proofs.IndexedLaws.{known}
-use Rattle.index.proofs.LawfulLaws.{all_of, pairs_of}
-use Rattle.index.proofs.MemberLemmas.{Among, first_of}
-use Rattle.index.proofs.OtherEditLaws.{any_there}
+use Rattle.entries.specs.LawfulState.{IsIndexOf, IsKept as IsIndexKept, IsStorable}
+use Rattle.entries.specs.State.{Collection}
+use Rattle.entries.specs.StateEntries.{document_entry}
+use Rattle.entries.proofs.IndexedLaws.{known}
+use Rattle.entries.proofs.LawfulLaws.{all_of, pairs_of}
+use Rattle.entries.proofs.MemberLemmas.{Among, first_of}
+use Rattle.entries.proofs.OtherEditLaws.{any_there}
 use Rattle.opening.specs.Judging.{IsDocumentAt, IsIndexable, IsStoredAt, are_apart, has_number, keys_among}
 use Rattle.opening.proofs.RefusingCatalogues.{any_none}
 use Rattle.opening.proofs.RefusingLemmas.{document_spells}

@@ -17,20 +17,20 @@ use Rattle.bson.specs.Lawful.{IsDocument}
 use Rattle.btree.specs.Keys.{Entry}
 use Rattle.btree.proofs.ListLemmas.{map_append}
 use Rattle.update.specs.Stored.{no_array}
-use Rattle.index.specs.Documents.{put_document, with_documents}
-use Rattle.index.specs.Entering.{AreIndexed, clashes}
-use Rattle.index.specs.KeptLaws.{noted}
-use Rattle.index.specs.LawfulState.{AreNamedApart, IsKept as IsIndexKept, IsStorable}
-use Rattle.index.specs.State.{Collection, by_order, find_collection, put_collection, uses}
-use Rattle.index.proofs.DocumentPlaces.{placed}
-use Rattle.index.proofs.EnteringLemmas.{stay_with}
-use Rattle.index.proofs.EnteringSteps.{all_put, noted_so}
-use Rattle.index.proofs.HomeLemmas.{kept_of}
-use Rattle.index.proofs.OneStateLaws.{lawful_indexes}
-use Rattle.index.proofs.LawfulLaws.{all_of, makes_lawful, put_in, stays_lawful}
-use Rattle.index.proofs.MemberLemmas.{Among, first_of, of_all}
-use Rattle.index.proofs.PlaceLemmas.{apart_rest, name_itself}
-use Rattle.index.proofs.StateEditLaws.{put_same}
+use Rattle.entries.specs.Documents.{put_document, with_documents}
+use Rattle.entries.specs.Entering.{AreIndexed, clashes}
+use Rattle.index.specs.IndexKeys.{noted}
+use Rattle.entries.specs.LawfulState.{AreNamedApart, IsKept as IsIndexKept, IsStorable}
+use Rattle.entries.specs.State.{Collection, by_order, find_collection, put_collection, uses}
+use Rattle.entries.proofs.DocumentPlaces.{placed}
+use Rattle.entries.proofs.EnteringLemmas.{stay_with}
+use Rattle.entries.proofs.EnteringSteps.{all_put, noted_so}
+use Rattle.entries.proofs.HomeLemmas.{kept_of}
+use Rattle.entries.proofs.OneStateLaws.{lawful_indexes}
+use Rattle.entries.proofs.LawfulLaws.{all_of, makes_lawful, put_in, stays_lawful}
+use Rattle.entries.proofs.MemberLemmas.{Among, first_of, of_all}
+use Rattle.entries.proofs.PlaceLemmas.{apart_rest, name_itself}
+use Rattle.entries.proofs.StateEditLaws.{put_same}
 use Rattle.database_model.specs.Documents.{key_of}
 use Rattle.opening.specs.Judging.{AreLoaded, IsIndexable, IsLoadingAs, IsName, IsStoredAt, bare, keys_among, listed_of, numbered, stands_behind}
 use Rattle.opening.specs.Judging.{with_document_at, with_document_in}

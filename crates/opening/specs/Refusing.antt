@@ -5,7 +5,7 @@ use Rattle.page.specs.Crash.{GoesOn, LeavesOnly}
 use Rattle.roots.specs.Root.{root_of}
 use Rattle.roots.specs.declared.opening.OpenFault.{OpenFault}
 use Rattle.roots.specs.declared.opening.OpenFault.TheVariants as faults
-use Rattle.index.specs.State.{Collection}
+use Rattle.entries.specs.State.{Collection}
 use Rattle.opening.specs.Holding.{Holds}
 
 -- The disk was handed back with this fault.

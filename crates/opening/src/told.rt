@@ -2,7 +2,7 @@
 
 ghost use Rattle.std.specs.Prelude.{◌≡◌, List};
 ghost use Rattle.std.specs.Borrow.{ftrue};
-ghost use Rattle.index.specs.State.{Collection};
+ghost use Rattle.entries.specs.State.{Collection};
 ghost use Rattle.opening.specs.Known.{Known, known_code};
 
 use std::marker::Model;

@@ -8,7 +8,7 @@ use Rattle.btree.specs.Keys.{times}
 use Rattle.pager.specs.Pinning.{IsPinned}
 use Rattle.pager.specs.declared.version.Version.{Version}
 use Rattle.pager.proofs.BookLemmas.{one_time}
-use Rattle.index.specs.State.{Collection}
+use Rattle.entries.specs.State.{Collection}
 use Rattle.collections.specs.State.{State}
 use Rattle.collections.specs.Versions.{HasSinceStart, PinsNow, UnpinsVersion, pins_of}
 use Rattle.collections.specs.View.{disk_history, is_stopped}

@@ -5,7 +5,7 @@ use Rattle.std.specs.List.{AllByRecursion}
 use Rattle.bson.specs.Tree.{Pairs}
 use Rattle.page.specs.History.{History, KeepsWord}
 use Rattle.btree.specs.Keys.{times}
-use Rattle.index.specs.State.{Collection}
+use Rattle.entries.specs.State.{Collection}
 use Rattle.collections.specs.Reading.{IsNumbered}
 use Rattle.collections.specs.State.{State}
 use Rattle.collections.specs.Versions.{HasSinceStart, pins_of}

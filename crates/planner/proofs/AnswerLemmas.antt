@@ -13,10 +13,10 @@ use Rattle.filter.specs.Matches.{matches}
 use Rattle.sort.specs.Sort.{SortField, compare_by, order}
 use Rattle.sort.proofs.SortLemmas.{orders_stably}
 use Rattle.index.specs.IndexKeys.{is_multikey}
-use Rattle.index.specs.LawfulState.{IsStorable, IsRising}
-use Rattle.index.specs.State.{key_of}
-use Rattle.index.proofs.HomeLemmas.{listed_of}
-use Rattle.index.proofs.MemberLemmas.{Among, among_of, contains_of, of_all}
+use Rattle.entries.specs.LawfulState.{IsStorable, IsRising}
+use Rattle.entries.specs.State.{key_of}
+use Rattle.entries.proofs.HomeLemmas.{listed_of}
+use Rattle.entries.proofs.MemberLemmas.{Among, among_of, contains_of, of_all}
 use Rattle.planner.specs.AnswerLaws.{answer_cmp, FrontOfAnswer, HaveSameMembers, OrderedOnce, SortsToAnswer, IsFound, NeverChangesAnswer, KeptAreNoted}
 use Rattle.planner.specs.Plan.{fields_of, is_multi, range_in}
 use Rattle.planner.proofs.KeyBytesLemmas.{has_bytes_in_range}

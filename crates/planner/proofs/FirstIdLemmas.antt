@@ -17,9 +17,9 @@ use Rattle.sort.specs.Sort.{SortField}
 use Rattle.index.specs.Definition.{Definition}
 use Rattle.index.specs.IndexKeys.{index_keys, is_multikey}
 use Rattle.index.specs.KeyTexts.{encoded_keys, key_bytes, entry_key}
-use Rattle.index.specs.LawfulState.{IsStorable, IsRising}
-use Rattle.index.specs.State.{key_of}
-use Rattle.index.proofs.MemberLemmas.{Among, among_map, among_of, contains_of, of_all}
+use Rattle.entries.specs.LawfulState.{IsStorable, IsRising}
+use Rattle.entries.specs.State.{key_of}
+use Rattle.entries.proofs.MemberLemmas.{Among, among_map, among_of, contains_of, of_all}
 use Rattle.index.proofs.SpellableLaws.{keys_spellable}
 use Rattle.planner.specs.AnswerLaws.{IsNotedFor, RisesInOrder, answer_cmp}
 use Rattle.planner.specs.FirstIds.{AreFirstReadFrom, FirstIdsLead, LeadToFirst}

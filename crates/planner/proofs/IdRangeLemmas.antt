@@ -10,8 +10,8 @@ use Rattle.filter.specs.Matches.{matches}
 use Rattle.index.specs.IndexKeys.{index_keys, is_multikey, keys_of, meets_array}
 use Rattle.index.specs.KeyTexts.{key_bytes}
 use Rattle.index.specs.Laws.{IsIndexKey}
-use Rattle.index.specs.LawfulState.{IsStorable}
-use Rattle.index.specs.State.{key_of}
+use Rattle.entries.specs.LawfulState.{IsStorable}
+use Rattle.entries.specs.State.{key_of}
 use Rattle.index.proofs.SpellableLaws.{keys_spellable}
 use Rattle.planner.specs.IdRange.{HasIdInRange, HasPlainId, IdRangeSelects}
 use Rattle.planner.specs.KeyRange.{has_key}

@@ -10,10 +10,10 @@ use Rattle.index.specs.Definition.{Field}
 use Rattle.index.specs.IndexKeys.{index_keys, is_multikey}
 use Rattle.index.specs.KeyTexts.{encoded_keys, key_bytes}
 use Rattle.index.specs.Laws.{IsIndexKey}
-use Rattle.index.specs.LawfulState.{IsStorable}
-use Rattle.index.specs.State.{key_of}
-use Rattle.index.proofs.KeyOfDocument.{IsEncoded, encoded_of, among_test, test_among}
-use Rattle.index.proofs.MemberLemmas.{Among, among_image, among_of, contains_of, of_all}
+use Rattle.entries.specs.LawfulState.{IsStorable}
+use Rattle.entries.specs.State.{key_of}
+use Rattle.entries.proofs.KeyOfDocument.{IsEncoded, encoded_of, among_test, test_among}
+use Rattle.entries.proofs.MemberLemmas.{Among, among_image, among_of, contains_of, of_all}
 use Rattle.index.proofs.SetLemmas.{set_among}
 use Rattle.index.proofs.SpellableLaws.{keys_spellable}
 use Rattle.planner.specs.KeyRange.{has_key}

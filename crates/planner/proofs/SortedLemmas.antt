@@ -16,10 +16,10 @@ use Rattle.sort.specs.Sort.{SortField, keys_of as sort_keys_of, key_among, sort_
 use Rattle.index.specs.Definition.{Field}
 use Rattle.index.specs.IndexKeys.{keys_of, or_missing, field_keys, index_keys, field_meets_array, is_multikey}
 use Rattle.index.specs.Laws.{IsIndexKey, index_key_cmp}
-use Rattle.index.specs.LawfulState.{IsStorable}
-use Rattle.index.specs.State.{key_of}
-use Rattle.index.proofs.EntryLemmas.{id_is_key}
-use Rattle.index.proofs.MemberLemmas.{Among, among_of, among_flat, among_map, of_all}
+use Rattle.entries.specs.LawfulState.{IsStorable}
+use Rattle.entries.specs.State.{key_of}
+use Rattle.entries.proofs.EntryLemmas.{id_is_key}
+use Rattle.entries.proofs.MemberLemmas.{Among, among_of, among_flat, among_map, of_all}
 use Rattle.index.proofs.OrderLaws.{entries_order}
 use Rattle.index.proofs.SpellableLaws.{keys_spellable}
 use Rattle.planner.specs.AnswerLaws.{WalksInOrder}

@@ -14,8 +14,8 @@ use Rattle.sort.specs.Sort.{SortField, compare_by, order}
 use Rattle.index.specs.Definition.{Definition}
 use Rattle.index.specs.IndexKeys.{index_keys, is_multikey}
 use Rattle.index.specs.KeyTexts.{key_bytes, encoded_keys, entry_key}
-use Rattle.index.specs.State.{Collection, key_of}
-use Rattle.index.specs.LawfulState.{IsStorable, IsRising, IsKept}
+use Rattle.entries.specs.State.{Collection, key_of}
+use Rattle.entries.specs.LawfulState.{IsStorable, IsRising, IsKept}
 use Rattle.planner.specs.Plan.{Range, fields_of, is_multi, range_in}
 use Rattle.planner.specs.KeyRange.{has_bytes, IsSpellable}
 

@@ -10,9 +10,9 @@ use Rattle.filter.specs.Condition.{Conditions}
 use Rattle.filter.specs.Matches.{matches}
 use Rattle.sort.specs.Sort.{SortField, order}
 use Rattle.index.specs.Definition.{Definition}
-use Rattle.index.specs.LawfulState.{IsStorable, IsRising}
-use Rattle.index.specs.State.{key_of}
-use Rattle.index.specs.StateReads.{find_document}
+use Rattle.entries.specs.LawfulState.{IsStorable, IsRising}
+use Rattle.entries.specs.State.{key_of}
+use Rattle.entries.specs.StateReads.{find_document}
 use Rattle.planner.specs.AnswerLaws.{IsNotedFor}
 use Rattle.planner.specs.FoundIds.{ids_of}
 use Rattle.planner.specs.KeyRange.{IsSpellable}

@@ -6,8 +6,8 @@ use Rattle.value_order.specs.KeyText.{tree_text}
 use Rattle.filter.specs.Condition.{Conditions}
 use Rattle.filter.specs.Matches.{matches}
 use Rattle.sort.specs.Sort.{SortField}
-use Rattle.index.specs.LawfulState.{IsStorable}
-use Rattle.index.specs.State.{key_of}
+use Rattle.entries.specs.LawfulState.{IsStorable}
+use Rattle.entries.specs.State.{key_of}
 use Rattle.planner.specs.KeyRange.{IsSpellable}
 use Rattle.planner.specs.KeySpan.{first_key, last_key}
 use Rattle.planner.specs.Plan.{Range, fields_of, range_in}

@@ -10,8 +10,8 @@ use Rattle.filter.specs.Matches.{matches}
 use Rattle.sort.specs.Sort.{SortField}
 use Rattle.index.specs.Definition.{Definition}
 use Rattle.index.specs.KeyTexts.{encoded_keys}
-use Rattle.index.specs.LawfulState.{IsStorable}
-use Rattle.index.specs.State.{key_of}
+use Rattle.entries.specs.LawfulState.{IsStorable}
+use Rattle.entries.specs.State.{key_of}
 use Rattle.planner.specs.AnswerLaws.{IsNotedFor}
 use Rattle.planner.specs.KeyRange.{place_by, IsSpellable}
 use Rattle.planner.specs.KeyScan.{id_text}

@@ -1,5 +1,6 @@
 -- Documents of which one of several conditions holds: the texts of the `_id`s to which each condition leads tell them all.
-use Rattle.std.proofs.Common.{◌≡◌, ◌<◌, ℕ, Bool, true, false, List, [], ◌∷◌, ◌++◌, length, get_or, Option, Some, None, Result, Ok, Err, refl, sym, ap, subst, ◌∙◌}
+use Rattle.std.proofs.Common.{◌≡◌, ◌<◌, ℕ, Bool, true, false, List, [], ◌∷◌, ◌++◌, length, get_or, Option, Some, None, Result, Ok, Err, refl, sym, ap, subst}
+use Rattle.std.proofs.Common.{◌∙◌}
 use Rattle.std.specs.Prelude.{◌&&◌, ◌||◌, IfSome, option_map}
 use Rattle.std.specs.Borrow.{Bor}
 use Rattle.std.specs.Global.{Vec}
@@ -15,12 +16,12 @@ use Rattle.filter.specs.Matches.{Subject, all_hold, along, any_holds, holds, mat
 use Rattle.filter.specs.View.{condition_of, conditions_of}
 use Rattle.filter.specs.declared.condition.Condition.{Condition as Made}
 use Rattle.filter.specs.declared.condition.Condition.TheVariants as conditions
-use Rattle.index.specs.State.{Collection}
+use Rattle.entries.specs.State.{Collection}
 use Rattle.index.specs.View.{texts_of}
-use Rattle.index.specs.declared.catalogue_reading.Catalogued.{Catalogued}
-use Rattle.index.proofs.MemberLemmas.{among_of}
-use Rattle.index.proofs.KeyOfDocument.{among_test}
-use Rattle.index.specs.State.{key_of}
+use Rattle.entries.specs.declared.catalogue_reading.Catalogued.{Catalogued}
+use Rattle.entries.proofs.MemberLemmas.{among_of}
+use Rattle.entries.proofs.KeyOfDocument.{among_test}
+use Rattle.entries.specs.State.{key_of}
 use Rattle.value_order.specs.KeyText.{tree_text}
 use Rattle.queries.specs.Alternatives.{AreAlternatives, equal_at, one_holds, subject_at}
 use Rattle.queries.specs.Asking.{IsAsked}

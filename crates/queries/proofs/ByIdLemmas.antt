@@ -19,9 +19,9 @@ use Rattle.filter.specs.IdPaths.{is_id}
 use Rattle.filter.specs.View.{condition_of, conditions_of}
 use Rattle.filter.specs.declared.condition.Condition.{Condition as Made}
 use Rattle.value_order.specs.Order.{compare}
-use Rattle.index.specs.LawfulState.{IsLawfulState}
-use Rattle.index.specs.State.{Collection}
-use Rattle.index.proofs.FoundLawLemmas.{found_collection, found_document}
+use Rattle.entries.specs.LawfulState.{IsLawfulState}
+use Rattle.entries.specs.State.{Collection}
+use Rattle.entries.proofs.FoundLawLemmas.{found_collection, found_document}
 use Rattle.collections.specs.Calls.{HasCause}
 use Rattle.collections.specs.Reading.{IsPlaceOf, Place, ReadsOf, stored_at}
 use Rattle.collections.specs.Standing.{HasState, IsTurnOf}

@@ -13,15 +13,15 @@ use Rattle.sort.specs.Sort.{SortField}
 use Rattle.value_order.specs.KeyText.{tree_text}
 use Rattle.value_order.specs.Order.{bytes_cmp}
 use Rattle.index.specs.Definition.{Definition}
-use Rattle.index.specs.LawfulState.{IsKept, IsLawfulState, IsStorable}
-use Rattle.index.specs.State.{Collection, key_of}
-use Rattle.index.specs.StateReads.{find_document}
+use Rattle.entries.specs.LawfulState.{IsKept, IsLawfulState, IsStorable}
+use Rattle.entries.specs.State.{Collection, key_of}
+use Rattle.entries.specs.StateReads.{find_document}
 use Rattle.index.specs.View.{texts_of}
-use Rattle.index.specs.declared.catalogue_reading.Catalogued.{Catalogued}
-use Rattle.index.proofs.EntryLemmas.{id_is_key}
-use Rattle.index.proofs.FoundLawLemmas.{found_collection}
-use Rattle.index.proofs.MemberLemmas.{Among, among_image, among_of, contains_of, of_all}
-use Rattle.index.proofs.ReadLaws.{document_some}
+use Rattle.entries.specs.declared.catalogue_reading.Catalogued.{Catalogued}
+use Rattle.entries.proofs.EntryLemmas.{id_is_key}
+use Rattle.entries.proofs.FoundLawLemmas.{found_collection}
+use Rattle.entries.proofs.MemberLemmas.{Among, among_image, among_of, contains_of, of_all}
+use Rattle.entries.proofs.ReadLaws.{document_some}
 use Rattle.index.proofs.SetLemmas.{set_sorted}
 use Rattle.collections.specs.IndexTexts.{AreTextsBetween, Indexed, IsNumberedIndex}
 use Rattle.collections.specs.Reading.{IsNumbered}

@@ -14,11 +14,11 @@ use Rattle.sort.specs.SortLaws.{sorted-permuted}
 use Rattle.btree.specs.Keys.{Each, IsUnder, Rises as KeysRise}
 use Rattle.value_order.specs.Order.{bytes_cmp}
 use Rattle.index.specs.Definition.{Definition}
-use Rattle.index.specs.LawfulState.{IsKept, IsLawfulState}
-use Rattle.index.specs.State.{Collection, key_of}
-use Rattle.index.specs.StateReads.{find_document}
-use Rattle.index.specs.declared.catalogue_reading.Catalogued.{Catalogued}
-use Rattle.index.proofs.FoundLawLemmas.{found_collection}
+use Rattle.entries.specs.LawfulState.{IsKept, IsLawfulState}
+use Rattle.entries.specs.State.{Collection, key_of}
+use Rattle.entries.specs.StateReads.{find_document}
+use Rattle.entries.specs.declared.catalogue_reading.Catalogued.{Catalogued}
+use Rattle.entries.proofs.FoundLawLemmas.{found_collection}
 use Rattle.collections.specs.IndexTexts.{AreFirstTexts, Indexed, IsNumberedIndex}
 use Rattle.planner.specs.FirstIds.{AreAllOf, AreFirstReadFrom, LeadToFirst}
 use Rattle.planner.specs.FoundIds.{ids_of}

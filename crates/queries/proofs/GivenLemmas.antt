@@ -28,10 +28,10 @@ use Rattle.database_model.specs.Lawful.{IsStored, IsWithin}
 use Rattle.database_model.specs.Refusals.{ok_reply}
 use Rattle.filter.specs.Matches.{matches}
 use Rattle.projection.specs.Projection.{project}
-use Rattle.index.specs.LawfulState.{IsLawfulState, IsRising, IsStorable}
-use Rattle.index.specs.State.{Collection}
-use Rattle.index.specs.declared.catalogue_reading.Catalogued.{Catalogued}
-use Rattle.index.proofs.FoundLawLemmas.{found_collection}
+use Rattle.entries.specs.LawfulState.{IsLawfulState, IsRising, IsStorable}
+use Rattle.entries.specs.State.{Collection}
+use Rattle.entries.specs.declared.catalogue_reading.Catalogued.{Catalogued}
+use Rattle.entries.proofs.FoundLawLemmas.{found_collection}
 use Rattle.replies.specs.OpenBatch.{HasGiven}
 use Rattle.replies.specs.OpenBatchLaws.{counts_all, counts_front}
 use Rattle.replies.specs.View.{batch_name}

@@ -15,11 +15,11 @@ use Rattle.btree.specs.Keys.{is_within, key_cmp}
 use Rattle.btree.specs.declared.folding.Bounds.{Bounds}
 use Rattle.filter.specs.Condition.{Conditions}
 use Rattle.filter.specs.Matches.{matches}
-use Rattle.index.specs.LawfulState.{IsStorable}
-use Rattle.index.specs.OtherKeys.{IsEndOf}
-use Rattle.index.specs.State.{key_of}
-use Rattle.index.specs.declared.catalogue_reading.Catalogued.{Catalogued}
-use Rattle.index.proofs.FoundLawLemmas.{found_collection}
+use Rattle.entries.specs.LawfulState.{IsStorable}
+use Rattle.entries.specs.OtherKeys.{IsEndOf}
+use Rattle.entries.specs.State.{key_of}
+use Rattle.entries.specs.declared.catalogue_reading.Catalogued.{Catalogued}
+use Rattle.entries.proofs.FoundLawLemmas.{found_collection}
 use Rattle.collections.specs.Folding.{IsFolded, documents_within}
 use Rattle.collections.specs.Reading.{IsNumbered, ReadsOf}
 use Rattle.collections.specs.State.{State}

@@ -15,12 +15,12 @@ use Rattle.filter.specs.Condition.{Conditions}
 use Rattle.filter.specs.Matches.{matches}
 use Rattle.value_order.specs.KeyText.{tree_text}
 use Rattle.index.specs.Changes.{is_among}
-use Rattle.index.specs.State.{Collection, key_of}
+use Rattle.entries.specs.State.{Collection, key_of}
 use Rattle.index.specs.View.{texts_of}
-use Rattle.index.proofs.KeyOfDocument.{among_test, test_among}
-use Rattle.index.proofs.MemberLemmas.{among_back, among_front, among_of}
+use Rattle.entries.proofs.KeyOfDocument.{among_test, test_among}
+use Rattle.entries.proofs.MemberLemmas.{among_back, among_front, among_of}
 use Rattle.planner.specs.IdLaws.{AreIdTexts}
-use Rattle.index.specs.declared.catalogue_reading.Catalogued.{Catalogued}
+use Rattle.entries.specs.declared.catalogue_reading.Catalogued.{Catalogued}
 use Rattle.queries.specs.Asking.{IsAsked}
 use Rattle.queries.specs.ById.{AreIdsOf, ArePut, IsIdText, IsIn, Tell, TellBeside, TellIds, TellIdsBeside, TellOf, one_matches}
 use Rattle.queries.proofs.IdTextLemmas.{either_tells, left_all, left_next, left_none, put_none, put_on}

@@ -11,7 +11,7 @@ use Rattle.path.specs.declared.refusal.Refusal.{Refusal}
 use Rattle.path.specs.declared.refusal.Refusal.TheVariants as refusals
 use Rattle.update.specs.Stored.{fault_if, or_else}
 use Rattle.aggregate.specs.Limits.{limit_fault, else_fault, first_fault}
-use Rattle.index.specs.LawfulState.{IsStorable}
+use Rattle.entries.specs.LawfulState.{IsStorable}
 use Rattle.database_model.specs.Lawful.{IsWithin}
 use Rattle.queries.specs.Within.{is_within}
 

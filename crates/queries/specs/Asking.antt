@@ -2,8 +2,8 @@
 use Rattle.std.specs.Prelude.{◌≡◌, ℕ, List, All}
 use Rattle.collections.specs.Reading.{IsNumbered}
 use Rattle.database_model.specs.Lawful.{IsStored}
-use Rattle.index.specs.State.{Collection}
-use Rattle.index.specs.declared.catalogue_reading.Catalogued.{Catalogued}
+use Rattle.entries.specs.State.{Collection}
+use Rattle.entries.specs.declared.catalogue_reading.Catalogued.{Catalogued}
 
 -- one of the collections, of which the catalogue has this, and whose documents are such as commands
 -- store

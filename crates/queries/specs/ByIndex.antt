@@ -8,7 +8,7 @@ use Rattle.filter.specs.Condition.{Conditions}
 use Rattle.filter.specs.Matches.{matches}
 use Rattle.sort.specs.Sort.{SortField, order}
 use Rattle.index.specs.Definition.{Definition}
-use Rattle.index.specs.State.{Collection}
+use Rattle.entries.specs.State.{Collection}
 use Rattle.collections.specs.IndexTexts.{AreFirstTexts, AreTextsBetween, Indexed}
 use Rattle.collections.specs.Reading.{IsNumbered}
 use Rattle.planner.specs.FoundIds.{ids_in, ids_of}

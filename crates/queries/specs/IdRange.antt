@@ -8,8 +8,8 @@ use Rattle.value_order.specs.KeyText.{tree_text}
 use Rattle.btree.specs.Keys.{is_within, key_cmp}
 use Rattle.btree.specs.declared.folding.Bounds.{Bounds}
 use Rattle.filter.specs.Condition.{Conditions}
-use Rattle.index.specs.LawfulState.{IsStorable}
-use Rattle.index.specs.State.{key_of}
+use Rattle.entries.specs.LawfulState.{IsStorable}
+use Rattle.entries.specs.State.{key_of}
 use Rattle.collections.specs.Folding.{IsFolded, documents_within}
 use Rattle.database_model.specs.Lawful.{IsStored}
 use Rattle.planner.specs.KeyRange.{IsSpellable}

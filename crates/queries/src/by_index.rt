@@ -13,8 +13,9 @@ ghost use Rattle.queries.specs.ByIndex.{AreIdsInRange, IsRangeOf};
 
 use bson::NoMemory;
 use collections::Collections;
+use entries::Catalogued;
 use filter::Filter;
-use index::{Catalogued, IndexSpec};
+use index::IndexSpec;
 use page::Disk;
 use path::Refusal;
 use planner::{IndexRange, Plan, choose, ids_in};

@@ -16,7 +16,7 @@ use crate::telling::asked_ids;
 use crate::within::is_within;
 use bson::{NoMemory, SpelledDocument};
 use collections::Collections;
-use index::Catalogued;
+use entries::Catalogued;
 use page::Disk;
 use path::Refusal;
 use replies::SharedDocument;

@@ -24,7 +24,7 @@ use crate::within::built_within;
 use aggregate::Pipeline;
 use bson::{Document, NoMemory, RawDoc, SpelledDocument};
 use collections::{Collections, DocumentFold};
-use index::Catalogued;
+use entries::Catalogued;
 use page::Disk;
 use path::Refusal;
 use std::alloc::Global;

@@ -4,7 +4,7 @@ ghost use Rattle.std.specs.Prelude.{◌≡◌, All, IfOk, IfErr, IfSome, [], ◌
 ghost use Rattle.std.specs.List.{filter};
 ghost use Rattle.collections.specs.Reading.{ReadsOf};
 ghost use Rattle.database_model.specs.Lawful.{IsWithin};
-ghost use Rattle.index.specs.LawfulState.{IsStorable};
+ghost use Rattle.entries.specs.LawfulState.{IsStorable};
 ghost use Rattle.planner.specs.IdLaws.{with_found};
 ghost use Rattle.queries.specs.Asking.{IsAsked};
 ghost use Rattle.queries.specs.Folding.{Selected};
@@ -14,7 +14,7 @@ use crate::selects::Selects;
 use crate::within::copied_within;
 use bson::{RawDoc, SpelledDocument};
 use collections::{Collections, DocumentFold};
-use index::Catalogued;
+use entries::Catalogued;
 use page::Disk;
 use path::Refusal;
 use std::alloc::Global;

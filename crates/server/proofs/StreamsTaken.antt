@@ -7,7 +7,7 @@ use Rattle.std.specs.declared.cmp.Ordering.TheVariants as orders
 use Rattle.std.proofs.lemmas.Bool.Decides.{nat_tests}
 use Rattle.path.specs.declared.refusal.Refusal.{Refusal}
 use Rattle.database_model.specs.World.{World}
-use Rattle.index.specs.State.{by_order}
+use Rattle.entries.specs.State.{by_order}
 use Rattle.op_msg.specs.Frame.{Frame, front}
 use Rattle.op_msg.specs.Stream.{Begins}
 use Rattle.op_msg.specs.declared.fault.FrameFault.{FrameFault}

@@ -7,7 +7,7 @@ use Rattle.op_msg.specs.Request.{body_of}
 use Rattle.commands.specs.Command.{command_of, update}
 use Rattle.commands.specs.Update.{Update}
 use Rattle.database_model.specs.Update.{not_updated, run_all, run_statements}
-use Rattle.index.specs.State.{Collection}
+use Rattle.entries.specs.State.{Collection}
 
 -- Whatever update a message asks for that stands at the front of bytes, and whatever collections
 -- there are: no reply is refused for its length. So an update gives what its statements come to, or

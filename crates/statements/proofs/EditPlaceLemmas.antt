@@ -15,9 +15,9 @@ use Rattle.bson.specs.Tree.{Tree, scalar, document, array, Pairs, no_pairs}
 use Rattle.value_order.specs.Order.{compare}
 use Rattle.value_order.specs.TotalLaws.{compare_total}
 use Rattle.update.specs.Stored.{id_name, no_array}
-use Rattle.index.specs.Documents.{put_document, without_document}
-use Rattle.index.specs.LawfulState.{IsRising, IsStorable}
-use Rattle.index.specs.State.{by_order}
+use Rattle.entries.specs.Documents.{put_document, without_document}
+use Rattle.entries.specs.LawfulState.{IsRising, IsStorable}
+use Rattle.entries.specs.State.{by_order}
 use Rattle.database_model.specs.Documents.{key_of, place}
 use Rattle.database_model.specs.Lawful.{IsStored}
 use Rattle.statements.specs.Places.{IsGap, by_key}

@@ -15,9 +15,8 @@ use Rattle.path.specs.Parts.{is_empty, begins_with_dollar, path_fault, parts_of}
 use Rattle.path.specs.declared.fault.PathFault.{PathFault}
 use Rattle.path.specs.declared.fault.PathFault.TheVariants as faults
 use Rattle.index.specs.Definition.{Field, Definition, IsPath, IsDefinition}
-use Rattle.index.specs.IndexKeys.{is_multikey}
-use Rattle.index.specs.KeptLaws.{noted}
-use Rattle.index.specs.State.{Collection, find_collection}
+use Rattle.index.specs.IndexKeys.{is_multikey, noted}
+use Rattle.entries.specs.State.{Collection, find_collection}
 use Rattle.database_model.specs.DropIndexes.{is_dropped, left_by, remaining}
 use Rattle.database_model.specs.Lawful.{AreShortIndexes, IsKept, IsShortIndex}
 use Rattle.database_model.specs.World.{indexes_or_none}

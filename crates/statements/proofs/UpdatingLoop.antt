@@ -21,10 +21,10 @@ use Rattle.value_order.specs.TotalLaws.{compare_total}
 use Rattle.update.specs.Update.{Update as Change}
 use Rattle.update.specs.Applying.{apply}
 use Rattle.commands.specs.Update.{UpdateStatement, IsRead}
-use Rattle.index.specs.Documents.{put_document}
-use Rattle.index.specs.LawfulState.{IsRising, IsStorable}
-use Rattle.index.specs.State.{by_order}
-use Rattle.index.specs.Entering.{DocumentWrite}
+use Rattle.entries.specs.Documents.{put_document}
+use Rattle.entries.specs.LawfulState.{IsRising, IsStorable}
+use Rattle.entries.specs.State.{by_order}
+use Rattle.entries.specs.Entering.{DocumentWrite}
 use Rattle.database_model.specs.Documents.{key_of}
 use Rattle.database_model.specs.Lawful.{IsStored, IsWithin}
 use Rattle.database_model.specs.Merging.{Listed, none_changed, listed_to, one_or_none, put_each, run_listed, upsert_listed}

@@ -16,10 +16,10 @@ use Rattle.path.specs.declared.refusal.Refusal.TheVariants as refusals
 use Rattle.update.specs.Update.{Update as Change}
 use Rattle.update.specs.Applying.{apply}
 use Rattle.commands.specs.Update.{UpdateStatement}
-use Rattle.index.specs.Documents.{put_document}
-use Rattle.index.specs.LawfulState.{IsRising, IsStorable}
-use Rattle.index.specs.StateReads.{find_document}
-use Rattle.index.specs.Entering.{DocumentWrite}
+use Rattle.entries.specs.Documents.{put_document}
+use Rattle.entries.specs.LawfulState.{IsRising, IsStorable}
+use Rattle.entries.specs.StateReads.{find_document}
+use Rattle.entries.specs.Entering.{DocumentWrite}
 use Rattle.database_model.specs.Documents.{key_of, place}
 use Rattle.database_model.specs.Lawful.{IsStored, IsWithin}
 use Rattle.database_model.specs.Merging.{Listed, none_changed, not_listed, put_each, run_each}

@@ -5,7 +5,7 @@ ghost use Rattle.std.specs.Option.{unwrap_or};
 ghost use Rattle.bson.specs.Lawful.{IsDocument};
 ghost use Rattle.bson.specs.Tree.{scalar, null};
 ghost use Rattle.bson.specs.View.{tree};
-ghost use Rattle.index.specs.LawfulState.{IsStorable};
+ghost use Rattle.entries.specs.LawfulState.{IsStorable};
 ghost use Rattle.database_model.specs.Documents.{key_of, checked};
 ghost use Rattle.filter.specs.Matches.{matches};
 ghost use Rattle.update.specs.Stored.{id_first};

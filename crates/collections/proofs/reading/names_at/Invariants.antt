@@ -1,5 +1,5 @@
 use Rattle.std.proofs.Common.{List, take}
-use Rattle.index.specs.State.{Collection}
+use Rattle.entries.specs.State.{Collection}
 use Rattle.collections.specs.Reading.{AreEach, IsNameOf, IsOfCollection}
 use Rattle.collections.proofs.reading.names_at.Given as goal
 

@@ -1,6 +1,6 @@
 use Rattle.std.proofs.Common.{[], ◌∷◌, ◌++◌, ap, ◌∙◌}
 use Rattle.bson.specs.Tree.{Pairs}
-use Rattle.index.proofs.CatalogueValues.{lawful_end, lawful_more}
+use Rattle.entries.proofs.CatalogueValues.{lawful_end, lawful_more}
 use Rattle.engine.proofs.ListingIndexes.{describes_all, describes_one}
 use Rattle.engine.proofs.list_indexes.described_all.Goals as goal
 

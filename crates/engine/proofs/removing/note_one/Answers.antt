@@ -2,7 +2,7 @@ use Rattle.std.proofs.Common.{List, [], sym, ap, subst, ◌∙◌}
 use Rattle.std.proofs.lemmas.Result.{err_from_is_err_and}
 use Rattle.std.proofs.lemmas.List.Elements.{All-head}
 use Rattle.index.specs.Definition.{Definition}
-use Rattle.index.specs.Indexed.{DeletesFrom}
+use Rattle.entries.specs.Indexed.{DeletesFrom}
 use Rattle.index.specs.KeyTexts.{keys_in_all}
 use Rattle.engine.specs.TakingOut.{IsIndexable}
 use Rattle.engine.proofs.TakingOutLemmas.{keyed_memory, takes_one}

@@ -1,7 +1,7 @@
 use Rattle.std.proofs.Common.{subst, sym}
 use Rattle.std.proofs.lemmas.List.{take_all}
 use Rattle.std.proofs.lemmas.Result.{err_from_is_err_and}
-use Rattle.index.specs.IndexBuilding.{HasRemovedEntries}
+use Rattle.entries.specs.IndexBuilding.{HasRemovedEntries}
 use Rattle.engine.specs.Unindexing.{HasKeysIn}
 use Rattle.engine.proofs.UnindexingLemmas.{removed_next, removed_none}
 use Rattle.engine.proofs.unindexing.unindex_each.Goals as goal

@@ -1,5 +1,5 @@
 use Rattle.std.proofs.Common.{take}
-use Rattle.index.specs.IndexBuilding.{HasRemovedEntries}
+use Rattle.entries.specs.IndexBuilding.{HasRemovedEntries}
 use Rattle.engine.proofs.unindexing.unindex_each.Given as goal
 
 abbrev pub invariant-documents : goal.invariant-documents

@@ -7,7 +7,7 @@ use Rattle.engine.specs.View.{world, turn_start}
 use Rattle.database_model.specs.World.{World, after_undo}
 use Rattle.engine.specs.Committing.{Commits}
 use Rattle.engine.specs.declared.engine.Engine.{Engine}
-use Rattle.index.specs.State.{Collection}
+use Rattle.entries.specs.State.{Collection}
 use Rattle.op_msg.specs.Request.{respelled}
 use Rattle.page.specs.History.{KeepsWord}
 use Rattle.engine.specs.Durable.{disk_history, has_changes}

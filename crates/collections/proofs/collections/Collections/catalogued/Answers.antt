@@ -1,7 +1,7 @@
 use Rattle.std.proofs.Common.{subst, ◌≡◌, Ok, Err, Some, None, ◌∙◌}
 use Rattle.std.specs.Option.{option_map}
 use Rattle.std.proofs.lemmas.Result.{err_from_is_err_and}
-use Rattle.index.specs.State.{find_collection}
+use Rattle.entries.specs.State.{find_collection}
 use Rattle.collections.specs.Reading.{IsInTree, IsValueAt, catalogued_in, catalogued_of}
 use Rattle.collections.proofs.FoundLemmas.{none_told, one_told}
 use Rattle.collections.proofs.ReadingLemmas.{reads_on, reads_refused}

@@ -2,8 +2,8 @@ use Rattle.std.proofs.Common.{List, ℕ, Ok, Err, sym, subst, ◌∙◌}
 use Rattle.std.specs.Option.{option_map}
 use Rattle.std.proofs.lemmas.Result.{err_from_is_err_and}
 use Rattle.btree.specs.declared.scanning.Range.{Range}
-use Rattle.index.specs.OtherKeys.{IsEndOf}
-use Rattle.index.specs.StateEntries.{key_under}
+use Rattle.entries.specs.OtherKeys.{IsEndOf}
+use Rattle.entries.specs.StateEntries.{key_under}
 use Rattle.index.specs.View.{texts_of}
 use Rattle.collections.specs.IndexTexts.{AreFirstTexts, IsNumberedIndex}
 use Rattle.collections.specs.Reading.{IsBatchOf, IsInTree}

@@ -1,6 +1,6 @@
 use Rattle.std.proofs.Common.{◌+◌, Bool, Ok, drop, sym, ◌∙◌, subst}
 use Rattle.std.proofs.lemmas.Result.{err_from_is_err_and}
-use Rattle.index.specs.OtherKeys.{has_other_key}
+use Rattle.entries.specs.OtherKeys.{has_other_key}
 use Rattle.index.specs.View.{texts_of}
 use Rattle.collections.specs.Calls.{Reads}
 use Rattle.collections.specs.OtherKeys.{TellsOf, any_other_key}

@@ -1,7 +1,7 @@
 use Rattle.std.proofs.Common.{Ok, ◌∙◌, sym}
 use Rattle.std.specs.Prelude.{is_some, unwrap_or}
 use Rattle.std.specs.Option.{option_map}
-use Rattle.index.specs.EditList.{edit_at}
+use Rattle.entries.specs.EditList.{edit_at}
 use Rattle.std.proofs.lemmas.Result.{err_from_is_err_and}
 use Rattle.collections.specs.OtherKeys.{TellsDocument}
 use Rattle.collections.specs.Reading.{IsInTree, IsValueAt}

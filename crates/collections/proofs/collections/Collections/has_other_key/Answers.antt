@@ -4,7 +4,7 @@ use Rattle.std.specs.Option.{option_map}
 use Rattle.std.proofs.lemmas.Result.{err_from_is_err_and}
 use Rattle.btree.specs.Scan.{entry_in}
 use Rattle.btree.specs.declared.scanning.Range.{Range}
-use Rattle.index.specs.OtherKeys.{IsEndOf, leaves_another, puts_another}
+use Rattle.entries.specs.OtherKeys.{IsEndOf, leaves_another, puts_another}
 use Rattle.path.specs.declared.refusal.Refusal.TheVariants as refusals
 use Rattle.collections.specs.OtherKeys.{TellsOtherKey}
 use Rattle.collections.specs.Reading.{IsBatchOf, IsInTree}

@@ -2,7 +2,7 @@ use Rattle.std.proofs.Common.{ℕ, Bool, true, Ok, sym, subst}
 use Rattle.std.proofs.lemmas.Result.{err_from_is_err_and}
 use Rattle.collections.specs.Entries.{ReadsTree}
 use Rattle.collections.specs.IndexChecks.{has_entry, lacks_key}
-use Rattle.index.specs.OtherKeys.{has_other_key}
+use Rattle.entries.specs.OtherKeys.{has_other_key}
 use Rattle.collections.proofs.TreeReadLemmas.{IsTest, others_there, tree_refused}
 use Rattle.collections.proofs.collections.Collections.lacks_key.Goals as goal
 

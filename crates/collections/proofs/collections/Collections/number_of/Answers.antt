@@ -1,8 +1,8 @@
 use Rattle.std.proofs.Common.{subst, ◌≡◌, Ok, Some, None}
 use Rattle.std.specs.Option.{option_map}
 use Rattle.std.proofs.lemmas.Result.{err_from_is_err_and}
-use Rattle.index.specs.State.{find_collection}
-use Rattle.index.specs.declared.catalogue_reading.Catalogued.{Catalogued}
+use Rattle.entries.specs.State.{find_collection}
+use Rattle.entries.specs.declared.catalogue_reading.Catalogued.{Catalogued}
 use Rattle.std.specs.Prelude.{Option}
 use Rattle.collections.specs.Reading.{catalogued_in, catalogued_of}
 use Rattle.collections.proofs.FoundLemmas.{none_numbered, one_numbered}

@@ -2,7 +2,7 @@ use Rattle.std.proofs.Common.{refl, rules, subst, sym, Ok, Err, List, ℕ}
 use Rattle.std.specs.Prelude.{Option, Result}
 use Rattle.std.specs.Global.{Vec}
 use Rattle.path.specs.declared.refusal.Refusal.{Refusal}
-use Rattle.index.specs.State.{Collection}
+use Rattle.entries.specs.State.{Collection}
 use Rattle.collections.specs.Below.{IsNothing, ReadsBelow}
 use Rattle.collections.specs.Reading.{IsInTree, IsValueAt}
 use Rattle.collections.specs.State.{State}

@@ -3,7 +3,7 @@ use Rattle.std.specs.Prelude.{option_map}
 use Rattle.std.proofs.lemmas.Result.{err_from_is_err_and}
 use Rattle.bson.specs.Tree.{Pairs}
 use Rattle.index.specs.Definition.{Definition}
-use Rattle.index.specs.Entering.{Enters}
+use Rattle.entries.specs.Entering.{Enters}
 use Rattle.index.specs.KeyTexts.{keys_in_all}
 use Rattle.path.specs.declared.refusal.Refusal.{Refusal}
 use Rattle.engine.proofs.EnteringSteps.{enter_done, enter_old_unkeyed, enter_refused, enter_undecided, is_new_where_none}

@@ -8,7 +8,7 @@ use Rattle.commands.specs.Find.{Find, Query}
 use Rattle.database_model.specs.Find.{given, matching, run_find}
 use Rattle.database_model.specs.Lawful.{IsWithin}
 use Rattle.database_model.specs.World.{World, documents_of}
-use Rattle.index.specs.State.{Collection}
+use Rattle.entries.specs.State.{Collection}
 use Rattle.path.specs.declared.refusal.Refusal.{Refusal}
 use Rattle.engine.specs.Looking.{Looks, LooksOf}
 use Rattle.engine.specs.TakingOut.{HasHome, IsHome}

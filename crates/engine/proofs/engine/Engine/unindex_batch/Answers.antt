@@ -1,7 +1,7 @@
 use Rattle.std.proofs.Common.{subst}
 use Rattle.std.specs.Prelude.{not}
 use Rattle.std.proofs.lemmas.Result.{err_from_is_err_and}
-use Rattle.index.specs.IndexBuilding.{HasRemovedEntries}
+use Rattle.entries.specs.IndexBuilding.{HasRemovedEntries}
 use Rattle.engine.specs.Unindexing.{HasKeysIn}
 use Rattle.engine.proofs.DroppingLemmas.{fewer_left, none_more}
 use Rattle.engine.proofs.UnindexingLemmas.{batch_stays, batch_unindexed, batch_unread, fits_these}

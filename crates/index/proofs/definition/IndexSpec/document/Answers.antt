@@ -3,5 +3,5 @@ use Rattle.bson.specs.Lawful.{pairs_levels}
 use Rattle.index.proofs.CatalogueLemmas.{key_levels}
 use Rattle.index.proofs.definition.IndexSpec.document.Goals as goal
 
-pub put-requires-3-clause-flat : goal.put-requires-3-clause-flat
-put-requires-3-clause-flat c = omega (arith, key_levels c.args.self.now.fields, ap pairs_levels c.in_ok-key.ensures)
+pub put_field-requires-3-clause-flat : goal.put_field-requires-3-clause-flat
+put_field-requires-3-clause-flat c = omega (arith, key_levels c.args.self.now.fields, ap pairs_levels c.in_ok-key.ensures)

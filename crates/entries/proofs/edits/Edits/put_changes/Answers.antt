@@ -1,0 +1,55 @@
+use Rattle.std.proofs.Common.{◌≡◌, ℕ, ◌≤◌, List, map, length, sym, ap, subst, ◌∙◌, arith}
+use Rattle.btree.specs.Keys.{Edit}
+use Rattle.index.specs.declared.changes.KeyChanges.{KeyChanges}
+use Rattle.entries.specs.Indexed.{with_edits, entries_at, entries_in_all, NotesSome}
+use Rattle.entries.specs.StateEntries.{put_of, puts}
+use Rattle.entries.proofs.LoopLemmas.{on_err}
+use Rattle.entries.proofs.IndexedLoops.{step, cut_off, last, all_at}
+use Rattle.entries.proofs.edits.Edits.put_changes.Goals as goal
+
+abbrev T : KeyChanges → List (List ℕ)
+T c = map (λ key. key.now) c.added.items
+
+pub indexes-preserved : goal.indexes-preserved
+indexes-preserved c =
+    let val : c.deref.result.now ≡ c.index-changes-at.result.added.items =
+    c.deref.ensures.value ∙ ap (λ (e : KeyChanges). e.added.items) (sym c.index-changes-at.is) in
+    let n = c.args.number in
+    let id = c.args.id.now in
+    step T put_of n id c.args.indexes.now c.args.changes.now c.args.self.now
+    (puts (entries_in_all n id c.args.indexes.now (map T c.args.changes.now))) c.indexes.at c.index-indexes-at.result c.index-changes-at.result c.indexes.self
+    c.put_added.new.self
+    c.indexes-test.true c.requires.one_each c.index-indexes-at.is c.index-changes-at.is c.indexes.invariant
+    (c.in_ok-put_added.ensures.ok ∙ (λ t. with_edits (puts (entries_at n (c.number.ensures.number t) id (map (λ key. key.now) (val t)))) c.indexes.self))
+
+pub put_added-requires : goal.put_added-requires
+put_added-requires c =
+    let val : c.deref.result.now ≡ c.index-changes-at.result.added.items =
+    c.deref.ensures.value ∙ ap (λ (e : KeyChanges). e.added.items) (sym c.index-changes-at.is) in
+    record {
+      id = c.requires.id;
+      keys = all_at (λ (e : KeyChanges). e.added.items)
+          (λ key. length key.now ≤ 500) c.args.changes.now c.indexes.at c.index-changes-at.result c.deref.result.now c.requires.keys
+          (omega (arith, c.indexes-test.true, c.requires.one_each)) c.index-changes-at.is val;
+    }
+
+pub returns-in_err-put_added-clause-err : goal.returns-in_err-put_added-clause-err
+returns-in_err-put_added-clause-err c =
+    let val : c.deref.result.now ≡ c.index-changes-at.result.added.items =
+    c.deref.ensures.value ∙ ap (λ (e : KeyChanges). e.added.items) (sym c.index-changes-at.is) in
+    let n = c.args.number in
+    let id = c.args.id.now in
+    on_err c.from_residual.result
+    (cut_off T put_of n id c.args.indexes.now c.args.changes.now c.args.self.now
+    (puts (entries_in_all n id c.args.indexes.now (map T c.args.changes.now))) c.indexes.at c.index-indexes-at.result c.index-changes-at.result c.indexes.self
+    c.put_added.new.self
+    c.indexes-test.true c.requires.one_each c.index-indexes-at.is c.index-changes-at.is c.indexes.invariant
+    (subst (λ (es : List Edit). NotesSome c.indexes.self es c.put_added.new.self)
+    (λ t. puts (entries_at n (c.number.ensures.number t) id (map (λ key. key.now) (val t)))) c.in_err-put_added.ensures.err))
+
+pub returns-clause-ok : goal.returns-clause-ok
+returns-clause-ok c =
+    let n = c.args.number in
+    let id = c.args.id.now in
+    last T put_of n id c.args.indexes.now c.args.changes.now c.args.self.now
+    (puts (entries_in_all n id c.args.indexes.now (map T c.args.changes.now))) c.indexes.at c.indexes.self c.indexes-test.false c.indexes.invariant

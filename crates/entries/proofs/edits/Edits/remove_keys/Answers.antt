@@ -1,0 +1,40 @@
+use Rattle.std.proofs.Common.{ℕ, List, [], ◌∷◌, refl, ap, ◌∙◌}
+use Rattle.std.specs.Global.{Vec}
+use Rattle.btree.specs.Keys.{Edit}
+use Rattle.entries.specs.EditList.{with_edit}
+use Rattle.entries.specs.Indexed.{entries_at, entry_at}
+use Rattle.entries.specs.StateEntries.{removal_of, removals}
+use Rattle.index.specs.View.{texts_of}
+use Rattle.entries.proofs.ManyEditsLaws.{stays}
+use Rattle.entries.proofs.LoopLemmas.{step, last, on_err}
+use Rattle.entries.proofs.edits.Edits.remove_keys.Goals as goal
+
+abbrev all : ℕ → ℕ → List ℕ → List (Vec ℕ) → List Edit
+all number index id keys = removals (entries_at number index id (texts_of keys))
+
+abbrev one : ℕ → ℕ → List ℕ → Vec ℕ → List Edit
+one number index id key = removal_of (entry_at number index id key.items) ∷ []
+
+pub keys-preserved : goal.keys-preserved
+keys-preserved c =
+    let n = c.args.number in
+    let i = c.args.index in
+    let id = c.args.id.now in
+    step (all n i id) (one n i id) (record { first = λ x xs. refl; none = refl }) c.args.self.now
+    (all n i id c.args.keys.now) c.args.keys.now c.keys.key-index c.key-item.result c.keys.self c.remove_entry.new.self
+    c.keys-test.true c.key-item.is c.keys.invariant
+    (c.in_ok-remove_entry.ensures.ok ∙ ap (λ (key : List ℕ). with_edit (removal_of (entry_at n i id key)) c.keys.self) c.deref.ensures.value)
+
+pub returns-in_err-remove_entry-clause-err : goal.returns-in_err-remove_entry-clause-err
+returns-in_err-remove_entry-clause-err c =
+    on_err c.from_residual.result
+    (stays c.args.self.now
+    (all c.args.number c.args.index c.args.id.now c.args.keys.now) _ c.remove_entry.new.self c.keys.self c.keys.invariant c.in_err-remove_entry.ensures.err)
+
+pub returns-clause-ok : goal.returns-clause-ok
+returns-clause-ok c =
+    let n = c.args.number in
+    let i = c.args.index in
+    let id = c.args.id.now in
+    last (all n i id) (one n i id) (record { first = λ x xs. refl; none = refl }) c.args.self.now
+    (all n i id c.args.keys.now) c.args.keys.now c.keys.key-index c.keys.self c.keys-test.false c.keys.invariant

@@ -1,0 +1,5 @@
+use Rattle.entries.proofs.FoundLawLemmas.{finds_put}
+use Rattle.entries.proofs.found_laws.finds_put.Goals as goal
+
+pub returns : goal.returns
+returns c = finds_put

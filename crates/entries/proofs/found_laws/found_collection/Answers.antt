@@ -1,0 +1,5 @@
+use Rattle.entries.proofs.FoundLawLemmas.{found_collection}
+use Rattle.entries.proofs.found_laws.found_collection.Goals as goal
+
+pub returns : goal.returns
+returns c = found_collection

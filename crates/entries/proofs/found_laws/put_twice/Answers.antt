@@ -1,0 +1,5 @@
+use Rattle.entries.proofs.FoundLawLemmas.{put_twice}
+use Rattle.entries.proofs.found_laws.put_twice.Goals as goal
+
+pub returns : goal.returns
+returns c = put_twice

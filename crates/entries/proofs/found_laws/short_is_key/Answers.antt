@@ -1,0 +1,5 @@
+use Rattle.entries.proofs.ShortKeys.{short_is_key}
+use Rattle.entries.proofs.found_laws.short_is_key.Goals as goal
+
+pub returns : goal.returns
+returns c = short_is_key

@@ -1,0 +1,5 @@
+use Rattle.entries.proofs.FoundLawLemmas.{without_put}
+use Rattle.entries.proofs.found_laws.without_put.Goals as goal
+
+pub returns : goal.returns
+returns c = without_put

@@ -1,0 +1,5 @@
+use Rattle.entries.proofs.LawfulLaws.{drops_lawful}
+use Rattle.entries.proofs.state_laws.drops_lawful.Goals as goal
+
+pub returns : goal.returns
+returns c = drops_lawful

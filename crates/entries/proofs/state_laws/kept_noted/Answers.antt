@@ -1,0 +1,5 @@
+use Rattle.entries.proofs.KeptSteps.{kept_noted}
+use Rattle.entries.proofs.state_laws.kept_noted.Goals as goal
+
+pub returns : goal.returns
+returns c = kept_noted

@@ -1,0 +1,5 @@
+use Rattle.entries.proofs.KeptSteps.{kept_without_index}
+use Rattle.entries.proofs.state_laws.kept_without_index.Goals as goal
+
+pub returns : goal.returns
+returns c = kept_without_index

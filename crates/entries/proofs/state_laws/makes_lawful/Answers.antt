@@ -1,0 +1,5 @@
+use Rattle.entries.proofs.LawfulLaws.{makes_lawful}
+use Rattle.entries.proofs.state_laws.makes_lawful.Goals as goal
+
+pub returns : goal.returns
+returns c = makes_lawful

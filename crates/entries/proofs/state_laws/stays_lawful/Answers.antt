@@ -1,0 +1,5 @@
+use Rattle.entries.proofs.LawfulLaws.{stays_lawful}
+use Rattle.entries.proofs.state_laws.stays_lawful.Goals as goal
+
+pub returns : goal.returns
+returns c = stays_lawful

@@ -1,5 +1,0 @@
-use Rattle.index.proofs.BatchLaws.{lists_documents_from}
-use Rattle.index.proofs.batch_laws.lists_documents_from.Goals as goal
-
-pub returns : goal.returns
-returns c = lists_documents_from

@@ -1,5 +1,0 @@
-use Rattle.index.proofs.BuildingLaws.{drops_index_of_all}
-use Rattle.index.proofs.building_laws.drops_index_of_all.Goals as goal
-
-pub returns : goal.returns
-returns c = drops_index_of_all

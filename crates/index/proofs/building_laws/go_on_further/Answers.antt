@@ -1,5 +1,0 @@
-use Rattle.index.proofs.BuildingLaws.{go_on_further}
-use Rattle.index.proofs.building_laws.go_on_further.Goals as goal
-
-pub returns : goal.returns
-returns c = go_on_further

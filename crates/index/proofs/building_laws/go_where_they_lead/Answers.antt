@@ -1,5 +1,0 @@
-use Rattle.index.proofs.BuildingLaws.{go_where_they_lead}
-use Rattle.index.proofs.building_laws.go_where_they_lead.Goals as goal
-
-pub returns : goal.returns
-returns c = go_where_they_lead

@@ -1,5 +1,0 @@
-use Rattle.index.proofs.BuildingLaws.{makes_index_of_all}
-use Rattle.index.proofs.building_laws.makes_index_of_all.Goals as goal
-
-pub returns : goal.returns
-returns c = makes_index_of_all

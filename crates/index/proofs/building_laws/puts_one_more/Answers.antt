@@ -1,5 +1,0 @@
-use Rattle.index.proofs.BuildingLaws.{puts_one_more}
-use Rattle.index.proofs.building_laws.puts_one_more.Goals as goal
-
-pub returns : goal.returns
-returns c = puts_one_more

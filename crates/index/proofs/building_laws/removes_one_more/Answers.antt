@@ -1,5 +1,0 @@
-use Rattle.index.proofs.BuildingLaws.{removes_one_more}
-use Rattle.index.proofs.building_laws.removes_one_more.Goals as goal
-
-pub returns : goal.returns
-returns c = removes_one_more

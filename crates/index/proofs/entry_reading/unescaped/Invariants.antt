@@ -1,6 +1,0 @@
-use Rattle.std.proofs.Common.{◌≡◌, ◌++◌, drop, false}
-use Rattle.index.specs.Escaping.{unescaped}
-use Rattle.index.proofs.entry_reading.unescaped.Given as goal
-
-abbrev pub invariant-text : goal.invariant-text
-invariant-text l = l.name.items ++ unescaped l.zero (drop l.byte-index l.text) ≡ unescaped false l.text

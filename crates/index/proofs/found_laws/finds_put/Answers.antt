@@ -1,5 +1,0 @@
-use Rattle.index.proofs.FoundLawLemmas.{finds_put}
-use Rattle.index.proofs.found_laws.finds_put.Goals as goal
-
-pub returns : goal.returns
-returns c = finds_put

@@ -1,5 +1,0 @@
-use Rattle.index.proofs.FoundLawLemmas.{put_twice}
-use Rattle.index.proofs.found_laws.put_twice.Goals as goal
-
-pub returns : goal.returns
-returns c = put_twice

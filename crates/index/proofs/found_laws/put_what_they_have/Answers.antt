@@ -1,5 +1,0 @@
-use Rattle.index.proofs.EditLookLemmas.{put_what_they_have}
-use Rattle.index.proofs.found_laws.put_what_they_have.Goals as goal
-
-pub returns : goal.returns
-returns c = put_what_they_have

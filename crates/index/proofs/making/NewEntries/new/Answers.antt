@@ -1,7 +1,0 @@
-use Rattle.std.proofs.Common.{refl}
-use Rattle.index.proofs.IndexMakingLaws.{begins}
-use Rattle.index.proofs.making.NewEntries.new.Goals as goal
-
-pub returns-clause-begins : goal.returns-clause-begins
-returns-clause-begins c =
-    begins c.args.number c.args.index (record { number = c.args.number; index = c.args.index; entries = c.new.result }) refl refl c.new.ensures

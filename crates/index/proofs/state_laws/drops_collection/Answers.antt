@@ -1,5 +1,0 @@
-use Rattle.index.proofs.CollectionSteps.{drops_collection}
-use Rattle.index.proofs.state_laws.drops_collection.Goals as goal
-
-pub returns : goal.returns
-returns c = drops_collection

@@ -1,5 +1,0 @@
-use Rattle.index.proofs.IndexSteps.{drops_index}
-use Rattle.index.proofs.state_laws.drops_index.Goals as goal
-
-pub returns : goal.returns
-returns c = drops_index

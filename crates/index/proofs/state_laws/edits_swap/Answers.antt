@@ -1,5 +1,0 @@
-use Rattle.index.proofs.EditOrderLaws.{edits_swap}
-use Rattle.index.proofs.state_laws.edits_swap.Goals as goal
-
-pub returns : goal.returns
-returns c = edits_swap

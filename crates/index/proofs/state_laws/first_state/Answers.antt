@@ -1,5 +1,0 @@
-use Rattle.index.proofs.RowLaws.{first_state}
-use Rattle.index.proofs.state_laws.first_state.Goals as goal
-
-pub returns : goal.returns
-returns c = first_state

@@ -1,5 +1,0 @@
-use Rattle.index.proofs.KeptSteps.{kept_with_document}
-use Rattle.index.proofs.state_laws.kept_with_document.Goals as goal
-
-pub returns : goal.returns
-returns c = kept_with_document

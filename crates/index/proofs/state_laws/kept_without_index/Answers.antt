@@ -1,5 +1,0 @@
-use Rattle.index.proofs.KeptSteps.{kept_without_index}
-use Rattle.index.proofs.state_laws.kept_without_index.Goals as goal
-
-pub returns : goal.returns
-returns c = kept_without_index

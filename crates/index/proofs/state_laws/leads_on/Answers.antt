@@ -1,5 +1,0 @@
-use Rattle.index.proofs.EditOrderLaws.{leads_on}
-use Rattle.index.proofs.state_laws.leads_on.Goals as goal
-
-pub returns : goal.returns
-returns c = leads_on

@@ -1,5 +1,0 @@
-use Rattle.index.proofs.ListingLaws.{lists_collections}
-use Rattle.index.proofs.state_laws.lists_collections.Goals as goal
-
-pub returns : goal.returns
-returns c = lists_collections

@@ -1,5 +1,0 @@
-use Rattle.index.proofs.ListingLaws.{lists_documents}
-use Rattle.index.proofs.state_laws.lists_documents.Goals as goal
-
-pub returns : goal.returns
-returns c = lists_documents

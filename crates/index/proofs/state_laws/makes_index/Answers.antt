@@ -1,5 +1,0 @@
-use Rattle.index.proofs.IndexSteps.{makes_index}
-use Rattle.index.proofs.state_laws.makes_index.Goals as goal
-
-pub returns : goal.returns
-returns c = makes_index

@@ -1,5 +1,0 @@
-use Rattle.index.proofs.EditOrderLaws.{order_is_free}
-use Rattle.index.proofs.state_laws.order_is_free.Goals as goal
-
-pub returns : goal.returns
-returns c = order_is_free
