@@ -25,11 +25,16 @@ pub(crate) fn check<D: Disk>(
 
 /// Writes the counts, each on a line.
 fn write_counts(counts: &Counts, output: &mut impl Write) -> io::Result<()> {
-    writeln!(output, "generation {}", counts.generation)?;
-    writeln!(output, "collections {}", counts.collections)?;
-    writeln!(output, "documents {}", counts.documents)?;
-    writeln!(output, "indexes {}", counts.indexes)?;
-    writeln!(output, "pages {}", counts.pages)?;
-    writeln!(output, "free {}", counts.free)?;
+    let lines = [
+        ("generation", counts.generation),
+        ("collections", counts.collections as u64),
+        ("documents", counts.documents),
+        ("indexes", counts.indexes),
+        ("pages", u64::from(counts.pages)),
+        ("free", u64::from(counts.free)),
+    ];
+    for (name, count) in lines {
+        writeln!(output, "{name} {count}")?;
+    }
     output.flush()
 }

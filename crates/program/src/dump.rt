@@ -5,7 +5,7 @@ ghost use Rattle.server.specs.Durable.{IsSound};
 use crate::fault::ProgramFault;
 use bson::SpelledDocument;
 use page::Disk;
-use server::{Core, dump_line};
+use server::{Core, Walk, dump_line};
 use std::alloc::Global;
 use std::io::Write;
 
@@ -21,16 +21,29 @@ pub(crate) fn dump<D: Disk>(
 {
     let mut walk = core.begin_dump(namespace)?;
     for _ in 0..u64::MAX {
-        let documents = core.next_dumped(&mut walk)?;
-        if documents.is_empty() {
+        if !dump_some(alloc, core, &mut walk, output)? {
             break;
         }
-        write_lines(alloc, &documents, output)?;
     }
     match output.flush() {
         Ok(()) => Ok(()),
         Err(_) => Err(ProgramFault::Device),
     }
+}
+
+/// Writes the next documents of a walk. Whether there were any.
+fn dump_some<D: Disk>(
+    alloc: Global,
+    core: &mut Core<D>,
+    walk: &mut Walk,
+    output: &mut impl Write,
+) -> Result<bool, ProgramFault>
+    requires sound { IsSound D.history core.old }
+    ensures sound { IsSound D.history core.new }
+{
+    let documents = core.next_dumped(walk)?;
+    write_lines(alloc, &documents, output)?;
+    Ok(!documents.is_empty())
 }
 
 /// Writes documents, each on a line.

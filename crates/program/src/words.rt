@@ -34,6 +34,22 @@ const PROGRAMS: [Program; 8] = [
     Program::Dump,
 ];
 
+impl Program {
+    /// The word that it is asked for by.
+    fn name(self) -> &'static str {
+        match self {
+            Program::Exec => "exec",
+            Program::Serve => "serve",
+            Program::Listen => "listen",
+            Program::Ask => "ask",
+            Program::Import => "import",
+            Program::Export => "export",
+            Program::Check => "check",
+            Program::Dump => "dump",
+        }
+    }
+}
+
 /// What the program is to do, over which file.
 #[derive(Drop)]
 pub(crate) struct Words {
@@ -115,31 +131,30 @@ pub(crate) fn parse(alloc: Global, words: &[String]) -> Result<Option<Words>, cl
 
 /// What the words that match ask for, if their numbers are in range.
 fn words_in(alloc: Global, matches: &ArgMatches<'_>) -> Result<Option<Words>, AllocError> {
-    if let Some(exec) = matches.subcommand_matches("exec") {
-        return words_of(alloc, exec, Some(Task::Exec));
-    }
-    if let Some(serve) = matches.subcommand_matches("serve") {
-        return words_of(alloc, serve, served_of(serve));
-    }
-    if let Some(listen) = matches.subcommand_matches("listen") {
-        return words_of(alloc, listen, listened_of(listen));
-    }
-    if let Some(ask) = matches.subcommand_matches("ask") {
-        return words_of(alloc, ask, Some(Task::Ask(ask_of(alloc, ask)?)));
-    }
-    if let Some(import) = matches.subcommand_matches("import") {
-        return words_of(alloc, import, import_of(alloc, import)?);
-    }
-    if let Some(export) = matches.subcommand_matches("export") {
-        return words_of(alloc, export, export_of(alloc, export)?);
-    }
-    if let Some(check) = matches.subcommand_matches("check") {
-        return words_of(alloc, check, Some(Task::Check));
-    }
-    if let Some(dump) = matches.subcommand_matches("dump") {
-        return words_of(alloc, dump, dump_of(alloc, dump)?);
+    for program in PROGRAMS {
+        if let Some(words) = matches.subcommand_matches(program.name()) {
+            return words_of(alloc, words, task_of(alloc, program, words)?);
+        }
     }
     Ok(None)
+}
+
+/// What a program is to do by its words, if their numbers are in range.
+fn task_of(
+    alloc: Global,
+    program: Program,
+    words: &ArgMatches<'_>,
+) -> Result<Option<Task>, AllocError> {
+    match program {
+        Program::Exec => Ok(Some(Task::Exec)),
+        Program::Serve => Ok(served_of(words)),
+        Program::Listen => Ok(listened_of(words)),
+        Program::Ask => ask_of(alloc, words),
+        Program::Import => import_of(alloc, words),
+        Program::Export => export_of(alloc, words),
+        Program::Check => Ok(Some(Task::Check)),
+        Program::Dump => dump_of(alloc, words),
+    }
 }
 
 /// The programs and their words.
@@ -168,37 +183,33 @@ fn with_program<'a>(
 
 /// The words of a program.
 fn words_for<'a>(alloc: Global, program: Program) -> Result<Command<'a>, AllocError> {
+    let words = Command::new(alloc, program.name()).arg(file(alloc))?;
     match program {
-        Program::Exec => Command::new(alloc, "exec").arg(file(alloc)),
-        Program::Serve => serve_words(alloc),
-        Program::Listen => listen_words(alloc),
-        Program::Ask => ask_words(alloc),
-        Program::Import => import_words(alloc),
-        Program::Export => export_words(alloc),
-        Program::Check => Command::new(alloc, "check").arg(file(alloc)),
-        Program::Dump => dump_words(alloc),
+        Program::Exec | Program::Check => Ok(words),
+        Program::Serve => with_serve(alloc, words),
+        Program::Listen => with_listen(alloc, words),
+        Program::Ask => with_ask(alloc, words),
+        Program::Import | Program::Dump => words.arg(namespace(alloc)),
+        Program::Export => words.arg(namespace(alloc))?.arg(flag(alloc, "canonical")),
     }
 }
 
-fn serve_words<'a>(alloc: Global) -> Result<Command<'a>, AllocError> {
-    Command::new(alloc, "serve")
-        .arg(file(alloc))?
+fn with_serve<'a>(alloc: Global, words: Command<'a>) -> Result<Command<'a>, AllocError> {
+    words
         .arg(option(alloc, "port").required(true))?
         .arg(option(alloc, "connections").required(true))?
         .arg(option(alloc, "turns").required(true))
 }
 
-fn listen_words<'a>(alloc: Global) -> Result<Command<'a>, AllocError> {
-    Command::new(alloc, "listen")
-        .arg(file(alloc))?
+fn with_listen<'a>(alloc: Global, words: Command<'a>) -> Result<Command<'a>, AllocError> {
+    words
         .arg(option(alloc, "port").required(true))?
         .arg(option(alloc, "idle-seconds"))?
         .arg(flag(alloc, "drivers"))
 }
 
-fn ask_words<'a>(alloc: Global) -> Result<Command<'a>, AllocError> {
-    Command::new(alloc, "ask")
-        .arg(file(alloc))?
+fn with_ask<'a>(alloc: Global, words: Command<'a>) -> Result<Command<'a>, AllocError> {
+    words
         .arg(option(alloc, "db"))?
         .arg(flag(alloc, "all"))?
         .arg(flag(alloc, "pretty"))?
@@ -207,25 +218,6 @@ fn ask_words<'a>(alloc: Global) -> Result<Command<'a>, AllocError> {
                 .action(ArgAction::Append)
                 .num_args(0..),
         )
-}
-
-fn import_words<'a>(alloc: Global) -> Result<Command<'a>, AllocError> {
-    Command::new(alloc, "import")
-        .arg(file(alloc))?
-        .arg(namespace(alloc))
-}
-
-fn export_words<'a>(alloc: Global) -> Result<Command<'a>, AllocError> {
-    Command::new(alloc, "export")
-        .arg(file(alloc))?
-        .arg(namespace(alloc))?
-        .arg(flag(alloc, "canonical"))
-}
-
-fn dump_words<'a>(alloc: Global) -> Result<Command<'a>, AllocError> {
-    Command::new(alloc, "dump")
-        .arg(file(alloc))?
-        .arg(namespace(alloc))
 }
 
 /// The file of a program.
@@ -298,17 +290,17 @@ fn listened_of(matches: &ArgMatches<'_>) -> Option<Task> {
 }
 
 /// What `ask` is to do. A command that names no database is asked in `test`.
-fn ask_of(alloc: Global, matches: &ArgMatches<'_>) -> Result<AskWords, AllocError> {
+fn ask_of(alloc: Global, matches: &ArgMatches<'_>) -> Result<Option<Task>, AllocError> {
     let mut commands = Vec::new(alloc);
     for command in matches.get_strs("COMMAND").unwrap_or(&[]) {
         commands.push(String::from_str(alloc, command)?)?;
     }
-    Ok(AskWords {
+    Ok(Some(Task::Ask(AskWords {
         database: String::from_str(alloc, matches.get_str("db").unwrap_or("test"))?,
         all: matches.get_flag("all"),
         pretty: matches.get_flag("pretty"),
         commands,
-    })
+    })))
 }
 
 /// What `import` is to do.

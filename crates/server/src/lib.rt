@@ -14,6 +14,7 @@ mod step;
 mod turn;
 
 pub use anew::run_anew;
+pub use collections::Walk;
 pub use connection::FeedFault;
 pub use drive::{DriveFault, DriveOut};
 pub use dump::dump_line;

@@ -50,10 +50,10 @@ impl<S: Service> Clients<S> {
     {
         Ok(Clients {
             alloc,
-            poll: Poll::new(net)?,
-            events: Events::with_capacity(alloc, S::PLACES.saturating_add(1))?,
-            table: Table::new(alloc, count)?,
             buffer: Vec::from_elem(alloc, 0, READ_BYTES)?,
+            events: Events::with_capacity(alloc, S::PLACES.saturating_add(1))?,
+            poll: Poll::new(net)?,
+            table: Table::new(alloc, count)?,
         })
     }
 

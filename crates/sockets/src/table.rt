@@ -32,8 +32,8 @@ impl<T: Read + Write + Drop, S: Service> Table<T, S> {
         requires { count ≤ S.PLACES }
     {
         Ok(Table {
-            places: free_places(alloc, count)?,
             busy: Marks::new(alloc, count)?,
+            places: free_places(alloc, count)?,
             time: Duration::ZERO,
             numbers: PhantomData,
         })
