@@ -1,10 +1,11 @@
 -- What opening a disk gives.
-use Rattle.std.specs.Prelude.{◌≡◌, ◌≢◌, ◌<◌, false, List, [], Err}
+use Rattle.std.specs.Prelude.{◌≡◌, ◌≢◌, ℕ, ◌<◌, false, List, [], Err}
 use Rattle.page.specs.History.{History, KeepsWord, IsImage, now, reads}
 use Rattle.page.specs.Crash.{GoesOn, LeavesNow, LeavesOnly}
 use Rattle.roots.specs.Root.{root_of}
 use Rattle.roots.specs.declared.opening.OpenFault.{OpenFault}
 use Rattle.roots.specs.declared.opening.OpenFault.TheVariants as faults
+use Rattle.pager.specs.Opening as pagers
 use Rattle.entries.specs.State.{Collection}
 use Rattle.collections.specs.State.{State}
 use Rattle.collections.specs.Holding.{Holds}
@@ -30,6 +31,11 @@ pub record IsOpened {D : Type 0} (history : D → History) (disk : D)
   -- before
   pub any_moment : IsImage (now (history disk)) (reads (now (history disk)))
       → LeavesOnly (history disk) (disk_history history c) (IsImage (now (history disk)))
+
+-- The file may have so many pages: as many as were asked for, 1,048,576 at most, or those that it
+-- has.
+abbrev pub HasLimit : {D : Type 0} → ℕ → State D → Type 0
+HasLimit limit c = pagers.HasLimit limit c.pager
 
 -- The disk was handed back with this fault.
 pub record IsRefused {D : Type 0} (history : D → History) (disk back : D)

@@ -39,7 +39,7 @@ impl<D: Disk> Collections<D> {
     ghost use Rattle.collections.specs.Committing.{Commits};
     ghost use Rattle.collections.specs.Counting.{CountsPages};
     ghost use Rattle.collections.specs.Marks.{IsMarkOf, ReturnsTo, Undoes};
-    ghost use Rattle.collections.specs.Opening.{IsOpened, IsRefused};
+    ghost use Rattle.collections.specs.Opening.{HasLimit, IsOpened, IsRefused};
     ghost use Rattle.collections.specs.Trusting.{trusting_state};
     ghost use Rattle.collections.specs.Versions.{CommitsVersions, KeepsSinceStart, KeepsThen, pins_of};
     ghost use Rattle.collections.specs.View.{disk_history, generation, is_changed, is_stopped};
@@ -48,6 +48,7 @@ impl<D: Disk> Collections<D> {
     /// pages, and of the tree the root page alone; each page of the tree where the file has no list. An `Err` hands the disk back.
     pub fn open(alloc: Global, disk: D, limit: u32) -> Result<Collections<D>, (D, OpenFault)>
         ensures opened { IfOk result (IsOpened D.history disk) }
+        ensures limit { IfOk result (HasLimit limit) }
         ensures refused { IfErr result (λ e. IsRefused D.history disk e.0 e.1) }
     {
         let pager = match Pager::open(alloc, disk, limit) {

@@ -2,7 +2,9 @@
 
 ghost use Rattle.std.specs.Prelude.{◌≡◌, ◌⊎◌, Ok, true, false, IfOk, IfErr};
 ghost use Rattle.page.specs.History.{KeepsWord};
+ghost use Rattle.roots.specs.Store.{limit_in};
 ghost use Rattle.collections.specs.Marks.{Undoes};
+ghost use Rattle.collections.specs.Opening.{HasLimit};
 ghost use Rattle.cursors.specs.Changes.{all_at_rest};
 ghost use Rattle.engine.specs.Committing.{Commits};
 ghost use Rattle.engine.specs.Continuing.{Continues};
@@ -62,6 +64,7 @@ impl<D: Disk> Engine<D> {
         config: Config,
     ) -> Result<Engine<TrustedDisk<D>>, (D, OpenFault)>
         ensures opened { IfOk result (IsOpened D.history disk) }
+        ensures limit { IfOk result (λ e. HasLimit (limit_in config) (file_of e)) }
         ensures refused { IfErr result (λ e. IsRefused D.history disk e.0 e.1) }
     {
         let (file, told) = match open_file(alloc, disk, config.limit()) {

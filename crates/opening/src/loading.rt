@@ -8,6 +8,7 @@ ghost use Rattle.btree.specs.Scan.{entry_in};
 ghost use Rattle.bson.specs.Tree.{Pairs};
 ghost use Rattle.opening.specs.FileOpening.{IsFileOpened, Judges, LoadsBatch, LoadsEntries, LoadsFile};
 ghost use Rattle.entries.specs.State.{Collection};
+ghost use Rattle.collections.specs.Opening.{HasLimit};
 ghost use Rattle.opening.specs.Judging.{AreLoaded, HasItsKeys, IsFaultOf, IsLoadingAs, IsName, IsStoredAt, Refuses, RefusesOne, Takes, TakesAll, TakesDocument, TakesName, key_count, keys_among, listed_of, nothing_read, numbered};
 ghost use Rattle.opening.specs.Loading.{named_as, progress_of};
 ghost use Rattle.opening.specs.Refusing.{IsRefused};
@@ -306,6 +307,7 @@ fn open_told<D: Disk>(
     ghost image: { ℕ → List ℕ }
     ensures opened { IfOk result (λ r. image ≡ reads (now (D.history disk))
         → IsFileOpened D.history disk r.1.value r.0) }
+    ensures limit { IfOk result (λ r. HasLimit limit r.0) }
     ensures refused { IfErr result (λ e. IsRefused D.history disk e.0 e.1) }
 {
     match FileCollections::open(alloc, disk, limit) {
@@ -323,6 +325,7 @@ pub fn open_file<D: Disk>(
     limit: u32,
 ) -> Result<(FileCollections<TrustedDisk<D>>, Told), (D, OpenFault)>
     ensures opened { IfOk result (λ r. IsFileOpened D.history disk r.1.value r.0) }
+    ensures limit { IfOk result (λ r. HasLimit limit r.0) }
     ensures refused { IfErr result (λ e. IsRefused D.history disk e.0 e.1) }
 {
     open_told(alloc, disk, limit)

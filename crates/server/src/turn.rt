@@ -65,6 +65,8 @@ pub struct Core<D: Disk> {
 
 impl<D: Disk> Core<D> {
     ghost use Rattle.std.specs.Prelude.{◌≢◌, Err, IfOk, IfErr, OnErr, is_err};
+    ghost use Rattle.roots.specs.Store.{limit_in};
+    ghost use Rattle.collections.specs.Opening.{HasLimit};
     ghost use Rattle.opening.specs.Refusing.{IsRefused};
     ghost use Rattle.server.specs.ServerState.{fed, ended, find_connection, is_closed_in};
     ghost use Rattle.server.specs.Turn.{is_waiting_in};
@@ -78,6 +80,7 @@ impl<D: Disk> Core<D> {
     /// a failure of the command that meets it, and `check` looks at all. An `Err` hands the disk back.
     pub fn open(alloc: Global, disk: D, config: Config) -> Result<Core<D>, (D, OpenFault)>
         ensures opened { IfOk result (IsOpened D.history disk) }
+        ensures limit { IfOk result (λ core. HasLimit (limit_in config) (file_of core)) }
         ensures refused { IfErr result (λ e. IsRefused D.history disk e.0 e.1) }
     {
         match Engine::open(alloc, disk, config) {
