@@ -46,7 +46,7 @@ pub record Reads {D X : Type 0} (history : D → History) (IsRight : List Collec
 
 -- ---- writing
 
--- a tree of these would have more than 32 levels
+-- a tree of these would have 2^32 entries or more
 pub record IsTooLarge (collections : List Collection) : Type 0 where
   pub entries : List Entry
   pub spells : Spells entries collections

@@ -1,6 +1,6 @@
 -- Whether a document may be stored, as a test. Each of these is true just where what it is named
 -- after holds: `is_scalar` where `IsScalar` (bson, specs/Lawful), `is_storable` where `IsStorable`
--- (index, specs/LawfulState).
+-- (entries, specs/LawfulState).
 use Rattle.std.specs.Prelude.{ℕ, ℤ, pos, negsuc, suc, ◌^◌, Bool, true, not, ◌&&◌, ◌==◌, nat_lt}
 use Rattle.std.specs.Prelude.{nat_le, List, length, codes, is_some, is_none}
 use Rattle.std.specs.List.{list_all}

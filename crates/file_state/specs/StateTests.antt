@@ -1,5 +1,5 @@
 -- Whether collections are a lawful state, as a test. Each of these is true just where what it is
--- named after holds: `is_kept` where `IsKept`, `is_lawful` where `IsLawfulState` (index,
+-- named after holds: `is_kept` where `IsKept`, `is_lawful` where `IsLawfulState` (entries,
 -- specs/LawfulState).
 use Rattle.std.specs.Prelude.{Bool, true, not, ◌&&◌, ◌||◌, ◌==◌, nat_le, List, [], ◌∷◌, length}
 use Rattle.std.specs.Prelude.{is_ok}

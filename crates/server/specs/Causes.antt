@@ -13,7 +13,7 @@ FoundNoPage old new = (old.full_takes < new.full_takes) ⊎ (new.full_takes ≡ 
 
 -- The causes of a refusal, by the first and the last moment of its turn, and by the world that the
 -- command leads to: memory ran out; or, where the disk has kept its word, the device failed; or no
--- page was free, or a tree of those collections would have more than 32 levels.
+-- page was free, or a tree of those collections would have 2^32 entries or more.
 abbrev pub IsCaused : Moment → Moment → World → Refusal → Type 0
 IsCaused old new planned refusal = (refusal ≡ refusals.OutOfMemory)
     ⊎ (((refusal ≡ refusals.StorageFailed)

@@ -1,5 +1,4 @@
--- What running the statements of an update does to documents in memory: clauses of private
--- functions.
+-- What running the statements of an update does to documents in memory.
 use Rattle.std.specs.Prelude.{◌≡◌, ◌≢◌, ◌≤◌, ℕ, suc, Bool, true, false, if◌then◌else◌, List, []}
 use Rattle.std.specs.Prelude.{◌∷◌, ◌++◌, length, map, insert, slice_set, slice_index_or, codes}
 use Rattle.std.specs.Prelude.{Option, Some, None, All, Result, Ok, Err}
