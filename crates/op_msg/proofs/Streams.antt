@@ -9,27 +9,27 @@ use Rattle.op_msg.specs.Stream.{Begins, Splits, ending}
 use Rattle.op_msg.specs.declared.fault.FrameFault.{FrameFault}
 use Rattle.op_msg.specs.declared.fault.FrameFault.TheVariants as faults
 
-abbrev Front : Type 0
+abbrev pub Front : Type 0
 Front = Result (Option (Frame × List ℕ)) FrameFault
 
 abbrev nothing : Front
 nothing = Ok None
 
-abbrev found : Frame → List ℕ → Front
+abbrev pub found : Frame → List ℕ → Front
 found frame rest = Ok (Some (frame, rest))
 
 -- what is at the front, by the tests
-abbrev front_by : Bool → Bool → Bool → Result Frame FrameFault → List ℕ → Front
+abbrev pub front_by : Bool → Bool → Bool → Result Frame FrameFault → List ℕ → Front
 front_by short wrong part frame rest =
     if short then nothing else unless wrong faults.Length (if part then nothing else (frame >>= λ f. found f rest))
 
-abbrev with_more : Front → List ℕ → Front
+abbrev pub with_more : Front → List ℕ → Front
 with_more (Ok None) more = Ok None
 with_more (Ok (Some x)) more = Ok (Some (x.0, x.1 ++ more))
 with_more (Err e) more = Err e
 
 -- not nothing
-abbrev IsThere : Front → Type 0
+abbrev pub IsThere : Front → Type 0
 IsThere (Ok None) = ⊥
 IsThere (Ok (Some x)) = Unit {0}
 IsThere (Err e) = Unit {0}
@@ -79,7 +79,7 @@ stays bytes more = (
   λ fault e. there bytes more (subst IsThere (sym e) tt) ∙ ap (λ (f : Front). with_more f more) e,
 )
 
-not_found : (frame : Frame) (rest : List ℕ) (fault : Option FrameFault) → ending fault ≡ found frame rest → ⊥
+pub not_found : (frame : Frame) (rest : List ℕ) (fault : Option FrameFault) → ending fault ≡ found frame rest → ⊥
 not_found frame rest None e = absurd cc
 not_found frame rest (Some fault) e = absurd cc
 
@@ -92,7 +92,7 @@ one_ending (Some fault) (Some other) e = cc
 abbrev both : Frame → List ℕ → Frame × List ℕ
 both f r = (f, r)
 
-one_found : (f g : Frame) (r s : List ℕ) → found f r ≡ found g s → (f ≡ g) × (r ≡ s)
+pub one_found : (f g : Frame) (r s : List ℕ) → found f r ≡ found g s → (f ≡ g) × (r ≡ s)
 one_found f g r s e =
     let p : both f r ≡ both g s = cc in
     (ap (λ (x : Frame × List ℕ). x.0) p, ap (λ (x : Frame × List ℕ). x.1) p)
@@ -109,7 +109,7 @@ one_reading bytes (f ∷ fs) (g ∷ gs) fault other rest left s t =
     (record { begins = subst (λ (xs : List ℕ). Begins xs gs left) (sym same.1) t.begins.2; ends = t.ends }) in
     ((λ i. same.0 i ∷ later.0 i), later.1, later.2)
 
-begins_on : (a b : List ℕ) (frames later : List Frame) (rest left : List ℕ) → Begins a frames rest → Begins (rest ++ b) later left
+pub begins_on : (a b : List ℕ) (frames later : List Frame) (rest left : List ℕ) → Begins a frames rest → Begins (rest ++ b) later left
     → Begins (a ++ b) (frames ++ later) left
 begins_on a b [] later rest left h k = subst (λ (xs : List ℕ). Begins (xs ++ b) later left) h k
 begins_on a b (f ∷ fs) later rest left h k = (h.0 ++ b, (stays a b).0 f h.0 h.1, begins_on h.0 b fs later rest left h.2 k)

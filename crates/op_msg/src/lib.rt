@@ -4,6 +4,7 @@
 mod fault;
 mod frames;
 pub mod laws;
+mod pieces;
 mod reading;
 mod request;
 mod sections;

@@ -1,8 +1,9 @@
 //! The message at the front of bytes.
 
-ghost use Rattle.std.specs.Prelude.{◌≡◌, ◌≤◌, ℕ, length, drop, option_map, IfOk, IfSome};
-ghost use Rattle.op_msg.specs.Frame.{frame_of, front};
+ghost use Rattle.std.specs.Prelude.{◌≡◌, ◌≤◌, ℕ, List, length, take, drop, option_map, IfOk, IfSome};
+ghost use Rattle.op_msg.specs.Frame.{frame_of, front, is_no_length, number_at};
 ghost use Rattle.op_msg.specs.View.{Finds, frame_in};
+ghost use Rattle.op_msg.specs.Whole.{AreWhole, EndsAt, IsBegun};
 
 use crate::fault::FrameFault;
 use crate::sections::{read_body, read_number};
@@ -57,6 +58,48 @@ fn read_frame(bytes: &[u8]) -> Result<Message<'_>, FrameFault>
     })
 }
 
+/// Whether no message has this length.
+fn is_no_length(len: usize) -> bool
+    ensures { result ≡ is_no_length len }
+{
+    len < 26 || MESSAGE_LIMIT < len
+}
+
+/// How many of so many bytes, which begin with the length of a message, are that message, if it is whole; all of them
+/// where it is the length of none.
+pub(crate) fn message_end(len: usize, count: usize) -> Option<usize>
+    ensures { (bytes : List ℕ) → 4 ≤ length bytes → number_at 0 bytes ≡ len
+        → length bytes ≡ count → EndsAt result bytes }
+{
+    if is_no_length(len) {
+        return Some(count);
+    }
+    if count < len { None } else { Some(len) }
+}
+
+/// How many bytes the message at the front has, if it is whole; all of them where its length is that of none.
+fn front_end(bytes: &[u8]) -> Option<usize>
+    ensures { EndsAt result bytes.now }
+{
+    if bytes.len() < 4 {
+        return None;
+    }
+    message_end(read_number(bytes, 0) as usize, bytes.len())
+}
+
+/// How many of these bytes are whole messages, or all where a fault stands behind some of them.
+pub(crate) fn whole_len(bytes: &[u8]) -> usize
+    ensures within { result ≤ length bytes.now }
+    ensures whole { AreWhole (take result bytes.now) }
+    ensures rest { IsBegun (drop result bytes.now) }
+{
+    let mut len = 0;
+    'messages: while let Some(end) = front_end(&bytes[len..]) {
+        len += end;
+    }
+    len
+}
+
 /// The message at the front, or nothing where it is not whole yet.
 #[tactic(auto, unfolding(crate::specs::Frame::front))]
 pub(crate) fn read_front(bytes: &[u8]) -> Result<Option<Front<'_>>, FrameFault>
@@ -68,7 +111,7 @@ pub(crate) fn read_front(bytes: &[u8]) -> Result<Option<Front<'_>>, FrameFault>
         return Ok(None);
     }
     let len = read_number(bytes, 0) as usize;
-    if len < 26 || MESSAGE_LIMIT < len {
+    if is_no_length(len) {
         return Err(FrameFault::Length);
     }
     if bytes.len() < len {
