@@ -36,7 +36,7 @@ const PROGRAMS: [Program; 8] = [
 
 impl Program {
     /// The word that it is asked for by.
-    fn name(self) -> &'static str {
+    fn name<'a>(self) -> &'a str {
         match self {
             Program::Exec => "exec",
             Program::Serve => "serve",
