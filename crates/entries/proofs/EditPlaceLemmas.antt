@@ -1,10 +1,12 @@
 -- What a map of noted edits tells of them.
 use Rattle.std.proofs.Common.{◌≡◌, ℕ, Bool, true, false, ◌||◌, List, [], ◌∷◌, Option, Some, None, refl, sym, ap, ◌∙◌}
-use Rattle.std.specs.Prelude.{cond, if◌then◌else◌, is_some, option_map}
+use Rattle.std.specs.List.{All, AllByRecursion}
+use Rattle.std.proofs.lemmas.List.Elements.{recursion_from_All}
+use Rattle.std.specs.Prelude.{cond, if◌then◌else◌, is_some, map, option_map}
 use Rattle.std.specs.BTreeMap.{insert_entry}
 use Rattle.std.specs.Global.{Vec}
 use Rattle.std.specs.Map.{lookup}
-use Rattle.std.specs.Ordering.{is_eq, match_ordering, ordering_reverse}
+use Rattle.std.specs.Ordering.{is_eq, is_lt, match_ordering, ordering_reverse}
 use Rattle.std.specs.declared.cmp.Ordering.{Ordering}
 use Rattle.std.specs.declared.cmp.Ordering.TheVariants.{Less, Equal, Greater}
 use Rattle.std.proofs.lemmas.Map.Lookups.{exact_bytes}
@@ -17,6 +19,11 @@ use Rattle.entries.proofs.EditLemmas.{turned}
 
 abbrev vec_cmp : Vec ℕ → Vec ℕ → Ordering
 vec_cmp a b = key_cmp a.items b.items
+
+not_less : (o : Ordering) → o ≡ Less → is_lt o ≡ false → ⊥
+not_less Less same other = absurd cc
+not_less Equal same other = absurd cc
+not_less Greater same other = absurd cc
 
 -- what is put at a key of the map is an edit more in the list
 pub inserted : (k : Vec ℕ) (v : Option (Vec ℕ)) (es : List Noted) → edits_in (insert_entry vec_cmp es k v) ≡ with_edit (edit_of k v) (edits_in es)
@@ -64,3 +71,25 @@ puts_told key es o is = sym (value_same o) ∙ ap (λ (x : Option (Option (Vec �
     value_same None = refl
     value_same (Some None) = refl
     value_same (Some (Some v)) = refl
+
+-- A key above the greatest one has no edit.
+none_by : (key : List ℕ) (last : Vec ℕ) (es : List Noted) → AllByRecursion (λ (q : Vec ℕ). is_lt (vec_cmp last q) ≡ false) (map (λ e. e.0) es)
+    → key_cmp last.items key ≡ Less → edit_at key (edits_in es) ≡ None
+none_by key last [] all less = refl
+none_by key last (e ∷ es) all less = by (key_cmp e.0.items key) refl (none_by key last es all.1 less)
+  where
+    by : (o : Ordering) → key_cmp e.0.items key ≡ o → edit_at key (edits_in es) ≡ None
+        → (if is_eq o then Some (option_map (λ x. x.items) e.1) else edit_at key (edits_in es)) ≡ None
+    by Less is later = later
+    by Equal is later = absurd (not_less (vec_cmp last e.0) (ap (key_cmp last.items) (exact_bytes e.0.items key is) ∙ less) all.0)
+    by Greater is later = later
+
+pub none_above : (key : List ℕ) (last : Vec ℕ) (es : List Noted) → All (λ (q : Vec ℕ). is_lt (vec_cmp last q) ≡ false) (map (λ e. e.0) es)
+    → key_cmp last.items key ≡ Less → edit_at key (edits_in es) ≡ None
+none_above key last es all less =
+    none_by key last es (recursion_from_All (λ (q : Vec ℕ). is_lt (vec_cmp last q) ≡ false) (map (λ e. e.0) es) all) less
+
+pub less_of : (b : Bool) (o : Ordering) → b ≡ is_lt o → b ≡ true → o ≡ Less
+less_of b Less told is = refl
+less_of b Equal told is = absurd cc
+less_of b Greater told is = absurd cc

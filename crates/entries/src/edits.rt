@@ -1,6 +1,6 @@
 //! A list of edits of the tree, which a commit makes at once.
 
-ghost use Rattle.std.specs.Prelude.{◌≡◌, ◌==◌, [], IfOk, OnErr, OnOk, is_some, length, map, option_map};
+ghost use Rattle.std.specs.Prelude.{◌≡◌, ◌==◌, [], None, true, IfOk, OnErr, OnOk, is_some, length, map, option_map};
 ghost use Rattle.btree.specs.Change.{edit_keys};
 ghost use Rattle.btree.specs.EditView.{HasRoom, edit_in};
 ghost use Rattle.btree.specs.Keys.{Each, Rises};
@@ -51,6 +51,16 @@ fn put_among(
 {
     let _before = noted.insert(key, value)?;
     Ok(())
+}
+
+/// Whether a key is above all that are noted, as each is where keys come in ascending order.
+fn is_above_all(noted: &BTreeMap<Vec<u8>, Option<Vec<u8>>>, key: &[u8]) -> bool
+    ensures { result ≡ true → edit_at key.now (edits_in noted.now.entries) ≡ None }
+{
+    match noted.last_key_value() {
+        Some((last, _)) => last.as_slice().cmp(key).is_lt(),
+        None => true,
+    }
 }
 
 /// An edit as a tree takes it.
@@ -132,6 +142,9 @@ impl Edits {
         ensures told { result ≡ option_map is_some (edit_at key.now self.now) }
         ensures rises { Rises (edit_keys self.now) }
     {
+        if is_above_all(&self.noted, key) {
+            return None;
+        }
         match self.noted.get(key) {
             Some(value) => Some(value.is_some()),
             None => None,
