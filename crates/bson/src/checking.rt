@@ -13,7 +13,7 @@ use crate::MOST_LEVELS;
 use crate::distinct::{FEW, count_of_many, is_among};
 use crate::elements::{ElementNames, has_element};
 use crate::fault::BsonFault;
-use crate::frames::{read_content, read_ended, read_fixed, read_name, read_name_bytes, read_text};
+use crate::frames::{read_content, read_ended, read_fixed, read_name_bytes, read_text};
 use crate::kind::Kind;
 use crate::reading::{is_index, read_length};
 use crate::scalars::{read_body, read_bool, read_kind};
@@ -144,7 +144,7 @@ fn check_item(more: u32, i: usize, type_byte: u8, bytes: &[u8]) -> Result<&[u8],
         (rest_of (item_by (value_at more) i type_byte bytes.now)) }
 {
     let kind = read_kind(type_byte)?;
-    let (name, rest) = read_name(bytes)?;
+    let (name, rest) = read_name_bytes(bytes)?;
     if !is_index(name, i) {
         return Err(BsonFault::ArrayName);
     }

@@ -199,13 +199,22 @@ impl Document {
         Ok(())
     }
 
-    // Counts an edit where there are many pairs, after enough of which they get an overview.
+    // Counts an edit where there are many pairs.
+    #[inline(always)]
     fn count_edit(&mut self)
         ensures { self.new ≡ self.old }
     {
         if self.pairs.len() < MANY {
             return;
         }
+        self.count_edit_of_many();
+    }
+
+    // Counts an edit of many pairs, after enough of which they get an overview.
+    #[inline(never)]
+    fn count_edit_of_many(&mut self)
+        ensures { self.new ≡ self.old }
+    {
         let alloc = *self.pairs.allocator();
         let beside = self.beside.take();
         self.beside = beside.counted(alloc, &self.pairs);
