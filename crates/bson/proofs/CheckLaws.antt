@@ -226,8 +226,8 @@ module _ (more : ℕ) (content rest : List ℕ) (count : ℕ) (table : List Lent
       → name_and_rest (element_by (value_at more) (stands_in (lent (take count table))) faults.Repeated type bytes) ≡ Err f
       → outcome_of (pairs_in (value_at more) content) ≡ Err f
   pair_unnamed f e =
-      pair_stops more content rest type bytes k.pairs.checked front f
-      (named_err (element_by (value_at more) (stands_in (tree_names k.pairs.checked.front)) faults.Repeated type bytes) f (ap name_and_rest (sym same_names) ∙ e))
+      let read = element_by (value_at more) (stands_in (tree_names k.pairs.checked.front)) faults.Repeated type bytes in
+      pair_stops more content rest type bytes k.pairs.checked front f (named_err read f (ap name_and_rest (sym same_names) ∙ e))
 
 pub pairs_passed : (more : ℕ) (content rest : List ℕ) → CheckedPairs more content rest → length rest ≡ 0 → outcome_of (pairs_in (value_at more) content) ≡ Ok tt
 pairs_passed more content rest k none =

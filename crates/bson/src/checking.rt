@@ -81,8 +81,7 @@ fn is_repeated(is_new: bool, earlier: &[u8], name: &[u8]) -> bool
     has_element(earlier, name)
 }
 
-/// The name of an element of a document, after its type byte, and what is left behind the element. The names before it are
-/// few.
+/// The name of an element of a document, after its type byte, and what is left behind it. The names before it are few.
 #[cycle(checking)]
 #[inline(always)]
 #[tactic(auto, unfolding(crate::specs::Reading::element_by))]
@@ -173,8 +172,8 @@ fn check_pairs(more: u32, content: &[u8]) -> Result<(), BsonFault>
     Ok(())
 }
 
-/// The elements of a document, of which the first few are checked: those that are left. A name that isn't known to be new
-/// is looked for among the elements before it: one of a few dozen, or the first that stands twice.
+/// The elements of a document that are left, of which the first few are checked. A name that isn't known to be new is
+/// looked for among the elements before it: one of a few dozen, or the first that stands twice.
 #[cycle(checking)]
 #[inline(never)]
 fn check_further(more: u32, content: &[u8], left: &[u8]) -> Result<(), BsonFault>
