@@ -1,5 +1,5 @@
 -- Checking element after element, as a loop does that keeps only how far it has come.
-use Rattle.std.proofs.Common.{◌≡◌, ℕ, ◌+◌, ◌-◌, ◌^◌, ◌<◌, ◌≤◌, false, List, [], ◌∷◌, ◌++◌, length, take, Result, Ok, Err, refl, sym, ap, subst, ◌∙◌}
+use Rattle.std.proofs.Common.{◌≡◌, ℕ, ◌+◌, ◌-◌, ◌^◌, ◌<◌, ◌≤◌, false, List, [], ◌∷◌, ◌++◌, length, take, set, Result, Ok, Err, refl, sym, ap, subst, ◌∙◌}
 use Rattle.std.proofs.Common.{append_assoc, arith}
 use Rattle.std.specs.Str.{bytes_eq}
 use Rattle.std.proofs.lemmas.List.{length-append, take_at, nil_from_length}
@@ -7,18 +7,21 @@ use Rattle.bson.specs.declared.fault.BsonFault.{BsonFault}
 use Rattle.bson.specs.declared.fault.BsonFault.TheVariants as faults
 use Rattle.bson.specs.declared.kind.Kind.TheVariants as kinds
 use Rattle.bson.specs.Tree.{Tree, Pairs, no_pairs, pair, append, Items, no_items, item, append_items}
-use Rattle.bson.specs.Lawful.{IsBytes, IsPairs, Lacks, pairs_levels}
+use Rattle.bson.specs.Lawful.{IsBytes, Lacks}
 use Rattle.bson.specs.EditPlaces.{IsPairs-append, pairs_levels-append}
 use Rattle.bson.specs.Spelling.{element, type_byte, tree_bytes, pairs_bytes}
 use Rattle.bson.specs.SizingLaws.{pairs_bytes-none, pairs_bytes-one, pairs_bytes-append}
 use Rattle.bson.specs.Reading.{Read, stands_in, element_by, item_by, content_at, pairs_in, items_in, value_at}
-use Rattle.bson.specs.Raw.{tree_names, pairs_spelled, Elements, rest_of, outcome_of}
-use Rattle.bson.proofs.FrameLaws.{or_false}
+use Rattle.bson.specs.Raw.{tree_names, pairs_spelled, Elements, name_and_rest, rest_of, outcome_of}
+use Rattle.outcome.specs.Outcome.{◌>>=◌}
+use Rattle.bson.specs.Checked.{PairsSoFar, CheckedPairs, CountedPairs}
+use Rattle.bson.proofs.FrameLaws.{or_false, ok_is}
 use Rattle.bson.proofs.PairLaws.{IsBytes-rest, ne-bytes_eq, element_takes}
 use Rattle.bson.proofs.TreeLaws.{value_reads}
-use Rattle.bson.proofs.ReadLoopLaws.{PairsSoFar, pairs_start, pairs_step, pairs_stop, pairs_done, ItemsSoFar, items_start, items_step, items_stop, items_done}
+use Rattle.bson.proofs.ReadLoopLaws.{pairs_start, pairs_step, pairs_stop, pairs_done, ItemsSoFar, items_start, items_step, items_stop, items_done}
 use Rattle.bson.proofs.ReadLoopLaws.{item_shorter, value_at_document, value_at_array}
 use Rattle.bson.proofs.RawLaws.{pairs_spelled-is}
+use Rattle.bson.proofs.TableLaws.{Lent, lent, noted}
 
 -- ---- what is left says what was read
 
@@ -29,6 +32,28 @@ rest_ok (Err f) rest e = absurd cc
 pub rest_err : {Y : Type 0} (read : Read Y) (f : BsonFault) → rest_of read ≡ Err f → read ≡ Err f
 rest_err (Ok x) f e = absurd cc
 rest_err (Err g) f e = let same : g ≡ f = cc in ap (λ (h : BsonFault). Err h) same
+
+pub named_ok : {Y : Type 0} (read : Read (List ℕ × Y)) (name rest : List ℕ) → name_and_rest read ≡ Ok (name, rest) → (t : Y) × (read ≡ Ok ((name, t), rest))
+named_ok {Y} (Ok x) name rest e =
+    let made : List ℕ × List ℕ = (x.0.0, x.1) in
+    let same : made ≡ (name, rest) = ok_is made (name, rest) e in
+    (x.0.1, λ i. let y : Read (List ℕ × Y) = Ok (((same i).0, x.0.1), (same i).1) in y)
+named_ok (Err f) name rest e = absurd cc
+
+pub named_err : {Y : Type 0} (read : Read (List ℕ × Y)) (f : BsonFault) → name_and_rest read ≡ Err f → read ≡ Err f
+named_err (Ok x) f e = absurd cc
+named_err (Err g) f e = let same : g ≡ f = cc in ap (λ (h : BsonFault). Err h) same
+
+-- what a value leaves is what its element leaves, with the name
+pub value_named : (name : List ℕ) (value : Read Tree) (rest : List ℕ) → rest_of value ≡ Ok rest
+    → name_and_rest (value >>= λ v. Ok ((name, v.0), v.1)) ≡ Ok (name, rest)
+value_named name (Ok x) rest e = let same : x.1 ≡ rest = cc in ap (λ (r : List ℕ). let y : Read (List ℕ) = Ok (name, r) in y) same
+value_named name (Err f) rest e = absurd cc
+
+pub value_unnamed : (name : List ℕ) (value : Read Tree) (f : BsonFault) → rest_of value ≡ Err f
+    → name_and_rest (value >>= λ v. Ok ((name, v.0), v.1)) ≡ Err f
+value_unnamed name (Ok x) f e = absurd cc
+value_unnamed name (Err g) f e = let same : g ≡ f = cc in ap (λ (h : BsonFault). let y : Read (List ℕ) = Err h in y) same
 
 pub outcome_ok : {Y : Type 0} (r : Result Y BsonFault) (u : Unit {0}) → outcome_of r ≡ Ok u → (y : Y) × (r ≡ Ok y)
 outcome_ok (Ok y) u e = (y, refl)
@@ -77,14 +102,6 @@ Lacks-from_names (pair other t ps) name e =
     let parts = or_false (bytes_eq name other) (stands_in (tree_names ps) name) e in
     (ne-bytes_eq name other parts.0, Lacks-from_names ps name parts.1)
 
--- the elements up to the rest were checked
-pub record CheckedPairs (more : ℕ) (content rest : List ℕ) : Type 0 where
-  pub front : Pairs
-  pub so_far : PairsSoFar more front (tree_names front) rest (pairs_in (value_at more) content)
-  pub parts : content ≡ pairs_bytes front ++ rest
-  pub lawful : IsPairs front
-  pub depth : pairs_levels front ≤ more
-
 abbrev pub pairs_unchecked : (more : ℕ) (content : List ℕ) → IsBytes content → CheckedPairs more content content
 pairs_unchecked more content fits =
     record {
@@ -94,12 +111,6 @@ pairs_unchecked more content fits =
       lawful = tt;
       depth = omega arith;
     }
-
--- and so many of them
-pub record CountedPairs (more : ℕ) (content rest : List ℕ) (count : ℕ) : Type 0 where
-  pub checked : CheckedPairs more content rest
-  pub counted : count ≡ length (tree_names checked.front)
-  pub within : count + length rest ≤ length content
 
 pub pairs_uncounted : (more : ℕ) (content : List ℕ) → IsBytes content → CountedPairs more content content 0
 pairs_uncounted more content fits = record { checked = pairs_unchecked more content fits; counted = refl; within = omega arith }
@@ -120,25 +131,18 @@ before_rest more content rest earlier at k e is le short =
       short = omega (arith, ap length same, ap length k.parts, length-append (pairs_bytes k.front) rest, short);
     }
 
-module _ (more : ℕ) (content rest earlier : List ℕ) (type : ℕ) (bytes : List ℕ) (k : CheckedPairs more content rest) (front : rest ≡ type ∷ bytes)
-    (before : Elements earlier k.front) where
+-- one element more
+module _ (more : ℕ) (content rest : List ℕ) (type : ℕ) (bytes : List ℕ) (k : CheckedPairs more content rest) (front : rest ≡ type ∷ bytes) where
   at_front : PairsSoFar more k.front (tree_names k.front) (type ∷ bytes) (pairs_in (value_at more) content)
   at_front = subst (λ (r : List ℕ). PairsSoFar more k.front (tree_names k.front) r (pairs_in (value_at more) content)) front k.so_far
 
-  same_read : element_by (value_at more) (stands_in (tree_names (pairs_spelled earlier))) faults.Repeated type bytes
-      ≡ element_by (value_at more) (stands_in (tree_names k.front)) faults.Repeated type bytes
-  same_read = ap (λ (ps : Pairs). element_by (value_at more) (stands_in (tree_names ps)) faults.Repeated type bytes) (pairs_spelled-is earlier k.front before)
-
-  pub pair_checked : (after : List ℕ)
-      → rest_of (element_by (value_at more) (stands_in (tree_names (pairs_spelled earlier))) faults.Repeated type bytes) ≡ Ok after
-      → (next : CheckedPairs more content after) × (length after < length rest) × (length (tree_names next.front) ≡ length (tree_names k.front) + 1)
-  pair_checked after e =
-      let found = rest_ok (element_by (value_at more) (stands_in (tree_names k.front)) faults.Repeated type bytes) after (ap rest_of (sym same_read) ∙ e) in
-      let name = found.0.0 in
-      let t = found.0.1 in
+  pub pair_taken : (name : List ℕ) (t : Tree) (after : List ℕ)
+      → element_by (value_at more) (stands_in (tree_names k.front)) faults.Repeated type bytes ≡ Ok ((name, t), after)
+      → (next : CheckedPairs more content after) × (length after < length rest) × (tree_names next.front ≡ tree_names k.front ++ name ∷ [])
+  pair_taken name t after read =
       let r = element_takes (value_at more) more (value_reads more) (stands_in (tree_names k.front)) faults.Repeated type bytes ((name, t), after)
-      (IsBytes-rest type bytes at_front.fits) found.1 in
-      let next = pairs_step more k.front (tree_names k.front) type bytes (pairs_in (value_at more) content) name t after at_front found.1 in
+      (IsBytes-rest type bytes at_front.fits) read in
+      let next = pairs_step more k.front (tree_names k.front) type bytes (pairs_in (value_at more) content) name t after at_front read in
       let grown = append k.front (pair name t no_pairs) in
       let spelled : pairs_bytes grown ≡ pairs_bytes k.front ++ element (type_byte t) name (tree_bytes t) =
       pairs_bytes-append k.front (pair name t no_pairs) ∙ ap (λ (x : List ℕ). pairs_bytes k.front ++ x) (pairs_bytes-one name t) in
@@ -154,14 +158,32 @@ module _ (more : ℕ) (content rest earlier : List ℕ) (type : ℕ) (bytes : Li
           depth = omega (arith, pairs_levels-append k.front (pair name t no_pairs), k.depth, r.0.depth);
         },
         omega (arith, size, length-append (element (type_byte t) name (tree_bytes t)) after),
-        ap length (tree_names-append k.front name t) ∙ length-append (tree_names k.front) (name ∷ []),
+        tree_names-append k.front name t,
       )
+
+  pub pair_stops : (f : BsonFault) → element_by (value_at more) (stands_in (tree_names k.front)) faults.Repeated type bytes ≡ Err f
+      → outcome_of (pairs_in (value_at more) content) ≡ Err f
+  pair_stops f failed = ap outcome_of (pairs_stop f more k.front (tree_names k.front) type bytes (pairs_in (value_at more) content) at_front failed)
+
+module _ (more : ℕ) (content rest earlier : List ℕ) (type : ℕ) (bytes : List ℕ) (k : CheckedPairs more content rest) (front : rest ≡ type ∷ bytes)
+    (before : Elements earlier k.front) where
+  same_read : element_by (value_at more) (stands_in (tree_names (pairs_spelled earlier))) faults.Repeated type bytes
+      ≡ element_by (value_at more) (stands_in (tree_names k.front)) faults.Repeated type bytes
+  same_read = ap (λ (ps : Pairs). element_by (value_at more) (stands_in (tree_names ps)) faults.Repeated type bytes) (pairs_spelled-is earlier k.front before)
+
+  pub pair_checked : (after : List ℕ)
+      → rest_of (element_by (value_at more) (stands_in (tree_names (pairs_spelled earlier))) faults.Repeated type bytes) ≡ Ok after
+      → (next : CheckedPairs more content after) × (length after < length rest) × (length (tree_names next.front) ≡ length (tree_names k.front) + 1)
+  pair_checked after e =
+      let found = rest_ok (element_by (value_at more) (stands_in (tree_names k.front)) faults.Repeated type bytes) after (ap rest_of (sym same_read) ∙ e) in
+      let next = pair_taken more content rest type bytes k front found.0.0 found.0.1 after found.1 in
+      (next.0, next.1, ap length next.2 ∙ length-append (tree_names k.front) (found.0.0 ∷ []))
 
   pub pair_refused : (f : BsonFault) → rest_of (element_by (value_at more) (stands_in (tree_names (pairs_spelled earlier))) faults.Repeated type bytes) ≡ Err f
       → outcome_of (pairs_in (value_at more) content) ≡ Err f
   pair_refused f e =
-      let failed = rest_err (element_by (value_at more) (stands_in (tree_names k.front)) faults.Repeated type bytes) f (ap rest_of (sym same_read) ∙ e) in
-      ap outcome_of (pairs_stop f more k.front (tree_names k.front) type bytes (pairs_in (value_at more) content) at_front failed)
+      pair_stops more content rest type bytes k front f
+      (rest_err (element_by (value_at more) (stands_in (tree_names k.front)) faults.Repeated type bytes) f (ap rest_of (sym same_read) ∙ e))
 
   pub pair_counted : (count : ℕ) (after : List ℕ) → count ≡ length (tree_names k.front) → count + length rest ≤ length content
       → rest_of (element_by (value_at more) (stands_in (tree_names (pairs_spelled earlier))) faults.Repeated type bytes) ≡ Ok after
@@ -169,6 +191,43 @@ module _ (more : ℕ) (content rest earlier : List ℕ) (type : ℕ) (bytes : Li
   pair_counted count after counted within e =
       let next = pair_checked after e in
       record { checked = next.0; counted = omega (arith, counted, next.2); within = omega (arith, within, next.1) }
+
+-- so many elements were checked, and a table begins with their names
+pub record NamedPairs (more : ℕ) (content rest : List ℕ) (count : ℕ) (table : List Lent) : Type 0 where
+  pub pairs : CountedPairs more content rest count
+  pub names : lent (take count table) ≡ tree_names pairs.checked.front
+
+pub pairs_unnamed : (more : ℕ) (content : List ℕ) (table : List Lent) → IsBytes content → NamedPairs more content content 0 table
+unfolding pairs_uncounted
+pairs_unnamed more content table fits = record { pairs = pairs_uncounted more content fits; names = refl }
+
+module _ (more : ℕ) (content rest : List ℕ) (count : ℕ) (table : List Lent) (type : ℕ) (bytes : List ℕ) (k : NamedPairs more content rest count table)
+    (front : rest ≡ type ∷ bytes) where
+  same_names : element_by (value_at more) (stands_in (lent (take count table))) faults.Repeated type bytes
+      ≡ element_by (value_at more) (stands_in (tree_names k.pairs.checked.front)) faults.Repeated type bytes
+  same_names = ap (λ (ns : List (List ℕ)). element_by (value_at more) (stands_in ns) faults.Repeated type bytes) k.names
+
+  pub pair_named : (slot : Lent) (after : List ℕ) → count < length table
+      → name_and_rest (element_by (value_at more) (stands_in (lent (take count table))) faults.Repeated type bytes) ≡ Ok (slot.now, after)
+      → NamedPairs more content after (count + 1) (set table count slot) × (length after < length rest)
+  pair_named slot after lt e =
+      let found = named_ok (element_by (value_at more) (stands_in (tree_names k.pairs.checked.front)) faults.Repeated type bytes) slot.now after
+      (ap name_and_rest (sym same_names) ∙ e) in
+      let next = pair_taken more content rest type bytes k.pairs.checked front slot.now found.0 after found.1 in
+      let size = ap length next.2 ∙ length-append (tree_names k.pairs.checked.front) (slot.now ∷ []) in (
+        record {
+          pairs = record { checked = next.0; counted = omega (arith, k.pairs.counted, size); within = omega (arith, k.pairs.within, next.1) };
+          names = noted table slot count lt ∙ ap (λ (ns : List (List ℕ)). ns ++ slot.now ∷ []) k.names ∙ sym next.2;
+        },
+        next.1,
+      )
+
+  pub pair_unnamed : (f : BsonFault)
+      → name_and_rest (element_by (value_at more) (stands_in (lent (take count table))) faults.Repeated type bytes) ≡ Err f
+      → outcome_of (pairs_in (value_at more) content) ≡ Err f
+  pair_unnamed f e =
+      let read = element_by (value_at more) (stands_in (tree_names k.pairs.checked.front)) faults.Repeated type bytes in
+      pair_stops more content rest type bytes k.pairs.checked front f (named_err read f (ap name_and_rest (sym same_names) ∙ e))
 
 pub pairs_passed : (more : ℕ) (content rest : List ℕ) → CheckedPairs more content rest → length rest ≡ 0 → outcome_of (pairs_in (value_at more) content) ≡ Ok tt
 pairs_passed more content rest k none =

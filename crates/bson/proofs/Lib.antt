@@ -11,6 +11,7 @@ pub mod NameLaws
 pub mod NestingLaws
 pub mod OverviewLaws
 pub mod PairLaws
+pub mod PlainNames
 pub mod RawLaws
 pub mod ReadLoopLaws
 pub mod ScalarLaws

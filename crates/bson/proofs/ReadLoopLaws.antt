@@ -18,6 +18,7 @@ use Rattle.bson.specs.EditsLaws.{pairs_of-push, items_of-push}
 use Rattle.bson.specs.Spelling.{element, type_byte, tree_bytes}
 use Rattle.outcome.specs.Outcome.{◌>>=◌, Fails}
 use Rattle.bson.specs.Reading.{Read, element_by, item_by, stands_in, pairs_by, items_by, pairs_in, items_in, value_at, content_at}
+use Rattle.bson.specs.Checked.{PairsSoFar, with_front}
 use Rattle.bson.proofs.PairLaws.{IsBytes-rest, element_takes, pairs_take}
 use Rattle.bson.proofs.TreeLaws.{item_takes, items_take, value_reads}
 use Rattle.bson.specs.Lawful.{IsBytes, levels, pairs_levels, items_levels, IsDocument, IsArray}
@@ -27,16 +28,6 @@ stands_in_names [] name = refl
 stands_in_names (p ∷ ps) name = ap (λ (b : Bool). bytes_eq name p.name || b) (stands_in_names ps name)
 
 -- ---- documents
-
--- what was read before, and what is still read
-abbrev pub with_front : Pairs → Result Pairs BsonFault → Result Pairs BsonFault
-with_front front read = read >>= λ ps. Ok (append front ps)
-
-pub record PairsSoFar (more : ℕ) (front : Pairs) (earlier : List (List ℕ)) (rest : List ℕ) (total : Result Pairs BsonFault) : Type 0 where
-  pub fits : IsBytes rest
-  pub most : ℕ
-  pub enough : length rest ≤ most
-  pub same : with_front front (pairs_by (value_at more) most earlier rest) ≡ total
 
 front-none : (read : Result Pairs BsonFault) → with_front no_pairs read ≡ read
 front-none (Ok ps) = refl

@@ -258,11 +258,15 @@ table_apart count others names behind old sorted whole counted moved rising apar
 
 -- ---- filling a table
 
+-- one name more
+pub noted : (table : List Lent) (slot : Lent) (n : ℕ) → n < length table → lent (take (n + 1) (set table n slot)) ≡ lent (take n table) ++ slot.now ∷ []
+noted table slot n lt = ap lent (take_more_set table n slot lt) ∙ map-append (λ (b : Lent). b.now) (take n table) (slot ∷ [])
+
 pub filled_more : (table : List Lent) (slot : Lent) (n : ℕ) (all left later : List Name) → n < length table → all ≡ lent (take n table) ++ left
     → left ≡ slot.now ∷ later → all ≡ lent (take (n + 1) (set table n slot)) ++ later
 filled_more table slot n all left later lt whole found =
     whole ∙ ap (λ (ns : List Name). lent (take n table) ++ ns) found ∙ sym (append_assoc (lent (take n table)) (slot.now ∷ []) later)
-    ∙ ap (λ (ns : List Name). ns ++ later) (sym (map-append (λ (b : Lent). b.now) (take n table) (slot ∷ [])) ∙ ap lent (sym (take_more_set table n slot lt)))
+    ∙ ap (λ (ns : List Name). ns ++ later) (sym (noted table slot n lt))
 
 pub rising_more : (table : List Lent) (n : ℕ) (d e : Lent) → 0 < n → n < length table → before (get_or table (n - 1) d).now (get_or table n e).now ≡ orders.Less
     → ((k : ℕ) → k + 1 < n → before (get_or (lent table) k []) (get_or (lent table) (k + 1) []) ≡ orders.Less) → (k : ℕ) → k + 1 < n + 1

@@ -1,3 +1,4 @@
+pub mod Checked
 pub mod CountLaws
 pub mod Depths
 pub mod EditPlaces

@@ -21,6 +21,11 @@ abbrev pub rest_of : {Y : Type 0} → Read Y → Result (List ℕ) BsonFault
 rest_of (Ok x) = Ok x.1
 rest_of (Err e) = Err e
 
+-- and with its name
+abbrev pub name_and_rest : {Y : Type 0} → Read (List ℕ × Y) → Read (List ℕ)
+name_and_rest (Ok x) = Ok (x.0.0, x.1)
+name_and_rest (Err e) = Err e
+
 abbrev pub outcome_of : {Y : Type 0} → Result Y BsonFault → Result (Unit {0}) BsonFault
 outcome_of (Ok x) = Ok tt
 outcome_of (Err e) = Err e

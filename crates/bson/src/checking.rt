@@ -1,23 +1,25 @@
 //! Whether bytes spell a document, found out without memory. Each function accepts what its namesake in
 //! `reading` accepts, with the same faults.
 
-ghost use Rattle.std.specs.Prelude.{true, false, ℕ, List, Ok, ◌≡◌, ◌^◌, ◌<◌, ◌≤◌, length};
+ghost use Rattle.std.specs.Prelude.{true, false, ℕ, List, Ok, ◌≡◌, ◌^◌, ◌<◌, ◌≤◌, length, map};
 ghost use Rattle.outcome.specs.Outcome.{GivesExactly};
 ghost use Rattle.bson.specs.Reading.{leaf, scalar_at, value_at, element_by, item_by, stands_in, kind_of, name_at, pairs_in, items_in, document_at};
 ghost use Rattle.bson.specs.declared.kind.Kind.{Kind};
-ghost use Rattle.bson.specs.Raw.{tree_names, pairs_spelled, Elements, rest_of, outcome_of, only_length};
+ghost use Rattle.bson.specs.Raw.{tree_names, pairs_spelled, Elements, name_and_rest, rest_of, outcome_of, only_length};
+ghost use Rattle.bson.specs.Checked.{CountedPairs};
 ghost use Rattle.bson.specs.declared.fault.BsonFault.TheVariants as faults;
 
 use crate::MOST_LEVELS;
-use crate::distinct::count_distinct;
+use crate::distinct::{FEW, count_of_many, is_among};
 use crate::elements::{ElementNames, has_element};
 use crate::fault::BsonFault;
-use crate::frames::{read_content, read_ended, read_fixed, read_name, read_text};
+use crate::frames::{read_content, read_ended, read_fixed, read_name_bytes, read_text};
 use crate::kind::Kind;
 use crate::reading::{is_index, read_length};
 use crate::scalars::{read_body, read_bool, read_kind};
 
 /// What is left behind a value of a kind other than documents and arrays.
+#[inline(always)]
 #[tactic(auto, unfolding(crate::specs::Reading::scalar_at, crate::specs::Reading::string_at, crate::specs::Reading::object_id_at, crate::specs::Reading::date_at, crate::specs::Reading::int32_at, crate::specs::Reading::timestamp_at, crate::specs::Reading::int64_at))]
 fn check_scalar(kind: Kind, bytes: &[u8]) -> Result<&[u8], BsonFault>
     ensures { GivesExactly (λ r. r.now) result (rest_of (leaf (scalar_at kind bytes.now))) }
@@ -39,6 +41,7 @@ fn check_scalar(kind: Kind, bytes: &[u8]) -> Result<&[u8], BsonFault>
 
 /// What is left behind a value where this many more levels are allowed.
 #[cycle(checking)]
+#[inline(always)]
 #[tactic(auto, unfolding(crate::specs::Reading::value_at))]
 fn check_value(more: u32, kind: Kind, bytes: &[u8]) -> Result<&[u8], BsonFault>
     requires { more ≤ 99 }
@@ -66,7 +69,7 @@ fn check_value(more: u32, kind: Kind, bytes: &[u8]) -> Result<&[u8], BsonFault>
 }
 
 /// Whether a name stands among the elements before it, which are looked at where it isn't known to be new.
-fn is_repeated(is_new: bool, earlier: &[u8], name: &str) -> bool
+fn is_repeated(is_new: bool, earlier: &[u8], name: &[u8]) -> bool
     requires earlier { Elements earlier.now (pairs_spelled earlier.now) }
     requires new { is_new ≡ true
         → stands_in (tree_names (pairs_spelled earlier.now)) name.now ≡ false }
@@ -78,10 +81,36 @@ fn is_repeated(is_new: bool, earlier: &[u8], name: &str) -> bool
     has_element(earlier, name)
 }
 
+/// The name of an element of a document, after its type byte, and what is left behind it. The names before it are few.
+#[cycle(checking)]
+#[inline(always)]
+#[tactic(auto, unfolding(crate::specs::Reading::element_by))]
+fn check_pair<'a>(
+    more: u32,
+    earlier: &[&[u8]],
+    type_byte: u8,
+    bytes: &'a [u8],
+) -> Result<(&'a [u8], &'a [u8]), BsonFault>
+    requires { more ≤ 99 }
+    ensures { GivesExactly (λ x. (x.0.now, x.1.now)) result
+        (name_and_rest (element_by (value_at more) (stands_in (map (λ n. n.now) earlier.now))
+        faults.Repeated type_byte bytes.now)) }
+{
+    let kind = read_kind(type_byte)?;
+    let (name, rest) = read_name_bytes(bytes)?;
+    if is_among(earlier, name) {
+        return Err(BsonFault::Repeated);
+    }
+    match check_value(more, kind, rest) {
+        Ok(rest) => Ok((name, rest)),
+        Err(fault) => Err(fault),
+    }
+}
+
 /// What is left behind an element of a document, after its type byte.
 #[cycle(checking)]
 #[tactic(auto, unfolding(crate::specs::Reading::element_by))]
-fn check_pair<'a>(
+fn check_later<'a>(
     more: u32,
     is_new: bool,
     earlier: &[u8],
@@ -98,7 +127,7 @@ fn check_pair<'a>(
         faults.Repeated type_byte bytes.now)) }
 {
     let kind = read_kind(type_byte)?;
-    let (name, rest) = read_name(bytes)?;
+    let (name, rest) = read_name_bytes(bytes)?;
     if is_repeated(is_new, earlier, name) {
         return Err(BsonFault::Repeated);
     }
@@ -114,27 +143,51 @@ fn check_item(more: u32, i: usize, type_byte: u8, bytes: &[u8]) -> Result<&[u8],
         (rest_of (item_by (value_at more) i type_byte bytes.now)) }
 {
     let kind = read_kind(type_byte)?;
-    let (name, rest) = read_name(bytes)?;
+    let (name, rest) = read_name_bytes(bytes)?;
     if !is_index(name, i) {
         return Err(BsonFault::ArrayName);
     }
     check_value(more, kind, rest)
 }
 
-/// The elements of a document. A name that isn't known to be new is looked for among the elements before it: one of a few
-/// dozen, or the first that stands twice.
+/// The elements of a document. The names of the first few stand in a table, in which the next one is looked for.
 #[cycle(checking)]
 fn check_pairs(more: u32, content: &[u8]) -> Result<(), BsonFault>
     requires more { more ≤ 99 }
     requires short { length content.now < 2 ^ 31 }
     ensures { GivesExactly (λ u. u) result (outcome_of (pairs_in (value_at more) content.now)) }
 {
-    let distinct = count_distinct::<ElementNames>(content);
+    let mut names: [&[u8]; FEW] = [&[]; FEW];
     let mut count = 0usize;
     let mut rest = content;
     'pairs: while let Some((type_byte, after)) = rest.split_first() {
+        if count == FEW {
+            return check_further(more, content, rest);
+        }
+        let (name, after) = check_pair(more, &names[..count], *type_byte, after)?;
+        names[count] = name;
+        count += 1;
+        rest = after;
+    }
+    Ok(())
+}
+
+/// The elements of a document that are left, of which the first few are checked. A name that isn't known to be new is
+/// looked for among the elements before it: one of a few dozen, or the first that stands twice.
+#[cycle(checking)]
+#[inline(never)]
+fn check_further(more: u32, content: &[u8], left: &[u8]) -> Result<(), BsonFault>
+    requires more { more ≤ 99 }
+    requires short { length content.now < 2 ^ 31 }
+    requires checked { CountedPairs more content.now left.now 32 }
+    ensures { GivesExactly (λ u. u) result (outcome_of (pairs_in (value_at more) content.now)) }
+{
+    let distinct = count_of_many::<ElementNames>(content);
+    let mut count = FEW;
+    let mut rest = left;
+    'pairs: while let Some((type_byte, after)) = rest.split_first() {
         let (earlier, _) = content.split_at(content.len() - rest.len());
-        rest = check_pair(more, count < distinct, earlier, *type_byte, after)?;
+        rest = check_later(more, count < distinct, earlier, *type_byte, after)?;
         count += 1;
     }
     Ok(())

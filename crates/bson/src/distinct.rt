@@ -10,7 +10,7 @@ ghost use Rattle.bson.specs.RawNames.{AreNew, AreOthers, AreApart};
 use std::cmp::Ordering;
 
 /// How many names are compared with each other: more are sorted.
-const FEW: usize = 32;
+pub(crate) const FEW: usize = 32;
 
 /// Names in fewer bytes aren't sorted.
 const SHORT: usize = 256;
@@ -59,7 +59,8 @@ fn count_new(names: &[&[u8]]) -> usize
     names.len()
 }
 
-fn is_among(names: &[&[u8]], name: &[u8]) -> bool
+/// Whether a name is one of these.
+pub(crate) fn is_among(names: &[&[u8]], name: &[u8]) -> bool
     ensures { result ≡ stands_in (map (λ n. n.now) names.now) name.now }
 {
     'names: for other in names {
@@ -72,7 +73,7 @@ fn is_among(names: &[&[u8]], name: &[u8]) -> bool
 
 /// The same count of more names than are compared with each other.
 #[inline(never)]
-fn count_of_many<P: NamedParts>(bytes: &[u8]) -> usize
+pub(crate) fn count_of_many<P: NamedParts>(bytes: &[u8]) -> usize
     ensures { AreNew result (P.names bytes.now) }
 {
     let (count, rest) = count_ascending::<P>(bytes);

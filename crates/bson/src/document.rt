@@ -59,6 +59,18 @@ fn place_among(pairs: &[Pair], name: &str) -> Option<usize>
     None
 }
 
+/// The value of a name among these pairs.
+fn value_among<'a>(pairs: &'a [Pair], name: &str) -> Option<&'a Value>
+    ensures { option_map (λ v. tree v.now) result ≡ lookup (pairs_of pairs.now) name.now }
+{
+    'pairs: for pair in pairs {
+        if name == pair.name.as_str() {
+            return Some(&pair.value);
+        }
+    }
+    None
+}
+
 impl Document {
     /// The empty document. It takes no memory yet.
     pub fn new(alloc: Global) -> Document
@@ -107,9 +119,12 @@ impl Document {
     pub fn get(&self, name: &str) -> Option<&Value>
         ensures { option_map (λ v. tree v.now) result ≡ lookup self.now name.now }
     {
-        match self.position(name) {
-            Some(at) => Some(&self.pairs[at].value),
-            None => None,
+        match &self.beside {
+            Beside::Plain { .. } => value_among(&self.pairs, name),
+            Beside::Many { .. } => match self.position(name) {
+                Some(at) => Some(&self.pairs[at].value),
+                None => None,
+            },
         }
     }
 
@@ -199,13 +214,22 @@ impl Document {
         Ok(())
     }
 
-    // Counts an edit where there are many pairs, after enough of which they get an overview.
+    // Counts an edit where there are many pairs.
+    #[inline(always)]
     fn count_edit(&mut self)
         ensures { self.new ≡ self.old }
     {
         if self.pairs.len() < MANY {
             return;
         }
+        self.count_edit_of_many();
+    }
+
+    // Counts an edit of many pairs, after enough of which they get an overview.
+    #[inline(never)]
+    fn count_edit_of_many(&mut self)
+        ensures { self.new ≡ self.old }
+    {
         let alloc = *self.pairs.allocator();
         let beside = self.beside.take();
         self.beside = beside.counted(alloc, &self.pairs);

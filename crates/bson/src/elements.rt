@@ -7,7 +7,7 @@ ghost use Rattle.bson.specs.Reading.{stands_in};
 ghost use Rattle.bson.specs.Raw.{tree_names, pairs_spelled, Elements, IsFirst, number_at, len_at};
 
 use crate::distinct::NamedParts;
-use crate::frames::{first_zero, read_name};
+use crate::frames::{first_zero, read_name_bytes};
 use crate::kind::Kind;
 use crate::scalars::read_kind;
 
@@ -15,7 +15,7 @@ use crate::scalars::read_kind;
 #[derive(Clone, Copy)]
 pub(crate) struct Element<'a> {
     pub(crate) kind: Kind,
-    pub(crate) name: &'a str,
+    pub(crate) name: &'a [u8],
     pub(crate) value: &'a [u8],
     pub(crate) rest: &'a [u8],
 }
@@ -92,7 +92,7 @@ pub(crate) fn split_element(elements: &[u8]) -> Option<Element<'_>>
     let Ok(kind) = read_kind(*type_byte) else {
         unreachable!();
     };
-    let Ok((name, after)) = read_name(after) else {
+    let Ok((name, after)) = read_name_bytes(after) else {
         unreachable!();
     };
     let (value, rest) = after.split_at(value_len(kind, after));
@@ -105,11 +105,11 @@ pub(crate) fn split_element(elements: &[u8]) -> Option<Element<'_>>
 }
 
 /// Whether one of these elements has this name.
-pub(crate) fn has_element(elements: &[u8], name: &str) -> bool
+pub(crate) fn has_element(elements: &[u8], name: &[u8]) -> bool
     requires { Elements elements.now (pairs_spelled elements.now) }
     ensures { result ≡ stands_in (tree_names (pairs_spelled elements.now)) name.now }
 {
-    has_name_in(elements, name.as_bytes())
+    has_name_in(elements, name)
 }
 
 /// Whether this name stands in these elements, whatever they are.

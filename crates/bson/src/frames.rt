@@ -1,6 +1,6 @@
 //! Counts, texts, names and frames at the front of bytes.
 
-ghost use Rattle.std.specs.Prelude.{◌≡◌, ℕ, ◌<◌, ◌≤◌, ◌-◌, ◌^◌, List, length, IfOk, Ok, MatchOption, false, true, position, ◌==◌};
+ghost use Rattle.std.specs.Prelude.{◌≡◌, ℕ, ◌<◌, ◌≤◌, ◌-◌, ◌^◌, List, length, IfOk, Ok, MatchOption, false, true, position, ◌==◌, ◌||◌, nat_le};
 ghost use Rattle.std.specs.Str.{is_utf8};
 ghost use Rattle.std.specs.Int.{w32, w64};
 ghost use Rattle.outcome.specs.Outcome.{GivesExactly};
@@ -115,6 +115,38 @@ pub(crate) fn first_zero(bytes: &[u8]) -> Option<usize>
     ensures { result ≡ position (λ b. b == 0) bytes.now }
 {
     bytes.iter().position(|b| *b == 0)
+}
+
+/// Where the first byte is that is zero or no ASCII.
+fn plain_end(bytes: &[u8]) -> Option<usize>
+    ensures { result ≡ position (λ b. b == 0 || nat_le 128 b) bytes.now }
+{
+    bytes.iter().position(|b| *b == 0 || 128 <= *b)
+}
+
+/// A name as `read_name` gives it, by its bytes. One of ASCII is looked at once.
+#[inline(always)]
+pub(crate) fn read_name_bytes(bytes: &[u8]) -> Result<(&[u8], &[u8]), BsonFault>
+    ensures { GivesExactly (λ x. (x.0.now, x.1.now)) result (name_at bytes.now) }
+{
+    let Some(end) = plain_end(bytes) else {
+        return Err(BsonFault::Name);
+    };
+    if bytes[end] != 0 {
+        return read_wide_name(bytes);
+    }
+    let (name, _) = bytes.split_at(end);
+    let (_, rest) = bytes.split_at(end + 1);
+    Ok((name, rest))
+}
+
+/// The same of a name with other characters.
+#[inline(never)]
+fn read_wide_name(bytes: &[u8]) -> Result<(&[u8], &[u8]), BsonFault>
+    ensures { GivesExactly (λ x. (x.0.now, x.1.now)) result (name_at bytes.now) }
+{
+    let (name, rest) = read_name(bytes)?;
+    Ok((name.as_bytes(), rest))
 }
 
 /// A name, which the first zero ends.

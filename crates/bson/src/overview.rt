@@ -37,6 +37,7 @@ impl Overview {
     }
 
     /// The place of a name.
+    #[inline(never)]
     pub(crate) fn place(&self, name: &str) -> Option<usize>
         ensures { (ps : Pairs) → Tells self.now ps → result ≡ place ps name.now }
     {

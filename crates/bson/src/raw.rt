@@ -108,10 +108,11 @@ impl<'a> RawDoc<'a> {
     pub fn get(&self, name: &str) -> Option<RawValue<'a>>
         ensures { result ≡ lookup self.now name.now }
     {
+        let wanted = name.as_bytes();
         let (_, rest) = self.bytes.split_at(4);
         let (mut rest, _) = rest.split_at(rest.len() - 1);
         'elements: while let Some(element) = split_element(rest) {
-            if name == element.name {
+            if wanted == element.name {
                 return Some(RawValue {
                     kind: element.kind,
                     bytes: element.value,

@@ -15,7 +15,7 @@ ghost use Rattle.bson.specs.declared.fault.BsonFault.TheVariants as faults;
 
 use crate::beside::Beside;
 use crate::fault::BsonFault;
-use crate::frames::{read_content, read_ended, read_name};
+use crate::frames::{read_content, read_ended, read_name, read_name_bytes};
 use crate::kind::Kind;
 use crate::names::Names;
 use crate::nesting::Nesting;
@@ -60,11 +60,11 @@ pub(crate) fn read_value(
 }
 
 /// Whether the name is that of the item at this place: the number in decimal digits.
-pub(crate) fn is_index(name: &str, i: usize) -> bool
+pub(crate) fn is_index(name: &[u8], i: usize) -> bool
     ensures { result ≡ bytes_eq name.now (decimal i) }
 {
     let mut buffer = Buffer::new();
-    name == buffer.format(i)
+    name == buffer.format(i).as_bytes()
 }
 
 /// An element of a document, after its type byte: its name, which is taken in, and its value.
@@ -107,7 +107,7 @@ fn read_item(
         (item_by (value_at more) i type_byte bytes.now) }
 {
     let kind = read_kind(type_byte)?;
-    let (name, rest) = read_name(bytes)?;
+    let (name, rest) = read_name_bytes(bytes)?;
     if !is_index(name, i) {
         return Err(BsonFault::ArrayName);
     }

@@ -22,6 +22,7 @@ use crate::value::Value;
 use std::alloc::Global;
 
 /// The kind that a type byte of BSON 1.1 stands for, of those that this crate takes.
+#[inline(always)]
 #[tactic(auto, unfolding(crate::specs::Reading::kind_of))]
 pub(crate) fn read_kind(byte: u8) -> Result<Kind, BsonFault>
     ensures { GivesExactly (λ k. k) result (kind_of byte) }

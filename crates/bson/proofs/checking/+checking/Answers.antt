@@ -4,7 +4,8 @@ use Rattle.bson.specs.Spelling.{pairs_bytes}
 use Rattle.bson.proofs.DistinctLaws.{new_here}
 use Rattle.std.proofs.lemmas.Result.{err_from_is_err_and}
 use Rattle.bson.proofs.RawLaws.{Elements-spelled}
-use Rattle.bson.proofs.CheckLaws.{pairs_uncounted, pair_counted, before_rest, pair_checked, pair_refused, pairs_passed, items_unchecked, item_checked}
+use Rattle.bson.proofs.CheckLaws.{pairs_unnamed, pair_named, pair_unnamed, pair_counted, before_rest, pair_checked, pair_refused, pairs_passed}
+use Rattle.bson.proofs.CheckLaws.{items_unchecked, item_checked}
 use Rattle.bson.proofs.CheckLaws.{item_refused, items_passed, document_refused, array_refused}
 use Rattle.bson.proofs.checking.+checking.Goals as goal
 
@@ -36,10 +37,35 @@ check_items-returns t c = items_passed c.args.more c.args.content.now c.items.re
 -- ---- documents
 
 pub check_pairs-pairs-init : goal.check_pairs-pairs-init
-check_pairs-pairs-init t c = pairs_uncounted c.args.more c.args.content.now (λ i. omega (arith, c.type_inv.content i))
+check_pairs-pairs-init t c = (pairs_unnamed c.args.more c.args.content.now _ (λ i. omega (arith, c.type_inv.content i)), omega arith)
 
-pub check_pairs-check_pair-requires : goal.check_pairs-check_pair-requires
-check_pairs-check_pair-requires t c =
+pub check_pairs-returns-in_err-name : goal.check_pairs-returns-in_err-name
+check_pairs-returns-in_err-name t c =
+    let p = err_from_is_err_and c.from_residual.result c.from_residual.ensures.1 in
+    rw (p.1, p.2)
+    (pair_unnamed c.args.more c.args.content.now c.pairs.rest.now c.pairs.count c.pairs.names c.in-Some.type_byte.now c.in-Some.after.now
+    c.pairs.invariant.0 c.in-Some.ensures.cases.0 c.in_err-name.field-0.0 c.in_err-name.ensures)
+
+pub check_pairs-pairs-smaller : goal.check_pairs-pairs-smaller
+check_pairs-pairs-smaller t c =
+    (pair_named c.args.more c.args.content.now c.pairs.rest.now c.pairs.count c.pairs.names c.in-Some.type_byte.now c.in-Some.after.now
+    c.pairs.invariant.0 c.in-Some.ensures.cases.0 c.in_ok-name.name c.in_ok-name.after.now (omega arith) c.in_ok-name.ensures).1
+
+pub check_pairs-pairs-preserved : goal.check_pairs-pairs-preserved
+check_pairs-pairs-preserved t c = (
+  (pair_named c.args.more c.args.content.now c.pairs.rest.now c.pairs.count c.pairs.names c.in-Some.type_byte.now c.in-Some.after.now
+      c.pairs.invariant.0 c.in-Some.ensures.cases.0 c.in_ok-name.name c.in_ok-name.after.now (omega arith) c.in_ok-name.ensures).0,
+  omega arith,
+)
+
+pub check_pairs-returns : goal.check_pairs-returns
+check_pairs-returns t c =
+    pairs_passed c.args.more c.args.content.now c.pairs.rest.now c.pairs.invariant.0.pairs.checked c.in_default.ensures.cases
+
+-- ---- documents of more than a few elements
+
+pub check_further-check_later-requires : goal.check_further-check_later-requires
+check_further-check_later-requires t c =
     let before =
     before_rest c.args.more c.args.content.now c.pairs.rest.now c.split_at.result.0.now _ c.pairs.invariant.checked
     (omega arith) c.split_at.ensures.front c.requires.more c.requires.short in (
@@ -49,18 +75,18 @@ check_pairs-check_pair-requires t c =
         (
           Elements-spelled c.split_at.result.0.now c.pairs.invariant.checked.front before,
           λ known k x kinded read.
-              new_here c.args.content.now c.split_at.result.0.now c.in-Some.after.now c.in-Some.type_byte.now c.count_distinct-distinct.result c.pairs.count
+              new_here c.args.content.now c.split_at.result.0.now c.in-Some.after.now c.in-Some.type_byte.now c.count_of_many-distinct.result c.pairs.count
               c.pairs.invariant.checked.front k x
               (c.pairs.invariant.checked.parts
               ∙ ap (λ (xs : List ℕ). pairs_bytes c.pairs.invariant.checked.front ++ xs) c.in-Some.ensures.cases.0) c.pairs.invariant.checked.lawful
-              (omega (arith, ap length before.spelled, before.short)) before c.pairs.invariant.counted c.count_distinct-distinct.ensures
-              (ltb-true c.pairs.count c.count_distinct-distinct.result known) kinded read,
+              (omega (arith, ap length before.spelled, before.short)) before c.pairs.invariant.counted c.count_of_many-distinct.ensures
+              (ltb-true c.pairs.count c.count_of_many-distinct.result known) kinded read,
         ),
       ),
     )
 
-pub check_pairs-returns-in_err-rest : goal.check_pairs-returns-in_err-rest
-check_pairs-returns-in_err-rest t c =
+pub check_further-returns-in_err-rest : goal.check_further-returns-in_err-rest
+check_further-returns-in_err-rest t c =
     let p = err_from_is_err_and c.from_residual.result c.from_residual.ensures.1 in
     let before =
     before_rest c.args.more c.args.content.now c.pairs.rest.now c.split_at.result.0.now _ c.pairs.invariant.checked
@@ -69,24 +95,24 @@ check_pairs-returns-in_err-rest t c =
     (pair_refused c.args.more c.args.content.now c.pairs.rest.now c.split_at.result.0.now c.in-Some.type_byte.now c.in-Some.after.now c.pairs.invariant.checked
     c.in-Some.ensures.cases.0 before c.in_err-rest.field-0.0 c.in_err-rest.ensures)
 
-pub check_pairs-pairs-smaller : goal.check_pairs-pairs-smaller
-check_pairs-pairs-smaller t c =
+pub check_further-pairs-smaller : goal.check_further-pairs-smaller
+check_further-pairs-smaller t c =
     let before =
     before_rest c.args.more c.args.content.now c.pairs.rest.now c.split_at.result.0.now _ c.pairs.invariant.checked
     (omega arith) c.split_at.ensures.front c.requires.more c.requires.short in
     (pair_checked c.args.more c.args.content.now c.pairs.rest.now c.split_at.result.0.now c.in-Some.type_byte.now c.in-Some.after.now c.pairs.invariant.checked
     c.in-Some.ensures.cases.0 before c.in_ok-rest.rest.now c.in_ok-rest.ensures).1
 
-pub check_pairs-pairs-preserved : goal.check_pairs-pairs-preserved
-check_pairs-pairs-preserved t c =
+pub check_further-pairs-preserved : goal.check_further-pairs-preserved
+check_further-pairs-preserved t c =
     let before =
     before_rest c.args.more c.args.content.now c.pairs.rest.now c.split_at.result.0.now _ c.pairs.invariant.checked
     (omega arith) c.split_at.ensures.front c.requires.more c.requires.short in
     (pair_counted c.args.more c.args.content.now c.pairs.rest.now c.split_at.result.0.now c.in-Some.type_byte.now c.in-Some.after.now c.pairs.invariant.checked
     c.in-Some.ensures.cases.0 before c.pairs.count c.in_ok-rest.rest.now c.pairs.invariant.counted c.pairs.invariant.within c.in_ok-rest.ensures)
 
-pub check_pairs-returns : goal.check_pairs-returns
-check_pairs-returns t c = pairs_passed c.args.more c.args.content.now c.pairs.rest.now c.pairs.invariant.checked c.in_default.ensures.cases
+pub check_further-returns : goal.check_further-returns
+check_further-returns t c = pairs_passed c.args.more c.args.content.now c.pairs.rest.now c.pairs.invariant.checked c.in_default.ensures.cases
 
 -- ---- values
 
@@ -108,6 +134,6 @@ check_value-returns-in_err-check_items-in-Array t c =
 
 -- ---- elements
 
-pub check_pair-is_repeated-requires-clause-new : goal.check_pair-is_repeated-requires-clause-new
-check_pair-is_repeated-requires-clause-new t c =
+pub check_later-is_repeated-requires-clause-new : goal.check_later-is_repeated-requires-clause-new
+check_later-is_repeated-requires-clause-new t c =
     λ known. c.requires.new known c.in_ok-kind.kind (c.in_ok-name.name.now, c.in_ok-name.rest.now) c.in_ok-kind.ensures c.in_ok-name.ensures

@@ -12,23 +12,23 @@ unreachable-requires c =
     (has_front c.args.elements.now (pairs_spelled c.args.elements.now) c.in-Some.type_byte.now c.in-Some.after.now c.requires c.in-Some.ensures.cases.0)
     c.in_default-read_kind.ensures
 
-pub unreachable-requires-in_default-read_name : goal.unreachable-requires-in_default-read_name
-unreachable-requires-in_default-read_name c =
-    name_found (pairs_spelled c.args.elements.now) c.in-Some.type_byte.now c.in-Some.after.now c.in_default-read_name.field-0
+pub unreachable-requires-in_default-read_name_bytes : goal.unreachable-requires-in_default-read_name_bytes
+unreachable-requires-in_default-read_name_bytes c =
+    name_found (pairs_spelled c.args.elements.now) c.in-Some.type_byte.now c.in-Some.after.now c.in_default-read_name_bytes.field-0
     (has_front c.args.elements.now (pairs_spelled c.args.elements.now) c.in-Some.type_byte.now c.in-Some.after.now c.requires c.in-Some.ensures.cases.0)
-    c.in_default-read_name.ensures
+    c.in_default-read_name_bytes.ensures
 
 pub split_at-requires : goal.split_at-requires
 split_at-requires c =
     let fits = value_fits (pairs_spelled c.args.elements.now) c.in-Some.type_byte.now c.in-Some.after.now c.in-Ok.kind
-    (c.in-Ok-read_name.name.now, c.in-Ok-read_name.after.now)
+    (c.in-Ok-read_name_bytes.name.now, c.in-Ok-read_name_bytes.after.now)
     (has_front c.args.elements.now (pairs_spelled c.args.elements.now) c.in-Some.type_byte.now c.in-Some.after.now c.requires c.in-Some.ensures.cases.0)
-    c.in-Ok.ensures c.in-Ok-read_name.ensures in
+    c.in-Ok.ensures c.in-Ok-read_name_bytes.ensures in
     omega (arith, fits, c.value_len.ensures)
 
 pub returns : goal.returns
 returns c =
     first_is (pairs_spelled c.args.elements.now) c.in-Some.type_byte.now c.in-Some.after.now c.in-Ok.kind
-    (c.in-Ok-read_name.name.now, c.in-Ok-read_name.after.now) c.split_at.result.0.now c.split_at.result.1.now c.value_len.result
+    (c.in-Ok-read_name_bytes.name.now, c.in-Ok-read_name_bytes.after.now) c.split_at.result.0.now c.split_at.result.1.now c.value_len.result
     (has_front c.args.elements.now (pairs_spelled c.args.elements.now) c.in-Some.type_byte.now c.in-Some.after.now c.requires c.in-Some.ensures.cases.0)
-    c.in-Ok.ensures c.in-Ok-read_name.ensures c.value_len.ensures c.split_at.ensures.front c.split_at.ensures.back
+    c.in-Ok.ensures c.in-Ok-read_name_bytes.ensures c.value_len.ensures c.split_at.ensures.front c.split_at.ensures.back

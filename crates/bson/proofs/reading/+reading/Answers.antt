@@ -8,7 +8,8 @@ use Rattle.outcome.specs.Outcome.{Fails}
 use Rattle.bson.specs.Reading.{Read, element_by, stands_in, item_by, value_at, pairs_in, items_in}
 use Rattle.bson.specs.declared.fault.BsonFault.TheVariants as faults
 use Rattle.bson.specs.Lawful.{pairs_levels, items_levels}
-use Rattle.bson.proofs.ReadLoopLaws.{pairs_levels-push, items_levels-push, PairsSoFar, ItemsSoFar, pairs_start, items_start, pairs_pushed, pair_shorter}
+use Rattle.bson.specs.Checked.{PairsSoFar}
+use Rattle.bson.proofs.ReadLoopLaws.{pairs_levels-push, items_levels-push, ItemsSoFar, pairs_start, items_start, pairs_pushed, pair_shorter}
 use Rattle.bson.proofs.ReadLoopLaws.{pairs_fail, pairs_over, items_pushed, items_shorter, items_fail, items_over, element_named, names_pushed, document_holds}
 use Rattle.bson.proofs.ReadLoopLaws.{array_holds, document_fails, document_found, array_fails, array_found}
 use Rattle.bson.proofs.reading.+reading.Goals as goal

@@ -2,7 +2,8 @@ use Rattle.std.proofs.Common.{◌≡◌, ℕ, List, ◌+◌, ◌*◌, length}
 use Rattle.bson.specs.View.{pairs_of, items_of, names_of}
 use Rattle.bson.specs.Lawful.{pairs_levels, items_levels}
 use Rattle.bson.specs.Reading.{stands_in, pairs_in, items_in, value_at}
-use Rattle.bson.proofs.ReadLoopLaws.{PairsSoFar, ItemsSoFar}
+use Rattle.bson.specs.Checked.{PairsSoFar}
+use Rattle.bson.proofs.ReadLoopLaws.{ItemsSoFar}
 use Rattle.bson.proofs.reading.+reading.Given as goal
 
 abbrev pub decreases-read_value : goal.decreases-read_value

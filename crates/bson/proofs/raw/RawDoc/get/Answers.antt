@@ -1,4 +1,4 @@
-use Rattle.std.proofs.Common.{◌≡◌, Bool, true, false, cond, Some, sym, ap, subst, ◌∙◌, arith}
+use Rattle.std.proofs.Common.{◌≡◌, ℕ, List, Bool, true, false, cond, Some, sym, ap, subst, ◌∙◌, arith}
 use Rattle.std.specs.Str.{bytes_eq}
 use Rattle.bson.specs.Tree.{Pairs}
 use Rattle.bson.specs.Lookup.{lookup}
@@ -26,7 +26,8 @@ pub returns-then-eq : goal.returns-then-eq
 returns-then-eq c =
     let step = element_step c.elements.rest.now c.in-Some.element.kind c.in-Some.element.name.now c.in-Some.element.value.now c.in-Some.element.rest.now
     c.args.name.now c.elements.invariant.0 c.in-Some.ensures in
-    let here : bytes_eq c.args.name.now c.in-Some.element.name.now ≡ true = sym c.eq.ensures ∙ c.if-eq.true in
+    let here : bytes_eq c.args.name.now c.in-Some.element.name.now ≡ true =
+    ap (λ (n : List ℕ). bytes_eq n c.in-Some.element.name.now) (sym c.as_bytes-wanted.ensures.value) ∙ sym c.eq.ensures ∙ c.if-eq.true in
     ap (λ (b : Bool). cond b (Some (value_spelled c.in-Some.element.kind c.in-Some.element.value.now))
     (lookup (pairs_spelled c.in-Some.element.rest.now) c.args.name.now)) (sym here) ∙ sym step.looked ∙ c.elements.invariant.1
 
@@ -39,7 +40,8 @@ pub elements-preserved : goal.elements-preserved
 elements-preserved c =
     let step = element_step c.elements.rest.now c.in-Some.element.kind c.in-Some.element.name.now c.in-Some.element.value.now c.in-Some.element.rest.now
     c.args.name.now c.elements.invariant.0 c.in-Some.ensures in
-    let differ : bytes_eq c.args.name.now c.in-Some.element.name.now ≡ false = sym c.eq.ensures ∙ c.if-eq.false in (
+    let differ : bytes_eq c.args.name.now c.in-Some.element.name.now ≡ false =
+    ap (λ (n : List ℕ). bytes_eq n c.in-Some.element.name.now) (sym c.as_bytes-wanted.ensures.value) ∙ sym c.eq.ensures ∙ c.if-eq.false in (
       step.elements,
       ap (λ (b : Bool). cond b (Some (value_spelled c.in-Some.element.kind c.in-Some.element.value.now))
           (lookup (pairs_spelled c.in-Some.element.rest.now) c.args.name.now)) (sym differ) ∙ sym step.looked ∙ c.elements.invariant.1,

@@ -1,0 +1,54 @@
+-- A name of ASCII is text.
+use Rattle.std.proofs.Common.{◌≡◌, ℕ, zero, suc, ◌+◌, ◌<◌, ◌≤◌, Bool, true, false, ◌||◌, ◌==◌, List, [], ◌∷◌, length, get_or, take, drop, Some, None, Ok, Err}
+use Rattle.std.proofs.Common.{refl, sym, subst, arith, eq-eqb}
+use Rattle.std.specs.Prelude.{nat_le, position}
+use Rattle.std.specs.Str.{IsAscii, is_utf8}
+use Rattle.std.specs.List.{position_or_len}
+use Rattle.std.proofs.lemmas.Grind.{common_steps}
+use Rattle.std.proofs.lemmas.List.{length-take, get_or-take}
+use Rattle.std.proofs.lemmas.List.Quantifiers.{position-Some}
+use Rattle.std.proofs.lemmas.List.Sums.{position_or_len_is}
+use Rattle.std.proofs.lemmas.Str.{is_utf8-from_IsUtf8, IsUtf8-from_ascii}
+use Rattle.std.proofs.lemmas.Str.Ascii.{IsAscii-from_reads}
+use Rattle.bson.specs.declared.fault.BsonFault.TheVariants as faults
+use Rattle.bson.specs.Reading.{zero_at, name_at}
+use Rattle.bson.proofs.FrameLaws.{or_false, zero_later}
+
+-- a byte before which a name of ASCII ends, or which isn't ASCII
+abbrev pub stops : ℕ → Bool
+stops b = b == 0 || nat_le 128 b
+
+below : (b : ℕ) → nat_le 128 b ≡ false → b < 128
+below b e = grind arith
+
+above : (a b : ℕ) → b < a → nat_le a b ≡ false
+above a b lt = grind arith
+
+not_within : (a b : ℕ) → a ≤ b → nat_le a b ≡ true
+not_within a b le = grind arith
+
+pub plain_name : (bytes : List ℕ) (i : ℕ) → position stops bytes ≡ Some i → get_or bytes i 0 ≡ 0 → name_at bytes ≡ Ok (take i bytes, drop (i + 1) bytes)
+unfolding name_at
+plain_name bytes i found here =
+    let at = position-Some stops bytes i 0 found in
+    let place : zero_at bytes ≡ i = position_or_len_is (λ b. b == 0) bytes i 0 (omega (arith, at.0))
+    (λ k lt. (or_false (get_or bytes k 0 == 0) (nat_le 128 (get_or bytes k 0)) (at.2 k lt)).0) (λ lt. eq-eqb (get_or bytes i 0) 0 here) in
+    let ascii : IsAscii (take i bytes) = IsAscii-from_reads (take i bytes) i (omega (arith, length-take i bytes))
+    (λ k lt. subst (λ (b : ℕ). b < 128) (sym (get_or-take i bytes k 0 lt))
+    (below (get_or bytes k 0) (or_false (get_or bytes k 0 == 0) (nat_le 128 (get_or bytes k 0)) (at.2 k lt)).1)) in
+    let text : is_utf8 (take i bytes) ≡ true = is_utf8-from_IsUtf8 (take i bytes) (IsUtf8-from_ascii (take i bytes) ascii) in
+    rw (place, above (length bytes) i at.0, text) refl
+
+stops_before : (bytes : List ℕ) → position_or_len stops bytes ≤ zero_at bytes
+stops_before [] = omega arith
+stops_before (zero ∷ bytes) = grind (arith, common_steps)
+stops_before (suc b ∷ bytes) =
+    let later = zero_later b bytes in
+    let others = stops_before bytes in
+    grind (arith, common_steps)
+
+pub no_name_end : (bytes : List ℕ) → position stops bytes ≡ None → name_at bytes ≡ Err faults.Name
+unfolding name_at
+no_name_end bytes none =
+    let all : length bytes ≤ position_or_len stops bytes = grind (arith, common_steps) in
+    rw (not_within (length bytes) (zero_at bytes) (omega (arith, all, stops_before bytes))) refl
