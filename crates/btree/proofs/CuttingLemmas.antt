@@ -111,6 +111,34 @@ size_all n [] le = size_none n
 size_all zero (s ∷ ss) le = absurd (omega arith)
 size_all (suc n) (s ∷ ss) le = omega (arith, size_all n ss (omega arith))
 
+take_less : (at whole : ℕ) (ss : List Stub) → at ≤ whole → stubs_size (take at ss) ≤ stubs_size (take whole ss)
+take_less zero whole ss le = omega arith
+take_less (suc at) zero ss le = absurd (omega arith)
+take_less (suc at) (suc whole) [] le = omega arith
+take_less (suc at) (suc whole) (s ∷ ss) le = omega (arith, take_less at whole ss (omega arith))
+
+take_more : (n at : ℕ) (ss : List Stub) (d : Stub) → n < at → n < length ss
+    → stubs_size (take n ss) + stub_size (get_or ss n d) ≤ stubs_size (take at ss)
+take_more n zero ss d lt inside = absurd (omega arith)
+take_more n (suc at) [] d lt inside = absurd (omega arith)
+take_more zero (suc at) (s ∷ ss) d lt inside = omega arith
+take_more (suc n) (suc at) (s ∷ ss) d lt inside = omega (arith, take_more n at ss d (omega arith) (omega arith))
+
+-- A part that has more than a limit, and leaves two or more behind it: of all that has more than a page.
+pub record IsEven (limit : ℕ) (stubs : List Stub) (at : ℕ) : Type 0 where
+  pub over : limit < stubs_size (take at stubs)
+  pub part : IsPart false stubs at
+
+pub even_part : (stubs : List Stub) (d : Stub) (limit n at whole : ℕ) → 1360 ≤ limit → n < at → at ≤ whole → at + 2 ≤ length stubs
+    → stubs_size (take whole stubs) ≤ 4080
+    → ((s : Stub) → n < length stubs → limit < stubs_size (take n stubs) + stub_size (get_or stubs n s)) → Each IsStub stubs → IsEven limit stubs at
+even_part stubs d limit n at whole least lt le two room next h =
+    let more = take_more n at stubs d lt (omega arith) in
+    let over = next d (omega arith) in
+    let less = take_less at whole stubs le in
+    let few = small_take at stubs h in
+    record { over = omega arith; part = record { room = omega arith; many = λ f long. (omega arith, inr two) } }
+
 module _ (stubs : List Stub) (d : Stub) where
   pub part_all : (fills : Bool) (at : ℕ) → at ≤ length stubs → length stubs ≤ at → stubs_size (take at stubs) ≤ 4080 → IsPart fills stubs at
   part_all fills at le ge room = record { room = room; many = λ f long. (omega arith, inl (omega arith)) }
