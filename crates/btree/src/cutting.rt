@@ -141,8 +141,12 @@ fn share_of(units: &[Unit], whole: usize) -> usize
     if second + third < behind.len() {
         return ROOM;
     }
-    let pages = if second < behind.len() { 3 } else { 2 };
-    let share = bytes_of(units) / pages;
+    let bytes = bytes_of(units);
+    let share = if second < behind.len() {
+        bytes / 3
+    } else {
+        bytes / 2
+    };
     if share > ROOM {
         return ROOM;
     }
@@ -152,21 +156,26 @@ fn share_of(units: &[Unit], whole: usize) -> usize
 // Whether so many of the first cells or children leave two or more for the next page, and have two thirds of a
 // page, or a third where the next page has room for all the others.
 fn is_enough(units: &[Unit], whole: usize, at: usize) -> bool
-    requires within { whole ≤ length units.now }
+    requires inside { whole ≤ length units.now }
     requires room { stubs_size (take whole (map stub_in units.now)) ≤ 4080 }
-    ensures { result ≡ true → Each IsStub (map stub_in units.now)
+    requires over { 4080 < stubs_size (map stub_in units.now) }
+    ensures within { result ≡ true → at ≤ length units.now }
+    ensures enough { result ≡ true → Each IsStub (map stub_in units.now)
         → IsPart false (map stub_in units.now) at × IsFullPart (map stub_in units.now) at }
 {
     if at > whole || units.len() - at < 2 {
         return false;
     }
-    if units_within(units, TWO_THIRDS) < at {
+    let large = units_within(units, TWO_THIRDS);
+    if large < at {
         return true;
     }
-    if units_within(units, THIRD) >= at {
+    let little = units_within(units, THIRD);
+    if little >= at {
         return false;
     }
-    whole + units_within(&units[whole..], THIRD) >= units.len()
+    let behind = units_within(&units[whole..], THIRD);
+    whole + behind >= units.len()
 }
 
 /// How many cells or children go into the next page: as many as find room, where the pages are filled, else about as
@@ -190,7 +199,8 @@ pub(crate) fn part_len(units: &[Unit], fills: bool) -> usize
     if fills {
         return whole;
     }
-    let even = units_within(units, share_of(units, whole)) + 1;
+    let share = units_within(units, share_of(units, whole));
+    let even = share + 1;
     if is_enough(units, whole, even) {
         return even;
     }
