@@ -4,11 +4,11 @@ use Rattle.page.specs.Content.{Content}
 use Rattle.btree.specs.declared.loose.Loose.{Loose}
 use Rattle.btree.specs.declared.loose.Unit.{Unit}
 use Rattle.btree.specs.declared.pages.TreeFault.{TreeFault}
-use Rattle.btree.specs.Keys.{Entry, times}
-use Rattle.btree.specs.Loose.{Stub, child, stubs_of}
+use Rattle.btree.specs.Keys.{Entry, Pair, times}
+use Rattle.btree.specs.Loose.{Stub, child, pair_stub, stubs_of, twig_stub}
 use Rattle.btree.specs.LooseView.{stub_in}
 use Rattle.btree.specs.Store.{Frame, IsAt, IsSame, Store}
-use Rattle.btree.specs.Tree.{Body, Shows, content_of}
+use Rattle.btree.specs.Tree.{Body, Shows, Twig, content_of}
 use Rattle.btree.specs.Turn.{IsHeld, IsTurned, Sheaf, sheaf_in}
 use Rattle.btree.proofs.ChangingLemmas.{turned_on}
 use Rattle.btree.proofs.CuttingLemmas.{at_stub}
@@ -17,15 +17,22 @@ use Rattle.btree.proofs.ListLemmas.{long_map, times_append}
 use Rattle.btree.proofs.StoreLemmas.{frame_same}
 
 -- a child's page is there
+no_child : (xs : List Pair) (i : ℕ) (t : Stub) (page : ℕ) → i < length (map pair_stub xs) → (get_or (map pair_stub xs) i t).load ≡ child page → ⊥
+no_child [] i t page lt e = absurd (omega arith)
+no_child (x ∷ xs) zero t page lt e = cc
+no_child (x ∷ xs) (suc i) t page lt e = no_child xs i t page (omega arith) e
+
+at_child : (s : Store) (d : ℕ) (ws : List (Twig (Body d))) (i : ℕ) (t : Stub) (page : ℕ) → Shows s (suc d) ws → i < length (map twig_stub ws)
+    → (get_or (map twig_stub ws) i t).load ≡ child page → (content : Content) × IsAt s page content
+at_child s d [] i t page shown lt e = absurd (omega arith)
+at_child s d (w ∷ ws) zero t page shown lt e =
+    let same : w.page ≡ page = cc in (content_of d w.body, subst (λ n. IsAt s n (content_of d w.body)) same shown.0.0)
+at_child s d (w ∷ ws) (suc i) t page shown lt e = at_child s d ws i t page shown.1 (omega arith) e
+
 at_place : (s : Store) (d : ℕ) (body : Body d) (i : ℕ) (t : Stub) (page : ℕ) → Shows s d body → i < length (stubs_of d body)
     → (get_or (stubs_of d body) i t).load ≡ child page → (content : Content) × IsAt s page content
-at_place s zero [] i t page shown lt e = absurd (omega arith)
-at_place s zero (x ∷ xs) zero t page shown lt e = cc
-at_place s zero (x ∷ xs) (suc i) t page shown lt e = at_place s zero xs i t page shown.1 (omega arith) e
-at_place s (suc d) [] i t page shown lt e = absurd (omega arith)
-at_place s (suc d) (w ∷ ws) zero t page shown lt e =
-    let same : w.page ≡ page = cc in (content_of d w.body, subst (λ n. IsAt s n (content_of d w.body)) same shown.0.0)
-at_place s (suc d) (w ∷ ws) (suc i) t page shown lt e = at_place s (suc d) ws i t page shown.1 (omega arith) e
+at_place s zero body i t page shown lt e = absurd (no_child body i t page lt e)
+at_place s (suc d) body i t page shown lt e = at_child s d body i t page shown lt e
 
 pub child_there : (s : Store) (base : ℕ) (low : List ℕ) (high : Option (List ℕ)) (entries : List Entry) (reached : List ℕ) (loose : Loose)
     (unit d : Unit) (i page : ℕ) → IsHeld s base low high entries reached (sheaf_in loose) → i < length loose.units.items

@@ -175,7 +175,10 @@ fn is_enough(units: &[Unit], whole: usize, at: usize) -> bool
         return false;
     }
     let behind = units_within(&units[whole..], THIRD);
-    whole + behind >= units.len()
+    if whole + behind < units.len() {
+        return false;
+    }
+    true
 }
 
 /// How many cells or children go into the next page: as many as find room, where the pages are filled, else about as

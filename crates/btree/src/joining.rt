@@ -23,7 +23,7 @@ pub(crate) const LITTLE: usize = 1836;
 // have room for some.
 fn fill_pages(units: &[Unit]) -> bool
     requires { 0 < length units.now }
-    ensures few { result ≡ false → Each IsStub (map stub_in units.now)
+    ensures { result ≡ false → Each IsStub (map stub_in units.now)
         → stubs_size (map stub_in units.now) ≤ 5440 }
 {
     if units[0].is_child() {
@@ -37,7 +37,10 @@ fn fill_pages(units: &[Unit]) -> bool
         return true;
     }
     let behind = units_within(&units[whole..], THIRD);
-    whole + behind < units.len()
+    if whole + behind < units.len() {
+        return true;
+    }
+    false
 }
 
 /// Whether it may stand in pages of its own. Cells that came behind all others may, however few: more may come there.

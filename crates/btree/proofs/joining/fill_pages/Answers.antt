@@ -2,8 +2,8 @@ use Rattle.std.proofs.Common.{arith}
 use Rattle.btree.proofs.CuttingLemmas.{little_behind}
 use Rattle.btree.proofs.joining.fill_pages.Goals as goal
 
-pub returns-clause-few : goal.returns-clause-few
-returns-clause-few c =
+pub returns : goal.returns
+returns c =
     λ no small.
     omega (
       arith,

@@ -1,4 +1,4 @@
-use Rattle.std.proofs.Common.{◌≡◌, ◌<◌, ◌-◌, Some, arith, length, map, rules, vec_len}
+use Rattle.std.proofs.Common.{◌≡◌, ◌<◌, ◌-◌, Some, arith, length, map, rules}
 use Rattle.btree.specs.LooseView.{stub_in}
 use Rattle.btree.specs.Turn.{sheaf_in}
 use Rattle.btree.proofs.ChangingLemmas.{behind_some}
@@ -23,11 +23,11 @@ pub returns-in_err-before-clause-cause : goal.returns-in_err-before-clause-cause
 returns-in_err-before-clause-cause g c =
     λ base low mid between high first last lp rp h b k.
     let some : 0 < length c.args.left.now.units.items = search rules in
-    let long : vec_len c.args.left.now.units ≡ length c.args.left.now.units.items = search rules in
+    let long : c.len.result ≡ length c.args.left.now.units.items = search rules in
     answer_failed (g.P.Pages.store c.args.pages.now) (g.P.Pages.store c.bytes_below.new.pages) _ _ _ c.from_residual.ensures.1
     (c.in_err-before.ensures.cause k
     (λ page load. child_there (g.P.Pages.store c.args.pages.now) base low (Some mid) first lp c.args.left.now c.index.result.now c.index.result.now
-    (vec_len c.args.left.now.units - 1) page h (omega arith) c.index.ensures load))
+    (c.len.result - 1) page h (omega arith) c.index.ensures load))
 
 pub returns-in_err-behind-clause-cause : goal.returns-in_err-behind-clause-cause
 returns-in_err-behind-clause-cause g c =
