@@ -1,5 +1,5 @@
 -- What was below one child, back among its neighbours.
-use Rattle.std.proofs.Common.{◌≡◌, ℕ, zero, suc, ◌<◌, get_or, List, [], ◌∷◌, ◌++◌, length, map, Option, Some, Result, sym, ap, ◌∙◌, subst, arith, append_assoc}
+use Rattle.std.proofs.Common.{◌≡◌, ℕ, zero, suc, ◌<◌, get_or, List, [], ◌∷◌, ◌++◌, length, map, Option, Result, sym, ap, ◌∙◌, subst, arith, append_assoc}
 use Rattle.page.specs.Content.{Content}
 use Rattle.btree.specs.declared.loose.Loose.{Loose}
 use Rattle.btree.specs.declared.loose.Unit.{Unit}

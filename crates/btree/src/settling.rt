@@ -1,5 +1,5 @@
 // What was below one child of a branch, back among its neighbours.
-ghost use Rattle.std.specs.Prelude.{◌≡◌, ◌<◌, ◌≤◌, ◌+◌, ◌++◌, ◌∷◌, ⊤, ℕ, List, Option, Some, true, length, map, IfErr, IfOk};
+ghost use Rattle.std.specs.Prelude.{◌≡◌, ◌<◌, ◌++◌, ⊤, ℕ, List, Option, Some, true, length, IfErr, IfOk};
 ghost use Rattle.page.specs.Content.{Content};
 ghost use Rattle.btree.specs.Calls.{Yields};
 ghost use Rattle.btree.specs.Change.{IsBehind};

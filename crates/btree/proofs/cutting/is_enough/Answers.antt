@@ -1,6 +1,6 @@
-use Rattle.std.proofs.Common.{[], ◌≡◌, ◌<◌, arith, inl, inr, length, map}
+use Rattle.std.proofs.Common.{[], arith, inl, inr, map}
 use Rattle.page.specs.Content.{inline}
-use Rattle.btree.specs.Loose.{Stub, stubs_size, value}
+use Rattle.btree.specs.Loose.{Stub, value}
 use Rattle.btree.specs.LooseView.{stub_in}
 use Rattle.btree.proofs.CuttingLemmas.{even_part, little_behind}
 use Rattle.btree.proofs.ListLemmas.{long_map}

@@ -1,4 +1,4 @@
-use Rattle.std.proofs.Common.{◌≡◌, ◌<◌, ◌-◌, Some, arith, length, map, rules}
+use Rattle.std.proofs.Common.{◌≡◌, ◌<◌, ◌-◌, Some, arith, length, rules}
 use Rattle.btree.specs.LooseView.{stub_in}
 use Rattle.btree.specs.Turn.{sheaf_in}
 use Rattle.btree.proofs.ChangingLemmas.{behind_some}
