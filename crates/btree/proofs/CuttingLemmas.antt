@@ -1,10 +1,11 @@
 -- Cells and children, cut into pages by bytes.
 use Rattle.std.proofs.Common.{◌≡◌, ℕ, zero, suc, ◌+◌, ◌-◌, ◌*◌, ◌<◌, ◌≤◌, List, [], ◌∷◌, length, map, take, drop, get_or, Option, Some, Bool, true, false, refl}
-use Rattle.std.proofs.Common.{sym, ap, ◌∙◌, arith, inl, inr}
+use Rattle.std.proofs.Common.{sym, ap, ◌∙◌, subst, arith, inl, inr}
 use Rattle.btree.specs.declared.loose.Unit.{Unit}
 use Rattle.btree.specs.Keys.{Each, Rises}
 use Rattle.btree.specs.Loose.{GoBehind, IsOver, IsPart, IsStub, Stub, stub_keys, stub_size, stubs_size}
 use Rattle.btree.specs.LooseView.{stub_in}
+use Rattle.btree.proofs.ListLemmas.{long_map}
 
 -- what stands at a place of a list, and behind it
 drop_next : (units : List Unit) (i : ℕ) (u d : Unit) → i < length units → u ≡ get_or units i d
@@ -110,6 +111,49 @@ size_all n [] le = size_none n
     size_none (suc n) = refl
 size_all zero (s ∷ ss) le = absurd (omega arith)
 size_all (suc n) (s ∷ ss) le = omega (arith, size_all n ss (omega arith))
+
+take_less : (at whole : ℕ) (ss : List Stub) → at ≤ whole → stubs_size (take at ss) ≤ stubs_size (take whole ss)
+take_less zero whole ss le = omega arith
+take_less (suc at) zero ss le = absurd (omega arith)
+take_less (suc at) (suc whole) [] le = omega arith
+take_less (suc at) (suc whole) (s ∷ ss) le = omega (arith, take_less at whole ss (omega arith))
+
+take_more : (n at : ℕ) (ss : List Stub) (d : Stub) → n < at → n < length ss
+    → stubs_size (take n ss) + stub_size (get_or ss n d) ≤ stubs_size (take at ss)
+take_more n zero ss d lt inside = absurd (omega arith)
+take_more n (suc at) [] d lt inside = absurd (omega arith)
+take_more zero (suc at) (s ∷ ss) d lt inside = omega arith
+take_more (suc n) (suc at) (s ∷ ss) d lt inside = omega (arith, take_more n at ss d (omega arith) (omega arith))
+
+-- A part that has more than a limit, and leaves two or more behind it: of all that has more than a page.
+pub record IsEven (limit : ℕ) (stubs : List Stub) (at : ℕ) : Type 0 where
+  pub over : limit < stubs_size (take at stubs)
+  pub part : IsPart false stubs at
+
+pub even_part : (stubs : List Stub) (d : Stub) (limit n at whole : ℕ) → 1360 ≤ limit → n < at → at ≤ whole → at + 2 ≤ length stubs
+    → stubs_size (take whole stubs) ≤ 4080
+    → ((s : Stub) → n < length stubs → limit < stubs_size (take n stubs) + stub_size (get_or stubs n s)) → Each IsStub stubs → IsEven limit stubs at
+even_part stubs d limit n at whole least lt le two room next h =
+    let more = take_more n at stubs d lt (omega arith) in
+    let over = next d (omega arith) in
+    let less = take_less at whole stubs le in
+    let few = small_take at stubs h in
+    record { over = omega arith; part = record { room = omega arith; many = λ f long. (omega arith, inr two) } }
+
+-- what is behind a part has little
+pub little_behind : (units : List Unit) (whole behind limit : ℕ) → whole ≤ length units → length units ≤ whole + behind
+    → stubs_size (take behind (map stub_in (take (length units - whole) (drop whole units)))) ≤ limit
+    → stubs_size (map stub_in units) ≤ stubs_size (take whole (map stub_in units)) + limit
+little_behind units whole behind limit le few room =
+    let rest : stubs_size (take behind (drop whole (map stub_in units))) ≤ limit =
+    subst (λ ss. stubs_size (take behind ss) ≤ limit) (behind_is units whole le) room in
+    let all = size_all behind (drop whole (map stub_in units)) (omega (
+      arith,
+      ap length (sym (map_drop stub_in whole units)),
+      long_map stub_in (drop whole units),
+      behind_long whole units le,
+    )) in
+    omega (arith, size_split whole (map stub_in units), all, rest)
 
 module _ (stubs : List Stub) (d : Stub) where
   pub part_all : (fills : Bool) (at : ℕ) → at ≤ length stubs → length stubs ≤ at → stubs_size (take at stubs) ≤ 4080 → IsPart fills stubs at

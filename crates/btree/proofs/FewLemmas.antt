@@ -17,7 +17,7 @@ use Rattle.btree.specs.Tree.{HasLinks}
 use Rattle.btree.specs.Change.{edit_keys}
 use Rattle.btree.specs.Keys.{Each, Edit, Entry, IsNotUnder, IsUnder, Rises, sum_of}
 use Rattle.btree.specs.Loose.{IsChild, IsStub, Stub, arm_stub, item_stub, stub_size, stubs_size, under_key}
-use Rattle.btree.specs.Few.{AreFewJoined, AreFewPages, IsFew, IsFewOrOne, IsLittle, IsFewTop, IsOneChild, MakesUpTo, chain_pages}
+use Rattle.btree.specs.Few.{AreFewJoined, AreFewPages, AreFewSettled, IsFew, IsFewOrOne, IsLittle, IsFewTop, IsOneChild, MakesUpTo, chain_pages}
 use Rattle.btree.specs.Few.{edit_pages, levels_of}
 use Rattle.btree.specs.Reach.{HasMap, HasTree}
 use Rattle.btree.specs.Store.{Store}
@@ -127,9 +127,9 @@ module _ (old new : Store) (bytes : ℕ) (left right : Sheaf) where
   few_before (Ok l) at f = record { level = λ e. absurd (omega arith); behind = λ e some le. absurd (omega arith); before = λ e some le. f e le }
 
 -- what is less than a page of its own
-pub few_wider : (old new : Store) (left right : Sheaf) (r : Result Loose TreeFault) → (left.rank ≡ right.rank + 1 → stubs_size right.stubs ≤ 1360)
-    → (left.rank + 1 ≡ right.rank → stubs_size left.stubs ≤ 1360)
-    → IfOk r (λ l. AreFewJoined old new 1360 left right (sheaf_in l)) → IfOk r (λ l. AreFewJoined old new 10880 left right (sheaf_in l))
+pub few_wider : (old new : Store) (left right : Sheaf) (r : Result Loose TreeFault) → (left.rank ≡ right.rank + 1 → stubs_size right.stubs ≤ 5440)
+    → (left.rank + 1 ≡ right.rank → stubs_size left.stubs ≤ 5440)
+    → IfOk r (λ l. AreFewJoined old new 5440 left right (sheaf_in l)) → IfOk r (λ l. AreFewJoined old new 10880 left right (sheaf_in l))
 few_wider old new left right (Err e) a b f = tt
 few_wider old new left right (Ok l) a b f = record { level = f.level; behind = λ e some le. f.behind e some (a e); before = λ e some le. f.before e some (b e) }
 
@@ -227,12 +227,65 @@ zero_or : (n : ℕ) → (n ≡ 0) ⊎ (0 < n)
 zero_or zero = inl refl
 zero_or (suc n) = inr (omega arith)
 
+-- what was put back among its neighbours, first to the left
+pub few_left_first : (old mid c new : Store) (left below right : Sheaf) (front : Loose) (r : Result Loose TreeFault) → MakesUpTo old mid 0 → 0 < length left.stubs
+    → Each IsStub right.stubs → AreFewJoined mid c 10880 left below (sheaf_in front)
+    → (0 < length right.stubs → Each IsStub (map stub_in front.units.items) → IfOk r (λ l. AreFewJoined c new 10880 (sheaf_in front) right (sheaf_in l)))
+    → (length right.stubs ≡ 0 → IfOk r (λ l. (l ≡ front) × MakesUpTo c new 0)) → IfOk r (λ l. AreFewSettled old new left below right (sheaf_in l))
+few_left_first old mid c new left below right front (Err e) same some small j on none = tt
+few_left_first old mid c new left below right front (Ok l) same some small j on none =
+    record {
+      level = λ e deep. further left.rank (stubs_size left.stubs + stubs_size below.stubs) 0 (j.level (omega arith)) e (omega arith);
+      lower = λ e deep more le. further left.rank (stubs_size left.stubs + 5440) 4 (j.behind (omega arith) some le) e (omega arith);
+    }
+  where
+    further : (rank bytes pages : ℕ) {all : ℕ} → IsFew mid c rank bytes pages (sheaf_in front) → rank ≡ right.rank → bytes + stubs_size right.stubs ≤ all
+        → IsFew old new rank all pages (sheaf_in l)
+    further rank bytes pages f e le = elim (zero_or (length right.stubs)) [
+      | inl gone ↦ (let n = none gone in
+          record {
+            rank_is = ap (λ (x : Loose). x.rank) n.0 ∙ f.rank_is;
+            small = subst (λ (x : Loose). Each IsStub (map stub_in x.units.items)) (sym n.0) f.small;
+            size = omega (arith, f.size, le, ap (λ (x : Loose). stubs_size (map stub_in x.units.items)) n.0);
+            made = omega (arith, same, f.made, n.1);
+          })
+      | inr there ↦ (let t = (on there f.small).level (f.rank_is ∙ e) in
+          record { rank_is = t.rank_is ∙ f.rank_is; small = t.small; size = omega (arith, t.size, f.size, le); made = omega (arith, same, f.made, t.made) })
+    ]
+
+-- the same, first to the right
+pub few_right_first : (old mid c new : Store) (left below right back : Sheaf) (r : Result Loose TreeFault) → MakesUpTo old mid 0 → Each IsStub left.stubs
+    → Each IsStub below.stubs → (0 < length right.stubs → AreFewJoined mid c 10880 below right back)
+    → (length right.stubs ≡ 0 → (back ≡ below) × MakesUpTo mid c 0)
+    → (Each IsStub back.stubs → IfOk r (λ l. AreFewJoined c new 10880 left back (sheaf_in l))) → IfOk r (λ l. AreFewSettled old new left below right (sheaf_in l))
+few_right_first old mid c new left below right back (Err e) same small below_small on none j = tt
+few_right_first old mid c new left below right back (Ok l) same small below_small on none j =
+    record {
+      level = λ e deep. elim (zero_or (length right.stubs)) [
+        | inl gone ↦ (let n = none gone in
+            let t = (alone n.0).level (omega arith) in
+            record { rank_is = t.rank_is; small = t.small; size = omega (arith, t.size); made = omega (arith, same, n.1, t.made) })
+        | inr there ↦ (let m = (on there).level (omega arith) in
+            let t = (j m.small).level (omega (arith, m.rank_is)) in
+            record { rank_is = t.rank_is; small = t.small; size = omega (arith, t.size, m.size); made = omega (arith, same, m.made, t.made) })
+      ];
+      lower = λ e deep more le. elim (zero_or (length right.stubs)) [
+        | inl gone ↦ (let n = none gone in
+            let t = (alone n.0).behind (omega arith) (omega arith) le in
+            record { rank_is = t.rank_is; small = t.small; size = omega (arith, t.size); made = omega (arith, same, n.1, t.made) })
+        | inr there ↦ (let m = (on there).before (omega arith) there le in
+            let t = (j m.small).level (omega (arith, m.rank_is)) in
+            record { rank_is = t.rank_is; small = t.small; size = omega (arith, t.size, m.size); made = omega (arith, same, m.made, t.made) })
+      ];
+    }
+  where
+    alone : back ≡ below → AreFewJoined c new 10880 left below (sheaf_in l)
+    alone is = subst (λ x. AreFewJoined c new 10880 left x (sheaf_in l)) is (j (subst (λ (x : Sheaf). Each IsStub x.stubs) (sym is) below_small))
+
 -- the children of a branch, of which one was changed
-module _ (old a b c new : Store) (loose left right below front back : Sheaf) (unit : Stub) (pages : ℕ)
+module _ (old a b new : Store) (loose left right below front : Sheaf) (unit : Stub) (pages : ℕ)
     (parts : loose.stubs ≡ (left.stubs ++ unit ∷ []) ++ right.stubs) (left_rank : left.rank ≡ loose.rank) (right_rank : right.rank ≡ loose.rank)
-    (deep : 0 < loose.rank) (little : IsLittle 5440 loose) (two : 2 ≤ length loose.stubs) (front_is : front ≡ left) (same : MakesUpTo a b 0)
-    (some_behind : 0 < length right.stubs → Each IsStub right.stubs → AreFewJoined b c 10880 below right back) (none_behind : length right.stubs ≡ 0
-    → (back ≡ below) × MakesUpTo b c 0) where
+    (deep : 0 < loose.rank) (little : IsLittle 5440 loose) (two : 2 ≤ length loose.stubs) (front_is : front ≡ left) (same : MakesUpTo a b 0) where
   parts_size : stubs_size left.stubs + (stub_size unit + stubs_size right.stubs) ≡ stubs_size loose.stubs
   parts_size = omega (arith, ap stubs_size parts, both_size (left.stubs ++ unit ∷ []) right.stubs, both_size left.stubs (unit ∷ []))
 
@@ -248,85 +301,32 @@ module _ (old a b c new : Store) (loose left right below front back : Sheaf) (un
   right_small : Each IsStub right.stubs
   right_small = each_back IsStub (left.stubs ++ unit ∷ []) right.stubs (subst (Each IsStub) parts little.0)
 
-  -- what is below stands in no page
-  module _ (few : IsFew old a (left.rank - 1) 10880 (4 * (left.rank - 1) + pages) below) where
-    last_few : (l : Loose) → length right.stubs ≡ 0 → AreFewJoined c new 10880 left below (sheaf_in l) → MakesUpTo b c 0
-        → IsFew old new loose.rank 10880 (4 * loose.rank + pages) (sheaf_in l)
-    last_few l none j m =
-        let f = j.behind (omega (arith, few.rank_is)) (omega (arith, parts_long)) few.size in
-        record {
-          rank_is = f.rank_is ∙ left_rank;
-          small = f.small;
-          size = omega (arith, f.size, parts_size, little.1);
-          made = omega (arith, few.made, same, m, f.made);
-        }
-
-    mid_few : (l : Loose) → AreFewJoined c new 10880 left back (sheaf_in l) → IsFew b c right.rank (stubs_size right.stubs + 5440) 4 back
-        → IsFew old new loose.rank 10880 (4 * loose.rank + pages) (sheaf_in l)
-    mid_few l j m =
-        let f = j.level (omega (arith, m.rank_is)) in
-        record {
-          rank_is = f.rank_is ∙ left_rank;
-          small = f.small;
-          size = omega (arith, f.size, m.size, parts_size, little.1);
-          made = omega (arith, few.made, same, m.made, f.made);
-        }
-
-    below_few : (r : Result Loose TreeFault)
-        → (Each IsStub front.stubs → Each IsStub back.stubs → IfOk r (λ l. AreFewJoined c new 10880 front back (sheaf_in l)))
-        → IfOk r (λ l. IsFew old new loose.rank 10880 (4 * loose.rank + pages) (sheaf_in l))
-    below_few (Err e) j = tt
-    below_few (Ok l) j = elim (zero_or (length right.stubs)) [
-      | inl none ↦ (let n = none_behind none in
-          last_few l none (subst (λ x. AreFewJoined c new 10880 x below (sheaf_in l)) front_is (subst (λ x. AreFewJoined c new 10880 front x (sheaf_in l)) n.0
-          (j (subst (λ (x : Sheaf). Each IsStub x.stubs) (sym front_is) left_small) (subst (λ (x : Sheaf). Each IsStub x.stubs) (sym n.0) few.small)))) n.1)
-      | inr some ↦ (let m = (some_behind some right_small).before (omega (arith, few.rank_is)) some few.size in
-          mid_few l (subst (λ x. AreFewJoined c new 10880 x back (sheaf_in l)) front_is
-          (j (subst (λ (x : Sheaf). Each IsStub x.stubs) (sym front_is) left_small) m.small)) m)
-    ]
-
-  -- it was written to one page
-  module _ (one : IsFew old a (left.rank - 1 + 1) 1360 (4 * (left.rank - 1) + pages + 1) below) where
-    end_few : (l : Loose) → AreFewJoined c new 10880 left below (sheaf_in l) → MakesUpTo b c 0
-        → IsFew old new loose.rank 10880 (4 * loose.rank + pages) (sheaf_in l)
-    end_few l j m =
-        let f = j.level (omega (arith, one.rank_is)) in
-        record {
-          rank_is = f.rank_is ∙ left_rank;
-          small = f.small;
-          size = omega (arith, f.size, one.size, parts_size, little.1);
-          made = omega (arith, one.made, same, m, f.made);
-        }
-
-    amid_few : (l : Loose) → AreFewJoined c new 10880 left back (sheaf_in l) → IsFew b c below.rank (stubs_size below.stubs + stubs_size right.stubs) 0 back
-        → IsFew old new loose.rank 10880 (4 * loose.rank + pages) (sheaf_in l)
-    amid_few l j m =
-        let f = j.level (omega (arith, m.rank_is, one.rank_is)) in
-        record {
-          rank_is = f.rank_is ∙ left_rank;
-          small = f.small;
-          size = omega (arith, f.size, m.size, one.size, parts_size, little.1);
-          made = omega (arith, one.made, same, m.made, f.made);
-        }
-
-    one_below_few : (r : Result Loose TreeFault)
-        → (Each IsStub front.stubs → Each IsStub back.stubs → IfOk r (λ l. AreFewJoined c new 10880 front back (sheaf_in l)))
-        → IfOk r (λ l. IsFew old new loose.rank 10880 (4 * loose.rank + pages) (sheaf_in l))
-    one_below_few (Err e) j = tt
-    one_below_few (Ok l) j = elim (zero_or (length right.stubs)) [
-      | inl none ↦ (let n = none_behind none in
-          end_few l (subst (λ x. AreFewJoined c new 10880 x below (sheaf_in l)) front_is (subst (λ x. AreFewJoined c new 10880 front x (sheaf_in l)) n.0
-          (j (subst (λ (x : Sheaf). Each IsStub x.stubs) (sym front_is) left_small) (subst (λ (x : Sheaf). Each IsStub x.stubs) (sym n.0) one.small)))) n.1)
-      | inr some ↦ (let m = (some_behind some right_small).level (omega (arith, one.rank_is)) in
-          amid_few l (subst (λ x. AreFewJoined c new 10880 x back (sheaf_in l)) front_is
-          (j (subst (λ (x : Sheaf). Each IsStub x.stubs) (sym front_is) left_small) m.small)) m)
-    ]
+  settled_few : (l : Loose) → IsFewOrOne old a (left.rank - 1) 10880 (4 * (left.rank - 1) + pages) below → AreFewSettled b new left below right (sheaf_in l)
+      → IsFew old new loose.rank 10880 (4 * loose.rank + pages) (sheaf_in l)
+  settled_few l (inl few) s =
+      let f = s.lower (omega arith) (omega (arith, few.rank_is)) (omega (arith, parts_long)) few.size in
+      record {
+        rank_is = f.rank_is ∙ left_rank;
+        small = f.small;
+        size = omega (arith, f.size, parts_size, little.1);
+        made = omega (arith, few.made, same, f.made);
+      }
+  settled_few l (inr one) s =
+      let f = s.level (omega arith) (omega (arith, one.rank_is)) in
+      record {
+        rank_is = f.rank_is ∙ left_rank;
+        small = f.small;
+        size = omega (arith, f.size, one.size, parts_size, little.1);
+        made = omega (arith, one.made, same, f.made);
+      }
 
   pub children_few : IsFewOrOne old a (left.rank - 1) 10880 (4 * (left.rank - 1) + pages) below → (r : Result Loose TreeFault)
-      → (Each IsStub front.stubs → Each IsStub back.stubs → IfOk r (λ l. AreFewJoined c new 10880 front back (sheaf_in l)))
+      → (Each IsStub front.stubs → Each IsStub below.stubs → Each IsStub right.stubs → IfOk r (λ l. AreFewSettled b new front below right (sheaf_in l)))
       → IfOk r (λ l. IsFew old new loose.rank 10880 (4 * loose.rank + pages) (sheaf_in l))
-  children_few (inl few) r j = below_few few r j
-  children_few (inr one) r j = one_below_few one r j
+  children_few few (Err e) s = tt
+  children_few few (Ok l) s =
+      settled_few l few (subst (λ x. AreFewSettled b new x below right (sheaf_in l)) front_is
+      (s (subst (λ (x : Sheaf). Each IsStub x.stubs) (sym front_is) left_small) (few_small _ _ _ _ _ _ few) right_small))
 
 -- ---- the whole tree
 

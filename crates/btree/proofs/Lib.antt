@@ -24,6 +24,7 @@ pub mod RaiseLemmas
 pub mod ReachLemmas
 pub mod RootLemmas
 pub mod SearchLemmas
+pub mod SettleLemmas
 pub mod SplitLemmas
 pub mod StoreLemmas
 pub mod WideLemmas

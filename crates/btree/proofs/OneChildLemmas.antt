@@ -1,5 +1,5 @@
 -- A branch of which one child changes.
-use Rattle.std.proofs.Common.{◌≡◌, ℕ, zero, suc, ◌+◌, ◌-◌, ◌^◌, ◌<◌, ◌≤◌, ◌⊎◌, take, drop, get_or, List, [], ◌∷◌, ◌++◌, length, map, Option, Some, None, Result}
+use Rattle.std.proofs.Common.{◌≡◌, ℕ, zero, suc, ◌+◌, ◌-◌, ◌^◌, ◌<◌, ◌≤◌, ◌⊎◌, take, drop, get_or, List, [], ◌∷◌, ◌++◌, length, map, Option, Some, None, Result, Ok, Err}
 use Rattle.std.proofs.Common.{refl, sym, ap, ◌∙◌, subst, arith, inl, inr, append-nil, append_assoc}
 use Rattle.std.specs.List.{AllByRecursion}
 use Rattle.page.specs.ChildPage.{with_child}
@@ -15,8 +15,8 @@ use Rattle.btree.specs.OneChild.{AreAt, IsAmid, IsPageOf}
 use Rattle.btree.specs.Search.{IsChildPlace}
 use Rattle.btree.specs.Store.{Frame, IsAt, IsMade, Store}
 use Rattle.btree.specs.Tree.{Body, IsSound, Shows, Twig, arm_of, entries_of, pages_of, pairs_of, with_low}
-use Rattle.btree.specs.Turn.{AreTurned, IsHeld, IsTurned, IsUpTo, Sheaf}
-use Rattle.btree.proofs.ChangingLemmas.{begins, behind_later, turned_on}
+use Rattle.btree.specs.Turn.{AreTurned, IsHeld, IsTurned, IsUpTo, Sheaf, sheaf_in}
+use Rattle.btree.proofs.ChangingLemmas.{begins, behind_later}
 use Rattle.btree.proofs.EndLemmas.{drop_here, last_off, take_here, within_up_to}
 use Rattle.btree.proofs.HeldLemmas.{IsTurn, arm_there, glue_held, held_later, under_long}
 use Rattle.btree.proofs.KeyLemmas.{not_under_itself, not_under_trans, not_both}
@@ -356,13 +356,15 @@ module _ (old : Store) (base : ℕ) (low : List ℕ) (high : Option (List ℕ)) 
   right_there =
       subst (IsBehind old base m.between high m.back_entries m.back_pages) (λ i. record { rank = sym right_rank i; stubs = sym are_there.1 i }) m.behind
 
-pub apart_done : (old mid new : Store) (base : ℕ) (low : List ℕ) (high : Option (List ℕ)) (arms : List Arm) (at rank : ℕ) (entries : List Entry)
-    (reached : List ℕ) (below back : Sheaf) (r : Result Loose TreeFault)
-    (m : IsAmid old base low high arms at rank entries reached below) → Frame old mid
-    → (u : IsTurned old mid base m.key high (m.mid_entries ++ m.back_entries) (m.mid_pages ++ m.back_pages) back)
-    → IsTurn mid new base low high (m.front_entries ++ (m.mid_entries ++ m.back_entries)) (m.front_pages ++ u.after) r
+pub apart_done : (old new : Store) (base : ℕ) (low : List ℕ) (high : Option (List ℕ)) (arms : List Arm) (at rank : ℕ) (entries : List Entry)
+    (reached : List ℕ) (below : Sheaf) (r : Result Loose TreeFault) (m : IsAmid old base low high arms at rank entries reached below)
+    → IsTurn old new base low high (m.front_entries ++ (m.mid_entries ++ m.back_entries)) (m.front_pages ++ (m.mid_pages ++ m.back_pages)) r
     → IsTurn old new base low high entries reached r
-apart_done old mid new base low high arms at rank entries reached below back r m grows u v =
-    subst (λ es. IsTurn old new base low high es reached r) m.entries_are
-    (turned_on old mid new base low high (m.front_entries ++ (m.mid_entries ++ m.back_entries)) reached (m.front_pages ++ u.after) r grows
-    (λ n. omega (arith, u.turned n, m.pages_are n, times_append n m.front_pages u.after, times_append n m.mid_pages m.back_pages)) v)
+apart_done old new base low high arms at rank entries reached below (Ok l) m u =
+    record {
+      after = u.after;
+      held = subst (λ es. IsHeld new base low high es u.after (sheaf_in l)) m.entries_are u.held;
+      turned = λ n. omega
+          (arith, u.turned n, m.pages_are n, times_append n m.front_pages (m.mid_pages ++ m.back_pages), times_append n m.mid_pages m.back_pages);
+    }
+apart_done old new base low high arms at rank entries reached below (Err e) m u = u

@@ -153,35 +153,33 @@ all_up_to_last es key d some rise last =
     (λ k f is. let same : k ≡ length es - 1 = omega arith in
     subst (λ (e : Edit). IsUnder e.key key) (sym (ap (λ i. get_or (map edit_in es) i f) same ∙ get_mapped edit_in es (length es - 1) f d (omega arith))) last))
 
-pub children_done : (old a b c new : Store) (base : ℕ) (low : List ℕ) (high : Option (List ℕ)) (entries : List Entry) (reached : List ℕ) (rank : ℕ)
+pub children_done : (old a b new : Store) (base : ℕ) (low : List ℕ) (high : Option (List ℕ)) (entries : List Entry) (reached : List ℕ) (rank : ℕ)
     (left right : List Stub) (t : Stub) (page : ℕ) (theirs mine : List Edit)
-    (p : IsPrepared old base low high entries reached rank left right t page theirs mine) (below front back : Sheaf) (r : Result Loose TreeFault) → Frame old a
-    → Frame a b → Frame b c
+    (p : IsPrepared old base low high entries reached rank left right t page theirs mine) (below front : Sheaf) (r : Result Loose TreeFault) → Frame old a
+    → Frame a b
     → (u1 : IsTurned old a base t.key p.two.between (change mine (entries_of p.off.d p.off.body)) (page ∷ pages_of p.off.d p.off.body) below)
     → (u2 : IsTurned a b base low (Some t.key) (change theirs (entries_of (suc p.off.d) p.off.twigs)) (pages_of (suc p.off.d) p.off.twigs) front)
-    → (u3 : IsTurned b c base t.key high (change mine (entries_of p.off.d p.off.body) ++ p.two.back_entries) (u1.after ++ p.two.back_pages) back)
-    → IsTurn c new base low high (change theirs (entries_of (suc p.off.d) p.off.twigs) ++ (change mine (entries_of p.off.d p.off.body) ++ p.two.back_entries))
-    (u2.after ++ u3.after) r
+    → IsTurn b new base low high (change theirs (entries_of (suc p.off.d) p.off.twigs) ++ (change mine (entries_of p.off.d p.off.body) ++ p.two.back_entries))
+    (u2.after ++ (u1.after ++ p.two.back_pages)) r
     → IsTurn old new base low high (change (theirs ++ mine) entries) reached r
-children_done old a b c new base low high entries reached rank left right t page theirs mine p below front back (Ok l) g1 g2 g3 u1 u2 u3 u4 =
+children_done old a b new base low high entries reached rank left right t page theirs mine p below front (Ok l) g1 g2 u1 u2 u3 =
     record {
-      after = u4.after;
-      held = subst (λ es. IsHeld new base low high es u4.after (sheaf_in l))
-          (prepared_entries old b base low high entries reached rank left right t page theirs mine p u2.after front u2.held) u4.held;
+      after = u3.after;
+      held = subst (λ es. IsHeld new base low high es u3.after (sheaf_in l))
+          (prepared_entries old b base low high entries reached rank left right t page theirs mine p u2.after front u2.held) u3.held;
       turned = λ n. omega (
         arith,
         u1.turned n,
         u2.turned n,
         u3.turned n,
-        u4.turned n,
         p.off.pages_are n,
         p.two.pages_are n,
-        times_append n u2.after u3.after,
+        times_append n u2.after (u1.after ++ p.two.back_pages),
         times_append n u1.after p.two.back_pages,
       );
     }
-children_done old a b c new base low high entries reached rank left right t page theirs mine p below front back (Err e) g1 g2 g3 u1 u2 u3 u4 =
-    cause_later old c new e (frame_trans old b c (frame_trans old a b g1 g2) g3) u4
+children_done old a b new base low high entries reached rank left right t page theirs mine p below front (Err e) g1 g2 u1 u2 u3 =
+    cause_later old b new e (frame_trans old a b g1 g2) u3
 
 pub begins_left : (low : List ℕ) (edits theirs : List Edit) (stubs left right : List Stub) (t : Stub) → stubs ≡ (left ++ t ∷ []) ++ right
     → BeginsAt low edits stubs → 0 < length edits

@@ -103,6 +103,20 @@ JoinsFew bytes old new left right result =
     KeepsWord new → Each IsStub left.stubs → Each IsStub right.stubs
     → IfOk result (λ both. AreFewJoined old new bytes left right (sheaf_in both))
 
+-- What was below one child stands between its neighbours again. At their height it goes together
+-- with them, with no page made; one level below them, it makes four pages at most.
+pub record AreFewSettled (old new : Store) (left below right both : Sheaf) : Type 0 where
+  pub level : left.rank ≡ right.rank → below.rank ≡ left.rank → IsFew old new left.rank
+      (stubs_size left.stubs + (stubs_size below.stubs + stubs_size right.stubs)) 0 both
+  pub lower : left.rank ≡ right.rank → below.rank + 1 ≡ left.rank
+      → 0 < length left.stubs + length right.stubs → stubs_size below.stubs ≤ 10880
+      → IsFew old new left.rank (stubs_size left.stubs + (stubs_size right.stubs + 5440)) 4 both
+
+abbrev pub SettlesFew : Store → Store → Sheaf → Sheaf → Sheaf → Result Loose TreeFault → Type 0
+SettlesFew old new left below right result =
+    KeepsWord new → Each IsStub left.stubs → Each IsStub below.stubs → Each IsStub right.stubs
+    → IfOk result (λ both. AreFewSettled old new left below right (sheaf_in both))
+
 -- A part in front is all that there is, or it takes two thirds of a page, or a third where one page
 -- more has room for the rest.
 abbrev pub IsFullPart : List Stub → ℕ → Type 0

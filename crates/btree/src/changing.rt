@@ -15,11 +15,12 @@ ghost use Rattle.btree.specs.declared.pages.TreeFault.TheVariants.{Memory};
 
 use crate::editing::{Edit, edit_cells};
 use crate::in_page::{edit_page, has_room, write_leaf};
-use crate::joining::{QUARTER, meet, meet_behind};
+use crate::joining::QUARTER;
 use crate::loose::{Loose, Unit, page_below, units_of_cells};
 use crate::one_child::{child_of_all, page_of_one, write_branch};
 use crate::opening::{leaf_cells, units_of_branch};
 use crate::search::{branch_child, leaf_key, low_bound};
+use crate::settling::settle;
 use crate::{Pages, TreeFault};
 use page::{Branch, Leaf, PageContent};
 use std::alloc::Global;
@@ -177,7 +178,7 @@ fn change_leaf<P: Pages>(
         return change_cells(alloc, pages, leaf, rank, edits);
     }
     let edited = edit_page(alloc, pages, leaf, edits)?;
-    write_leaf(alloc, pages, edited, rank)
+    write_leaf(alloc, pages, edited, rank, come_behind(leaf, edits))
 }
 
 // The children of a branch, out of their page, with what is below one of them in its place.
@@ -210,8 +211,7 @@ fn put_apart<P: Pages>(
     };
     let Parted { left, unit, right } = part_at(loose, at)?;
     drop(unit);
-    let back = meet_behind(alloc, pages, below, right)?;
-    meet(alloc, pages, left, back)
+    settle(alloc, pages, left, below, right)
 }
 
 // A branch with what is below one of its children in that one's place. Where it is one page again, the branch is
@@ -372,6 +372,5 @@ fn change_children<P: Pages>(
     let (theirs, mine) = edits_at(edits, key);
     let below = change_below(alloc, pages, page, left.rank - 1, key, mine)?;
     let front = change_children(alloc, pages, left, theirs)?;
-    let back = meet_behind(alloc, pages, below, right)?;
-    meet(alloc, pages, front, back)
+    settle(alloc, pages, front, below, right)
 }

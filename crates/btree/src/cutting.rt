@@ -1,5 +1,5 @@
 // Cutting cells and children into pages, by bytes.
-ghost use Rattle.std.specs.Prelude.{◌≡◌, ◌<◌, ◌≤◌, ◌+◌, ◌-◌, ◌^◌, ◌⊎◌, ℕ, true, List, length, map, take, drop, None, slice_index_or};
+ghost use Rattle.std.specs.Prelude.{◌≡◌, ◌<◌, ◌≤◌, ◌+◌, ◌-◌, ◌^◌, ◌⊎◌, ℕ, false, true, List, length, map, take, drop, None, slice_index_or};
 ghost use Rattle.btree.specs.Few.{IsFullPart};
 ghost use Rattle.btree.specs.Keys.{Each};
 ghost use Rattle.btree.specs.Loose.{GoBehind, IsOver, IsPart, IsStub, Stub, stub_size, stubs_size};
@@ -12,8 +12,8 @@ use std::cmp::Ordering;
 /// The bytes behind a page's header.
 pub(crate) const ROOM: usize = 4080;
 /// The most bytes of a cell, a third of a page.
-const THIRD: usize = 1360;
-/// The most bytes of the first of two pages that get about as much.
+pub(crate) const THIRD: usize = 1360;
+/// The most bytes of the first of two pages, where they can't get about as much.
 const TWO_THIRDS: usize = 2720;
 /// The longest value that lies in its cell, in bytes.
 const INLINE: usize = 330;
@@ -121,8 +121,68 @@ pub(crate) fn units_within(units: &[Unit], limit: usize) -> usize
     units.len()
 }
 
-/// How many cells or children go into the next page: as many as find room, or so many that what is behind
-/// them isn't next to nothing, where the pages needn't be filled.
+// The bytes of cells or children.
+fn bytes_of(units: &[Unit]) -> usize {
+    let mut bytes: usize = 0;
+    for unit in units {
+        bytes = bytes.saturating_add(unit_size(unit));
+    }
+    bytes
+}
+
+// The bytes of the first of two or three pages that get about as much. Of more than three the first is filled.
+fn share_of(units: &[Unit], whole: usize) -> usize
+    requires { whole ≤ length units.now }
+    ensures { result ≤ 4080 }
+{
+    let behind = &units[whole..];
+    let second = units_within(behind, ROOM);
+    let third = units_within(&behind[second..], ROOM);
+    if second + third < behind.len() {
+        return ROOM;
+    }
+    let bytes = bytes_of(units);
+    let share = if second < behind.len() {
+        bytes / 3
+    } else {
+        bytes / 2
+    };
+    if share > ROOM {
+        return ROOM;
+    }
+    share
+}
+
+// Whether so many of the first cells or children leave two or more for the next page, and have two thirds of a
+// page, or a third where the next page has room for all the others.
+fn is_enough(units: &[Unit], whole: usize, at: usize) -> bool
+    requires inside { whole ≤ length units.now }
+    requires room { stubs_size (take whole (map stub_in units.now)) ≤ 4080 }
+    requires over { 4080 < stubs_size (map stub_in units.now) }
+    ensures within { result ≡ true → at ≤ length units.now }
+    ensures enough { result ≡ true → Each IsStub (map stub_in units.now)
+        → IsPart false (map stub_in units.now) at × IsFullPart (map stub_in units.now) at }
+{
+    if at > whole || units.len() - at < 2 {
+        return false;
+    }
+    let large = units_within(units, TWO_THIRDS);
+    if large < at {
+        return true;
+    }
+    let little = units_within(units, THIRD);
+    if little >= at {
+        return false;
+    }
+    let behind = units_within(&units[whole..], THIRD);
+    if whole + behind < units.len() {
+        return false;
+    }
+    true
+}
+
+/// How many cells or children go into the next page: as many as find room, where the pages are filled, else about as
+/// many bytes as into the pages behind it.
 pub(crate) fn part_len(units: &[Unit], fills: bool) -> usize
     requires { 0 < length units.now }
     ensures some { 0 < result }
@@ -141,6 +201,11 @@ pub(crate) fn part_len(units: &[Unit], fills: bool) -> usize
     }
     if fills {
         return whole;
+    }
+    let share = units_within(units, share_of(units, whole));
+    let even = share + 1;
+    if is_enough(units, whole, even) {
+        return even;
     }
     let behind = units_within(&units[whole..], THIRD);
     if whole + behind < units.len() {

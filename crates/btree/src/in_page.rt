@@ -13,7 +13,7 @@ ghost use Rattle.btree.specs.Turn.{Turns};
 
 use crate::cutting::ROOM;
 use crate::editing::{Edit, INLINE, retire_value, stored_value};
-use crate::joining::QUARTER;
+use crate::joining::LITTLE;
 use crate::loose::{Loose, push_unit};
 use crate::opening::units_of_leaf;
 use crate::parts::child_unit;
@@ -174,12 +174,14 @@ pub(crate) fn edit_page<P: Pages>(
     Ok(edited)
 }
 
-/// A leaf as a child of the page above it, written to a page of its own, or, where it has next to nothing, its cells.
+/// A leaf as a child of the page above it, written to a page of its own, or, where it has little and no more is to
+/// come behind it, its cells.
 pub(crate) fn write_leaf<P: Pages>(
     alloc: Global,
     pages: &mut P,
     leaf: Leaf,
     rank: u32,
+    fills: bool,
 ) -> Result<Loose, TreeFault>
     ensures grows { Grows (P.store pages.old) (P.store pages.new) }
     ensures few { GivesFewOrOne (P.store pages.old) (P.store pages.new) rank 5440 0 result }
@@ -189,7 +191,7 @@ pub(crate) fn write_leaf<P: Pages>(
         → Turns (P.store pages.old) (P.store pages.new) base low high (map entry_of pairs)
         (pages_of zero pairs) result }
 {
-    if leaf.len() < 2 || leaf.size() <= QUARTER || rank == u32::MAX {
+    if leaf.len() < 2 || (leaf.size() <= LITTLE && !fills) || rank == u32::MAX {
         let units = units_of_leaf(alloc, &leaf)?;
         return Ok(Loose {
             rank,

@@ -8,25 +8,54 @@ ghost use Rattle.btree.specs.LooseView.{stub_in};
 ghost use Rattle.btree.specs.Store.{Grows, KeepsWord, Store};
 ghost use Rattle.btree.specs.Turn.{GoesBefore, IsHeld, IsJoined, IsReady, IsUpTo, PartsFirst, PartsLast, Turns, sheaf_in};
 
-use crate::cutting::units_within;
-use crate::loose::{Loose, page_below};
+use crate::cutting::{ROOM, THIRD, units_within};
+use crate::loose::{Loose, Unit, page_below};
 use crate::opening::{concat, open_page, raise};
 use crate::{Pages, TreeFault};
 use std::alloc::Global;
 
-/// A quarter of a page, in bytes: what has less is joined with what is beside it.
+/// A quarter of a page, in bytes: children that have less are joined with what is beside them.
 pub(crate) const QUARTER: usize = 1020;
+/// Nine twentieths of a page, in bytes: cells that have less are joined with what is beside them.
+pub(crate) const LITTLE: usize = 1836;
 
-// Whether it may stand in pages of its own.
-fn is_full(loose: &Loose) -> bool
+// Whether they are enough for pages of their own. Cells that are just more than a page aren't: a page beside them may
+// have room for some.
+fn fill_pages(units: &[Unit]) -> bool
+    requires { 0 < length units.now }
+    ensures { result ≡ false → Each IsStub (map stub_in units.now)
+        → stubs_size (map stub_in units.now) ≤ 5440 }
+{
+    if units[0].is_child() {
+        return units_within(units, QUARTER) < units.len();
+    }
+    if units_within(units, LITTLE) >= units.len() {
+        return false;
+    }
+    let whole = units_within(units, ROOM);
+    if whole >= units.len() {
+        return true;
+    }
+    let behind = units_within(&units[whole..], THIRD);
+    if whole + behind < units.len() {
+        return true;
+    }
+    false
+}
+
+/// Whether it may stand in pages of its own. Cells that came behind all others may, however few: more may come there.
+pub(crate) fn is_full(loose: &Loose) -> bool
     ensures two { result ≡ true → 2 ≤ length loose.now.units.items }
     ensures few { result ≡ false → Each IsStub (map stub_in loose.now.units.items)
-        → stubs_size (map stub_in loose.now.units.items) ≤ 1360 }
+        → stubs_size (map stub_in loose.now.units.items) ≤ 5440 }
 {
     if loose.units.len() < 2 {
         return false;
     }
-    units_within(&loose.units, QUARTER) < loose.units.len()
+    if loose.fills {
+        return true;
+    }
+    fill_pages(&loose.units)
 }
 
 // Takes the last child off and takes its page apart.
@@ -173,7 +202,7 @@ pub(crate) fn join<P: Pages>(
     ensures grows { Grows (P.store pages.old) (P.store pages.new) }
     ensures joined { IfOk result
         (λ both. IsJoined (sheaf_in left) (sheaf_in right) (sheaf_in both)) }
-    ensures few { JoinsFew 1360 (P.store pages.old) (P.store pages.new) (sheaf_in left)
+    ensures few { JoinsFew 5440 (P.store pages.old) (P.store pages.new) (sheaf_in left)
         (sheaf_in right) result }
     ensures turns { (base : ℕ) (low mid : List ℕ) (high : Option (List ℕ)) (first last : List Entry)
         (left_pages right_pages : List ℕ)

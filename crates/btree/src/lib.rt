@@ -18,6 +18,7 @@ mod parts;
 mod root;
 mod scanning;
 mod search;
+mod settling;
 
 pub use editing::Edit;
 pub use folding::{Bounds, Fold, fold_entries};

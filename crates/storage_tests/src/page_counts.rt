@@ -70,9 +70,10 @@ fn pages_of(pager: Pager<MemDisk>) -> u32 {
 /// So many keys of so many bytes, with values of these lengths; how many pages the file may have, and how
 /// many it needs at most.
 ///
-/// An entry of 17 and 100 bytes takes 6 more. A leaf of less than a quarter of its 4,080 bytes, 8 entries or
-/// fewer, is joined with the page beside it: some 112 leaves at most. A child takes 6 + 17 bytes of a branch,
-/// and 44 are less than a quarter: 3 branches at most, and a root. A turn makes two pages on each of three
+/// An entry of 17 and 100 bytes takes 6 more. A leaf of less than nine twentieths of its 4,080 bytes, 14 entries or
+/// fewer, is joined with the page beside it, unless the last change came behind all of them: some 67 leaves at most,
+/// and 45 for such ends. A child takes 6 + 17 bytes of a branch, and 44 are less than a quarter: 3 branches at most,
+/// and a root. A turn makes two pages on each of three
 /// levels at most, and a new root; the list of free pages has one, and the one before it another. With page 0
 /// these are 126, where a page that is free is taken before a new one; 140 are let pass. A file that lost a
 /// page each turn would have 2,000.

@@ -17,7 +17,7 @@ use Rattle.btree.specs.Change.{IsBehind}
 use Rattle.btree.specs.Turn.{IsHeld}
 use Rattle.btree.proofs.EndLemmas.{last_is_child, within_up_to}
 use Rattle.btree.proofs.FewParts.{branch_few}
-use Rattle.btree.proofs.FewLemmas.{all_mine, branch_two, children_few, few_alone, few_on, few_or_one_on, few_small, unit_little}
+use Rattle.btree.proofs.FewLemmas.{all_mine, branch_two, children_few, few_alone, few_on, few_or_one_on, unit_little}
 use Rattle.btree.proofs.SplitLemmas.{two_parts}
 use Rattle.btree.proofs.ListLemmas.{long_append, long_map}
 use Rattle.btree.proofs.OneChildLemmas.{amid, amid_turned, key_little, prepared_child}
@@ -125,47 +125,14 @@ change_children-returns-in_err-front-clause-turns g t c =
     c.deref.ensures.value c.in_ok-left.ensures.left c.child_place-at.ensures.next (omega arith) base low begin p.theirs_between)
     p.theirs_rise p.theirs_between word))
 
-pub change_children-returns-in_err-back-clause-grows : goal.change_children-returns-in_err-back-clause-grows
-change_children-returns-in_err-back-clause-grows g t c =
-    grows_trans _ _ _ (grows_trans _ _ _ c.in_ok-below.ensures.grows c.in_ok-front.ensures.grows) c.in_err-back.ensures.grows
-
-pub change_children-returns-in_err-back-clause-turns : goal.change_children-returns-in_err-back-clause-turns
-change_children-returns-in_err-back-clause-turns g t c =
-    λ base low high entries reached h deep begin rise between word.
-    let g3 = c.in_err-back.ensures.grows.frame word in
-    let g2 = c.in_ok-front.ensures.grows.frame g3.word in
-    let g1 = c.in_ok-below.ensures.grows.frame g2.word in
-    let p = prepare
-    (g.P.Pages.store c.args.pages.now) c.args.loose c.in_ok-left.field-0.left c.in_ok-left.field-0.right c.in_ok-left.field-0.unit c.deref.result.now
-    c.as_slice-key.result.now c.in-Some.page c.child_place-at.result c.args.edits.now _ _ _
-    c.in_ok-left.ensures.parts c.as_slice-key.ensures.value c.in-Some.ensures c.edits_at.ensures.parts c.edits_at.ensures.before c.edits_at.ensures.behind
-    c.deref.ensures.value c.in_ok-left.ensures.left c.child_place-at.ensures.next (omega arith)
-    base low high entries reached h deep rise between in
-    let u1 = c.in_ok-below.ensures.turns base p.off.d p.two.between p.off.body
-    (omega (arith, p.off.rank_is, c.in_ok-left.ensures.left_rank)) p.off.at p.off.shown p.off.lies.0 p.off.lies.1 p.off.little p.mine_rise p.mine_between
-    g2.word in
-    turns_failed (g.P.Pages.store c.args.pages.now)
-    (g.P.Pages.store c.meet_behind.new.pages) base low high _ _ c.from_residual-in_err-back.result _ c.from_residual-in_err-back.ensures.1
-    (cause_later (g.P.Pages.store c.args.pages.now) (g.P.Pages.store c.change_children.new.pages) (g.P.Pages.store c.meet_behind.new.pages) _
-    (frame_trans _ _ _ g1 g2)
-    (c.in_err-back.ensures.turns base c.as_slice-key.result.now p.two.between high
-    (change (map edit_in c.edits_at.result.1.now) (entries_of p.off.d p.off.body)) p.two.back_entries u1.after p.two.back_pages
-    (held_later _ _ base _ _ _ _ _ g2 u1.held)
-    (behind_later _ _ base p.two.between high p.two.back_entries p.two.back_pages _ (frame_trans _ _ _ g1 g2)
-    (subst (λ k. IsBehind (g.P.Pages.store c.args.pages.now) base p.two.between high p.two.back_entries p.two.back_pages
-    (record { rank = k; stubs = map stub_in c.in_ok-left.field-0.right.units.items })) (sym c.in_ok-left.ensures.right_rank) p.two.behind))
-    (within_up_to c.as_slice-key.result.now p.two.between p.off.between.1) word))
-
 pub change_children-returns-clause-grows : goal.change_children-returns-clause-grows
 change_children-returns-clause-grows g t c =
-    grows_trans _ _ _
-    (grows_trans _ _ _ (grows_trans _ _ _ c.in_ok-below.ensures.grows c.in_ok-front.ensures.grows) c.in_ok-back.ensures.grows) c.meet.ensures.grows
+    grows_trans _ _ _ (grows_trans _ _ _ c.in_ok-below.ensures.grows c.in_ok-front.ensures.grows) c.settle.ensures.grows
 
 pub change_children-returns-clause-turns : goal.change_children-returns-clause-turns
 change_children-returns-clause-turns g t c =
     λ base low high entries reached h deep begin rise between word.
-    let g4 = c.meet.ensures.grows.frame word in
-    let g3 = c.in_ok-back.ensures.grows.frame g4.word in
+    let g3 = c.settle.ensures.grows.frame word in
     let g2 = c.in_ok-front.ensures.grows.frame g3.word in
     let g1 = c.in_ok-below.ensures.grows.frame g2.word in
     let p = prepare
@@ -189,21 +156,18 @@ change_children-returns-clause-turns g t c =
     c.in_ok-left.ensures.parts c.as_slice-key.ensures.value c.in-Some.ensures c.edits_at.ensures.parts c.edits_at.ensures.before c.edits_at.ensures.behind
     c.deref.ensures.value c.in_ok-left.ensures.left c.child_place-at.ensures.next (omega arith) base low begin p.theirs_between)
     p.theirs_rise p.theirs_between g3.word in
-    let u3 = c.in_ok-back.ensures.turns base c.as_slice-key.result.now p.two.between high
-    (change (map edit_in c.edits_at.result.1.now) (entries_of p.off.d p.off.body)) p.two.back_entries u1.after p.two.back_pages
-    (held_later _ _ base _ _ _ _ _ g2 u1.held)
-    (behind_later _ _ base p.two.between high p.two.back_entries p.two.back_pages _ (frame_trans _ _ _ g1 g2)
+    let behind = behind_later _ _ base p.two.between high p.two.back_entries p.two.back_pages _ (frame_trans _ _ _ g1 g2)
     (subst (λ k. IsBehind (g.P.Pages.store c.args.pages.now) base p.two.between high p.two.back_entries p.two.back_pages
-    (record { rank = k; stubs = map stub_in c.in_ok-left.field-0.right.units.items })) (sym c.in_ok-left.ensures.right_rank) p.two.behind))
-    (within_up_to c.as_slice-key.result.now p.two.between p.off.between.1) g4.word in
-    subst (λ es. IsTurn (g.P.Pages.store c.args.pages.now) (g.P.Pages.store c.meet.new.pages) base low high (change es entries) reached c.meet.result)
+    (record { rank = k; stubs = map stub_in c.in_ok-left.field-0.right.units.items })) (sym c.in_ok-left.ensures.right_rank) p.two.behind) in
+    subst (λ es. IsTurn (g.P.Pages.store c.args.pages.now) (g.P.Pages.store c.settle.new.pages) base low high (change es entries) reached c.settle.result)
     (sym c.edits_at.ensures.parts)
     (children_done (g.P.Pages.store c.args.pages.now) (g.P.Pages.store c.change_below.new.pages) (g.P.Pages.store c.change_children.new.pages)
-    (g.P.Pages.store c.meet_behind.new.pages) (g.P.Pages.store c.meet.new.pages) base low high entries reached c.args.loose.rank _ _ _ c.in-Some.page _ _
-    p _ _ _ c.meet.result g1 g2 g3 u1 u2 u3
-    (c.meet.ensures.turns base low c.as_slice-key.result.now high (change (map edit_in c.edits_at.result.0.now) (entries_of (suc p.off.d) p.off.twigs))
-    (change (map edit_in c.edits_at.result.1.now) (entries_of p.off.d p.off.body) ++ p.two.back_entries) u2.after u3.after
-    (held_later _ _ base low _ _ _ _ g3 u2.held) u3.held p.off.between.0 p.within word))
+    (g.P.Pages.store c.settle.new.pages) base low high entries reached c.args.loose.rank _ _ _ c.in-Some.page _ _ p _ _ c.settle.result g1 g2 u1 u2
+    (c.settle.ensures.turns base low c.as_slice-key.result.now p.two.between high
+    (change (map edit_in c.edits_at.result.0.now) (entries_of (suc p.off.d) p.off.twigs))
+    (change (map edit_in c.edits_at.result.1.now) (entries_of p.off.d p.off.body)) p.two.back_entries u2.after u1.after p.two.back_pages u2.held
+    (held_later _ _ base _ _ _ _ _ g2 u1.held) behind p.off.between.0
+    (within_up_to c.as_slice-key.result.now p.two.between p.off.between.1) p.within word))
 
 pub change_below-returns-in-Leaf-clause-grows : goal.change_below-returns-in-Leaf-clause-grows
 change_below-returns-in-Leaf-clause-grows g t c =
@@ -239,8 +203,7 @@ change_below-returns-clause-few g t c =
 pub change_children-returns-clause-few : goal.change_children-returns-clause-few
 change_children-returns-clause-few g t c =
     λ one little two k.
-    let g4 = c.meet.ensures.grows.frame k in
-    let g3 = c.in_ok-back.ensures.grows.frame g4.word in
+    let g3 = c.settle.ensures.grows.frame k in
     let g2 = c.in_ok-front.ensures.grows.frame g3.word in
     let left = c.in_ok-left.field-0.left in
     let right = c.in_ok-left.field-0.right in
@@ -255,16 +218,13 @@ change_children-returns-clause-few g t c =
     (unit_little (map stub_in c.args.loose.units.items) (map stub_in left.units.items) (map stub_in right.units.items)
     (stub_in c.in_ok-left.field-0.unit) _ c.in_ok-left.ensures.parts little.0 c.as_slice-key.ensures.value) g2.word in
     children_few (g.P.Pages.store c.args.pages.now) (g.P.Pages.store c.change_below.new.pages) (g.P.Pages.store c.change_children.new.pages)
-    (g.P.Pages.store c.meet_behind.new.pages) (g.P.Pages.store c.meet.new.pages)
-    (sheaf_in c.args.loose) (sheaf_in left) (sheaf_in right) (sheaf_in c.in_ok-below.below) (sheaf_in c.in_ok-front.front) (sheaf_in c.in_ok-back.back)
-    (stub_in c.in_ok-left.field-0.unit) (sum_of edit_pages (map edit_in c.args.edits.now))
+    (g.P.Pages.store c.settle.new.pages) (sheaf_in c.args.loose) (sheaf_in left) (sheaf_in right) (sheaf_in c.in_ok-below.below)
+    (sheaf_in c.in_ok-front.front) (stub_in c.in_ok-left.field-0.unit) (sum_of edit_pages (map edit_in c.args.edits.now))
     c.in_ok-left.ensures.parts c.in_ok-left.ensures.left_rank c.in_ok-left.ensures.right_rank c.requires.rank little
     (omega (arith, long_map stub_in c.args.loose.units.items)) (ap sheaf_in front_is) (omega (arith, ap (λ (s : Store). length s.made) front.1))
-    (λ some small. c.in_ok-back.ensures.few (omega (arith, long_map stub_in right.units.items)) g4.word (few_small _ _ _ _ _ _ b) small)
-    (λ none. let n = c.in_ok-back.ensures.none (omega (arith, long_map stub_in right.units.items)) g4.word in (ap sheaf_in n.0, n.1))
     (subst (λ es. IsFewOrOne (g.P.Pages.store c.args.pages.now) (g.P.Pages.store c.change_below.new.pages) (left.rank - 1) 10880
     (4 * (left.rank - 1) + sum_of edit_pages es) (sheaf_in c.in_ok-below.below)) (sym m.same) b)
-    c.meet.result (λ hl hr. c.meet.ensures.few k hl hr)
+    c.settle.result (λ hl hb hr. c.settle.ensures.few k hl hb hr)
 
 pub change_below-returns-in-Some-clause-grows : goal.change_below-returns-in-Some-clause-grows
 change_below-returns-in-Some-clause-grows g t c =

@@ -3,7 +3,7 @@ use Rattle.page.specs.Content.{inline}
 use Rattle.btree.specs.Loose.{IsPart, Stub, value, stub_size, stubs_size}
 use Rattle.btree.specs.LooseView.{stub_in}
 use Rattle.btree.proofs.ListLemmas.{long_map}
-use Rattle.btree.proofs.CuttingLemmas.{each_at, behind_is, behind_long, none_fits, take_over, part_front, part_half}
+use Rattle.btree.proofs.CuttingLemmas.{each_at, behind_is, behind_long, none_fits, size_next, take_over, part_front, part_half}
 use Rattle.btree.proofs.FewParts.{full_half, full_whole}
 use Rattle.btree.proofs.cutting.part_len.Goals as goal
 
@@ -92,3 +92,12 @@ returns-clause-full c =
       long_map stub_in (take (length c.args.units.now - c.units_within-whole.result) (drop c.units_within-whole.result c.args.units.now)),
     )) (subst (λ ss. stubs_size (take c.units_within-behind.result ss) ≤ 1360) there c.units_within-behind.ensures.room)
     (λ lt. c.units_within-half.ensures.next none (omega arith)) small
+
+pub is_enough-requires-clause-over : goal.is_enough-requires-clause-over
+is_enough-requires-clause-over c =
+    let lt : c.units_within-whole.result < length (map stub_in c.args.units.now) = omega (arith, long_map stub_in c.args.units.now) in
+    omega (arith, c.units_within-whole.ensures.next none (omega arith), size_next c.units_within-whole.result (map stub_in c.args.units.now) none lt)
+
+pub returns-then-is_enough-clause-part : goal.returns-then-is_enough-clause-part
+returns-then-is_enough-clause-part c =
+    λ small. subst (λ f. IsPart f (map stub_in c.args.units.now) (c.units_within-share.result + 1)) (sym c.if-fills.false) (c.is_enough.ensures.enough c.if-is_enough.true small).0

@@ -135,20 +135,20 @@ pub returns-then-is_empty-clause-few : goal.returns-then-is_empty-clause-few
 returns-then-is_empty-clause-few g t c =
     λ k hl hr.
     let none : length c.args.left.units.items ≡ 0 = search rules in
-    few_left_gone (g.P.Pages.store c.args.pages.now) 1360 (sheaf_in c.args.left) (sheaf_in c.args.right)
+    few_left_gone (g.P.Pages.store c.args.pages.now) 5440 (sheaf_in c.args.left) (sheaf_in c.args.right)
     (omega (arith, long_map stub_in c.args.left.units.items)) hr
 
 pub returns-then-is_empty-2-clause-few : goal.returns-then-is_empty-2-clause-few
 returns-then-is_empty-2-clause-few g t c =
     λ k hl hr.
     let none : length c.args.right.units.items ≡ 0 = search rules in
-    few_right_gone (g.P.Pages.store c.args.pages.now) 1360 (sheaf_in c.args.left) (sheaf_in c.args.right)
+    few_right_gone (g.P.Pages.store c.args.pages.now) 5440 (sheaf_in c.args.left) (sheaf_in c.args.right)
     (omega (arith, long_map stub_in c.args.right.units.items)) hl
 
 pub returns-then-left-right-clause-few : goal.returns-then-left-right-clause-few
 returns-then-left-right-clause-few g t c =
     λ k hl hr.
-    few_level (g.P.Pages.store c.args.pages.now) (g.P.Pages.store c.args.pages.now) 1360 (sheaf_in c.args.left)
+    few_level (g.P.Pages.store c.args.pages.now) (g.P.Pages.store c.args.pages.now) 5440 (sheaf_in c.args.left)
     (sheaf_in c.args.right) c.concat.result c.if-left-right.true
     (few_concat (g.P.Pages.store c.args.pages.now) (g.P.Pages.store c.args.pages.now) c.args.left.rank _ 0 (sheaf_in c.args.left)
     (sheaf_in c.args.right) c.concat.result refl c.concat.ensures.rank c.concat.ensures.ok hl hr (omega arith) (omega arith))
@@ -159,7 +159,7 @@ returns-then-left-right-2-clause-few g t c =
     let g3 = c.raise_behind.ensures.grows.frame k in
     let g2 = c.in_ok-below.ensures.grows.frame g3.word in
     let o = c.in_ok-front.ensures.few g2.word hl in
-    few_behind (g.P.Pages.store c.args.pages.now) (g.P.Pages.store c.raise_behind.new.pages) 1360 (sheaf_in c.args.left)
+    few_behind (g.P.Pages.store c.args.pages.now) (g.P.Pages.store c.raise_behind.new.pages) 5440 (sheaf_in c.args.left)
     (sheaf_in c.args.right) c.raise_behind.result (omega arith)
     (λ e little.
     let b = (c.in_ok-below.ensures.few g3.word o.opened_small hr).level (omega (arith, e, c.in_ok-front.ensures.back_rank)) in
@@ -174,7 +174,7 @@ returns-clause-few g t c =
     let g3 = c.raise_before.ensures.grows.frame k in
     let g2 = c.in_ok-below-2.ensures.grows.frame g3.word in
     let o = c.in_ok-first.ensures.few g2.word hr in
-    few_before (g.P.Pages.store c.args.pages.now) (g.P.Pages.store c.raise_before.new.pages) 1360 (sheaf_in c.args.left)
+    few_before (g.P.Pages.store c.args.pages.now) (g.P.Pages.store c.raise_before.new.pages) 5440 (sheaf_in c.args.left)
     (sheaf_in c.args.right) c.raise_before.result (omega arith)
     (λ e little.
     let b = (c.in_ok-below-2.ensures.few g3.word hl o.opened_small).level (omega (arith, e, c.in_ok-first.ensures.front_rank)) in

@@ -1,0 +1,96 @@
+// What was below one child of a branch, back among its neighbours.
+ghost use Rattle.std.specs.Prelude.{◌≡◌, ◌<◌, ◌++◌, ⊤, ℕ, List, Option, Some, true, length, IfErr, IfOk};
+ghost use Rattle.page.specs.Content.{Content};
+ghost use Rattle.btree.specs.Calls.{Yields};
+ghost use Rattle.btree.specs.Change.{IsBehind};
+ghost use Rattle.btree.specs.Few.{SettlesFew};
+ghost use Rattle.btree.specs.Keys.{Entry, IsNotUnder};
+ghost use Rattle.btree.specs.Loose.{child};
+ghost use Rattle.btree.specs.LooseView.{stub_in};
+ghost use Rattle.btree.specs.Store.{Grows, HasCause, IsAt, IsSame, KeepsWord};
+ghost use Rattle.btree.specs.Turn.{IsHeld, IsUpTo, Turns, sheaf_in};
+
+use crate::joining::{is_full, meet, meet_behind};
+use crate::loose::{Loose, Unit, page_below};
+use crate::{Pages, TreeFault};
+use page::PageContent;
+use std::alloc::Global;
+
+// The bytes that the page of a child has.
+fn bytes_below<P: Pages>(pages: &mut P, unit: &Unit) -> Result<usize, TreeFault>
+    ensures grows { Grows (P.store pages.old) (P.store pages.new) }
+    ensures same { KeepsWord (P.store pages.new)
+        → IsSame (P.store pages.old) (P.store pages.new) }
+    ensures cause { KeepsWord (P.store pages.new)
+        → ((page : ℕ) → (stub_in unit.now).load ≡ child page
+        → (content : Content) × IsAt (P.store pages.old) page content)
+        → IfErr result (HasCause (P.store pages.old) (P.store pages.new)) }
+{
+    let Some(page) = page_below(unit) else {
+        return Ok(0);
+    };
+    let shared = pages.read(page)?;
+    match &shared.image().content {
+        PageContent::Leaf(leaf) => Ok(leaf.size()),
+        PageContent::Branch(branch) => Ok(branch.size()),
+        _ => Ok(0),
+    }
+}
+
+// Whether something is to be joined with what stands before it, since that has less than what stands behind it.
+fn goes_to_the_left<P: Pages>(
+    pages: &mut P,
+    left: &Loose,
+    below: &Loose,
+    right: &Loose,
+) -> Result<bool, TreeFault>
+    ensures grows { Grows (P.store pages.old) (P.store pages.new) }
+    ensures same { KeepsWord (P.store pages.new)
+        → IsSame (P.store pages.old) (P.store pages.new) }
+    ensures some { IfOk result (λ goes. goes ≡ true → 0 < length left.now.units.items) }
+    ensures cause { (base : ℕ) (low mid : List ℕ) (between high : Option (List ℕ))
+        (first last : List Entry) (left_pages right_pages : List ℕ)
+        → IsHeld (P.store pages.old) base low (Some mid) first left_pages (sheaf_in left.now)
+        → IsBehind (P.store pages.old) base between high last right_pages (sheaf_in right.now)
+        → Yields (P.store pages.old) (P.store pages.new) (λ goes. ⊤) result }
+{
+    if left.units.is_empty() || right.units.is_empty() {
+        return Ok(false);
+    }
+    if is_full(below) {
+        return Ok(false);
+    }
+    let before = bytes_below(pages, &left.units[left.units.len() - 1])?;
+    let behind = bytes_below(pages, &right.units[0])?;
+    Ok(before < behind)
+}
+
+/// Puts what is below one child between what stands before it and what stands behind it. What is not enough for pages
+/// of its own, or just too much for one, is joined with the page beside it that has less.
+pub(crate) fn settle<P: Pages>(
+    alloc: Global,
+    pages: &mut P,
+    left: Loose,
+    below: Loose,
+    right: Loose,
+) -> Result<Loose, TreeFault>
+    ensures grows { Grows (P.store pages.old) (P.store pages.new) }
+    ensures few { SettlesFew (P.store pages.old) (P.store pages.new) (sheaf_in left)
+        (sheaf_in below) (sheaf_in right) result }
+    ensures turns { (base : ℕ) (low mid : List ℕ) (between high : Option (List ℕ))
+        (first amid last : List Entry) (left_pages mid_pages right_pages : List ℕ)
+        → IsHeld (P.store pages.old) base low (Some mid) first left_pages (sheaf_in left)
+        → IsHeld (P.store pages.old) base mid between amid mid_pages (sheaf_in below)
+        → IsBehind (P.store pages.old) base between high last right_pages (sheaf_in right)
+        → IsNotUnder mid low → IsUpTo mid between → IsUpTo mid high
+        → Turns (P.store pages.old) (P.store pages.new) base low high (first ++ (amid ++ last))
+        (left_pages ++ (mid_pages ++ right_pages)) result }
+{
+    let to_the_left = goes_to_the_left(pages, &left, &below, &right)?;
+    if to_the_left {
+        let front = meet(alloc, pages, left, below)?;
+        return meet_behind(alloc, pages, front, right);
+    }
+    let back = meet_behind(alloc, pages, below, right)?;
+    meet(alloc, pages, left, back)
+}
