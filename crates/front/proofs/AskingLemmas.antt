@@ -1,56 +1,21 @@
 -- What is asked is what is wanted.
-use Rattle.std.proofs.Common.{◌≡◌, ◌≢◌, ◌⊎◌, ℕ, zero, suc, ◌+◌, ◌*◌, ◌/◌, ◌%◌, ◌<◌, ◌≤◌, Bool, true, false, List, [], ◌∷◌, ◌++◌, length, get_or, set}
+use Rattle.std.proofs.Common.{◌≡◌, ◌≢◌, ◌⊎◌, ℕ, ◌+◌, ◌*◌, ◌/◌, ◌%◌, ◌<◌, ◌≤◌, true, false, List, [], ◌∷◌, ◌++◌, length, get_or, set}
 use Rattle.std.proofs.Common.{Option, Some, None, Ok, Err, refl, sym, ap, subst, ◌∙◌, inl, inr, arith, div-add-mod'}
-use Rattle.std.specs.Prelude.{is_some, is_none, is_err, OnOk, slice_set}
+use Rattle.std.specs.Prelude.{Result, is_none, is_err, OnOk, slice_set}
 use Rattle.std.proofs.lemmas.Bool.{cases_lt}
 use Rattle.std.proofs.lemmas.List.{get_or_default, get_or-set_other, length-set}
 use Rattle.std.proofs.lemmas.Nat.{mul-le}
 use Rattle.bson.specs.Tree.{Pairs}
-use Rattle.driver_messages.specs.Incoming.{next_message}
-use Rattle.driver_messages.specs.declared.message.Message.{Message}
-use Rattle.driver_messages.specs.declared.stream_fault.StreamFault.{StreamFault}
-use Rattle.std.specs.Prelude.{Result}
 use Rattle.drivers.specs.Answering.{kill_command}
-use Rattle.drivers.specs.Laws.{asked_by}
-use Rattle.drivers.specs.Starting.{started}
 use Rattle.drivers.specs.declared.server_info.ServerInfo.{ServerInfo}
 use Rattle.server.specs.ServerState.{ServerState}
-use Rattle.front.specs.Asking.{question_at, question_in, first_question, wanted_by, wanted, IsNoOther, IsAskedOn, AsksWanted, EndsOne}
+use Rattle.front.specs.Asking.{wanted, IsNoOther, IsAskedOn, AsksWanted, EndsOne}
 use Rattle.front.specs.Asking.{AsksOf, AreAsked, AsksInTurn}
 use Rattle.front.specs.Lending.{loan_at, is_at_rest}
 use Rattle.front.specs.Serving.{OthersStay}
-use Rattle.front.specs.declared.job.Job.{Job}
-use Rattle.front.specs.declared.job.Stage.{Stage}
-use Rattle.front.specs.declared.job.Stage.TheVariants as stages
 use Rattle.front.specs.declared.lending.Loan.{Loan}
 use Rattle.front.specs.declared.open_cursors.OpenCursor.{OpenCursor}
 use Rattle.front.specs.declared.socket.Socket.{Socket}
-
-own_stage : (stage : Stage) → IsNoOther (question_at stage) (question_at stage)
-own_stage (stages.Asks question) = refl
-own_stage stages.Waits = tt
-
--- what is to be asked for the message that is worked on is wanted
-pub own_question : (info : ServerInfo) (s : Socket) → IsNoOther (question_in s.job) (wanted info s)
-own_question info s = at s.job
-  where
-    at : (j : Option Job) → IsNoOther (question_in j) (wanted_by info s.incoming j)
-    at None = tt
-    at (Some job) = own_stage job.stage
-
--- where none is worked on, nothing is to be asked yet
-pub nothing_asked : (j : Option Job) (w : Option Pairs) → is_some j ≡ false → IsNoOther (question_in j) w
-nothing_asked None w e = tt
-nothing_asked (Some job) w e = absurd cc
-
--- and what is wanted is what is asked first for the message at the front
-pub first_wanted : (info : ServerInfo) (s : Socket) (m : Message) (rest : List ℕ) (q : Option Pairs) → is_some s.job ≡ false
-    → next_message s.incoming ≡ Ok (Some (m, rest)) → IsNoOther q (asked_by (started info m)) → IsNoOther q (wanted info s)
-first_wanted info s m rest q none is asks = at s.job none
-  where
-    at : (j : Option Job) → is_some j ≡ false → IsNoOther q (wanted_by info s.incoming j)
-    at None e = subst (λ (x : Result (Option (Message × List ℕ)) StreamFault). IsNoOther q (first_question info x)) (sym is) asks
-    at (Some job) e = absurd cc
 
 the_same : (q w : Option Pairs) (command : Pairs) → IsNoOther q w → q ≡ Some command → w ≡ Some command
 the_same None w command asks e = absurd cc

@@ -1,6 +1,6 @@
 -- Why a question is one whole message.
-use Rattle.std.proofs.Common.{◌≡◌, ℕ, zero, suc, ◌+◌, ◌≤◌, List, [], ◌∷◌, ◌++◌, length, take, drop, refl, sym, ◌∙◌, ap, arith}
-use Rattle.std.specs.Prelude.{Bool, true, false, nat_lt, ◌||◌, Result, Ok, Err, Option, Some, None, if◌then◌else◌}
+use Rattle.std.proofs.Common.{◌≡◌, ℕ, zero, suc, ◌+◌, ◌≤◌, List, [], ◌∷◌, length, take, drop, refl, sym, ◌∙◌, ap, arith}
+use Rattle.std.specs.Prelude.{Bool, true, false, nat_lt, ◌||◌, Result, Ok, Option, Some, None, if◌then◌else◌}
 use Rattle.std.proofs.lemmas.List.{length-append, take_all, drop_all}
 use Rattle.std.proofs.lemmas.Nat.{from_le_bytes-to_le_bytes_4}
 use Rattle.outcome.specs.Outcome.{◌>>=◌, unless}

@@ -1,4 +1,3 @@
-use Rattle.std.proofs.Common.{rules, ◌<◌, length}
 use Rattle.front.proofs.AloneLemmas.{between_asked}
 use Rattle.front.proofs.AskingLemmas.{asks_of, others_set}
 use Rattle.front.proofs.TyingLemmas.{tied_step}
