@@ -3,3 +3,4 @@ mod SectionLemmas
 mod WholeDoubleLemmas
 mod WithIntegersLemmas
 mod LengthLaws
+mod CuttingLaws

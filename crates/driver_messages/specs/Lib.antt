@@ -6,6 +6,7 @@ pub mod OwnNumbers
 pub mod WithIntegers
 pub mod PassingView
 pub mod Incoming
+pub mod Cutting
 pub mod WireView
 pub mod Rows
 pub mod Laws

@@ -1,5 +1,5 @@
 -- Sockets of which nothing has come stand behind those that there were.
-use Rattle.std.proofs.Common.{◌≡◌, ◌+◌, List, [], ◌∷◌, ◌++◌, append_assoc, append-nil, replicate, refl, sym, ap, ◌∙◌}
+use Rattle.std.proofs.Common.{◌≡◌, ◌+◌, List, [], ◌∷◌, ◌++◌, append_assoc, append-nil, replicate, sym, ap, ◌∙◌}
 use Rattle.std.proofs.lemmas.List.{replicate-append-replicate}
 use Rattle.front.specs.Serving.{HaveGrown, fresh}
 use Rattle.front.specs.declared.socket.Socket.{Socket}

@@ -4,3 +4,5 @@ mod LoanLemmas
 mod HandingLemmas
 mod TyingLemmas
 mod AloneLemmas
+pub mod AskingLemmas
+pub mod FrameLaws

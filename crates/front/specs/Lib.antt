@@ -3,3 +3,5 @@ pub mod Serving
 pub mod Tying
 pub mod Alone
 pub mod Fronting
+pub mod Asking
+pub mod Laws

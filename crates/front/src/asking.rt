@@ -1,6 +1,10 @@
 //! Commands for the server, as frames, and its replies.
 
+ghost use Rattle.std.specs.Prelude.{◌≡◌, IfOk, OnOk, OnErr};
+ghost use Rattle.drivers.specs.Answering.{kill_command};
 ghost use Rattle.server.specs.Durable.{IsSound};
+ghost use Rattle.server.specs.View.{state};
+ghost use Rattle.front.specs.Asking.{IsAskedOn};
 
 use crate::open_cursors::OpenCursor;
 use bson::{Array, BuildFault, Document, MESSAGE_LIMIT, NoMemory, Value, decode};
@@ -30,6 +34,8 @@ pub(crate) fn ask<D: Disk>(
 ) -> Result<(), NotAsked>
     requires sound { IsSound D.history core.old }
     ensures sound { IsSound D.history core.new }
+    ensures asked { OnOk result (IsAskedOn (state core.old) id command.now (state core.new)) }
+    ensures nothing { OnErr result (state core.new ≡ state core.old) }
 {
     if command.encoded_len() > MOST_BYTES {
         return Err(NotAsked::Long);
@@ -86,7 +92,10 @@ pub(crate) fn has_ended(reply: &Document) -> bool {
 }
 
 /// The command that ends a cursor.
-pub(crate) fn end_command(alloc: Global, cursor: &OpenCursor) -> Result<Document, BuildFault> {
+pub(crate) fn end_command(alloc: Global, cursor: &OpenCursor) -> Result<Document, BuildFault>
+    ensures { IfOk result
+        (λ d. d ≡ kill_command cursor.now.database cursor.now.collection cursor.now.id) }
+{
     let mut ids = Array::new(alloc);
     ids.push(Value::Int64(cursor.id))?;
     let mut command = Document::new(alloc);

@@ -1,12 +1,14 @@
 //! Sockets of drivers before a server.
 
 ghost use Rattle.server.specs.Durable.{IsSound};
+ghost use Rattle.server.specs.View.{state};
+ghost use Rattle.front.specs.Asking.{AsksOf, AsksInTurn};
 ghost use Rattle.std.specs.Prelude.{◌≡◌, ◌+◌, ◌<◌, ◌≤◌, OnOk, true, false, None, Some, length, map, max};
 ghost use Rattle.sockets.specs.Handing.{Hands, Closes};
 ghost use Rattle.front.specs.Tying.{AreTied};
 ghost use Rattle.front.specs.Alone.{IsNobodyAlone, NobodyBetween, StandsAlone};
 ghost use Rattle.front.specs.Fronting.{frame_to, answers_from, closing, closed_from, answered};
-ghost use Rattle.front.specs.Serving.{HaveGrown};
+ghost use Rattle.front.specs.Serving.{HaveGrown, OthersStay};
 
 use crate::lending::Lending;
 use crate::open_cursors::OpenCursors;
@@ -96,6 +98,9 @@ impl<C: Clock + Drop, D: Disk + Drop> Front<C, D> {
         ensures between { NobodyBetween self.old.lending.loans self.old.sockets.items
             self.new.lending.loans self.new.sockets.items }
         ensures free { result ≡ true → self.new.alone ≡ None }
+        ensures others { OthersStay self.old.sockets.items (Some number) self.new.sockets.items }
+        ensures asks { AsksOf self.old.sockets.items number self.old.lending.loans
+            self.new.lending.loans (state self.old.core) (state self.new.core) }
     {
         let info = info(number, time, fresh_ids(&mut self.next_id, time));
         let socket = &mut self.sockets[number];
@@ -126,6 +131,8 @@ impl<C: Clock + Drop, D: Disk + Drop> Front<C, D> {
             self.new.lending.loans self.new.sockets.items }
         ensures none { result ≡ false → IsNobodyAlone self.old.sockets.items self.new.alone
             self.new.sockets.items }
+        ensures asks { AsksInTurn self.old.sockets.items self.old.lending.loans
+            self.new.lending.loans (state self.old.core) (state self.new.core) }
     {
         let Some(number) = self.alone.take() else {
             return false;
@@ -150,6 +157,8 @@ impl<C: Clock + Drop, D: Disk + Drop> Front<C, D> {
         ensures stands { StandsAlone self.new.alone self.new.sockets.items }
         ensures between { NobodyBetween self.old.lending.loans self.old.sockets.items
             self.new.lending.loans self.new.sockets.items }
+        ensures asks { AsksInTurn self.old.sockets.items self.old.lending.loans
+            self.new.lending.loans (state self.old.core) (state self.new.core) }
     {
         let time = self.time();
         if self.ask_alone(time) {

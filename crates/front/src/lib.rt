@@ -5,6 +5,7 @@
 mod asking;
 mod front;
 mod job;
+pub mod laws;
 mod lending;
 mod open_cursors;
 mod serving;

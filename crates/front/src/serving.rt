@@ -3,6 +3,8 @@
 ghost use Rattle.std.specs.Prelude.{◌≡◌, ◌&&◌, true, false, None, Some, IfSome, is_some, slice_set};
 ghost use Rattle.std.specs.List.{list_any};
 ghost use Rattle.server.specs.Durable.{IsSound};
+ghost use Rattle.server.specs.View.{state};
+ghost use Rattle.front.specs.Asking.{question_in, wanted, AsksWanted, EndsOne};
 ghost use Rattle.front.specs.Lending.{loan_at, is_at_rest, borrower, Lends};
 ghost use Rattle.front.specs.Serving.{OthersStay};
 ghost use Rattle.front.specs.Tying.{Asks, LendsToNone};
@@ -64,6 +66,8 @@ fn ask_question<D: Disk>(
     ensures lends { Lends (Some number) lending.old.loans lending.new.loans }
     ensures asks { Asks number lending.old.loans lending.new.loans socket.old socket.new }
     ensures alone { has_begun socket.new ≡ true → is_alone socket.old ≡ true }
+    ensures wanted { AsksWanted (Some number) (question_in socket.old.job) lending.old.loans
+        lending.new.loans (state core.old) (state core.new) }
 {
     let Some(question) = socket.question() else {
         return;
@@ -111,6 +115,8 @@ pub(crate) fn serve_socket<D: Disk>(
     ensures asks { Asks number lending.old.loans lending.new.loans socket.old socket.new }
     ensures begins { has_begun socket.old ≡ false → has_begun socket.new ≡ true
         → AreLentTo number lending.new.loans }
+    ensures wanted { AsksWanted (Some number) (wanted info.now socket.old) lending.old.loans
+        lending.new.loans (state core.old) (state core.new) }
 {
     socket.begin(core.allocator(), info);
     if is_held(lending, socket) {
@@ -129,6 +135,8 @@ pub(crate) fn end_cursor<D: Disk>(
     ensures sound { IsSound D.history core.new }
     ensures lends { Lends None lending.old.loans lending.new.loans }
     ensures none { LendsToNone lending.old.loans lending.new.loans }
+    ensures ends { EndsOne lending.old.loans lending.new.loans (state core.old)
+        (state core.new) }
 {
     let Some(cursor) = cursors.abandoned(lending) else {
         return false;

@@ -1,7 +1,10 @@
 //! A socket of a driver.
 
-ghost use Rattle.std.specs.Prelude.{◌≡◌, true, false, None, Some, is_some, IfSome, OnOk, OnErr};
+ghost use Rattle.std.specs.Prelude.{◌≡◌, true, false, None, Some, is_some, IfSome, IfOk, IfErr, OnOk, OnErr};
 ghost use Rattle.drivers.specs.Framing.{IsShort};
+ghost use Rattle.drivers.specs.Laws.{asked_by};
+ghost use Rattle.drivers.specs.Starting.{started};
+ghost use Rattle.front.specs.Asking.{question_in, wanted, IsNoOther};
 ghost use Rattle.front.specs.Serving.{fresh, fed, waits};
 ghost use Rattle.front.specs.Tying.{is_asked};
 ghost use Rattle.front.specs.Alone.{has_begun, is_alone};
@@ -65,6 +68,7 @@ impl Socket {
     pub fn begin(&mut self, alloc: Global, info: &ServerInfo)
         ensures asked { is_asked self.old.job ≡ true → is_asked self.new.job ≡ true }
         ensures begun { has_begun self.new ≡ true → has_begun self.old ≡ true }
+        ensures wants { IsNoOther (question_in self.new.job) (wanted info.now self.old) }
     {
         if self.is_over || self.job.is_some() {
             return;
@@ -81,7 +85,9 @@ impl Socket {
     /// Does what is done first with a message.
     fn start(&mut self, alloc: Global, info: &ServerInfo, message: Message)
         requires { self.old.job ≡ None }
-        ensures { has_begun self.new ≡ false }
+        ensures begun { has_begun self.new ≡ false }
+        ensures wants { IsNoOther (question_in self.new.job)
+            (asked_by (started info.now message)) }
     {
         let form = message.form;
         let number = message.number;
@@ -101,29 +107,22 @@ impl Socket {
     /// Does what comes next with a message: the database is asked, or an answer is ready, or there is none.
     fn follow(&mut self, alloc: Global, form: Form, number: u32, plan: Plan, step: Step)
         requires { self.old.job ≡ None }
-        ensures { has_begun self.new ≡ true
+        ensures alone { has_begun self.new ≡ true
             → (asks_alone plan.wait ≡ true) × (is_later plan.wait ≡ true) }
+        ensures wants { IsNoOther (question_in self.new.job) (asked_by step) }
     {
-        let question = match step {
-            Step::Ask(command) => Question {
-                cursor: None,
-                command,
-            },
-            Step::AskOwner(id, command) => Question {
-                cursor: Some(id),
-                command,
-            },
-            other => {
+        match question_of(step) {
+            Ok(question) => self.work_on(Job {
+                form,
+                number,
+                plan,
+                stage: Stage::Asks(question),
+            }),
+            Err(answer) => {
                 drop(plan);
-                return self.finish(alloc, form, number, other);
+                self.finish(alloc, form, number, answer);
             }
-        };
-        self.work_on(Job {
-            form,
-            number,
-            plan,
-            stage: Stage::Asks(question),
-        });
+        }
     }
 
     /// Whether nobody else may ask the database before the message that is worked on is answered.
@@ -138,8 +137,9 @@ impl Socket {
 
     /// What the database is to be asked for the message that is worked on.
     pub fn question(&self) -> Option<&Question>
-        ensures { IfSome result (λ _. (is_asked self.now.job ≡ false)
+        ensures stage { IfSome result (λ _. (is_asked self.now.job ≡ false)
             × (is_some self.now.job ≡ true)) }
+        ensures question { IfSome result (λ q. question_in self.now.job ≡ Some q.now.command) }
     {
         let job = self.job.as_ref()?;
         match &job.stage {
@@ -206,6 +206,26 @@ impl Socket {
             Ok(None) => {}
             Err(_) => self.is_over = true,
         }
+    }
+}
+
+/// What a step asks the database, or the step where it asks nothing.
+fn question_of(step: Step) -> Result<Question, Step>
+    ensures asks { IfOk result (λ q. asked_by step ≡ Some q.command) }
+    ensures answers { IfErr result (λ answer. answer ≡ step) }
+{
+    match step {
+        Step::Ask(command) => Ok(Question {
+            cursor: None,
+            command,
+        }),
+        Step::AskOwner(id, command) => Ok(Question {
+            cursor: Some(id),
+            command,
+        }),
+        Step::Reply(reply) => Err(Step::Reply(reply)),
+        Step::Fail(reply) => Err(Step::Fail(reply)),
+        Step::Silent => Err(Step::Silent),
     }
 }
 

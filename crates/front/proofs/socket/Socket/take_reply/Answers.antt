@@ -9,5 +9,5 @@ use Rattle.front.proofs.socket.Socket.take_reply.Goals as goal
 pub returns-in-Ok : goal.returns-in-Ok
 returns-in-Ok c = λ e.
     let alone : asks_alone (answered c.in-Some.job.plan c.args.reply).0.wait ≡ true =
-    sym (ap (λ (x : Plan × Step). asks_alone x.0.wait) c.in-Ok.ensures) ∙ (c.follow.ensures e).0 in
+    sym (ap (λ (x : Plan × Step). asks_alone x.0.wait) c.in-Ok.ensures) ∙ (c.follow.ensures.alone e).0 in
     sym (ap alone_in c.in-Some.ensures.value) ∙ stays_alone c.in-Some.job.plan c.args.reply alone

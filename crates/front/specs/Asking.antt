@@ -1,0 +1,120 @@
+-- What is asked of the server for a socket's message, and on which connection.
+use Rattle.std.specs.Prelude.{◌≡◌, ◌≤◌, ◌+◌, ◌⊎◌, ℕ, false, List, [], ◌∷◌, length, slice_set}
+use Rattle.std.specs.Prelude.{slice_index_or, Result, Ok, Err, Option, Some, None}
+use Rattle.bson.specs.Limits.{message_limit}
+use Rattle.bson.specs.Spelling.{frame_of, pairs_bytes}
+use Rattle.bson.specs.Tree.{Pairs}
+use Rattle.op_msg.specs.Request.{reply_bytes}
+use Rattle.driver_messages.specs.Incoming.{next_message}
+use Rattle.driver_messages.specs.declared.message.Message.{Message}
+use Rattle.driver_messages.specs.declared.stream_fault.StreamFault.{StreamFault}
+use Rattle.drivers.specs.Answering.{kill_command}
+use Rattle.drivers.specs.Laws.{asked_by}
+use Rattle.drivers.specs.Starting.{started}
+use Rattle.drivers.specs.declared.server_info.ServerInfo.{ServerInfo}
+use Rattle.server.specs.ServerState.{ServerState, fed, find_connection, is_closed_in}
+use Rattle.front.specs.Lending.{loan_at}
+use Rattle.front.specs.declared.job.Job.{Job}
+use Rattle.front.specs.declared.job.Stage.{Stage}
+use Rattle.front.specs.declared.job.Stage.TheVariants as stages
+use Rattle.front.specs.declared.lending.Loan.{Loan}
+use Rattle.front.specs.declared.open_cursors.OpenCursor.{OpenCursor}
+use Rattle.front.specs.declared.socket.Socket.{Socket}
+
+-- ---- what is wanted
+
+abbrev pub question_at : Stage → Option Pairs
+question_at (stages.Asks question) = Some question.command
+question_at stages.Waits = None
+
+-- the command that is to be asked for the message that is worked on
+abbrev pub question_in : Option Job → Option Pairs
+question_in None = None
+question_in (Some job) = question_at job.stage
+
+-- the command that is asked first for the message at the front
+abbrev pub first_question : ServerInfo → Result (Option (Message × List ℕ)) StreamFault
+    → Option Pairs
+first_question info (Ok (Some x)) = asked_by (started info x.0)
+first_question info (Ok None) = None
+first_question info (Err fault) = None
+
+abbrev pub wanted_by : ServerInfo → List ℕ → Option Job → Option Pairs
+wanted_by info bytes None = first_question info (next_message bytes)
+wanted_by info bytes (Some job) = question_at job.stage
+
+-- The command that is to be asked for a socket: for the message that it works on, or, where it
+-- works on none, for the one at the front of its bytes.
+abbrev pub wanted : ServerInfo → Socket → Option Pairs
+wanted info socket = wanted_by info socket.incoming socket.job
+
+-- what is to be asked, if something is, is this
+abbrev pub IsNoOther : Option Pairs → Option Pairs → Type 0
+IsNoOther None what = Unit {0}
+IsNoOther (Some command) what = what ≡ Some command
+
+-- ---- what is asked
+
+-- a command as a message: number 1, which answers none, without flags, so that a reply is wanted,
+-- with one body
+abbrev pub question_bytes : Pairs → List ℕ
+question_bytes command = reply_bytes 1 0 command
+
+-- The command has room in a message. It came so on an open connection, behind what waited there,
+-- and nothing else came on any.
+pub record IsAskedOn (old : ServerState) (id : ℕ) (command : Pairs)
+    (new : ServerState) : Type 0 where
+  pub room : length (frame_of (pairs_bytes command)) + 21 ≤ message_limit
+  pub takes : is_closed_in (find_connection old.connections id) ≡ false
+  pub came : new ≡ fed old id (question_bytes command)
+
+-- A connection that was at rest is lent to this socket, or to none, and what is wanted is asked on
+-- it.
+pub record AsksOn (socket : Option ℕ) (what : Option Pairs) (old new : List (Option Loan))
+    (before after : ServerState) : Type 0 where
+  pub command : Pairs
+  pub is : what ≡ Some command
+  pub id : ℕ
+  pub loan : Loan
+  pub of : loan.socket ≡ socket
+  pub rest : loan_at old id ≡ None
+  pub lent : new ≡ slice_set old id (Some loan)
+  pub asked : IsAskedOn before id command after
+
+-- Nothing is lent, and nothing came on any connection; or what is wanted is asked on the one that
+-- is lent.
+abbrev pub AsksWanted : Option ℕ → Option Pairs → List (Option Loan) → List (Option Loan)
+    → ServerState → ServerState → Type 0
+AsksWanted socket what old new before after =
+    ((new ≡ old) × (after ≡ before)) ⊎ AsksOn socket what old new before after
+
+-- The same, of the end of a cursor whose socket has ended.
+pub record EndsOn (old new : List (Option Loan)) (before after : ServerState) : Type 0 where
+  pub cursor : OpenCursor
+  pub asks : AsksOn None (Some (kill_command cursor.database cursor.collection cursor.id)) old new
+      before after
+
+abbrev pub EndsOne : List (Option Loan) → List (Option Loan) → ServerState → ServerState → Type 0
+EndsOne old new before after = ((new ≡ old) × (after ≡ before)) ⊎ EndsOn old new before after
+
+-- What is done with the socket of a number, by what is to be known of the server for its message.
+pub record AsksOf (sockets : List Socket) (number : ℕ) (old new : List (Option Loan))
+    (before after : ServerState) : Type 0 where
+  pub info : ServerInfo
+  pub asks : (any : Socket) → AsksWanted (Some number)
+      (wanted info (slice_index_or sockets number any)) old new before after
+
+-- The sockets of these numbers were served one after the other, each as it stands in this list.
+abbrev pub AreAsked : List Socket → List ℕ → List (Option Loan) → List (Option Loan) → ServerState
+    → ServerState → Type 0
+AreAsked sockets [] old new before after = (new ≡ old) × (after ≡ before)
+AreAsked sockets (n ∷ later) old new before after =
+    (lent : List (Option Loan)) × (between : ServerState)
+    × AsksOf sockets n old lent before between × AreAsked sockets later lent new between after
+
+-- What a turn asks: of some sockets, as they were before it, what their messages want, on the
+-- connections that are lent, and nothing else on any.
+pub record AsksInTurn (sockets : List Socket) (old new : List (Option Loan))
+    (before after : ServerState) : Type 0 where
+  pub numbers : List ℕ
+  pub asked : AreAsked sockets numbers old new before after
