@@ -1,6 +1,6 @@
 -- What becomes of a message is what its plan says.
-use Rattle.std.proofs.Common.{◌≡◌, ◌⊎◌, ℕ, ◌-◌, ◌<◌, ◌≤◌, true, false, List, length, take, drop, get_or, set}
-use Rattle.std.proofs.Common.{Option, Some, None, Ok, Err, refl, sym, subst, ap, ◌∙◌, inl, inr, arith}
+use Rattle.std.proofs.Common.{◌≡◌, ℕ, ◌-◌, ◌<◌, ◌≤◌, true, false, List, length, drop, get_or, set}
+use Rattle.std.proofs.Common.{Option, Some, None, Ok, Err, sym, subst, ◌∙◌, inl, inr, arith}
 use Rattle.std.specs.Prelude.{Result, Vec, IfOk, is_some, option_map, slice_range}
 use Rattle.std.proofs.lemmas.List.{length-drop, take_all, get_or_default, get_or-set_same}
 use Rattle.driver_messages.specs.Incoming.{next_message}
