@@ -5,4 +5,5 @@ mod HandingLemmas
 mod TyingLemmas
 mod AloneLemmas
 pub mod AskingLemmas
+pub mod ReplyingLemmas
 pub mod FrameLaws

@@ -4,4 +4,5 @@ pub mod Tying
 pub mod Alone
 pub mod Fronting
 pub mod Asking
+pub mod Replying
 pub mod Laws

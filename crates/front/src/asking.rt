@@ -1,6 +1,7 @@
 //! Commands for the server, as frames, and its replies.
 
-ghost use Rattle.std.specs.Prelude.{◌≡◌, IfOk, OnOk, OnErr};
+ghost use Rattle.std.specs.Prelude.{◌≡◌, drop, Ok, IfOk, OnOk, OnErr};
+ghost use Rattle.op_msg.specs.Request.{document_in};
 ghost use Rattle.drivers.specs.Answering.{kill_command};
 ghost use Rattle.server.specs.Durable.{IsSound};
 ghost use Rattle.server.specs.View.{state};
@@ -50,7 +51,9 @@ pub(crate) fn ask<D: Disk>(
 }
 
 /// The document of a reply of the server.
-pub(crate) fn document_of(alloc: Global, frame: &[u8]) -> Result<Document, NoMemory> {
+pub(crate) fn document_of(alloc: Global, frame: &[u8]) -> Result<Document, NoMemory>
+    ensures { IfOk result (λ d. document_in (drop 21 frame.now) ≡ Ok d) }
+{
     let Some(body) = frame.get(FRAME_BYTES as usize..) else {
         return Err(AllocError);
     };

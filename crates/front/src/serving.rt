@@ -1,10 +1,12 @@
 //! What a turn does with the sockets.
 
-ghost use Rattle.std.specs.Prelude.{◌≡◌, ◌&&◌, true, false, None, Some, IfSome, is_some, slice_set};
+ghost use Rattle.std.specs.Prelude.{◌≡◌, ◌&&◌, true, false, None, Some, Ok, IfSome, IfOk, is_some, drop, slice_set};
 ghost use Rattle.std.specs.List.{list_any};
 ghost use Rattle.server.specs.Durable.{IsSound};
 ghost use Rattle.server.specs.View.{state};
+ghost use Rattle.op_msg.specs.Request.{document_in};
 ghost use Rattle.front.specs.Asking.{question_in, wanted, AsksWanted, EndsOne};
+ghost use Rattle.front.specs.Replying.{closed, TakesReply, Becomes, TakesFrame};
 ghost use Rattle.front.specs.Lending.{loan_at, is_at_rest, borrower, Lends};
 ghost use Rattle.front.specs.Serving.{OthersStay};
 ghost use Rattle.front.specs.Tying.{Asks, LendsToNone};
@@ -189,7 +191,9 @@ fn read_reply(
     owner: ConnId,
     loan: Loan,
     frame: &[u8],
-) -> Result<Document, NoMemory> {
+) -> Result<Document, NoMemory>
+    ensures { IfOk result (λ d. document_in (drop 21 frame.now) ≡ Ok d) }
+{
     let reply = document_of(alloc, frame)?;
     if let Some(asked) = loan.cursor {
         if has_ended(&reply) && cursor_left(&reply) != Some(asked) {
@@ -204,6 +208,8 @@ fn read_reply(
 fn go_on(alloc: Global, sockets: &mut [Socket], loan: Loan, reply: Document)
     ensures others { OthersStay sockets.old loan.socket sockets.new }
     ensures alone { GoesOnAlone sockets.old loan.socket sockets.new }
+    ensures takes { Becomes sockets.old loan.socket (λ s t. TakesReply s s.job reply t)
+        sockets.new }
 {
     let Some(number) = loan.socket else {
         return;
@@ -217,6 +223,7 @@ fn go_on(alloc: Global, sockets: &mut [Socket], loan: Loan, reply: Document)
 fn give_up(sockets: &mut [Socket], loan: Loan)
     ensures others { OthersStay sockets.old loan.socket sockets.new }
     ensures alone { GoesOnAlone sockets.old loan.socket sockets.new }
+    ensures closes { Becomes sockets.old loan.socket (λ s t. t ≡ closed s) sockets.new }
 {
     let Some(number) = loan.socket else {
         return;
@@ -241,6 +248,8 @@ pub(crate) fn take_reply<D: Disk>(
     ensures rest { lending.new.loans ≡ slice_set lending.old.loans owner None }
     ensures others { OthersStay sockets.old (borrower (loan_at lending.old.loans owner)) sockets.new }
     ensures alone { GoesOnAlone sockets.old (borrower (loan_at lending.old.loans owner)) sockets.new }
+    ensures takes { TakesFrame frame.now sockets.old (borrower (loan_at lending.old.loans owner))
+        sockets.new }
 {
     let alloc = core.allocator();
     let Some(loan) = lending.take_back(owner) else {

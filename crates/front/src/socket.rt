@@ -4,7 +4,10 @@ ghost use Rattle.std.specs.Prelude.{◌≡◌, true, false, None, Some, is_some,
 ghost use Rattle.drivers.specs.Framing.{IsShort};
 ghost use Rattle.drivers.specs.Laws.{asked_by};
 ghost use Rattle.drivers.specs.Starting.{started};
+ghost use Rattle.driver_messages.specs.Incoming.{next_message};
+ghost use Rattle.server.specs.Turn.{next_number};
 ghost use Rattle.front.specs.Asking.{question_in, wanted, IsNoOther};
+ghost use Rattle.front.specs.Replying.{has_room, IsFramed, IsAnswered, question_by, Follows, Starts, TakesReply, Begins};
 ghost use Rattle.front.specs.Serving.{fresh, fed, waits};
 ghost use Rattle.front.specs.Tying.{is_asked};
 ghost use Rattle.front.specs.Alone.{has_begun, is_alone};
@@ -69,6 +72,8 @@ impl Socket {
         ensures asked { is_asked self.old.job ≡ true → is_asked self.new.job ≡ true }
         ensures begun { has_begun self.new ≡ true → has_begun self.old ≡ true }
         ensures wants { IsNoOther (question_in self.new.job) (wanted info.now self.old) }
+        ensures begins { Begins info.now self.old self.old.job (next_message self.old.incoming)
+            self.new }
     {
         if self.is_over || self.job.is_some() {
             return;
@@ -76,9 +81,11 @@ impl Socket {
         match self.incoming.next() {
             Ok(None) => {}
             Ok(Some(message)) => self.start(alloc, info, message),
-            // The message is taken by a later turn.
-            Err(StreamFault::Memory) => {}
-            Err(_) => self.is_over = true,
+            Err(fault) => match fault {
+                // The message is taken by a later turn.
+                StreamFault::Memory => {}
+                _ => self.is_over = true,
+            },
         }
     }
 
@@ -88,6 +95,7 @@ impl Socket {
         ensures begun { has_begun self.new ≡ false }
         ensures wants { IsNoOther (question_in self.new.job)
             (asked_by (started info.now message)) }
+        ensures starts { Starts info.now self.old message self.new }
     {
         let form = message.form;
         let number = message.number;
@@ -110,6 +118,7 @@ impl Socket {
         ensures alone { has_begun self.new ≡ true
             → (asks_alone plan.wait ≡ true) × (is_later plan.wait ≡ true) }
         ensures wants { IsNoOther (question_in self.new.job) (asked_by step) }
+        ensures follows { Follows self.old form number (plan, step) self.new }
     {
         match question_of(step) {
             Ok(question) => self.work_on(Job {
@@ -160,7 +169,8 @@ impl Socket {
 
     /// The database has answered the message that is worked on.
     pub fn take_reply(&mut self, alloc: Global, reply: Document)
-        ensures { has_begun self.new ≡ true → is_alone self.old ≡ true }
+        ensures alone { has_begun self.new ≡ true → is_alone self.old ≡ true }
+        ensures takes { TakesReply self.old self.old.job reply self.new }
     {
         let Some(job) = self.job.take() else {
             return;
@@ -193,7 +203,8 @@ impl Socket {
 
     /// Makes the frame of an answer.
     fn finish(&mut self, alloc: Global, form: Form, number: u32, step: Step)
-        ensures { self.new.job ≡ self.old.job }
+        ensures job { self.new.job ≡ self.old.job }
+        ensures answer { IsAnswered self.old form number step self.new }
     {
         let reply_no = next_number(self.last_reply);
         let made = frame(alloc, form, reply_no, number, &step);
@@ -212,7 +223,9 @@ impl Socket {
 /// What a step asks the database, or the step where it asks nothing.
 fn question_of(step: Step) -> Result<Question, Step>
     ensures asks { IfOk result (λ q. asked_by step ≡ Some q.command) }
+    ensures question { IfOk result (λ q. question_by step ≡ Some q) }
     ensures answers { IfErr result (λ answer. answer ≡ step) }
+    ensures none { IfErr result (λ answer. question_by step ≡ None) }
 {
     match step {
         Step::Ask(command) => Ok(Question {
@@ -230,13 +243,16 @@ fn question_of(step: Step) -> Result<Question, Step>
 }
 
 /// The number of the next reply.
-fn next_number(last: u32) -> u32 {
+fn next_number(last: u32) -> u32
+    ensures { result ≡ next_number last }
+{
     if last < LAST_REPLY { last + 1 } else { 1 }
 }
 
 /// Whether an answer has room in a message.
 fn is_short(step: &Step) -> bool
-    ensures { result ≡ true → IsShort step.now }
+    ensures short { result ≡ true → IsShort step.now }
+    ensures room { result ≡ has_room step.now }
 {
     match step {
         Step::Reply(document) => document.encoded_len() <= MOST_BYTES,
@@ -252,16 +268,18 @@ fn frame(
     reply_no: u32,
     number: u32,
     step: &Step,
-) -> Result<Option<Vec<u8>>, NoMemory> {
+) -> Result<Option<Vec<u8>>, NoMemory>
+    ensures { IfOk result (λ x. IsFramed form reply_no number step.now x) }
+{
     if is_short(step) {
         return framed(alloc, form, reply_no, number, step);
     }
     let refusal = Step::Reply(refusal_document(alloc, Refusal::BSONObjectTooLarge)?);
-    let made = if is_short(&refusal) {
-        framed(alloc, form, reply_no, number, &refusal)
-    } else {
-        Ok(None)
-    };
+    if !is_short(&refusal) {
+        drop(refusal);
+        return Ok(None);
+    }
+    let made = framed(alloc, form, reply_no, number, &refusal);
     drop(refusal);
     made
 }

@@ -1,7 +1,10 @@
 use Rattle.std.proofs.Common.{◌∙◌, Option, sym, subst}
 use Rattle.drivers.specs.Laws.{asked_by}
 use Rattle.front.specs.Asking.{question_in, IsNoOther}
+use Rattle.drivers.specs.declared.step.Step.{Step}
+use Rattle.front.specs.Replying.{GoesOn, IsAnswered}
 use Rattle.front.specs.declared.job.Job.{Job}
+use Rattle.front.specs.declared.job.Question.{Question}
 use Rattle.front.specs.declared.socket.Socket.{Socket}
 use Rattle.front.proofs.socket.Socket.follow.Goals as goal
 
@@ -11,4 +14,15 @@ returns-in-Ok-clause-wants c =
 
 pub returns-in-Err-clause-wants : goal.returns-in-Err-clause-wants
 returns-in-Err-clause-wants c =
-    subst (λ (j : Option Job). IsNoOther (question_in j) (asked_by c.args.step)) (sym (c.finish.ensures ∙ c.requires)) tt
+    subst (λ (j : Option Job). IsNoOther (question_in j) (asked_by c.args.step)) (sym (c.finish.ensures.job ∙ c.requires)) tt
+
+pub returns-in-Ok-clause-follows : goal.returns-in-Ok-clause-follows
+returns-in-Ok-clause-follows c =
+    subst (λ (q : Option Question). GoesOn c.args.self.now c.args.form c.args.number c.args.plan c.args.step q c.work_on.new.self)
+    (sym c.in-Ok.ensures.question) c.work_on.ensures
+
+pub returns-in-Err-clause-follows : goal.returns-in-Err-clause-follows
+returns-in-Err-clause-follows c =
+    subst (λ (q : Option Question). GoesOn c.args.self.now c.args.form c.args.number c.args.plan c.args.step q c.finish.new.self)
+    (sym c.in-Err.ensures.none)
+    (subst (λ (s : Step). IsAnswered c.args.self.now c.args.form c.args.number s c.finish.new.self) c.in-Err.ensures.answers c.finish.ensures.answer)

@@ -1,4 +1,4 @@
-use Rattle.std.proofs.Common.{◌≡◌, ◌∙◌, false, sym, ap, subst}
+use Rattle.std.proofs.Common.{◌≡◌, ◌∙◌, false, sym, ap, subst, inl}
 use Rattle.std.proofs.lemmas.Bool.{true≢false}
 use Rattle.drivers.specs.AloneLaws.{is_later, starts_first}
 use Rattle.drivers.specs.Laws.{asked_by}
@@ -6,6 +6,7 @@ use Rattle.drivers.specs.declared.plan.Plan.{Plan}
 use Rattle.drivers.specs.declared.step.Step.{Step}
 use Rattle.front.specs.Alone.{has_begun}
 use Rattle.front.specs.Asking.{question_in, IsNoOther}
+use Rattle.front.specs.Replying.{Follows}
 use Rattle.front.proofs.AloneLemmas.{rests}
 use Rattle.front.proofs.socket.Socket.start.Goals as goal
 
@@ -18,3 +19,8 @@ returns-in-Ok-clause-begun c =
 pub returns-in-Ok-clause-wants : goal.returns-in-Ok-clause-wants
 returns-in-Ok-clause-wants c =
     subst (λ (s : Step). IsNoOther (question_in c.follow.new.self.job) (asked_by s)) c.in-Ok.ensures.1 c.follow.ensures.wants
+
+pub returns-in-Ok-clause-starts : goal.returns-in-Ok-clause-starts
+returns-in-Ok-clause-starts c =
+    inl (subst (λ (x : Plan × Step). Follows c.args.self.now c.args.message.form c.args.message.number x c.follow.new.self)
+    (λ i. (c.in-Ok.ensures.0 i, c.in-Ok.ensures.1 i)) c.follow.ensures.follows)

@@ -1,0 +1,138 @@
+-- What becomes of a socket's message: it is asked next, or its answer is ready, or it has none.
+use Rattle.std.specs.Prelude.{◌≡◌, ◌⊎◌, ◌<◌, ℕ, Bool, true, nat_le, List, length, drop}
+use Rattle.std.specs.Prelude.{slice_index_or, option_map, Result, Ok, Err, Option, Some, None, Vec}
+use Rattle.bson.specs.Spelling.{frame_of, pairs_bytes}
+use Rattle.bson.specs.Tree.{Pairs}
+use Rattle.op_msg.specs.Request.{document_in}
+use Rattle.driver_messages.specs.declared.message.Form.{Form}
+use Rattle.driver_messages.specs.declared.message.Message.{Message}
+use Rattle.driver_messages.specs.declared.stream_fault.StreamFault.{StreamFault}
+use Rattle.drivers.specs.Answering.{answered, plan_of}
+use Rattle.drivers.specs.Framing.{framed}
+use Rattle.drivers.specs.Starting.{started}
+use Rattle.drivers.specs.declared.plan.Plan.{Plan}
+use Rattle.drivers.specs.declared.server_info.ServerInfo.{ServerInfo}
+use Rattle.drivers.specs.declared.step.Step.{Step}
+use Rattle.drivers.specs.declared.step.Step.TheVariants as steps
+use Rattle.server.specs.Turn.{next_number}
+use Rattle.front.specs.declared.job.Job.{Job}
+use Rattle.front.specs.declared.job.Question.{Question}
+use Rattle.front.specs.declared.job.Stage.TheVariants as stages
+use Rattle.front.specs.declared.socket.Socket.{Socket}
+
+-- ---- the frame of an answer
+
+-- the most bytes of an answer's document: 36 others stand in an OP_REPLY
+abbrev pub most_bytes : ℕ
+most_bytes = 1048540
+
+abbrev pub has_room : Step → Bool
+has_room (steps.Ask command) = true
+has_room (steps.AskOwner id command) = true
+has_room (steps.Reply reply) = nat_le (length (frame_of (pairs_bytes reply))) most_bytes
+has_room (steps.Fail reply) = nat_le (length (frame_of (pairs_bytes reply))) most_bytes
+has_room steps.Silent = true
+
+-- These bytes are the frame by which a message of this form and number is answered, if it is, with
+-- a number of its own. An answer that has no room in a message is another one.
+pub record IsFramed {Z : Type 0} (form : Form) (number request : ℕ) (step : Step)
+    (bytes : Option (Vec ℕ Z)) : Type 0 where
+  pub told : Step
+  pub same : has_room step ≡ true → told ≡ step
+  pub is : option_map (λ v. v.items) bytes ≡ framed form number request told
+
+-- ---- a socket
+
+abbrev pub closed : Socket → Socket
+closed socket = record socket { is_over = true }
+
+-- the answer with the next number is ready
+pub record IsReady (old : Socket) (form : Form) (request : ℕ) (step : Step)
+    (new : Socket) : Type 0 where
+  pub frame : IsFramed form (next_number old.last_reply) request step new.answer
+  pub rest : new ≡ record old { answer = new.answer; last_reply = next_number old.last_reply }
+
+-- there is none
+pub record IsSilent (old : Socket) (form : Form) (request : ℕ) (step : Step)
+    (new : Socket) : Type 0 where
+  pub told : Step
+  pub same : has_room step ≡ true → told ≡ step
+  pub none : framed form (next_number old.last_reply) request told ≡ None
+  pub rest : new ≡ old
+
+-- Where memory ran out the socket is to be closed.
+abbrev pub IsAnswered : Socket → Form → ℕ → Step → Socket → Type 0
+IsAnswered old form request step new =
+    IsReady old form request step new
+    ⊎ (IsSilent old form request step new ⊎ (new ≡ closed old))
+
+-- what a step asks the database
+abbrev pub question_by : Step → Option Question
+question_by (steps.Ask command) = Some (record { cursor = None; command = command })
+question_by (steps.AskOwner id command) = Some (record { cursor = Some id; command = command })
+question_by (steps.Reply reply) = None
+question_by (steps.Fail reply) = None
+question_by steps.Silent = None
+
+abbrev pub to_ask : Form → ℕ → Plan → Question → Job
+to_ask form number plan question =
+    record { form = form; number = number; plan = plan; stage = stages.Asks question }
+
+-- A message of this form and number is to be asked this, or it is answered by this step.
+abbrev pub GoesOn : Socket → Form → ℕ → Plan → Step → Option Question → Socket → Type 0
+GoesOn old form number plan step (Some question) new =
+    new ≡ record old { job = Some (to_ask form number plan question) }
+GoesOn old form number plan step None new = IsAnswered old form number step new
+
+abbrev pub Follows : Socket → Form → ℕ → Plan × Step → Socket → Type 0
+Follows old form number x new = GoesOn old form number x.0 x.1 (question_by x.1) new
+
+abbrev pub resting : Socket → Socket
+resting socket = record socket { job = None }
+
+-- The server has replied to the message that is worked on, if one is: what is done then is what its
+-- plan says. Where memory ran out the socket is to be closed.
+abbrev pub TakesReply : Socket → Option Job → Pairs → Socket → Type 0
+TakesReply old None reply new = new ≡ resting old
+TakesReply old (Some job) reply new =
+    Follows (resting old) job.form job.number (answered job.plan reply) new
+    ⊎ (new ≡ closed (resting old))
+
+-- What is done first with a message.
+abbrev pub Starts : ServerInfo → Socket → Message → Socket → Type 0
+Starts info old message new =
+    Follows old message.form message.number (plan_of info.ids message, started info message) new
+    ⊎ (new ≡ closed old)
+
+-- What is done first with the message at the front, if none is worked on. It may wait for want of
+-- memory, and the socket is to be closed for it, or for a fault.
+abbrev pub BeginsWith : ServerInfo → Socket → Result (Option (Message × List ℕ)) StreamFault
+    → Socket → Type 0
+BeginsWith info old (Ok None) new = new ≡ old
+BeginsWith info old (Ok (Some x)) new =
+    (new ≡ old) ⊎ Starts info (record old { incoming = x.1 }) x.0 new
+BeginsWith info old (Err fault) new = (new ≡ old) ⊎ (new ≡ closed old)
+
+abbrev pub Begins : ServerInfo → Socket → Option Job
+    → Result (Option (Message × List ℕ)) StreamFault → Socket → Type 0
+Begins info old (Some job) next new = new ≡ old
+Begins info old None next new = BeginsWith info old next new
+
+-- ---- among the sockets
+
+-- the socket that a connection was lent to, if it is there, becomes this
+abbrev pub Becomes : List Socket → Option ℕ → (Socket → Socket → Type 0) → List Socket → Type 0
+Becomes old socket goes new = (n : ℕ) (any : Socket) → socket ≡ Some n → n < length old
+    → goes (slice_index_or old n any) (slice_index_or new n any)
+
+-- A frame came back for it: its message goes on with the frame's document. Where memory runs out
+-- for that, the socket is to be closed.
+pub record TakesDocument (frame : List ℕ) (old : List Socket) (socket : Option ℕ)
+    (new : List Socket) : Type 0 where
+  pub reply : Pairs
+  pub is : document_in (drop 21 frame) ≡ Ok reply
+  pub goes : Becomes old socket (λ s t. TakesReply s s.job reply t) new
+
+abbrev pub TakesFrame : List ℕ → List Socket → Option ℕ → List Socket → Type 0
+TakesFrame frame old socket new =
+    TakesDocument frame old socket new ⊎ Becomes old socket (λ s t. t ≡ closed s) new
