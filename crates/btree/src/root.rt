@@ -1,5 +1,5 @@
 // A change of a whole tree, which gives a new root.
-ghost use Rattle.std.specs.Prelude.{◌≡◌, ◌≤◌, ◌<◌, ◌+◌, ◌*◌, ◌-◌, ◌^◌, ◌∷◌, [], ℕ, List, Option, None, length, map, IfNone, IfOk, IfSome};
+ghost use Rattle.std.specs.Prelude.{◌≡◌, ◌≤◌, ◌<◌, ◌+◌, ◌*◌, ◌-◌, ◌^◌, ◌∷◌, [], ℕ, List, Option, None, length, map, IfNone, IfOk, IfSome, IfErr};
 ghost use Rattle.btree.specs.Calls.{IsPart, Yields};
 ghost use Rattle.btree.specs.Change.{Changes, edit_keys, put, removal};
 ghost use Rattle.btree.specs.EditView.{HasRoom, edit_in};
@@ -8,6 +8,7 @@ ghost use Rattle.btree.specs.Keys.{Each, Entry, Rises, change, sum_of};
 ghost use Rattle.btree.specs.Loose.{IsChild, Stub, child};
 ghost use Rattle.btree.specs.LooseView.{stub_in};
 ghost use Rattle.btree.specs.Reach.{HasMap};
+ghost use Rattle.btree.specs.Reading.{IsNotFull};
 ghost use Rattle.btree.specs.Store.{Grows, IsSame, KeepsWord, Store};
 ghost use Rattle.btree.specs.Tree.{Body};
 ghost use Rattle.btree.specs.Turn.{IsHeld, Turns, sheaf_in};
@@ -29,6 +30,8 @@ fn levels_below<P: Pages>(pages: &mut P, page: u32, level: u32) -> Result<u32, T
     ensures grows { Grows (P.store pages.old) (P.store pages.new) }
     ensures same { KeepsWord (P.store pages.new)
         → IsSame (P.store pages.old) (P.store pages.new) }
+    ensures takes { (P.store pages.new).full_takes ≡ (P.store pages.old).full_takes }
+    ensures full { IfErr result IsNotFull }
     ensures small { IfOk result (λ below. below ≤ 31) }
     ensures levels { (d : ℕ) (low : List ℕ) (high : Option (List ℕ)) (body : Body d)
         → IsPart (P.store pages.old) page level d low high body
