@@ -1,6 +1,6 @@
 // Values that lie in chains of pages.
 ghost use Rattle.std.specs.Prelude.{◌≡◌, ◌*◌, ◌+◌, ◌<◌, ◌≤◌, ℕ, List, length, IfErr};
-ghost use Rattle.btree.specs.Few.{Costs};
+ghost use Rattle.btree.specs.Few.{Costs, chain_pages};
 ghost use Rattle.btree.specs.Keys.{Pair};
 ghost use Rattle.btree.specs.Reading.{IsNotFull};
 ghost use Rattle.btree.specs.Store.{Grows, IsSame, KeepsWord, Store};
@@ -90,6 +90,8 @@ pub(crate) fn write_chain<P: Pages>(
     value: &[u8],
 ) -> Result<u32, TreeFault>
     ensures grows { Grows (P.store pages.old) (P.store pages.new) }
+    ensures few { 330 < length value.now
+        → Costs (P.store pages.old) (P.store pages.new) (chain_pages value.now) }
     ensures writes { WritesChain (P.store pages.old) (P.store pages.new) value.now result }
 {
     let mut next = 0;
@@ -107,7 +109,7 @@ pub(crate) fn write_chain<P: Pages>(
 /// Retires the pages of a chain.
 pub(crate) fn retire_chain<P: Pages>(pages: &mut P, first: u32, len: u32) -> Result<(), TreeFault>
     ensures grows { Grows (P.store pages.old) (P.store pages.new) }
-    ensures few { Costs (P.store pages.old) (P.store pages.new) 0 result }
+    ensures few { Costs (P.store pages.old) (P.store pages.new) 0 }
     ensures retires { (links value : List ℕ) → HasLinks (P.store pages.old) links value
         → next_of links ≡ first
         → length value ≡ len → Retires (P.store pages.old) (P.store pages.new) links result }

@@ -58,4 +58,5 @@ module _ {D : Type 0} {listed places : List ℕ} (history : D → History) (stor
   planned_limit final plan is version =
       let mid : Book = retired_all (durable_root store).generation (retired ++ listed) book in
       let list = is.list (tree_inside history store cache made (retired ++ listed) book so) in
-      committed_length version final ∙ (as_wide plan.listed.items mid final list.takes).long ∙ all_length (durable_root store).generation (retired ++ listed) book
+      committed_length version final ∙ (as_wide plan.listed.items mid final list.takes).long
+      ∙ all_length (durable_root store).generation (retired ++ listed) book

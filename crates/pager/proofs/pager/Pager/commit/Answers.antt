@@ -344,8 +344,8 @@ returns-in-Err-commit-clause-calls g c =
     told plan i.book last c.root.ensures c.deref.ensures.value c.deref-2.ensures.value c.deref-3.ensures.value c.deref-4.ensures.value c.in-Ok.ensures.plan in
     let after : State D = record { store = new; made = i.made.items; retired = i.retired.items; book = c.undo_to.new.self } in
     let calls =
-    subst (λ (w : List Sheet). MakesCalls {T = Unit {0}} {E = CommitFault} (8 * length w + 3) (Err fault) (disk_history history i.store) (disk_history history new))
-    c.deref-6.ensures.value c.in-Err-commit.ensures.calls in
+    subst (λ (w : List Sheet). MakesCalls {T = Unit {0}} {E = CommitFault} (8 * length w + 3) (Err fault) (disk_history history i.store)
+    (disk_history history new)) c.deref-6.ensures.value c.in-Err-commit.ensures.calls in
     subst (λ (s : State D). OnlyWrites history (Err fault) s after) c.self.view_is
     (planned_writes history i.store i.cache i.made.items i.retired.items i.book c.self.invariant last plan is (Err fault) after calls)
 
