@@ -4,7 +4,8 @@ use Rattle.std.proofs.Common.{Result, Ok, Err, refl, sym, ap, ◌∙◌, subst, 
 use Rattle.std.specs.List.{insert, remove}
 use Rattle.std.proofs.lemmas.Bool.{lt-leb}
 use Rattle.std.proofs.lemmas.List.{length-drop}
-use Rattle.std.specs.Result.{IfOk}
+use Rattle.std.specs.Prelude.{MatchResult}
+use Rattle.std.specs.Result.{IfOk, IsErrAnd}
 use Rattle.page.specs.Content.{Arm, IsBranch, IsItem, Item, item_size, total}
 use Rattle.btree.specs.declared.loose.Loose.{Loose}
 use Rattle.btree.specs.declared.loose.Unit.{Unit}
@@ -17,10 +18,10 @@ use Rattle.btree.specs.Tree.{HasLinks}
 use Rattle.btree.specs.Change.{edit_keys}
 use Rattle.btree.specs.Keys.{Each, Edit, Entry, IsNotUnder, IsUnder, Rises, sum_of}
 use Rattle.btree.specs.Loose.{IsChild, IsStub, Stub, arm_stub, item_stub, stub_size, stubs_size, under_key}
-use Rattle.btree.specs.Few.{AreFewJoined, AreFewPages, AreFewSettled, IsFew, IsFewOrOne, IsLittle, IsFewTop, IsOneChild, MakesUpTo, chain_pages}
-use Rattle.btree.specs.Few.{edit_pages, levels_of}
+use Rattle.btree.specs.Few.{AreFewJoined, AreFewPages, AreFewSettled, AreNotJoined, AreNotSettled, EndsFew, EndsFewOrOne, EndsJoined, EndsSettled}
+use Rattle.btree.specs.Few.{EndsTop, IsFew, IsFewOrOne, IsLittle, IsOneChild, MakesUpTo, WritesUpTo, chain_pages, edit_pages, levels_of}
 use Rattle.btree.specs.Reach.{HasMap, HasTree}
-use Rattle.btree.specs.Store.{Store}
+use Rattle.btree.specs.Store.{IsSame, Store}
 use Rattle.btree.specs.Turn.{Sheaf, sheaf_in}
 use Rattle.btree.specs.EditView.{edit_in}
 use Rattle.btree.proofs.EditLemmas.{edits_more}
@@ -28,6 +29,11 @@ use Rattle.btree.proofs.ListLemmas.{each_append, each_back, each_front, get_here
 use Rattle.btree.proofs.HeldLemmas.{under_long}
 use Rattle.btree.proofs.FewParts.{both_size, size_many, items_size}
 use Rattle.btree.specs.declared.editing.Edit.{Edit as ProgramEdit}
+
+-- a fault, whatever it is
+pub stopped : {X : Type 0} (P : X → Type 0) (Q : Type 0) (R : TreeFault → Type 0) (r : Result X TreeFault) → IsErrAnd r R → Q → MatchResult r P (λ e. Q)
+stopped P Q R (Ok x) is q = absurd is
+stopped P Q R (Err e) is q = q
 
 -- ---- what is joined
 
@@ -40,8 +46,8 @@ few_parts old new bytes above f le =
 pub few_concat : (old new : Store) (rank bytes pages : ℕ) (a b : Sheaf) (r : Result Loose TreeFault) → a.rank ≡ rank → IfOk r (λ l. l.rank ≡ a.rank)
     → IfOk r (λ l. map stub_in l.units.items ≡ a.stubs ++ b.stubs)
     → Each IsStub a.stubs → Each IsStub b.stubs → stubs_size a.stubs + stubs_size b.stubs ≤ bytes → MakesUpTo old new pages
-    → IfOk r (λ l. IsFew old new rank bytes pages (sheaf_in l))
-few_concat old new rank bytes pages a b (Err e) at same both ha hb le made = tt
+    → EndsFew old new rank bytes pages r
+few_concat old new rank bytes pages a b (Err e) at same both ha hb le made = made
 few_concat old new rank bytes pages a b (Ok l) at same both ha hb le made =
     record {
       rank_is = same ∙ at;
@@ -67,16 +73,14 @@ off_first all back s e h =
     (parts.1, omega (arith, ap stubs_size e), omega arith)
 
 pub few_on : (old mid new : Store) (rank rank' bytes bytes' pages pages' more : ℕ) (r : Result Loose TreeFault) → MakesUpTo old mid more
-    → IfOk r (λ l. IsFew mid new rank bytes pages (sheaf_in l)) → rank ≡ rank' → bytes ≤ bytes'
-    → more + pages ≤ pages' → IfOk r (λ l. IsFew old new rank' bytes' pages' (sheaf_in l))
-few_on old mid new rank rank' bytes bytes' pages pages' more (Err e) m f same wide le = tt
+    → EndsFew mid new rank bytes pages r → rank ≡ rank' → bytes ≤ bytes' → more + pages ≤ pages' → EndsFew old new rank' bytes' pages' r
+few_on old mid new rank rank' bytes bytes' pages pages' more (Err e) m f same wide le = omega (arith, m, f)
 few_on old mid new rank rank' bytes bytes' pages pages' more
     (Ok l) m f same wide le = record { rank_is = f.rank_is ∙ same; small = f.small; size = omega (arith, f.size); made = omega (arith, m, f.made) }
 
 pub few_or_one_on : (old mid new : Store) (rank bytes bytes' pages pages' more : ℕ) (r : Result Loose TreeFault) → MakesUpTo old mid more
-    → IfOk r (λ l. IsFewOrOne mid new rank bytes pages (sheaf_in l)) → bytes ≤ bytes' → more + pages ≤ pages'
-    → IfOk r (λ l. IsFewOrOne old new rank bytes' pages' (sheaf_in l))
-few_or_one_on old mid new rank bytes bytes' pages pages' more (Err e) m f wide le = tt
+    → EndsFewOrOne mid new rank bytes pages r → bytes ≤ bytes' → more + pages ≤ pages' → EndsFewOrOne old new rank bytes' pages' r
+few_or_one_on old mid new rank bytes bytes' pages pages' more (Err e) m f wide le = omega (arith, m, f)
 few_or_one_on old mid new rank bytes bytes' pages pages' more (Ok l) m (inl f) wide le =
     inl (record { rank_is = f.rank_is; small = f.small; size = omega (arith, f.size); made = omega (arith, m, f.made) })
 few_or_one_on old mid new rank bytes bytes' pages pages' more (Ok l) m (inr f) wide le =
@@ -86,10 +90,34 @@ pub few_small : (old new : Store) (rank bytes pages : ℕ) (sheaf : Sheaf) → I
 few_small old new rank bytes pages sheaf (inl f) = f.small
 few_small old new rank bytes pages sheaf (inr f) = f.small
 
-pub few_alone : (old new : Store) (rank bytes pages : ℕ) (r : Result Loose TreeFault) → IfOk r (λ l. IsFew old new rank bytes pages (sheaf_in l))
-    → IfOk r (λ l. IsFewOrOne old new rank bytes pages (sheaf_in l))
-few_alone old new rank bytes pages (Err e) f = tt
+pub few_alone : (old new : Store) (rank bytes pages : ℕ) (r : Result Loose TreeFault) → EndsFew old new rank bytes pages r
+    → EndsFewOrOne old new rank bytes pages r
+few_alone old new rank bytes pages (Err e) f = omega (arith, f)
 few_alone old new rank bytes pages (Ok l) f = inl f
+
+pub few_made : (old new : Store) (rank bytes pages : ℕ) (sheaf : Sheaf) → IsFewOrOne old new rank bytes pages sheaf → MakesUpTo old new (pages + 1)
+few_made old new rank bytes pages sheaf (inl f) = omega (arith, f.made)
+few_made old new rank bytes pages sheaf (inr f) = f.made
+
+-- one page is written of what is below a child and beside it
+pub few_above_one : (first old new : Store) (rank count : ℕ) (below : Sheaf) (r : Result Loose TreeFault) → 0 < rank
+    → IsFewOrOne first old (rank - 1) 10880 (4 * (rank - 1) + count) below → EndsFew old new (rank + 1) 1360 1 r
+    → EndsFewOrOne first new rank 10880 (4 * rank + count) r
+few_above_one first old new rank count below (Err e) deep few f =
+    omega (arith, few_made first old (rank - 1) 10880 (4 * (rank - 1) + count) below few, f)
+few_above_one first old new rank count below (Ok l) deep few f = inr (record {
+  rank_is = f.rank_is;
+  small = f.small;
+  size = f.size;
+  made = omega (arith, few_made first old (rank - 1) 10880 (4 * (rank - 1) + count) below few, f.made);
+})
+
+pub not_joined_none : (old new : Store) (bytes : ℕ) (left right : Sheaf) → MakesUpTo old new 0 → AreNotJoined old new bytes left right
+not_joined_none old new bytes left right m =
+    record { level = λ e. m; behind = λ e some le. omega (arith, m); before = λ e some le. omega (arith, m) }
+
+pub not_settled_none : (old new : Store) (left below right : Sheaf) → MakesUpTo old new 0 → AreNotSettled old new left below right
+not_settled_none old new left below right m = record { level = λ e deep. m; lower = λ e deep more le. omega (arith, m) }
 
 pub few_left_gone : (s : Store) (bytes : ℕ) (left right : Sheaf) → length left.stubs ≡ 0 → Each IsStub right.stubs → AreFewJoined s s bytes left right right
 few_left_gone s bytes left right none h =
@@ -109,28 +137,28 @@ few_right_gone s bytes left right none h =
 
 module _ (old new : Store) (bytes : ℕ) (left right : Sheaf) where
   pub few_level : (r : Result Loose TreeFault) → left.rank ≡ right.rank
-      → IfOk r (λ l. IsFew old new left.rank (stubs_size left.stubs + stubs_size right.stubs) 0 (sheaf_in l))
-      → IfOk r (λ l. AreFewJoined old new bytes left right (sheaf_in l))
-  few_level (Err e) at f = tt
+      → EndsFew old new left.rank (stubs_size left.stubs + stubs_size right.stubs) 0 r → EndsJoined bytes old new left right r
+  few_level (Err e) at f = record { level = λ e. f; behind = λ e some le. absurd (omega arith); before = λ e some le. absurd (omega arith) }
   few_level (Ok l) at f = record { level = λ e. f; behind = λ e some le. absurd (omega arith); before = λ e some le. absurd (omega arith) }
 
   pub few_behind : (r : Result Loose TreeFault) → right.rank < left.rank
-      → (left.rank ≡ right.rank + 1 → stubs_size right.stubs ≤ bytes → IfOk r (λ l. IsFew old new left.rank (stubs_size left.stubs + 5440) 4 (sheaf_in l)))
-      → IfOk r (λ l. AreFewJoined old new bytes left right (sheaf_in l))
-  few_behind (Err e) at f = tt
+      → (left.rank ≡ right.rank + 1 → stubs_size right.stubs ≤ bytes → EndsFew old new left.rank (stubs_size left.stubs + 5440) 4 r)
+      → EndsJoined bytes old new left right r
+  few_behind (Err e) at f = record { level = λ e. absurd (omega arith); behind = λ e some le. f e le; before = λ e some le. absurd (omega arith) }
   few_behind (Ok l) at f = record { level = λ e. absurd (omega arith); behind = λ e some le. f e le; before = λ e some le. absurd (omega arith) }
 
   pub few_before : (r : Result Loose TreeFault) → left.rank < right.rank
-      → (left.rank + 1 ≡ right.rank → stubs_size left.stubs ≤ bytes → IfOk r (λ l. IsFew old new right.rank (stubs_size right.stubs + 5440) 4 (sheaf_in l)))
-      → IfOk r (λ l. AreFewJoined old new bytes left right (sheaf_in l))
-  few_before (Err e) at f = tt
+      → (left.rank + 1 ≡ right.rank → stubs_size left.stubs ≤ bytes → EndsFew old new right.rank (stubs_size right.stubs + 5440) 4 r)
+      → EndsJoined bytes old new left right r
+  few_before (Err e) at f = record { level = λ e. absurd (omega arith); behind = λ e some le. absurd (omega arith); before = λ e some le. f e le }
   few_before (Ok l) at f = record { level = λ e. absurd (omega arith); behind = λ e some le. absurd (omega arith); before = λ e some le. f e le }
 
 -- what is less than a page of its own
 pub few_wider : (old new : Store) (left right : Sheaf) (r : Result Loose TreeFault) → (left.rank ≡ right.rank + 1 → stubs_size right.stubs ≤ 5440)
     → (left.rank + 1 ≡ right.rank → stubs_size left.stubs ≤ 5440)
-    → IfOk r (λ l. AreFewJoined old new 5440 left right (sheaf_in l)) → IfOk r (λ l. AreFewJoined old new 10880 left right (sheaf_in l))
-few_wider old new left right (Err e) a b f = tt
+    → EndsJoined 5440 old new left right r → EndsJoined 10880 old new left right r
+few_wider old new left right (Err e) a b f =
+    record { level = f.level; behind = λ e some le. f.behind e some (a e); before = λ e some le. f.before e some (b e) }
 few_wider old new left right (Ok l) a b f = record { level = f.level; behind = λ e some le. f.behind e some (a e); before = λ e some le. f.before e some (b e) }
 
 -- ---- edits of cells
@@ -152,16 +180,29 @@ links_many : (s : Store) (links bytes : List ℕ) → HasLinks s links bytes →
 links_many s [] bytes h = omega arith
 links_many s (page ∷ pages) bytes h = omega (arith, links_many s pages (drop 4076 bytes) h.2, length-drop 4076 bytes, h.0)
 
-pub chain_few : (old new : Store) (value : List ℕ) (page : ℕ) → 330 < length value → IsChained old new value page → MakesUpTo old new (chain_pages value)
-chain_few old new value page long c =
-    let many = links_many new c.links value c.has in
+-- a last part of a value was written, or all of it
+pub chain_few : (old new : Store) (value part : List ℕ) (page : ℕ) → 330 < length value → length part ≤ length value → IsChained old new part page
+    → MakesUpTo old new (chain_pages value)
+chain_few old new value part page long short c =
+    let many = links_many new c.links part c.has in
     let no = lt-leb (length value) 330 long in
     subst (λ b. length new.made ≤ length old.made + (if b then 0 else (length value + 4075) / 4076)) (sym no) (omega (arith, c.count, many))
 
-pub costs_on : {X : Type 0} (old mid new : Store) (a b pages : ℕ) (r : Result X TreeFault) → MakesUpTo old mid a → IfOk r (λ done. MakesUpTo mid new b)
-    → a + b ≤ pages → IfOk r (λ done. MakesUpTo old new pages)
-costs_on old mid new a b pages (Err e) m f le = tt
-costs_on old mid new a b pages (Ok x) m f le = omega (arith, m, f)
+pub costs_on : (old mid new : Store) (a b pages : ℕ) → MakesUpTo old mid a → MakesUpTo mid new b → a + b ≤ pages → MakesUpTo old new pages
+costs_on old mid new a b pages m f le = omega (arith, m, f)
+
+-- a fault by which nothing was made
+pub same_few : (old mid new : Store) (pages : ℕ) → MakesUpTo old mid pages → IsSame mid new → MakesUpTo old new pages
+same_few old mid new pages m same = omega (arith, m, ap length same.made)
+
+pub sum_both : {X : Type 0} (f : X → ℕ) (xs ys : List X) → sum_of f (xs ++ ys) ≡ sum_of f xs + sum_of f ys
+sum_both f [] ys = omega arith
+sum_both f (x ∷ xs) ys = omega (arith, sum_both f xs ys)
+
+sum_some : {X : Type 0} (f : X → ℕ) (n : ℕ) (xs : List X) → sum_of f (take n xs) ≤ sum_of f xs
+sum_some f zero xs = omega arith
+sum_some f (suc n) [] = omega arith
+sum_some f (suc n) (x ∷ xs) = omega (arith, sum_some f n xs)
 
 pub grown_on : {X : Type 0} (before between after : ℕ) (r : Result X TreeFault) → between ≤ before → IfOk r (λ done. after ≤ between + 1360)
     → IfOk r (λ done. after ≤ before + 1360)
@@ -177,6 +218,12 @@ pub edits_few : (old mid new : Store) (es : List ProgramEdit) (i : ℕ) (d : Pro
     → MakesUpTo old new (sum_of edit_pages (take (i + 1) (map edit_in es)))
 edits_few old mid new es i d lt before more =
     omega (arith, before, more, ap (sum_of edit_pages) (edits_more es i d lt), sum_more edit_pages (take i (map edit_in es)) (edit_in (get_or es i d)))
+
+-- of some edits the last one was made or failed
+pub edits_failed : (old mid new : Store) (es : List ProgramEdit) (i : ℕ) (d : ProgramEdit) → i < length es
+    → MakesUpTo old mid (sum_of edit_pages (take i (map edit_in es))) → MakesUpTo mid new (edit_pages (edit_in (get_or es i d)))
+    → MakesUpTo old new (sum_of edit_pages (map edit_in es))
+edits_failed old mid new es i d lt before more = omega (arith, edits_few old mid new es i d lt before more, sum_some edit_pages (i + 1) (map edit_in es))
 
 stubs_of_items : (items : List Item) → Each IsItem items → Each IsStub (map item_stub items)
 stubs_of_items [] h = tt
@@ -223,16 +270,26 @@ unit_little all left right unit key parts h same =
     let one : stub_size unit ≤ 1360 = (each_back IsStub left (unit ∷ []) (each_front IsStub (left ++ unit ∷ []) right (subst (Each IsStub) parts h))).0.size in
     omega (arith, ap length same)
 
-zero_or : (n : ℕ) → (n ≡ 0) ⊎ (0 < n)
+pub zero_or : (n : ℕ) → (n ≡ 0) ⊎ (0 < n)
 zero_or zero = inl refl
 zero_or (suc n) = inr (omega arith)
 
 -- what was put back among its neighbours, first to the left
 pub few_left_first : (old mid c new : Store) (left below right : Sheaf) (front : Loose) (r : Result Loose TreeFault) → MakesUpTo old mid 0 → 0 < length left.stubs
     → Each IsStub right.stubs → AreFewJoined mid c 10880 left below (sheaf_in front)
-    → (0 < length right.stubs → Each IsStub (map stub_in front.units.items) → IfOk r (λ l. AreFewJoined c new 10880 (sheaf_in front) right (sheaf_in l)))
-    → (length right.stubs ≡ 0 → IfOk r (λ l. (l ≡ front) × MakesUpTo c new 0)) → IfOk r (λ l. AreFewSettled old new left below right (sheaf_in l))
-few_left_first old mid c new left below right front (Err e) same some small j on none = tt
+    → (0 < length right.stubs → Each IsStub (map stub_in front.units.items) → EndsJoined 10880 c new (sheaf_in front) right r)
+    → (length right.stubs ≡ 0 → MatchResult r (λ l. (l ≡ front) × MakesUpTo c new 0) (λ e. MakesUpTo c new 0)) → EndsSettled old new left below right r
+few_left_first old mid c new left below right front (Err e) same some small j on none =
+    record {
+      level = λ e deep. further left.rank (stubs_size left.stubs + stubs_size below.stubs) 0 (j.level (omega arith)) e;
+      lower = λ e deep more le. further left.rank (stubs_size left.stubs + 5440) 4 (j.behind (omega arith) some le) e;
+    }
+  where
+    further : (rank bytes pages : ℕ) → IsFew mid c rank bytes pages (sheaf_in front) → rank ≡ right.rank → MakesUpTo old new pages
+    further rank bytes pages f e = elim (zero_or (length right.stubs)) [
+      | inl gone ↦ (let n = none gone in omega (arith, same, f.made, n))
+      | inr there ↦ (let t = (on there f.small).level (f.rank_is ∙ e) in omega (arith, same, f.made, t))
+    ]
 few_left_first old mid c new left below right front (Ok l) same some small j on none =
     record {
       level = λ e deep. further left.rank (stubs_size left.stubs + stubs_size below.stubs) 0 (j.level (omega arith)) e (omega arith);
@@ -253,12 +310,55 @@ few_left_first old mid c new left below right front (Ok l) same some small j on 
           record { rank_is = t.rank_is ∙ f.rank_is; small = t.small; size = omega (arith, t.size, f.size, le); made = omega (arith, same, f.made, t.made) })
     ]
 
+-- the first of the two failed
+pub few_left_failed : (old mid new : Store) (left below right : Sheaf) → MakesUpTo old mid 0 → 0 < length left.stubs → AreNotJoined mid new 10880 left below
+    → AreNotSettled old new left below right
+few_left_failed old mid new left below right same some j = record {
+  level = λ e deep. let m = j.level (omega arith) in omega (arith, same, m);
+  lower = λ e deep more le. let m = j.behind (omega arith) some le in omega (arith, same, m);
+}
+
 -- the same, first to the right
+pub few_right_failed : (old mid new : Store) (left below right : Sheaf) → MakesUpTo old mid 0
+    → (0 < length right.stubs → AreNotJoined mid new 10880 below right) → (length right.stubs ≡ 0 → MakesUpTo mid new 0)
+    → AreNotSettled old new left below right
+few_right_failed old mid new left below right same on none = record {
+  level = λ e deep. elim (zero_or (length right.stubs)) [
+    | inl gone ↦ (let m = none gone in omega (arith, same, m))
+    | inr there ↦ (let m = (on there).level (omega arith) in omega (arith, same, m))
+  ];
+  lower = λ e deep more le. elim (zero_or (length right.stubs)) [
+    | inl gone ↦ (let m = none gone in omega (arith, same, m))
+    | inr there ↦ (let m = (on there).before (omega arith) there le in omega (arith, same, m))
+  ];
+}
+
 pub few_right_first : (old mid c new : Store) (left below right back : Sheaf) (r : Result Loose TreeFault) → MakesUpTo old mid 0 → Each IsStub left.stubs
     → Each IsStub below.stubs → (0 < length right.stubs → AreFewJoined mid c 10880 below right back)
     → (length right.stubs ≡ 0 → (back ≡ below) × MakesUpTo mid c 0)
-    → (Each IsStub back.stubs → IfOk r (λ l. AreFewJoined c new 10880 left back (sheaf_in l))) → IfOk r (λ l. AreFewSettled old new left below right (sheaf_in l))
-few_right_first old mid c new left below right back (Err e) same small below_small on none j = tt
+    → (Each IsStub back.stubs → EndsJoined 10880 c new left back r) → EndsSettled old new left below right r
+few_right_first old mid c new left below right back (Err e) same small below_small on none j =
+    record {
+      level = λ e deep. elim (zero_or (length right.stubs)) [
+        | inl gone ↦ (let n = none gone in
+            let t = (alone n.0).level (omega arith) in
+            omega (arith, same, n.1, t))
+        | inr there ↦ (let m = (on there).level (omega arith) in
+            let t = (j m.small).level (omega (arith, m.rank_is)) in
+            omega (arith, same, m.made, t))
+      ];
+      lower = λ e deep more le. elim (zero_or (length right.stubs)) [
+        | inl gone ↦ (let n = none gone in
+            let t = (alone n.0).behind (omega arith) (omega arith) le in
+            omega (arith, same, n.1, t))
+        | inr there ↦ (let m = (on there).before (omega arith) there le in
+            let t = (j m.small).level (omega (arith, m.rank_is)) in
+            omega (arith, same, m.made, t))
+      ];
+    }
+  where
+    alone : back ≡ below → AreNotJoined c new 10880 left below
+    alone is = subst (λ x. AreNotJoined c new 10880 left x) is (j (subst (λ (x : Sheaf). Each IsStub x.stubs) (sym is) below_small))
 few_right_first old mid c new left below right back (Ok l) same small below_small on none j =
     record {
       level = λ e deep. elim (zero_or (length right.stubs)) [
@@ -320,43 +420,63 @@ module _ (old a b new : Store) (loose left right below front : Sheaf) (unit : St
         made = omega (arith, one.made, same, f.made);
       }
 
+  unsettled_few : IsFewOrOne old a (left.rank - 1) 10880 (4 * (left.rank - 1) + pages) below → AreNotSettled b new left below right
+      → MakesUpTo old new (4 * loose.rank + pages)
+  unsettled_few (inl few) s =
+      let m = s.lower (omega arith) (omega (arith, few.rank_is)) (omega (arith, parts_long)) few.size in omega (arith, few.made, same, m)
+  unsettled_few (inr one) s = let m = s.level (omega arith) (omega (arith, one.rank_is)) in omega (arith, one.made, same, m)
+
   pub children_few : IsFewOrOne old a (left.rank - 1) 10880 (4 * (left.rank - 1) + pages) below → (r : Result Loose TreeFault)
-      → (Each IsStub front.stubs → Each IsStub below.stubs → Each IsStub right.stubs → IfOk r (λ l. AreFewSettled b new front below right (sheaf_in l)))
-      → IfOk r (λ l. IsFew old new loose.rank 10880 (4 * loose.rank + pages) (sheaf_in l))
-  children_few few (Err e) s = tt
+      → (Each IsStub front.stubs → Each IsStub below.stubs → Each IsStub right.stubs → EndsSettled b new front below right r)
+      → EndsFew old new loose.rank 10880 (4 * loose.rank + pages) r
+  children_few few (Err e) s =
+      unsettled_few few (subst (λ x. AreNotSettled b new x below right) front_is
+      (s (subst (λ (x : Sheaf). Each IsStub x.stubs) (sym front_is) left_small) (few_small _ _ _ _ _ _ few) right_small))
   children_few few (Ok l) s =
       settled_few l few (subst (λ x. AreFewSettled b new x below right (sheaf_in l)) front_is
       (s (subst (λ (x : Sheaf). Each IsStub x.stubs) (sym front_is) left_small) (few_small _ _ _ _ _ _ few) right_small))
 
 -- ---- the whole tree
 
-pub root_few : (old mid new : Store) (halvings : ℕ) (top above : List Stub) (r : Result ℕ TreeFault) → stubs_size top ≤ 2720 * 2 ^ halvings → 0 < length above
+pub root_few : (old mid new : Store) (halvings : ℕ) (top above : List Stub) → stubs_size top ≤ 2720 * 2 ^ halvings → 0 < length above
     → AreFewPages old mid (stubs_size top) above
-    → ((h : ℕ) → Each IsStub above × (stubs_size above ≤ 2720 * 2 ^ h) → IfOk r (λ done. MakesUpTo mid new (2 * 2 ^ h - 1)))
-    → (IsOneChild above → IfOk r (λ done. MakesUpTo mid new 0)) → IfOk r (λ done. MakesUpTo old new (2 * 2 ^ halvings - 1))
-root_few old mid new zero top above r le some f more alone =
+    → ((h : ℕ) → Each IsStub above × (stubs_size above ≤ 2720 * 2 ^ h) → MakesUpTo mid new (2 * 2 ^ h - 1)) → (IsOneChild above → MakesUpTo mid new 0)
+    → MakesUpTo old new (2 * 2 ^ halvings - 1)
+root_few old mid new zero top above le some f more alone =
     let one : length above ≤ 1 = omega (arith, f.few) in
-    costs_on old mid new 1 0 (2 * 2 ^ zero - 1) r (omega (arith, f.made)) (alone (omega arith, f.children)) (omega arith)
-root_few old mid new (suc h) top above r le some f more alone =
+    costs_on old mid new 1 0 (2 * 2 ^ zero - 1) (omega (arith, f.made)) (alone (omega arith, f.children)) (omega arith)
+root_few old mid new (suc h) top above le some f more alone =
     let few : length above ≤ 2 * 2 ^ h = omega (arith, f.few) in
-    costs_on old mid new (2 * 2 ^ h) (2 * 2 ^ h - 1) (2 * 2 ^ suc h - 1) r (omega (arith, f.made)) (more h (f.small, omega (arith, size_many above f.small)))
+    costs_on old mid new (2 * 2 ^ h) (2 * 2 ^ h - 1) (2 * 2 ^ suc h - 1) (omega (arith, f.made)) (more h (f.small, omega (arith, size_many above f.small)))
     (omega arith)
+
+-- and where those pages could not be written
+pub raise_failed : (old new : Store) (halvings bytes : ℕ) → bytes ≤ 2720 * 2 ^ halvings → WritesUpTo old new bytes → MakesUpTo old new (2 * 2 ^ halvings - 1)
+raise_failed old new zero bytes le w = omega (arith, w)
+raise_failed old new (suc h) bytes le w =
+    let some : 1 ≤ 2 ^ h = one_up h in
+    let few : length new.made ≤ length old.made + 2 * 2 ^ h = omega (arith, w) in
+    omega arith
+  where
+    one_up : (h : ℕ) → 1 ≤ 2 ^ h
+    one_up zero = omega arith
+    one_up (suc h) = omega (arith, one_up h)
 
 pub not_alone : (ss : List Stub) → IsOneChild ss → ((s : Stub) → ss ≡ s ∷ [] → IsChild s.load → ⊥) → ⊥
 not_alone [] one none = omega (arith, one.0)
 not_alone (s ∷ t ∷ ts) one none = omega (arith, one.0)
 not_alone (s ∷ []) one none = none s refl one.1.0
 
-pub first_few : (old new : Store) (n chain : ℕ) (r : Result Loose TreeFault) → IfOk r (λ l. IsFew old new 0 5440 chain (sheaf_in l))
-    → IfOk r (λ l. IsFewTop old new (4 * n + 3 + chain) (sheaf_in l))
-first_few old new n chain (Err e) f = tt
+pub first_few : (old new : Store) (n chain : ℕ) (r : Result Loose TreeFault) → EndsFew old new 0 5440 chain r → EndsTop old new (4 * n + 3 + chain) r
+first_few old new n chain (Err e) f = omega (arith, f)
 first_few old new n chain (Ok l) f = record { halvings = 1; pages = chain; little = (f.small, f.size); made = f.made; enough = omega arith }
 
 pub levels_few : (old new : Store) (root : ℕ) (pages : List ℕ) (entries : List Entry) (tree : HasMap old root pages entries) (below chain : ℕ)
     (r : Result Loose TreeFault) → (root ≡ 0 → ⊥)
-    → ((t : HasTree old root pages entries) → below ≡ t.d) → IfOk r (λ l. IsFewOrOne old new below 10880 (4 * below + chain) (sheaf_in l))
-    → IfOk r (λ l. IsFewTop old new (4 * levels_of tree + 3 + chain) (sheaf_in l))
-levels_few old new root pages entries tree below chain (Err e) some is f = tt
+    → ((t : HasTree old root pages entries) → below ≡ t.d) → EndsFewOrOne old new below 10880 (4 * below + chain) r
+    → EndsTop old new (4 * levels_of tree + 3 + chain) r
+levels_few old new root pages entries (inl none) below chain (Err e) some is f = absurd (some none.0)
+levels_few old new root pages entries (inr t) below chain (Err e) some is f = omega (arith, f, is t)
 levels_few old new root pages entries (inl none) below chain (Ok l) some is f = absurd (some none.0)
 levels_few old new root pages entries (inr t) below chain (Ok l) some is (inr f) =
     record { halvings = 0; pages = 4 * below + chain + 1; little = (f.small, omega (arith, f.size)); made = f.made; enough = omega (arith, is t) }

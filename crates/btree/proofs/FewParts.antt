@@ -1,5 +1,5 @@
 -- How many pages the parts take that cells and children are cut into.
-use Rattle.std.proofs.Common.{◌≡◌, ℕ, zero, suc, ◌+◌, ◌-◌, ◌*◌, ◌<◌, ◌≤◌, ◌⊎◌, List, [], ◌∷◌, ◌++◌, length, map, take, drop, get_or, Vec, Global}
+use Rattle.std.proofs.Common.{◌≡◌, ℕ, zero, suc, ◌+◌, ◌*◌, ◌<◌, ◌≤◌, ◌⊎◌, List, [], ◌∷◌, ◌++◌, length, map, take, drop, get_or, Vec, Global}
 use Rattle.std.proofs.Common.{Result, Ok, Err, refl, sym, ap, ◌∙◌, subst, arith, inl, inr}
 use Rattle.std.specs.List.{AllByRecursion}
 use Rattle.std.specs.Result.{IfOk}
@@ -9,7 +9,7 @@ use Rattle.btree.specs.declared.pages.TreeFault.{TreeFault}
 use Rattle.btree.specs.LooseView.{stub_in}
 use Rattle.btree.specs.Keys.{Each}
 use Rattle.btree.specs.Loose.{IsChild, IsStub, Stub, arm_stub, item_stub, stub_size, stubs_size, under_key}
-use Rattle.btree.specs.Few.{AreFewPages, IsFullPart, IsOnePage}
+use Rattle.btree.specs.Few.{AreFewPages, IsFullPart, IsOnePage, MakesUpTo, WritesUpTo}
 use Rattle.btree.specs.Store.{IsMade, Store}
 use Rattle.page.specs.Content.{Content}
 use Rattle.btree.proofs.CuttingLemmas.{each_at, each_drop, size_all, size_next, size_split}
@@ -73,6 +73,12 @@ pub all_written : (bytes pages : ℕ) (rest : List Stub) → length rest ≡ 0 �
 all_written bytes pages rest none (inl h) = omega arith
 all_written bytes pages rest none (inr (e, inl h)) = omega arith
 all_written bytes pages rest none (inr (e, inr h)) = h.1
+
+-- what is left to write takes none away
+pub so_far_most : (bytes pages : ℕ) (rest : List Stub) → AreSoFar bytes pages rest → 2720 * pages ≤ bytes + 2719
+so_far_most bytes pages rest (inl h) = omega (arith, h)
+so_far_most bytes pages rest (inr (e, inl h)) = omega (arith, h)
+so_far_most bytes pages rest (inr (e, inr h)) = h.1
 
 -- ---- sizes
 
@@ -164,6 +170,19 @@ few_step old mid new bytes at above above' rest part behind unit some p full par
           (one.small (subst (Each IsStub) (sym parts) (each_take at (map stub_in rest) p.small)), tt));
       small = subst (Each IsStub) (sym others) (each_drop at (map stub_in rest) p.small);
     }
+
+-- writing stops
+pub few_stopped : (old mid new : Store) (bytes : ℕ) (above rest : List Stub) → AreFewSoFar old mid bytes above rest → MakesUpTo mid new 0
+    → WritesUpTo old new bytes
+few_stopped old mid new bytes above rest p none = omega (arith, so_far_most bytes (length above) rest p.so_far, p.made, none)
+
+-- the same behind one page more
+pub few_stopped_later : (old mid new : Store) (bytes at : ℕ) (above rest part : List Unit) (unit : Unit) → 0 < length rest
+    → AreFewSoFar old mid bytes (map stub_in above) (map stub_in rest) → (Each IsStub (map stub_in rest) → IsFullPart (map stub_in rest) at)
+    → IsOnePage mid new (map stub_in part) (stub_in unit) → WritesUpTo old new bytes
+few_stopped_later old mid new bytes at above rest part unit some p full one =
+    let more = one_more bytes (length (map stub_in above)) at (map stub_in rest) (omega (arith, long_map stub_in rest)) p.so_far (full p.small) in
+    omega (arith, so_far_most bytes (length (map stub_in above) + 1) (drop at (map stub_in rest)) more, p.made, one.made)
 
 pub few_done : (old new : Store) (bytes : ℕ) (above rest : List Stub) → AreFewSoFar old new bytes above rest → length rest ≡ 0 → AreFewPages old new bytes above
 few_done old new bytes above rest p none = record

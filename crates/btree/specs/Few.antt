@@ -1,6 +1,6 @@
 -- How many pages a change makes, at most.
 use Rattle.std.specs.Prelude.{◌≡◌, ℕ, suc, ◌+◌, ◌-◌, ◌*◌, ◌/◌, ◌^◌, ◌<◌, ◌≤◌, ◌⊎◌, leb, List}
-use Rattle.std.specs.Prelude.{length, take, Option, Some, None, Result, IfOk, if◌then◌else◌}
+use Rattle.std.specs.Prelude.{length, take, Option, Some, None, Result, MatchResult, if◌then◌else◌}
 use Rattle.std.proofs.Common.{inl, inr}
 use Rattle.btree.specs.declared.loose.Loose.{Loose}
 use Rattle.btree.specs.declared.pages.TreeFault.{TreeFault}
@@ -26,9 +26,10 @@ chain_pages value = if leb (length value) 330 then 0 else (length value + 4075) 
 abbrev pub MakesUpTo : Store → Store → ℕ → Type 0
 MakesUpTo old new pages = length new.made ≤ length old.made + pages
 
--- While the device keeps its word, a change that was made took so many pages at most.
-abbrev pub Costs : {X : Type 0} → Store → Store → ℕ → Result X TreeFault → Type 0
-Costs old new pages result = KeepsWord new → IfOk result (λ done. MakesUpTo old new pages)
+-- While the device keeps its word, so many pages were made at most, whether the change was made or
+-- not.
+abbrev pub Costs : Store → Store → ℕ → Type 0
+Costs old new pages = KeepsWord new → MakesUpTo old new pages
 
 -- ---- edits of a leaf's cells
 
@@ -61,18 +62,30 @@ pub record IsFew (old new : Store) (rank bytes pages : ℕ) (sheaf : Sheaf) : Ty
   pub size : stubs_size sheaf.stubs ≤ bytes
   pub made : MakesUpTo old new pages
 
+-- that, or a fault by which no more were made
+abbrev pub EndsFew : Store → Store → ℕ → ℕ → ℕ → Result Loose TreeFault → Type 0
+EndsFew old new rank bytes pages result =
+    MatchResult result (λ loose. IsFew old new rank bytes pages (sheaf_in loose))
+    (λ e. MakesUpTo old new pages)
+
 abbrev pub GivesFew : Store → Store → ℕ → ℕ → ℕ → Result Loose TreeFault → Type 0
-GivesFew old new rank bytes pages result = KeepsWord new
-    → IfOk result (λ loose. IsFew old new rank bytes pages (sheaf_in loose))
+GivesFew old new rank bytes pages result =
+    KeepsWord new → EndsFew old new rank bytes pages result
 
 -- The same, or it was written to one page, and this stands for it above.
 abbrev pub IsFewOrOne : Store → Store → ℕ → ℕ → ℕ → Sheaf → Type 0
 IsFewOrOne old new rank bytes pages sheaf =
     IsFew old new rank bytes pages sheaf ⊎ IsFew old new (rank + 1) 1360 (pages + 1) sheaf
 
+-- that, or a fault by which no more were made
+abbrev pub EndsFewOrOne : Store → Store → ℕ → ℕ → ℕ → Result Loose TreeFault → Type 0
+EndsFewOrOne old new rank bytes pages result =
+    MatchResult result (λ loose. IsFewOrOne old new rank bytes pages (sheaf_in loose))
+    (λ e. MakesUpTo old new (pages + 1))
+
 abbrev pub GivesFewOrOne : Store → Store → ℕ → ℕ → ℕ → Result Loose TreeFault → Type 0
-GivesFewOrOne old new rank bytes pages result = KeepsWord new
-    → IfOk result (λ loose. IsFewOrOne old new rank bytes pages (sheaf_in loose))
+GivesFewOrOne old new rank bytes pages result =
+    KeepsWord new → EndsFewOrOne old new rank bytes pages result
 
 -- One child was taken off, and what stood in its page.
 pub record AreFewOff (old new : Store) (stubs : List Stub) (others opened : Sheaf) : Type 0 where
@@ -98,10 +111,23 @@ pub record AreFewJoined (old new : Store) (bytes : ℕ) (left right both : Sheaf
   pub before : left.rank + 1 ≡ right.rank → 0 < length right.stubs → stubs_size left.stubs ≤ bytes
       → IsFew old new right.rank (stubs_size right.stubs + 5440) 4 both
 
+-- No more were made where they weren't joined.
+pub record AreNotJoined (old new : Store) (bytes : ℕ) (left right : Sheaf) : Type 0 where
+  pub level : left.rank ≡ right.rank → MakesUpTo old new 0
+  pub behind : left.rank ≡ right.rank + 1 → 0 < length left.stubs → stubs_size right.stubs ≤ bytes
+      → MakesUpTo old new 4
+  pub before : left.rank + 1 ≡ right.rank → 0 < length right.stubs → stubs_size left.stubs ≤ bytes
+      → MakesUpTo old new 4
+
+abbrev pub EndsJoined : ℕ → Store → Store → Sheaf → Sheaf → Result Loose TreeFault → Type 0
+EndsJoined bytes old new left right result =
+    MatchResult result (λ both. AreFewJoined old new bytes left right (sheaf_in both))
+    (λ e. AreNotJoined old new bytes left right)
+
 abbrev pub JoinsFew : ℕ → Store → Store → Sheaf → Sheaf → Result Loose TreeFault → Type 0
 JoinsFew bytes old new left right result =
     KeepsWord new → Each IsStub left.stubs → Each IsStub right.stubs
-    → IfOk result (λ both. AreFewJoined old new bytes left right (sheaf_in both))
+    → EndsJoined bytes old new left right result
 
 -- What was below one child stands between its neighbours again. At their height it goes together
 -- with them, with no page made; one level below them, it makes four pages at most.
@@ -112,10 +138,22 @@ pub record AreFewSettled (old new : Store) (left below right both : Sheaf) : Typ
       → 0 < length left.stubs + length right.stubs → stubs_size below.stubs ≤ 10880
       → IsFew old new left.rank (stubs_size left.stubs + (stubs_size right.stubs + 5440)) 4 both
 
+-- No more were made where it doesn't stand there.
+pub record AreNotSettled (old new : Store) (left below right : Sheaf) : Type 0 where
+  pub level : left.rank ≡ right.rank → below.rank ≡ left.rank → MakesUpTo old new 0
+  pub lower : left.rank ≡ right.rank → below.rank + 1 ≡ left.rank
+      → 0 < length left.stubs + length right.stubs → stubs_size below.stubs ≤ 10880
+      → MakesUpTo old new 4
+
+abbrev pub EndsSettled : Store → Store → Sheaf → Sheaf → Sheaf → Result Loose TreeFault → Type 0
+EndsSettled old new left below right result =
+    MatchResult result (λ both. AreFewSettled old new left below right (sheaf_in both))
+    (λ e. AreNotSettled old new left below right)
+
 abbrev pub SettlesFew : Store → Store → Sheaf → Sheaf → Sheaf → Result Loose TreeFault → Type 0
 SettlesFew old new left below right result =
     KeepsWord new → Each IsStub left.stubs → Each IsStub below.stubs → Each IsStub right.stubs
-    → IfOk result (λ both. AreFewSettled old new left below right (sheaf_in both))
+    → EndsSettled old new left below right result
 
 -- A part in front is all that there is, or it takes two thirds of a page, or a third where one page
 -- more has room for the rest.
@@ -130,6 +168,10 @@ pub record IsOnePage (old new : Store) (stubs : List Stub) (above : Stub) : Type
   pub made : length new.made ≡ length old.made + 1
   pub child : IsChild above.load
   pub small : Each IsStub stubs → IsStub above
+
+-- Of so many bytes no more pages were written than 2,720 for each but one make.
+abbrev pub WritesUpTo : Store → Store → ℕ → Type 0
+WritesUpTo old new bytes = 2720 * length new.made ≤ 2720 * length old.made + (bytes + 2719)
 
 -- These pages were written of so many bytes: more than 2,720 for each but one.
 pub record AreFewPages (old new : Store) (bytes : ℕ) (above : List Stub) : Type 0 where
@@ -146,3 +188,8 @@ pub record IsFewTop (old new : Store) (most : ℕ) (top : Sheaf) : Type 0 where
   pub little : IsLittle (2720 * 2 ^ halvings) top
   pub made : MakesUpTo old new pages
   pub enough : pages + (2 * 2 ^ halvings - 1) ≤ most
+
+-- that, or a fault by which no more were made
+abbrev pub EndsTop : Store → Store → ℕ → Result Loose TreeFault → Type 0
+EndsTop old new most result = MatchResult result (λ top. IsFewTop old new most (sheaf_in top))
+    (λ e. MakesUpTo old new most)

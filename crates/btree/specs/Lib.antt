@@ -9,6 +9,7 @@ pub mod Loose
 pub mod LooseView
 pub mod OneChild
 pub mod Reach
+pub mod Reading
 pub mod Scan
 pub mod Search
 pub mod Store

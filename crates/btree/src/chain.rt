@@ -1,7 +1,8 @@
 // Values that lie in chains of pages.
-ghost use Rattle.std.specs.Prelude.{◌≡◌, ◌*◌, ◌+◌, ◌<◌, ◌≤◌, ℕ, List, length};
-ghost use Rattle.btree.specs.Few.{Costs};
+ghost use Rattle.std.specs.Prelude.{◌≡◌, ◌*◌, ◌+◌, ◌<◌, ◌≤◌, ℕ, List, length, IfErr};
+ghost use Rattle.btree.specs.Few.{Costs, chain_pages};
 ghost use Rattle.btree.specs.Keys.{Pair};
+ghost use Rattle.btree.specs.Reading.{IsNotFull};
 ghost use Rattle.btree.specs.Store.{Grows, IsSame, KeepsWord, Store};
 ghost use Rattle.btree.specs.Tree.{HasLinks, HasChain, next_of, place_of};
 ghost use Rattle.btree.specs.View.{place_in};
@@ -24,6 +25,8 @@ pub(crate) fn chain_bytes<P: Pages>(
     ensures grows { Grows (P.store pages.old) (P.store pages.new) }
     ensures same { KeepsWord (P.store pages.new)
         → IsSame (P.store pages.old) (P.store pages.new) }
+    ensures takes { (P.store pages.new).full_takes ≡ (P.store pages.old).full_takes }
+    ensures full { IfErr result IsNotFull }
     ensures reads { (links value : List ℕ) → HasLinks (P.store pages.old) links value
         → next_of links ≡ first
         → length value ≡ len
@@ -59,6 +62,8 @@ pub(crate) fn value_bytes<P: Pages>(
     ensures grows { Grows (P.store pages.old) (P.store pages.new) }
     ensures same { KeepsWord (P.store pages.new)
         → IsSame (P.store pages.old) (P.store pages.new) }
+    ensures takes { (P.store pages.new).full_takes ≡ (P.store pages.old).full_takes }
+    ensures full { IfErr result IsNotFull }
     ensures reads { (x : Pair) → place_in stored.entry ≡ place_of x.links x.value
         → HasChain (P.store pages.old) x
         → Reads (λ v. v.items) (P.store pages.old) (P.store pages.new) x.value result }
@@ -85,6 +90,8 @@ pub(crate) fn write_chain<P: Pages>(
     value: &[u8],
 ) -> Result<u32, TreeFault>
     ensures grows { Grows (P.store pages.old) (P.store pages.new) }
+    ensures few { 330 < length value.now
+        → Costs (P.store pages.old) (P.store pages.new) (chain_pages value.now) }
     ensures writes { WritesChain (P.store pages.old) (P.store pages.new) value.now result }
 {
     let mut next = 0;
@@ -102,7 +109,7 @@ pub(crate) fn write_chain<P: Pages>(
 /// Retires the pages of a chain.
 pub(crate) fn retire_chain<P: Pages>(pages: &mut P, first: u32, len: u32) -> Result<(), TreeFault>
     ensures grows { Grows (P.store pages.old) (P.store pages.new) }
-    ensures few { Costs (P.store pages.old) (P.store pages.new) 0 result }
+    ensures few { Costs (P.store pages.old) (P.store pages.new) 0 }
     ensures retires { (links value : List ℕ) → HasLinks (P.store pages.old) links value
         → next_of links ≡ first
         → length value ≡ len → Retires (P.store pages.old) (P.store pages.new) links result }

@@ -136,7 +136,7 @@ fn change_cells<P: Pages>(
 ) -> Result<Loose, TreeFault>
     requires { Each HasRoom edits.now }
     ensures grows { Grows (P.store pages.old) (P.store pages.new) }
-    ensures few { length edits.now ≡ 1 → GivesFew (P.store pages.old) (P.store pages.new) rank 5440
+    ensures few { length edits.now ≤ 1 → GivesFew (P.store pages.old) (P.store pages.new) rank 5440
         (sum_of edit_pages (map edit_in edits.now)) result }
     ensures turns { (base : ℕ) (low : List ℕ) (high : Option (List ℕ)) (pairs : List Pair)
         → rank ≡ base → leaf.now ≡ map item_of pairs → IsSound zero low high pairs
@@ -165,7 +165,7 @@ fn change_leaf<P: Pages>(
 ) -> Result<Loose, TreeFault>
     requires { Each HasRoom edits.now }
     ensures grows { Grows (P.store pages.old) (P.store pages.new) }
-    ensures few { length edits.now ≡ 1 → GivesFewOrOne (P.store pages.old) (P.store pages.new) rank
+    ensures few { length edits.now ≤ 1 → GivesFewOrOne (P.store pages.old) (P.store pages.new) rank
         5440 (sum_of edit_pages (map edit_in edits.now)) result }
     ensures turns { (base : ℕ) (low : List ℕ) (high : Option (List ℕ)) (pairs : List Pair)
         → rank ≡ base → leaf.now ≡ map item_of pairs → IsSound zero low high pairs
@@ -260,7 +260,7 @@ pub(crate) fn change_below<P: Pages>(
 ) -> Result<Loose, TreeFault>
     requires { Each HasRoom edits.now }
     ensures grows { Grows (P.store pages.old) (P.store pages.new) }
-    ensures few { length edits.now ≡ 1 → 6 + length low.now ≤ 1360
+    ensures few { length edits.now ≤ 1 → 6 + length low.now ≤ 1360
         → GivesFewOrOne (P.store pages.old) (P.store pages.new) rank 10880
         (4 * rank + sum_of edit_pages (map edit_in edits.now)) result }
     ensures turns { (base d : ℕ) (high : Option (List ℕ)) (body : Body d) → rank ≡ base + d
@@ -309,7 +309,7 @@ fn change_child<P: Pages>(
     requires place { at < length branch.now }
     requires rank { 0 < rank }
     ensures grows { Grows (P.store pages.old) (P.store pages.new) }
-    ensures few { length edits.now ≡ 1 → 6 + length low.now ≤ 1360
+    ensures few { length edits.now ≤ 1 → 6 + length low.now ≤ 1360
         → GivesFewOrOne (P.store pages.old) (P.store pages.new) rank 10880
         (4 * rank + sum_of edit_pages (map edit_in edits.now)) result }
     ensures turns { (base : ℕ) (high : Option (List ℕ)) (entries : List Entry) (reached : List ℕ)
@@ -342,7 +342,8 @@ fn change_children<P: Pages>(
     ensures none { length edits.now ≡ 0
         → (result ≡ Ok loose) × (P.store pages.new ≡ P.store pages.old) }
     ensures some { 0 < length edits.now → IfOk result (λ done. 0 < length loose.units.items) }
-    ensures few { length edits.now ≡ 1 → IsLittle 5440 (sheaf_in loose)
+    ensures empty { length loose.units.items ≡ 0 → P.store pages.new ≡ P.store pages.old }
+    ensures few { length edits.now ≤ 1 → IsLittle 5440 (sheaf_in loose)
         → 2 ≤ length loose.units.items
         → GivesFew (P.store pages.old) (P.store pages.new) loose.rank 10880
         (4 * loose.rank + sum_of edit_pages (map edit_in edits.now)) result }

@@ -36,7 +36,7 @@ fn place_among(cells: &[Cell<'_>], key: &[u8]) -> usize
 /// Retires the pages of a value.
 pub(crate) fn retire_value<P: Pages>(pages: &mut P, stored: Stored<'_>) -> Result<(), TreeFault>
     ensures grows { Grows (P.store pages.old) (P.store pages.new) }
-    ensures few { Costs (P.store pages.old) (P.store pages.new) 0 result }
+    ensures few { Costs (P.store pages.old) (P.store pages.new) 0 }
     ensures retires { (x : Pair) → place_in stored.entry ≡ place_of x.links x.value
         → HasChain (P.store pages.old) x
         → Retires (P.store pages.old) (P.store pages.new) x.links result }
@@ -58,7 +58,7 @@ fn take_out<P: Pages>(
     ensures within { IfOk result (λ at. at ≤ length cells.new.items) }
     ensures small { Each IsItem (map item_in cells.old.items)
         → Each IsItem (map item_in cells.new.items) }
-    ensures few { Costs (P.store pages.old) (P.store pages.new) 0 result }
+    ensures few { Costs (P.store pages.old) (P.store pages.new) 0 }
     ensures size { total item_size (map item_in cells.new.items)
         ≤ total item_size (map item_in cells.old.items) }
     ensures takes { (pairs : List Pair) → map item_in cells.old.items ≡ map item_of pairs
@@ -107,7 +107,7 @@ pub(crate) fn stored_value<'a, P: Pages>(
     ensures grows { Grows (P.store pages.old) (P.store pages.new) }
     ensures small { IfOk result (λ stored. IsSmallPlace (place_in stored)) }
     ensures size { IfOk result (λ stored. place_size (place_in stored) ≡ value_room value.now) }
-    ensures few { Costs (P.store pages.old) (P.store pages.new) (chain_pages value.now) result }
+    ensures few { Costs (P.store pages.old) (P.store pages.new) (chain_pages value.now) }
     ensures stores { StoresValue (P.store pages.old) (P.store pages.new) value.now result }
 {
     if value.len() <= INLINE {
@@ -132,7 +132,7 @@ fn put_in<'a, P: Pages>(
     ensures small { Each IsItem (map item_in cells.old.items)
         → IfOk result (λ done. Each IsItem (map item_in cells.new.items)) }
     ensures grows { Grows (P.store pages.old) (P.store pages.new) }
-    ensures few { Costs (P.store pages.old) (P.store pages.new) (chain_pages value.now) result }
+    ensures few { Costs (P.store pages.old) (P.store pages.new) (chain_pages value.now) }
     ensures size { IfOk result (λ done. total item_size (map item_in cells.new.items)
         ≤ total item_size (map item_in cells.old.items) + 1360) }
     ensures puts { PutsIn (P.store pages.old) (P.store pages.new) key.now value.now at
@@ -156,8 +156,7 @@ fn edit_cell<'a, P: Pages>(
     ensures grows { Grows (P.store pages.old) (P.store pages.new) }
     ensures small { Each IsItem (map item_in cells.old.items)
         → IfOk result (λ done. Each IsItem (map item_in cells.new.items)) }
-    ensures few { Costs (P.store pages.old) (P.store pages.new) (edit_pages (edit_in edit.entry))
-        result }
+    ensures few { Costs (P.store pages.old) (P.store pages.new) (edit_pages (edit_in edit.entry)) }
     ensures size { IfOk result (λ done. total item_size (map item_in cells.new.items)
         ≤ total item_size (map item_in cells.old.items) + 1360) }
     ensures edits { (pairs : List Pair) → map item_in cells.old.items ≡ map item_of pairs
@@ -185,7 +184,7 @@ pub(crate) fn edit_cells<'a, P: Pages>(
     ensures small { Each IsItem (map item_in cells.old.items)
         → IfOk result (λ done. Each IsItem (map item_in cells.new.items)) }
     ensures few { Costs (P.store pages.old) (P.store pages.new)
-        (sum_of edit_pages (map edit_in edits.now)) result }
+        (sum_of edit_pages (map edit_in edits.now)) }
     ensures size { IfOk result (λ done. total item_size (map item_in cells.new.items)
         ≤ total item_size (map item_in cells.old.items) + 1360 * length edits.now) }
     ensures edits { (pairs : List Pair) → map item_in cells.old.items ≡ map item_of pairs

@@ -1,7 +1,8 @@
 // Entries of a range in ascending order of their keys, lent one after the other while their leaf is borrowed.
-ghost use Rattle.std.specs.Prelude.{◌≡◌, ◌++◌, ◌∷◌, [], Ok, ℕ, zero, length, List, map, false, true, OnOk};
+ghost use Rattle.std.specs.Prelude.{◌≡◌, ◌++◌, ◌∷◌, [], Ok, ℕ, zero, length, List, map, false, true, OnOk, IfErr};
 ghost use Rattle.std.specs.Option.{option_map};
 ghost use Rattle.btree.specs.Keys.{Pair, Rises, entry_of, Entry};
+ghost use Rattle.btree.specs.Reading.{IsNotFull};
 ghost use Rattle.btree.specs.Store.{Grows, IsSame, KeepsWord, Store};
 ghost use Rattle.btree.specs.Tree.{Body, HasChain, HasLinks, IsTree, Shows, entries_of, item_of, next_of, pair_keys};
 ghost use Rattle.btree.specs.View.{item_in};
@@ -64,6 +65,8 @@ fn lend_chained<P: Pages, F: Fold>(
     ensures grows { Grows (P.store pages.old) (P.store pages.new) }
     ensures same { KeepsWord (P.store pages.new)
         → IsSame (P.store pages.old) (P.store pages.new) }
+    ensures takes { (P.store pages.new).full_takes ≡ (P.store pages.old).full_takes }
+    ensures full { IfErr result IsNotFull }
     ensures lent { (start : F) → HasTaken F.makes start fold.old
         → OnOk result (HasTaken F.makes start fold.new) }
     ensures folds { (start : F) (all : List Entry) (links value : List ℕ)
@@ -89,6 +92,8 @@ fn lend<P: Pages, F: Fold>(
     ensures grows { Grows (P.store pages.old) (P.store pages.new) }
     ensures same { KeepsWord (P.store pages.new)
         → IsSame (P.store pages.old) (P.store pages.new) }
+    ensures takes { (P.store pages.new).full_takes ≡ (P.store pages.old).full_takes }
+    ensures full { IfErr result IsNotFull }
     ensures lent { (start : F) → HasTaken F.makes start fold.old
         → OnOk result (HasTaken F.makes start fold.new) }
     ensures folds { (start : F) (all : List Entry) (x : Pair) → item_in cell.entry ≡ item_of x
@@ -113,6 +118,8 @@ fn fold_leaf<P: Pages, F: Fold>(
     ensures grows { Grows (P.store pages.old) (P.store pages.new) }
     ensures same { KeepsWord (P.store pages.new)
         → IsSame (P.store pages.old) (P.store pages.new) }
+    ensures takes { (P.store pages.new).full_takes ≡ (P.store pages.old).full_takes }
+    ensures full { IfErr result IsNotFull }
     ensures lent { (start : F) → HasTaken F.makes start fold.old
         → OnOk result (HasTaken F.makes start fold.new) }
     ensures folds { (start : F) (all : List Entry) (pairs : List Pair)
@@ -148,6 +155,8 @@ fn fold_below<P: Pages, F: Fold>(
     ensures grows { Grows (P.store pages.old) (P.store pages.new) }
     ensures same { KeepsWord (P.store pages.new)
         → IsSame (P.store pages.old) (P.store pages.new) }
+    ensures takes { (P.store pages.new).full_takes ≡ (P.store pages.old).full_takes }
+    ensures full { IfErr result IsNotFull }
     ensures lent { (start : F) → HasTaken F.makes start fold.old
         → OnOk result (HasTaken F.makes start fold.new) }
     ensures folds { (start : F) (all : List Entry) (d : ℕ) (body : Body d)
@@ -198,6 +207,8 @@ pub fn fold_entries<P: Pages, F: Fold>(
     ensures grows { Grows (P.store pages.old) (P.store pages.new) }
     ensures same { KeepsWord (P.store pages.new)
         → IsSame (P.store pages.old) (P.store pages.new) }
+    ensures takes { (P.store pages.new).full_takes ≡ (P.store pages.old).full_takes }
+    ensures full { IfErr result IsNotFull }
     ensures empty { root ≡ 0 → (result ≡ Ok tt) × (fold.new ≡ fold.old) }
     ensures lent { (start : F) → HasTaken F.makes start fold.old
         → OnOk result (HasTaken F.makes start fold.new) }

@@ -70,7 +70,7 @@ fn cut_key<P: Pages>(
 ) -> Result<(Leaf, usize), TreeFault>
     requires { 2 ≤ length leaf }
     ensures grows { Grows (P.store pages.old) (P.store pages.new) }
-    ensures few { Costs (P.store pages.old) (P.store pages.new) 0 result }
+    ensures few { Costs (P.store pages.old) (P.store pages.new) 0 }
     ensures len { IfOk result (λ cut. length leaf ≤ length cut.0 + 1) }
     ensures size { IfOk result (λ cut. total item_size cut.0 ≤ total item_size leaf) }
     ensures sound { IfOk result (λ cut. IsLeaf cut.0) }
@@ -108,7 +108,7 @@ fn put_cell<P: Pages>(
     requires value { length value.now < 2 ^ 32 }
     requires room { total item_size leaf.now + put_room key.now (Some value.now) ≤ 4080 }
     ensures grows { Grows (P.store pages.old) (P.store pages.new) }
-    ensures few { Costs (P.store pages.old) (P.store pages.new) (chain_pages value.now) result }
+    ensures few { Costs (P.store pages.old) (P.store pages.new) (chain_pages value.now) }
     ensures len { IfOk result (λ made. length leaf.now ≤ length made) }
     ensures size { IfOk result (λ made. total item_size made
         ≤ total item_size leaf.now + put_room key.now (Some value.now)) }
@@ -131,8 +131,7 @@ fn edit_leaf<P: Pages>(
     requires two { 2 ≤ length leaf }
     requires room { total item_size leaf + edit_room (edit_in edit) ≤ 4080 }
     ensures grows { Grows (P.store pages.old) (P.store pages.new) }
-    ensures few { Costs (P.store pages.old) (P.store pages.new) (edit_pages (edit_in edit.entry))
-        result }
+    ensures few { Costs (P.store pages.old) (P.store pages.new) (edit_pages (edit_in edit.entry)) }
     ensures len { IfOk result (λ made. length leaf ≤ length made + 1) }
     ensures size { IfOk result (λ made. total item_size made
         ≤ total item_size leaf + edit_room (edit_in edit.entry)) }
@@ -160,7 +159,7 @@ pub(crate) fn edit_page<P: Pages>(
     requires room { total item_size leaf.now + sum_of edit_room (map edit_in edits.now) ≤ 4080 }
     ensures grows { Grows (P.store pages.old) (P.store pages.new) }
     ensures few { Costs (P.store pages.old) (P.store pages.new)
-        (sum_of edit_pages (map edit_in edits.now)) result }
+        (sum_of edit_pages (map edit_in edits.now)) }
     ensures edits { (pairs : List Pair) → leaf.now ≡ map item_of pairs → Rises (pair_keys pairs)
         → Shows (P.store pages.old) zero pairs
         → Yields (P.store pages.old) (P.store pages.new) (λ made. IsEdited (P.store pages.old)

@@ -1,5 +1,5 @@
 // Joining what was taken out of neighbouring pages.
-ghost use Rattle.std.specs.Prelude.{◌≡◌, ◌<◌, ◌≤◌, ◌+◌, ◌++◌, ◌∷◌, ℕ, List, Option, Some, false, true, length, map, IfErr, IfOk};
+ghost use Rattle.std.specs.Prelude.{◌≡◌, ◌<◌, ◌≤◌, ◌+◌, ◌++◌, ◌∷◌, ℕ, List, Option, Some, false, true, length, map, IfErr, IfOk, MatchResult};
 ghost use Rattle.btree.specs.Change.{IsBehind};
 ghost use Rattle.btree.specs.Few.{AreFewOff, IsLittle, GivesFew, JoinsFew, MakesUpTo};
 ghost use Rattle.btree.specs.Keys.{Each, Entry, IsNotUnder};
@@ -72,8 +72,9 @@ fn take_last<P: Pages>(
     ensures back_rank { IfOk result (λ parts. parts.1.rank + 1 ≡ loose.rank) }
     ensures back { IfOk result (λ parts. 0 < length parts.1.units.items) }
     ensures few { KeepsWord (P.store pages.new) → Each IsStub (map stub_in loose.units.items)
-        → IfOk result (λ parts. AreFewOff (P.store pages.old) (P.store pages.new)
-        (map stub_in loose.units.items) (sheaf_in parts.0) (sheaf_in parts.1)) }
+        → MatchResult result (λ parts. AreFewOff (P.store pages.old) (P.store pages.new)
+        (map stub_in loose.units.items) (sheaf_in parts.0) (sheaf_in parts.1))
+        (λ e. MakesUpTo (P.store pages.old) (P.store pages.new) 0) }
     ensures parts { (base : ℕ) (low : List ℕ) (high : Option (List ℕ)) (entries : List Entry)
         (reached : List ℕ)
         → IsHeld (P.store pages.old) base low high entries reached (sheaf_in loose)
@@ -110,8 +111,9 @@ fn take_first<P: Pages>(
     ensures back { IfOk result
         (λ parts. length parts.1.units.items + 1 ≡ length loose.units.items) }
     ensures few { KeepsWord (P.store pages.new) → Each IsStub (map stub_in loose.units.items)
-        → IfOk result (λ parts. AreFewOff (P.store pages.old) (P.store pages.new)
-        (map stub_in loose.units.items) (sheaf_in parts.1) (sheaf_in parts.0)) }
+        → MatchResult result (λ parts. AreFewOff (P.store pages.old) (P.store pages.new)
+        (map stub_in loose.units.items) (sheaf_in parts.1) (sheaf_in parts.0))
+        (λ e. MakesUpTo (P.store pages.old) (P.store pages.new) 0) }
     ensures parts { (base : ℕ) (low : List ℕ) (high : Option (List ℕ)) (entries : List Entry)
         (reached : List ℕ)
         → IsHeld (P.store pages.old) base low high entries reached (sheaf_in loose)
@@ -280,7 +282,9 @@ pub(crate) fn meet_behind<P: Pages>(
         → JoinsFew 10880 (P.store pages.old) (P.store pages.new) (sheaf_in left)
         (sheaf_in right) result }
     ensures none { length right.units.items ≡ 0 → KeepsWord (P.store pages.new)
-        → IfOk result (λ both. (both ≡ left) × MakesUpTo (P.store pages.old) (P.store pages.new) 0) }
+        → MatchResult result
+        (λ both. (both ≡ left) × MakesUpTo (P.store pages.old) (P.store pages.new) 0)
+        (λ e. MakesUpTo (P.store pages.old) (P.store pages.new) 0) }
     ensures turns { (base : ℕ) (low : List ℕ) (between high : Option (List ℕ))
         (first last : List Entry) (left_pages right_pages : List ℕ)
         → IsHeld (P.store pages.old) base low between first left_pages (sheaf_in left)

@@ -1,7 +1,8 @@
 // The value at a key.
-ghost use Rattle.std.specs.Prelude.{◌≡◌, None, Ok, ℕ, zero, List, map};
+ghost use Rattle.std.specs.Prelude.{◌≡◌, None, Ok, ℕ, zero, List, map, IfErr};
 ghost use Rattle.std.specs.Option.{option_map};
 ghost use Rattle.btree.specs.Keys.{IsBetween, Pair, Rises, entry_of, find};
+ghost use Rattle.btree.specs.Reading.{IsNotFull};
 ghost use Rattle.btree.specs.Store.{Grows, IsSame, KeepsWord, Store};
 ghost use Rattle.btree.specs.Tree.{Body, IsTree, Shows, entries_of, item_of, pair_keys};
 ghost use Rattle.btree.specs.View.{item_in};
@@ -41,6 +42,8 @@ fn value_in_leaf<P: Pages>(
     ensures grows { Grows (P.store pages.old) (P.store pages.new) }
     ensures same { KeepsWord (P.store pages.new)
         → IsSame (P.store pages.old) (P.store pages.new) }
+    ensures takes { (P.store pages.new).full_takes ≡ (P.store pages.old).full_takes }
+    ensures full { IfErr result IsNotFull }
     ensures looks { (pairs : List Pair) → leaf.now ≡ map item_of pairs → Rises (pair_keys pairs)
         → Shows (P.store pages.old) zero pairs
         → Looks (λ v. v.items) (P.store pages.old) (P.store pages.new) key.now
@@ -66,6 +69,8 @@ pub(crate) fn get_below<P: Pages>(
     ensures grows { Grows (P.store pages.old) (P.store pages.new) }
     ensures same { KeepsWord (P.store pages.new)
         → IsSame (P.store pages.old) (P.store pages.new) }
+    ensures takes { (P.store pages.new).full_takes ≡ (P.store pages.old).full_takes }
+    ensures full { IfErr result IsNotFull }
     ensures looks { (d : ℕ) (body : Body d)
         → IsPart (P.store pages.old) page level d low.now (option_map (λ b. b.now) high.entry) body
         → IsBetween low.now (option_map (λ b. b.now) high.entry) key.now
@@ -111,6 +116,8 @@ pub fn get<P: Pages>(
     ensures grows { Grows (P.store pages.old) (P.store pages.new) }
     ensures same { KeepsWord (P.store pages.new)
         → IsSame (P.store pages.old) (P.store pages.new) }
+    ensures takes { (P.store pages.new).full_takes ≡ (P.store pages.old).full_takes }
+    ensures full { IfErr result IsNotFull }
     ensures empty { root ≡ 0 → result ≡ Ok None }
     ensures looks { (d : ℕ) (body : Body d) → IsTree (P.store pages.old) root d body
         → Looks (λ v. v.items) (P.store pages.old) (P.store pages.new) key.now

@@ -2,7 +2,7 @@
 ghost use Rattle.std.specs.Prelude.{◌≡◌, ◌<◌, ◌≤◌, ◌+◌, ◌++◌, ◌∷◌, ℕ, List, Option, length, map, IfErr, IfOk, MatchResult};
 ghost use Rattle.page.specs.Content.{Arm, IsBranch, IsLeaf, Item};
 ghost use Rattle.btree.specs.Keys.{Each, Entry};
-ghost use Rattle.btree.specs.Few.{AreFewPages, GivesFew};
+ghost use Rattle.btree.specs.Few.{AreFewPages, GivesFew, WritesUpTo};
 ghost use Rattle.btree.specs.Loose.{IsStub, arm_stub, item_stub, lowered, stubs_of, stubs_size, under_key};
 ghost use Rattle.btree.specs.LooseView.{stub_in};
 ghost use Rattle.btree.specs.Store.{Grows, IsAt, KeepsWord, Store};
@@ -111,8 +111,10 @@ pub(crate) fn raise<P: Pages>(
     ensures some { 0 < length loose.units.items
         → IfOk result (λ above. 0 < length above.units.items) }
     ensures few { KeepsWord (P.store pages.new) → Each IsStub (map stub_in loose.units.items)
-        → IfOk result (λ above. AreFewPages (P.store pages.old) (P.store pages.new)
-        (stubs_size (map stub_in loose.units.items)) (map stub_in above.units.items)) }
+        → MatchResult result (λ above. AreFewPages (P.store pages.old) (P.store pages.new)
+        (stubs_size (map stub_in loose.units.items)) (map stub_in above.units.items))
+        (λ e. WritesUpTo (P.store pages.old) (P.store pages.new)
+        (stubs_size (map stub_in loose.units.items))) }
     ensures turns { (base : ℕ) (low : List ℕ) (high : Option (List ℕ)) (entries : List Entry)
         (reached : List ℕ)
         → IsHeld (P.store pages.old) base low high entries reached (sheaf_in loose)

@@ -1,5 +1,6 @@
 // The pages of a tree.
 ghost use Rattle.std.specs.Prelude.{◌≡◌, IfErr, IfOk, MatchResult};
+ghost use Rattle.btree.specs.Reading.{IsNotFull};
 ghost use Rattle.btree.specs.Store.{HasCause, HasFailed, IsAt, IsMade, IsRetired, IsSame, KeepsWord, Stays, Store};
 ghost use Rattle.page.specs.Content.{Content};
 ghost use Rattle.page.specs.Format.{IsFit};
@@ -43,10 +44,13 @@ pub trait Pages {
     /// The pages now.
     ghost store: { Self → Store };
 
-    /// The page of this number. Device where the device failed; one of the other faults where it is no page.
+    /// The page of this number. Device where the device failed; one of the other faults where it is no page. It takes no
+    /// page.
     fn read(&mut self, page: u32) -> Result<SharedPage, TreeFault>
         ensures stays { Stays (store self.old) (store self.new) }
         ensures same { KeepsWord (store self.new) → IsSame (store self.old) (store self.new) }
+        ensures takes { (store self.new).full_takes ≡ (store self.old).full_takes }
+        ensures full { IfErr result IsNotFull }
         ensures value { KeepsWord (store self.new)
             → IfOk result (λ shared. (store self.old).page page ≡ shared.content) }
         ensures cause { KeepsWord (store self.new) → (content : Content)

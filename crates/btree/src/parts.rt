@@ -2,7 +2,7 @@
 ghost use Rattle.std.specs.Prelude.{◌≡◌, ◌<◌, ◌≤◌, ◌∷◌, [], ◌^◌, ℕ, None, Option, List, length, map, IfErr, IfOk, MatchResult, OnOk, ◌++◌};
 ghost use Rattle.page.specs.Content.{Arm, Item, branch as branch_content, leaf as leaf_content};
 ghost use Rattle.page.specs.Format.{IsFit};
-ghost use Rattle.btree.specs.Few.{AreFewPages, IsOnePage};
+ghost use Rattle.btree.specs.Few.{AreFewPages, IsOnePage, MakesUpTo, WritesUpTo};
 ghost use Rattle.btree.specs.Loose.{GoBehind, IsEnough, IsSpread, IsStub, arm_stub, bare, bare_arms, item_stub, stubs_of, stubs_size};
 ghost use Rattle.btree.specs.Store.{Store, Grows, KeepsWord};
 ghost use Rattle.btree.specs.Tree.{Body, Shows, content_of};
@@ -193,8 +193,9 @@ pub(crate) fn child_unit(key: Vec<u8>, page: u32) -> Unit
 // Writes cells or children to a page, and gives what stands for it above.
 fn write_part<P: Pages>(alloc: Global, pages: &mut P, units: &[Unit]) -> Result<Unit, TreeFault>
     ensures grows { Grows (P.store pages.old) (P.store pages.new) }
-    ensures one { KeepsWord (P.store pages.new) → IfOk result (λ unit.
-        IsOnePage (P.store pages.old) (P.store pages.new) (map stub_in units.now) (stub_in unit)) }
+    ensures one { KeepsWord (P.store pages.new) → MatchResult result (λ unit.
+        IsOnePage (P.store pages.old) (P.store pages.new) (map stub_in units.now) (stub_in unit))
+        (λ e. MakesUpTo (P.store pages.old) (P.store pages.new) 0) }
     ensures writes { (d : ℕ) (body : Body d) → map stub_in units.now ≡ stubs_of d body
         → IsEnough d (map stub_in units.now) → GoBehind None 0 (map stub_in units.now)
         → WritesPart (P.store pages.old) (P.store pages.new) d body result }
@@ -218,8 +219,10 @@ pub(crate) fn write_parts<P: Pages>(
     ensures grows { Grows (P.store pages.old) (P.store pages.new) }
     ensures some { 0 < length units.now → IfOk result (λ above. 0 < length above.items) }
     ensures few { KeepsWord (P.store pages.new) → Each IsStub (map stub_in units.now)
-        → IfOk result (λ above. AreFewPages (P.store pages.old) (P.store pages.new)
-        (stubs_size (map stub_in units.now)) (map stub_in above.items)) }
+        → MatchResult result (λ above. AreFewPages (P.store pages.old) (P.store pages.new)
+        (stubs_size (map stub_in units.now)) (map stub_in above.items))
+        (λ e. WritesUpTo (P.store pages.old) (P.store pages.new)
+        (stubs_size (map stub_in units.now))) }
     ensures writes { (d : ℕ) (low : List ℕ) (high : Option (List ℕ)) (body : Body d)
         → map stub_in units.now ≡ stubs_of d body → IsEnough d (map stub_in units.now)
         → MayFill d fills → Each IsStub (map stub_in units.now) → IsSpread d low high body

@@ -1,13 +1,14 @@
 // A change of a whole tree, which gives a new root.
-ghost use Rattle.std.specs.Prelude.{◌≡◌, ◌≤◌, ◌<◌, ◌+◌, ◌*◌, ◌-◌, ◌^◌, ◌∷◌, [], ℕ, List, Option, None, length, map, IfNone, IfOk, IfSome};
+ghost use Rattle.std.specs.Prelude.{◌≡◌, ◌≤◌, ◌<◌, ◌+◌, ◌*◌, ◌-◌, ◌^◌, ◌∷◌, [], ℕ, List, Option, None, length, map, IfNone, IfOk, IfSome, IfErr};
 ghost use Rattle.btree.specs.Calls.{IsPart, Yields};
 ghost use Rattle.btree.specs.Change.{Changes, edit_keys, put, removal};
 ghost use Rattle.btree.specs.EditView.{HasRoom, edit_in};
-ghost use Rattle.btree.specs.Few.{Costs, IsFewTop, IsLittle, IsOneChild, GivesFew, chain_pages, edit_pages, levels_of};
+ghost use Rattle.btree.specs.Few.{Costs, EndsTop, IsLittle, IsOneChild, GivesFew, chain_pages, edit_pages, levels_of};
 ghost use Rattle.btree.specs.Keys.{Each, Entry, Rises, change, sum_of};
 ghost use Rattle.btree.specs.Loose.{IsChild, Stub, child};
 ghost use Rattle.btree.specs.LooseView.{stub_in};
 ghost use Rattle.btree.specs.Reach.{HasMap};
+ghost use Rattle.btree.specs.Reading.{IsNotFull};
 ghost use Rattle.btree.specs.Store.{Grows, IsSame, KeepsWord, Store};
 ghost use Rattle.btree.specs.Tree.{Body};
 ghost use Rattle.btree.specs.Turn.{IsHeld, Turns, sheaf_in};
@@ -29,6 +30,8 @@ fn levels_below<P: Pages>(pages: &mut P, page: u32, level: u32) -> Result<u32, T
     ensures grows { Grows (P.store pages.old) (P.store pages.new) }
     ensures same { KeepsWord (P.store pages.new)
         → IsSame (P.store pages.old) (P.store pages.new) }
+    ensures takes { (P.store pages.new).full_takes ≡ (P.store pages.old).full_takes }
+    ensures full { IfErr result IsNotFull }
     ensures small { IfOk result (λ below. below ≤ 31) }
     ensures levels { (d : ℕ) (low : List ℕ) (high : Option (List ℕ)) (body : Body d)
         → IsPart (P.store pages.old) page level d low high body
@@ -71,9 +74,9 @@ fn single_page(loose: &Loose) -> Option<u32>
 fn write_root<P: Pages>(alloc: Global, pages: &mut P, top: Loose) -> Result<u32, TreeFault>
     ensures grows { Grows (P.store pages.old) (P.store pages.new) }
     ensures few { (halvings : ℕ) → IsLittle (2720 * 2 ^ halvings) (sheaf_in top)
-        → Costs (P.store pages.old) (P.store pages.new) (2 * 2 ^ halvings - 1) result }
+        → Costs (P.store pages.old) (P.store pages.new) (2 * 2 ^ halvings - 1) }
     ensures alone { IsOneChild (map stub_in top.units.items)
-        → Costs (P.store pages.old) (P.store pages.new) 0 result }
+        → Costs (P.store pages.old) (P.store pages.new) 0 }
     ensures roots { (entries : List Entry) (reached : List ℕ)
         → IsHeld (P.store pages.old) 0 [] None entries reached (sheaf_in top)
         → Changes (P.store pages.old) (P.store pages.new) entries reached result }
@@ -128,9 +131,9 @@ fn change_root<P: Pages>(
     ensures grows { Grows (P.store pages.old) (P.store pages.new) }
     ensures few { (before : List ℕ) (entries : List Entry)
         (tree : HasMap (P.store pages.old) root before entries)
-        → length edits.now ≡ 1 → KeepsWord (P.store pages.new) → IfOk result (λ top.
-        IsFewTop (P.store pages.old) (P.store pages.new)
-        (4 * levels_of tree + 3 + sum_of edit_pages (map edit_in edits.now)) (sheaf_in top)) }
+        → length edits.now ≡ 1 → KeepsWord (P.store pages.new)
+        → EndsTop (P.store pages.old) (P.store pages.new)
+        (4 * levels_of tree + 3 + sum_of edit_pages (map edit_in edits.now)) result }
     ensures turns { (before : List ℕ) (entries : List Entry)
         → HasMap (P.store pages.old) root before entries
         → Rises (edit_keys (map edit_in edits.now))
@@ -157,7 +160,7 @@ pub fn change<P: Pages>(
     ensures few { (before : List ℕ) (entries : List Entry)
         (tree : HasMap (P.store pages.old) root before entries) → length edits.now ≡ 1
         → Costs (P.store pages.old) (P.store pages.new)
-        (4 * levels_of tree + 3 + sum_of edit_pages (map edit_in edits.now)) result }
+        (4 * levels_of tree + 3 + sum_of edit_pages (map edit_in edits.now)) }
     ensures changes { (before : List ℕ) (entries : List Entry)
         → HasMap (P.store pages.old) root before entries
         → Rises (edit_keys (map edit_in edits.now))
@@ -185,7 +188,7 @@ pub fn insert<P: Pages>(
     ensures few { (before : List ℕ) (entries : List Entry)
         (tree : HasMap (P.store pages.old) root before entries)
         → Costs (P.store pages.old) (P.store pages.new)
-        (4 * levels_of tree + 3 + chain_pages value.now) result }
+        (4 * levels_of tree + 3 + chain_pages value.now) }
     ensures changes { (before : List ℕ) (entries : List Entry)
         → HasMap (P.store pages.old) root before entries
         → Changes (P.store pages.old) (P.store pages.new)
@@ -206,7 +209,7 @@ pub fn remove<P: Pages>(
     ensures grows { Grows (P.store pages.old) (P.store pages.new) }
     ensures few { (before : List ℕ) (entries : List Entry)
         (tree : HasMap (P.store pages.old) root before entries)
-        → Costs (P.store pages.old) (P.store pages.new) (4 * levels_of tree + 3) result }
+        → Costs (P.store pages.old) (P.store pages.new) (4 * levels_of tree + 3) }
     ensures changes { (before : List ℕ) (entries : List Entry)
         → HasMap (P.store pages.old) root before entries
         → Changes (P.store pages.old) (P.store pages.new)

@@ -1,7 +1,8 @@
 // Entries in ascending order of their keys, a batch at a time.
-ghost use Rattle.std.specs.Prelude.{◌≡◌, ◌++◌, ◌∷◌, [], Ok, ℕ, List, MatchResult, false, true};
+ghost use Rattle.std.specs.Prelude.{◌≡◌, ◌++◌, ◌∷◌, [], Ok, ℕ, List, MatchResult, false, true, IfErr};
 ghost use Rattle.btree.specs.Fold.{entry_at};
 ghost use Rattle.btree.specs.Keys.{Entry as MapEntry};
+ghost use Rattle.btree.specs.Reading.{IsNotFull};
 ghost use Rattle.btree.specs.Store.{Grows, IsSame, KeepsWord, Store};
 ghost use Rattle.btree.specs.Tree.{Body, IsTree, entries_of};
 ghost use Rattle.btree.specs.Calls.{Yields};
@@ -100,6 +101,8 @@ pub fn scan<P: Pages>(
     ensures grows { Grows (P.store pages.old) (P.store pages.new) }
     ensures same { KeepsWord (P.store pages.new)
         → IsSame (P.store pages.old) (P.store pages.new) }
+    ensures takes { (P.store pages.new).full_takes ≡ (P.store pages.old).full_takes }
+    ensures full { IfErr result IsNotFull }
     ensures empty { root ≡ 0 → MatchResult result (Holds range.entry.limit []) (λ e. ⊥) }
     ensures scans { (d : ℕ) (body : Body d) → IsTree (P.store pages.old) root d body
         → Yields (P.store pages.old) (P.store pages.new)

@@ -32,7 +32,7 @@ use Rattle.collections.specs.Entries.{AreNextEntries, HasEntries, ReadsTree, ent
 use Rattle.collections.specs.Reading.{LooksUp}
 use Rattle.collections.specs.State.{State}
 use Rattle.collections.specs.View.{is_stopped, pages_of}
-use Rattle.collections.proofs.ReadingLemmas.{AnswersAs, cause_there, stays_there, unchanged_there}
+use Rattle.collections.proofs.ReadingLemmas.{AnswersAs, cause_there, room_there, stays_there, unchanged_there}
 
 -- ---- the keys of a tree rise
 
@@ -211,6 +211,8 @@ module _ {D X : Type 0} (history : D → History) (P Q : List Entry → X → Ty
     on = looks.grows;
     unchanged = unchanged_there history P old pager result looks;
     same = stays_there history P old pager result looks;
+    takes = looks.takes;
+    room = room_there result r as_read looks.full;
     stays = λ k entries has. record {
       pages = has.pages;
       map = old_trees_stay (store_of history old.pager) (store_of history pager) old.root has.pages entries (looks.grows.frame k) has.map;
@@ -224,6 +226,8 @@ tree_stopped history Q old stopped = record {
   on = grows_itself (store_of history old.pager);
   unchanged = refl;
   same = λ start now has. has;
+  takes = refl;
+  room = tt;
   stays = λ k entries has. has;
   answers = λ k entries has. inr (inl (refl, inl stopped));
 }

@@ -14,6 +14,7 @@ use Rattle.btree.specs.Calls.{IsAnswer, Yields}
 use Rattle.btree.specs.Fold.{between}
 use Rattle.btree.specs.Keys.{Entry, window}
 use Rattle.btree.specs.Reach.{HasMap}
+use Rattle.btree.specs.Reading.{IsNotFull}
 use Rattle.btree.specs.Store.{Grows, IsSame, KeepsWord as KeepsStore}
 use Rattle.btree.specs.Tree.{Body, IsTree, entries_of}
 use Rattle.btree.specs.declared.folding.Bounds.{Bounds}
@@ -92,12 +93,13 @@ module _ {F : Type 0} (makes : F → List Pairs → F → Type 0) (start now : L
 pub looks_lent : {D F : Type 0} (history : D → History) (makes : F → List Pairs → F → Type 0) (start now : Lending F) (bounds : Bounds) (root : ℕ)
     (result : Result (Unit {0}) TreeFault) (old new : PagerState D) → Grows (store_of history old) (store_of history new)
     → (KeepsStore (store_of history new) → IsSame (store_of history old) (store_of history new))
+    → (store_of history new).full_takes ≡ (store_of history old).full_takes → IfErr result IsNotFull
     → (root ≡ 0 → (result ≡ Ok tt) × (now ≡ start))
     → ((d : ℕ) (body : Body d) → IsTree (store_of history old) root d body
     → Yields (store_of history old) (store_of history new) (λ done. Lends makes start (between bounds (entries_of d body)) now) result)
     → Lends makes start [] start → LooksUp history root (λ entries (u : Unit {0}). Lends makes start (between bounds entries) now) result old new
-looks_lent {D} {F} history makes start now bounds root result old new grows same empty folds none =
-    record { grows = grows; same = same; yields = λ pages entries has k. by_map entries k pages has }
+looks_lent {D} {F} history makes start now bounds root result old new grows same takes full empty folds none =
+    record { grows = grows; same = same; takes = takes; full = full; yields = λ pages entries has k. by_map entries k pages has }
   where
     by_map : (entries : List Entry) → KeepsStore (store_of history new) → (pages : List ℕ) → HasMap (store_of history old) root pages entries
         → IsAnswer (store_of history old) (store_of history new) (λ (u : Unit {0}). Lends makes start (between bounds entries) now) result

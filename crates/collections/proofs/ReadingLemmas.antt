@@ -1,6 +1,6 @@
 -- What a look-up in the tree says of the collections, and how answers go on from there.
 use Rattle.std.proofs.Common.{◌≡◌, ℕ, false, true, List, [], ◌∷◌, map, refl, sym, ◌∙◌, ap, subst, arith, inl, inr, Some, None}
-use Rattle.std.specs.Prelude.{◌==◌, ◌&&◌, not, is_some, Option, Result, Ok, Err, MatchResult}
+use Rattle.std.specs.Prelude.{◌==◌, ◌&&◌, not, is_some, IfErr, Option, Result, Ok, Err, MatchResult}
 use Rattle.page.specs.History.{History}
 use Rattle.path.specs.declared.refusal.Refusal.{Refusal}
 use Rattle.path.specs.declared.refusal.Refusal.TheVariants as refusals
@@ -10,6 +10,7 @@ use Rattle.std.specs.Ordering.{is_lt}
 use Rattle.std.proofs.lemmas.List.{length-map}
 use Rattle.btree.specs.Calls.{IsBatch}
 use Rattle.btree.specs.Keys.{Entry, is_within, keep_if, key_cmp, window}
+use Rattle.btree.specs.Reading.{IsNotFull}
 use Rattle.btree.specs.Scan.{Holds, entry_in}
 use Rattle.btree.specs.declared.scanning.Batch.{Batch}
 use Rattle.btree.specs.declared.scanning.Entry.{Entry as OwnEntry}
@@ -22,7 +23,7 @@ use Rattle.pager.specs.View.{store_of}
 use Rattle.entries.specs.State.{Collection}
 use Rattle.collections.specs.Applying.{refusal_of}
 use Rattle.collections.specs.Calls.{HasCause, Reads}
-use Rattle.collections.specs.Entries.{ReadsEntries}
+use Rattle.collections.specs.Entries.{IsNotForRoom, ReadsEntries}
 use Rattle.collections.specs.Reading.{LooksUp, OrMemory, ReadsOf}
 use Rattle.collections.specs.Standing.{HasState}
 use Rattle.collections.specs.State.{State}
@@ -75,6 +76,22 @@ AnswersAs (Ok x) (Ok y) = x ≡ y
 AnswersAs (Err f) (Err e) = e ≡ refusal_of f
 AnswersAs _ _ = ⊥
 
+-- what no want of a page was, none is to a command
+room_of : (f : TreeFault) → IsNotFull f → IsNotForRoom (refusal_of f)
+room_of faults.Memory other = tt
+room_of faults.Device other = tt
+room_of faults.Full other = other
+room_of faults.Kind other = tt
+room_of faults.Number other = tt
+room_of faults.Order other = tt
+room_of faults.Length other = tt
+
+pub room_there : {X : Type 0} (result : Result X TreeFault) (r : Result X Refusal) → AnswersAs result r → IfErr result IsNotFull → IfErr r IsNotForRoom
+room_there (Ok x) (Ok y) same other = tt
+room_there (Ok x) (Err e) same other = absurd same
+room_there (Err f) (Ok y) same other = absurd same
+room_there (Err f) (Err e) same other = subst IsNotForRoom (sym same) (room_of f other)
+
 module _ {D X : Type 0} {root : ℕ} (history : D → History) (IsRight : List Entry → X → Type 0) (old : State D) (pager : PagerState D)
     (result : Result X TreeFault) (looks : LooksUp history root IsRight result old.pager pager) where
   abbrev new : State D
@@ -99,16 +116,27 @@ module _ {D X : Type 0} {root : ℕ} (history : D → History) (IsRight : List E
 
 module _ {D X Y : Type 0} (history : D → History) (root : ℕ) (P : List Entry → X → Type 0) (Q : List Entry → Y → Type 0) (old new : PagerState D) where
   pub looks_refused : (e : TreeFault) → LooksUp history root P (Err e) old new → LooksUp history root Q (Err e) old new
-  looks_refused e looks = record { grows = looks.grows; same = looks.same; yields = looks.yields }
+  looks_refused e looks = record { grows = looks.grows; same = looks.same; takes = looks.takes; full = looks.full; yields = looks.yields }
 
   pub looks_on : (x : X) (y : Y) → LooksUp history root P (Ok x) old new → ((entries : List Entry) → P entries x → Q entries y)
       → LooksUp history root Q (Ok y) old new
-  looks_on x y looks on = record { grows = looks.grows; same = looks.same; yields = λ pages entries has k. on entries (looks.yields pages entries has k) }
+  looks_on x y looks on = record {
+    grows = looks.grows;
+    same = looks.same;
+    takes = looks.takes;
+    full = tt;
+    yields = λ pages entries has k. on entries (looks.yields pages entries has k);
+  }
 
-  pub looks_never : (x : X) (e : TreeFault) → LooksUp history root P (Ok x) old new → ((entries : List Entry) → P entries x → ⊥)
+  pub looks_never : (x : X) (e : TreeFault) → IsNotFull e → LooksUp history root P (Ok x) old new → ((entries : List Entry) → P entries x → ⊥)
       → LooksUp history root Q (Err e) old new
-  looks_never x e looks never = record
-      { grows = looks.grows; same = looks.same; yields = λ pages entries has k. absurd (never entries (looks.yields pages entries has k)) }
+  looks_never x e full looks never = record {
+    grows = looks.grows;
+    same = looks.same;
+    takes = looks.takes;
+    full = full;
+    yields = λ pages entries has k. absurd (never entries (looks.yields pages entries has k));
+  }
 
 pub next_same : (next : Option (Vec ℕ)) → is_some (option_map (λ v. v.items) next) ≡ is_some next
 next_same None = refl
@@ -124,6 +152,8 @@ module _ {D : Type 0} (history : D → History) (old : State D) (pager : PagerSt
     on = looks.grows;
     unchanged = unchanged_there history (λ entries all. map entry_in all.items ≡ entries) old pager result looks;
     same = stays_there history (λ entries all. map entry_in all.items ≡ entries) old pager result looks;
+    takes = looks.takes;
+    room = room_there result r as_read looks.full;
     answers = λ k entries has. answer result r as_read entries (looks.yields has.pages entries has.map k);
   }
     where
@@ -141,6 +171,8 @@ entries_stopped history old stopped = record {
   on = grows_itself (store_of history old.pager);
   unchanged = refl;
   same = λ start now has. has;
+  takes = refl;
+  room = tt;
   answers = λ k entries has. inr (inl (refl, inl stopped));
 }
 

@@ -1,6 +1,6 @@
 -- Looks at the entries of a turn's tree, one after the other.
 use Rattle.std.proofs.Common.{◌≡◌, inl, ℕ, ◌+◌, ◌<◌, ◌≤◌, Bool, true, false, not, ◌||◌, ◌&&◌, List, [], ◌∷◌, length, drop, get_or, map, Ok, Err, refl, sym, ap}
-use Rattle.std.proofs.Common.{◌∙◌, arith}
+use Rattle.std.proofs.Common.{◌∙◌, arith, subst}
 use Rattle.std.specs.Prelude.{MatchResult, Result, is_some}
 use Rattle.std.specs.Global.{Vec}
 use Rattle.std.specs.List.{list_any}
@@ -20,12 +20,12 @@ use Rattle.entries.specs.StateEntries.{key_under}
 use Rattle.index.specs.View.{texts_of}
 use Rattle.entries.proofs.OtherEditLaws.{in_range}
 use Rattle.collections.specs.Calls.{GoesFrom, HasCause}
-use Rattle.collections.specs.Entries.{HasEntries, ReadsTree}
+use Rattle.collections.specs.Entries.{HasEntries, IsNotForRoom, ReadsTree}
 use Rattle.collections.specs.IndexChecks.{has_entry, lacks_any, lacks_key, lacks_one}
 use Rattle.collections.specs.Reading.{IsBatchOf}
 use Rattle.collections.specs.Standing.{HasState}
 use Rattle.collections.specs.State.{State}
-use Rattle.collections.specs.View.{disk_history, is_changed}
+use Rattle.collections.specs.View.{disk_history, is_changed, pages_of}
 use Rattle.collections.proofs.AnyLemmas.{left_step}
 use Rattle.collections.proofs.CauseLemmas.{cause_from, word_before}
 use Rattle.collections.proofs.FoundLemmas.{whole_batch}
@@ -40,30 +40,36 @@ tree_memory history Q old e is = record {
   on = goes_from_itself history old;
   unchanged = refl;
   same = λ start now has. has;
+  takes = refl;
+  room = subst IsNotForRoom (sym is) tt;
   stays = λ k entries has. has;
   answers = λ k entries has. inl is;
 }
 
 pub tree_refused : {D X Y : Type 0} (history : D → History) (P : List Entry → X → Type 0) (Q : List Entry → Y → Type 0) (old new : State D) (e : Refusal)
     → ReadsTree history P (Err e) old new → ReadsTree history Q (Err e) old new
-tree_refused history P Q old new e reads = record
-    { on = reads.on; unchanged = reads.unchanged; same = reads.same; stays = reads.stays; answers = reads.answers }
-
--- an answer made of what was read, or want of memory
-pub tree_on : {D X Y : Type 0} (history : D → History) (P : List Entry → X → Type 0) (Q : List Entry → Y → Type 0) (old new : State D) (x : X)
-    (r : Result Y Refusal) → ReadsTree history P (Ok x) old new
-    → ((entries : List Entry) → P entries x → MatchResult r (Q entries) (λ e. e ≡ refusals.OutOfMemory)) → ReadsTree history Q r old new
-tree_on {D} {X} {Y} history P Q old new x r reads on = record {
+tree_refused history P Q old new e reads = record {
   on = reads.on;
   unchanged = reads.unchanged;
   same = reads.same;
+  takes = reads.takes;
+  room = reads.room;
   stays = reads.stays;
-  answers = λ k entries has. or_cause r (Q entries) (on entries (reads.answers k entries has));
+  answers = reads.answers;
 }
-  where
-    or_cause : (r : Result Y Refusal) (R : Y → Type 0) → MatchResult r R (λ e. e ≡ refusals.OutOfMemory) → MatchResult r R (HasCause history old new)
-    or_cause (Ok y) R right = right
-    or_cause (Err e) R is = inl is
+
+-- an answer made of what was read
+pub tree_on : {D X Y : Type 0} (history : D → History) (P : List Entry → X → Type 0) (Q : List Entry → Y → Type 0) (old new : State D) (x : X) (y : Y)
+    → ReadsTree history P (Ok x) old new → ((entries : List Entry) → P entries x → Q entries y) → ReadsTree history Q (Ok y) old new
+tree_on history P Q old new x y reads on = record {
+  on = reads.on;
+  unchanged = reads.unchanged;
+  same = reads.same;
+  takes = reads.takes;
+  room = tt;
+  stays = reads.stays;
+  answers = λ k entries has. on entries (reads.answers k entries has);
+}
 
 -- a look and then another, of which the answer is that of both
 pub tree_then : {D X Y : Type 0} (history : D → History) (P : List Entry → X → Type 0) (Q R : List Entry → Y → Type 0) (old mid new : State D) (x : X)
@@ -74,6 +80,8 @@ tree_then {D} {X} {Y} history P Q R old mid new x r first second both = record {
   on = goes_further history old mid new first.on second.on;
   unchanged = second.unchanged ∙ first.unchanged;
   same = λ start now has. second.same start now (first.same start now has);
+  takes = second.takes ∙ first.takes;
+  room = second.room;
   stays = λ k entries has. second.stays k entries (first.stays (word_before history mid new second.on k) entries has);
   answers = λ k entries has.
       let k_mid = word_before history mid new second.on k in
@@ -96,17 +104,25 @@ pub record LooksTo {D : Type 0} (history : D → History) (test rest : List Entr
   pub on : GoesFrom history old new
   pub unchanged : is_changed new ≡ is_changed old
   pub same : (start now : List Collection) → HasState history old start now → HasState history new start now
+  pub takes : (pages_of history new).full_takes ≡ (pages_of history old).full_takes
   pub stays : KeepsWord (disk_history history new) → (entries : List Entry) → HasEntries history old entries → HasEntries history new entries
   pub left : KeepsWord (disk_history history new) → (entries : List Entry) → HasEntries history old entries → test entries ≡ rest entries
 
 module _ {D : Type 0} (history : D → History) (test : List Entry → Bool) where
   pub looks_none : (old : State D) → LooksTo history test test old old
-  looks_none old = record
-      { on = goes_from_itself history old; unchanged = refl; same = λ start now has. has; stays = λ k entries has. has; left = λ k entries has. refl }
+  looks_none old = record {
+    on = goes_from_itself history old;
+    unchanged = refl;
+    same = λ start now has. has;
+    takes = refl;
+    stays = λ k entries has. has;
+    left = λ k entries has. refl;
+  }
 
   as_read : (rest : List Entry → Bool) (old new : State D) → LooksTo history test rest old new
       → ReadsTree history (λ entries (u : Bool). test entries ≡ rest entries) (Ok true) old new
-  as_read rest old new far = record { on = far.on; unchanged = far.unchanged; same = far.same; stays = far.stays; answers = far.left }
+  as_read rest old new far =
+      record { on = far.on; unchanged = far.unchanged; same = far.same; takes = far.takes; room = tt; stays = far.stays; answers = far.left }
 
   module _ (rest one later : List Entry → Bool) (old mid new : State D) (far : LooksTo history test rest old mid) (split : (entries : List Entry)
       → rest entries ≡ (one entries || later entries)) where
@@ -119,6 +135,7 @@ module _ {D : Type 0} (history : D → History) (test : List Entry → Bool) whe
           on = both.on;
           unchanged = both.unchanged;
           same = both.same;
+          takes = both.takes;
           stays = both.stays;
           left = λ k entries has.
               let told = both.answers k entries has in
@@ -127,7 +144,7 @@ module _ {D : Type 0} (history : D → History) (test : List Entry → Bool) whe
 
     pub looks_found : ReadsTree history (IsTest one) (Ok true) mid new → ReadsTree history (IsTest test) (Ok true) old new
     looks_found reads =
-        tree_on history (λ entries found. (found ≡ one entries) × (test entries ≡ rest entries)) (IsTest test) old new true (Ok true)
+        tree_on history (λ entries found. (found ≡ one entries) × (test entries ≡ rest entries)) (IsTest test) old new true true
         (tree_then history (λ entries (u : Bool). test entries ≡ rest entries) (IsTest one)
         (λ entries found. (found ≡ one entries) × (test entries ≡ rest entries)) old mid new true (Ok true) (as_read rest old mid far) reads
         (λ entries y p q. (q, p)))
@@ -144,7 +161,7 @@ module _ {D : Type 0} (history : D → History) (test : List Entry → Bool) whe
   pub looks_end : (rest : List Entry → Bool) (old new : State D) → LooksTo history test rest old new → ((entries : List Entry) → rest entries ≡ false)
       → ReadsTree history (IsTest test) (Ok false) old new
   looks_end rest old new far none =
-      tree_on history (λ entries (u : Bool). test entries ≡ rest entries) (IsTest test) old new true (Ok false) (as_read rest old new far)
+      tree_on history (λ entries (u : Bool). test entries ≡ rest entries) (IsTest test) old new true false (as_read rest old new far)
       (λ entries told. sym (told ∙ none entries))
 
 -- ---- a key
@@ -160,11 +177,11 @@ module _ {D : Type 0} (history : D → History) (number : ℕ) (i : Definition) 
   second_part entries = i.is_unique && has_other_key number i.number key id entries
 
   pub missing_there : ReadsTree history Has (Ok false) old mid → ReadsTree history Lacks (Ok true) old mid
-  missing_there reads = tree_on history Has Lacks old mid false (Ok true) reads (λ entries told. ap (λ (b : Bool). not b || second_part entries) told)
+  missing_there reads = tree_on history Has Lacks old mid false true reads (λ entries told. ap (λ (b : Bool). not b || second_part entries) told)
 
   pub there_alone : i.is_unique ≡ false → ReadsTree history Has (Ok true) old mid → ReadsTree history Lacks (Ok false) old mid
   there_alone plain reads =
-      tree_on history Has Lacks old mid true (Ok false) reads
+      tree_on history Has Lacks old mid true false reads
       (λ entries told. λ k. not (told k) || (sym plain k && has_other_key number i.number key id entries))
 
   pub others_there : i.is_unique ≡ true → ReadsTree history Has (Ok true) old mid → (r : Result Bool Refusal)

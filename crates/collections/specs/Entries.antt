@@ -1,6 +1,6 @@
 -- The entries of a turn's tree, whatever they spell.
 use Rattle.std.specs.Prelude.{◌≡◌, ◌≤◌, ℕ, List, [], ◌++◌, length, map, Option, Some, None, Result}
-use Rattle.std.specs.Prelude.{MatchResult}
+use Rattle.std.specs.Prelude.{IfErr, MatchResult}
 use Rattle.std.specs.Option.{option_map}
 use Rattle.std.specs.Global.{Vec}
 use Rattle.page.specs.History.{History, KeepsWord}
@@ -11,6 +11,7 @@ use Rattle.btree.specs.declared.scanning.Batch.{Batch}
 use Rattle.btree.specs.declared.scanning.Entry.{Entry as OwnEntry}
 use Rattle.entries.specs.State.{Collection}
 use Rattle.path.specs.declared.refusal.Refusal.{Refusal}
+use Rattle.path.specs.declared.refusal.Refusal.TheVariants as refusals
 use Rattle.collections.specs.Calls.{GoesFrom, HasCause}
 use Rattle.collections.specs.Standing.{HasState}
 use Rattle.collections.specs.State.{State}
@@ -22,6 +23,11 @@ pub record HasEntries {D : Type 0} (history : D → History) (c : State D)
   pub pages : List ℕ
   pub map : HasMap (pages_of history c) c.root pages entries
 
+-- What is read takes no page, so that none is free is no cause of a refusal.
+abbrev pub IsNotForRoom : Refusal → Type 0
+IsNotForRoom refusals.Full = ⊥
+IsNotForRoom _ = Unit {0}
+
 -- All entries were read: nothing of the turn changes, and while the disk keeps its word, they are
 -- those that the tree has, or the refusal has its cause.
 pub record ReadsEntries {D : Type 0} (history : D → History)
@@ -31,6 +37,9 @@ pub record ReadsEntries {D : Type 0} (history : D → History)
   pub unchanged : is_changed new ≡ is_changed old
   pub same : (start now : List Collection) → HasState history old start now
       → HasState history new start now
+  -- no page was asked for
+  pub takes : (pages_of history new).full_takes ≡ (pages_of history old).full_takes
+  pub room : IfErr result IsNotForRoom
   pub answers : KeepsWord (disk_history history new) → (entries : List Entry)
       → HasEntries history old entries
       → MatchResult result (λ all. map entry_in all.items ≡ entries) (HasCause history old new)
@@ -58,6 +67,9 @@ pub record ReadsTree {D X : Type 0} (history : D → History) (IsRight : List En
   pub unchanged : is_changed new ≡ is_changed old
   pub same : (start now : List Collection) → HasState history old start now
       → HasState history new start now
+  -- no page was asked for
+  pub takes : (pages_of history new).full_takes ≡ (pages_of history old).full_takes
+  pub room : IfErr result IsNotForRoom
   pub stays : KeepsWord (disk_history history new) → (entries : List Entry)
       → HasEntries history old entries → HasEntries history new entries
   pub answers : KeepsWord (disk_history history new) → (entries : List Entry)

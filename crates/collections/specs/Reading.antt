@@ -1,6 +1,6 @@
 -- What calls give that read collections and documents.
 use Rattle.std.specs.Prelude.{◌≡◌, ◌≤◌, ℕ, length, ⊤, All, List, [], ◌∷◌, Option, Some, Result}
-use Rattle.std.specs.Prelude.{MatchResult, string_bytes}
+use Rattle.std.specs.Prelude.{IfErr, MatchResult, string_bytes}
 use Rattle.std.specs.Option.{option_map}
 use Rattle.std.specs.Global.{Vec}
 use Rattle.page.specs.History.{History, KeepsWord}
@@ -12,6 +12,7 @@ use Rattle.value_order.specs.Order.{value}
 use Rattle.btree.specs.Calls.{Yields}
 use Rattle.btree.specs.Keys.{Entry, value_at}
 use Rattle.btree.specs.Reach.{HasMap}
+use Rattle.btree.specs.Reading.{IsNotFull}
 use Rattle.btree.specs.Scan.{Holds, entry_in, within}
 use Rattle.btree.specs.Store.{Grows, IsSame}
 use Rattle.btree.specs.declared.pages.TreeFault.{TreeFault}
@@ -44,6 +45,8 @@ pub record LooksUp {D X : Type 0} (history : D → History) (root : ℕ)
   pub grows : Grows (store_of history old) (store_of history new)
   pub same : KeepsWord (pager_history history new)
       → IsSame (store_of history old) (store_of history new)
+  pub takes : (store_of history new).full_takes ≡ (store_of history old).full_takes
+  pub full : IfErr result IsNotFull
   pub yields : (pages : List ℕ) (entries : List Entry)
       → HasMap (store_of history old) root pages entries
       → Yields (store_of history old) (store_of history new) (IsRight entries) result

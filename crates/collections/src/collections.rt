@@ -36,6 +36,7 @@ impl<D: Disk> Model for Collections<D> {
 
 impl<D: Disk> Collections<D> {
     ghost use Rattle.std.specs.Prelude.{Bool, IfErr, IfOk};
+    ghost use Rattle.pager.specs.Asking.{OnlyWrites};
     ghost use Rattle.collections.specs.Committing.{Commits};
     ghost use Rattle.collections.specs.Counting.{CountsPages};
     ghost use Rattle.collections.specs.Marks.{IsMarkOf, ReturnsTo, Undoes};
@@ -148,6 +149,7 @@ impl<D: Disk> Collections<D> {
     /// Makes the turn durable; the next one begins with what it leaves. An `Err` leaves the turn, to be undone. It reads nothing.
     pub fn commit(&mut self) -> Result<(), CommitFault>
         ensures commits { Commits D.history result self.old self.new }
+        ensures calls { OnlyWrites D.history result self.old.pager self.new.pager }
         ensures versions { CommitsVersions D.history result self.old self.new }
         ensures pins { pins_of self.new ≡ pins_of self.old }
     {

@@ -1,4 +1,5 @@
 pub mod CacheLemmas
+pub mod CallLemmas
 pub mod CellLemmas
 pub mod ChildPageLemmas
 pub mod ImageSteps

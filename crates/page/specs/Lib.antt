@@ -1,4 +1,5 @@
 pub mod Cache
+pub mod Calls
 pub mod CellView
 pub mod ChildPage
 pub mod Content

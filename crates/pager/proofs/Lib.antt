@@ -1,5 +1,6 @@
 pub mod AfterLemmas
 pub mod AgainLemmas
+pub mod AskingLemmas
 pub mod BeginLemmas
 pub mod BookLemmas
 pub mod CallLemmas
@@ -9,6 +10,7 @@ pub mod CountLemmas
 pub mod EndLemmas
 pub mod FindLemmas
 pub mod KeepingLemmas
+pub mod LimitLemmas
 pub mod ListLemmas
 pub mod ListedLemmas
 pub mod MemberLemmas

@@ -7,6 +7,7 @@ use Rattle.page.specs.History.{History, KeepsWord, Sector, now, reads}
 use Rattle.page.specs.declared.page_fault.PageFault.{PageFault}
 use Rattle.page.specs.declared.page_cache.PageCache.{PageCache}
 use Rattle.page.proofs.Moments.{reads_nothing}
+use Rattle.btree.specs.Reading.{IsNotFull}
 use Rattle.btree.specs.declared.pages.TreeFault.{TreeFault}
 use Rattle.freelist.specs.FreeList.{IsFreeList, Part}
 use Rattle.roots.specs.declared.opening.OpenFault.{OpenFault}
@@ -18,6 +19,13 @@ use Rattle.roots.specs.Store.{disk_history, durable_root}
 use Rattle.roots.specs.Walk.{HasCause}
 use Rattle.pager.specs.Calls.{HasReadCause, Keeps, OnlyRead, ReadsPage, tree_fault}
 use Rattle.pager.specs.Kept.{Agrees, AreListed}
+
+pub not_full : (fault : OpenFault) → IsNotFull (tree_fault fault)
+not_full opens.Device = tt
+not_full opens.Memory = tt
+not_full opens.Damaged = tt
+not_full opens.NotADatabase = tt
+not_full opens.NewerFormat = tt
 
 pub nothing_read : {D : Type 0} (history : D → History) (store : Store D) → OnlyRead history store store
 nothing_read history store = record { root = refl; stopped = refl; reads = reads_nothing (disk_history history store) }

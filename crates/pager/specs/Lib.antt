@@ -1,8 +1,10 @@
+pub mod Asking
 pub mod Calls
 pub mod Capacity
 pub mod Commit
 pub mod Counting
 pub mod Kept
+pub mod Limit
 pub mod Opening
 pub mod Order
 pub mod Pinning

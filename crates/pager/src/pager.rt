@@ -53,9 +53,11 @@ impl<D: Disk> Model for Pager<D> {
 impl<D: Disk> Pager<D> {
     ghost use Rattle.std.specs.Prelude.{Bool, IfOk, IfErr, length};
     ghost use Rattle.roots.specs.Store.{durable_root, is_stopped};
+    ghost use Rattle.pager.specs.Asking.{OnlyWrites};
     ghost use Rattle.pager.specs.Capacity.{TreesFit};
     ghost use Rattle.pager.specs.Commit.{Commits, CountsTakes, MovesTurns};
     ghost use Rattle.pager.specs.Counting.{CountsPages};
+    ghost use Rattle.pager.specs.Limit.{IsWithinLimit, LimitStays, limit_of};
     ghost use Rattle.pager.specs.Opening.{HasLimit, IsOpened, IsRefused};
     ghost use Rattle.pager.specs.Pinning.{KeepsOlder, KeepsVersions, Pins, Unpins, VersionsStay};
     ghost use Rattle.pager.specs.State.{State};
@@ -147,6 +149,13 @@ impl<D: Disk> Pager<D> {
         let _ = &self.made;
     }
 
+    /// The file has no more pages than it may have, and each page of the turn is one that it may have.
+    pub fn fits_limit(&self)
+        ensures { IsWithinLimit self.now }
+    {
+        let _ = &self.made;
+    }
+
     /// How many pages the file has by the last commit, and how many of them nothing reaches. It reads each
     /// page of the committed tree, and of the list that the root names, from the disk, not from the cache.
     /// Damaged where these pages are no tree, or no list that fits it.
@@ -182,6 +191,7 @@ impl<D: Disk> Pager<D> {
         ensures begun { LeadsBack D.history mark.made mark.retired self.old self.new }
         ensures returns { Returns D.history mark.made mark.retired self.old self.new }
         ensures versions { KeepsOlder D.history mark.made self.old self.new }
+        ensures limit { limit_of self.new ≡ limit_of self.old }
     {
         self.book.undo_to(mark.book);
         self.made.truncate(mark.made);
@@ -193,6 +203,7 @@ impl<D: Disk> Pager<D> {
     /// is committed meanwhile. A version may be pinned several times. An `Err` leaves all as it was.
     pub fn pin(&mut self, root: u32) -> Result<Version, AllocError>
         ensures pins { Pins D.history root result self.old self.new }
+        ensures limit { limit_of self.new ≡ limit_of self.old }
     {
         let generation = self.store.root().generation;
         self.book.pin(generation)?;
@@ -202,6 +213,7 @@ impl<D: Disk> Pager<D> {
     /// Ends a pin of a version, in the middle of a turn too. The pages that waited for it alone are free.
     pub fn unpin(&mut self, version: Version)
         ensures unpins { Unpins D.history version self.old self.new }
+        ensures limit { limit_of self.new ≡ limit_of self.old }
     {
         self.book.unpin(version.generation);
     }
@@ -211,6 +223,11 @@ impl<D: Disk> Pager<D> {
         ensures { VersionsStay D.history }
     {}
 
+    /// What only reads, makes and retires pages leaves the number of pages that the file may have.
+    pub fn limit_stays()
+        ensures { LimitStays D.history }
+    {}
+
     /// Makes the tree below this page the committed one, with a list of the pages that are free then: the
     /// pages that the turn made and didn't retire are written, then those of the list, then the root. What it
     /// retired is free from then on, and so are the pages of the list that the last root named. `Full` where
@@ -218,8 +235,10 @@ impl<D: Disk> Pager<D> {
     pub fn commit(&mut self, root: u32) -> Result<(), CommitFault>
         ensures commits { Commits D.history root result self.old self.new }
         ensures takes { CountsTakes result self.old self.new }
+        ensures calls { OnlyWrites D.history result self.old self.new }
         ensures moves { MovesTurns D.history root result self.old self.new }
         ensures versions { KeepsVersions D.history self.old self.new }
+        ensures limit { limit_of self.new ≡ limit_of self.old }
     {
         if self.store.is_stopped() {
             return Err(CommitFault::Device);

@@ -1,5 +1,6 @@
 //! Pages of the committed tree, from the cache or from the disk.
-ghost use Rattle.std.specs.Prelude.{◌≡◌};
+ghost use Rattle.std.specs.Prelude.{◌≡◌, IfErr};
+ghost use Rattle.btree.specs.Reading.{IsNotFull};
 ghost use Rattle.pager.specs.Calls.{Keeps, ReadsPage, tree_fault};
 
 use btree::TreeFault;
@@ -34,7 +35,8 @@ pub(crate) fn read_page<D: Disk>(
     cache: &mut PageCache,
     page: u32,
 ) -> Result<SharedPage, TreeFault>
-    ensures { ReadsPage D.history page result store.old store.new cache.old cache.new }
+    ensures reads { ReadsPage D.history page result store.old store.new cache.old cache.new }
+    ensures full { IfErr result IsNotFull }
 {
     if let Some(shared) = cache.get(page) {
         return Ok(shared);

@@ -1,6 +1,7 @@
 //! A sector is replaced behind everything that was written before.
 ghost use Rattle.std.specs.Prelude.{◌≡◌, ◌≢◌, ◌⊎◌, ◌<◌, ℕ, OnOk, OnErr};
 ghost use Rattle.page.specs.History.{KeepsWord, now, reads, IsImage};
+ghost use Rattle.page.specs.Calls.{MakesCalls};
 ghost use Rattle.page.specs.Crash.{GoesOn, LeavesOnly, AreDurable, put};
 ghost use Rattle.roots.specs.Replace.{IsOldOrPut};
 
@@ -13,6 +14,7 @@ pub(crate) fn replace<D: Disk>(
     bytes: &[u8; 512],
 ) -> Result<(), DeviceFault>
     ensures on { GoesOn (D.history disk.old) (D.history disk.new) }
+    ensures calls { MakesCalls 3 result (D.history disk.old) (D.history disk.new) }
 
     // Until the first sync a crash leaves what it could leave before; then what reads gave, with the sector or without.
     ensures any_moment { LeavesOnly (D.history disk.old) (D.history disk.new)

@@ -1,7 +1,8 @@
 //! A store: its disk, and the root that it committed last.
-ghost use Rattle.std.specs.Prelude.{◌≡◌, ◌≢◌, ◌<◌, ◌≤◌, Bool, IfOk, IfErr, OnOk, OnErr, ℕ, max};
+ghost use Rattle.std.specs.Prelude.{◌≡◌, ◌≢◌, ◌+◌, ◌*◌, ◌<◌, ◌≤◌, Bool, IfOk, IfErr, OnOk, OnErr, ℕ, length, max};
 ghost use Rattle.std.specs.List.{AllByRecursion};
 ghost use Rattle.page.specs.History.{KeepsWord, now, reads};
+ghost use Rattle.page.specs.Calls.{MakesCalls};
 ghost use Rattle.page.specs.Crash.{GoesOn, LeavesOnly, IsImageOutside};
 ghost use Rattle.page.specs.Format.{Sheet, page_bytes};
 ghost use Rattle.page.specs.Page.{IsSectorOf, page_at};
@@ -99,6 +100,7 @@ pub fn end_of(made: &[SharedPage]) -> u32
 /// Writes a page.
 fn write_shared<D: Disk>(disk: &mut D, shared: &SharedPage) -> Result<(), DeviceFault>
     ensures on { GoesOn (D.history disk.old) (D.history disk.new) }
+    ensures calls { MakesCalls 8 result (D.history disk.old) (D.history disk.new) }
     ensures any_moment { let before = now (D.history disk.old) in
         LeavesOnly (D.history disk.old) (D.history disk.new)
         (IsImageOutside before (IsSectorOf shared.now.page)) }
@@ -119,6 +121,8 @@ fn write_shared<D: Disk>(disk: &mut D, shared: &SharedPage) -> Result<(), Device
 /// Writes pages in their order.
 fn write_made<D: Disk>(disk: &mut D, made: &[SharedPage]) -> Result<(), DeviceFault>
     ensures on { GoesOn (D.history disk.old) (D.history disk.new) }
+    ensures calls { MakesCalls (8 * length made.now) result
+        (D.history disk.old) (D.history disk.new) }
 
     // Elsewhere a crash leaves what it could leave before.
     ensures any_moment { let before = now (D.history disk.old) in
@@ -141,6 +145,8 @@ fn write_made<D: Disk>(disk: &mut D, made: &[SharedPage]) -> Result<(), DeviceFa
 /// Writes pages, and behind them the root that names their tree.
 fn write_commit<D: Disk>(disk: &mut D, made: &[SharedPage], root: Root) -> Result<(), DeviceFault>
     ensures on { GoesOn (D.history disk.old) (D.history disk.new) }
+    ensures calls { MakesCalls (8 * length made.now + 3) result
+        (D.history disk.old) (D.history disk.new) }
     ensures moves { MovesDisk made.now root result (D.history disk.old) (D.history disk.new) }
     ensures others { KeepsWord (D.history disk.new) → (k : ℕ) → 2 ≤ k
         → (IsOnPages (numbers_of made.now) k → ⊥)
@@ -343,7 +349,8 @@ impl<D: Disk> Store<D> {
 
     /// Makes the tree below this page the committed one, with the list of free pages that begins with this
     /// page and names so many (0 and 0 for none). The pages that the turn made, the list's among them,
-    /// ascend; they are written, then the next root. It reads nothing and takes no memory.
+    /// ascend; they are written, then the next root: eight sectors a page, a sync, a sector, a sync. It reads
+    /// nothing and takes no memory.
     pub fn commit(
         &mut self,
         made: &[SharedPage],
@@ -352,6 +359,8 @@ impl<D: Disk> Store<D> {
         free_count: u32,
     ) -> Result<(), CommitFault>
         ensures commits { CommitsRoot D.history tree result self.old self.new }
+        ensures calls { MakesCalls (8 * length made.now + 3) result
+            (disk_history D.history self.old) (disk_history D.history self.new) }
         ensures moves { MovesMaps D.history made.now tree free_list free_count result
             self.old self.new }
         ensures pages { LeavesPages D.history made.now tree free_list free_count result

@@ -31,6 +31,7 @@ loop-left-preserved g c =
     record {
       grows = grows_trans _ _ _ c.loop-left.invariant.grows step;
       same = λ k. let now = c.in_ok-shared.ensures.same k in same_trans _ _ _ (c.loop-left.invariant.same now.word) now;
+      takes = c.in_ok-shared.ensures.takes ∙ c.loop-left.invariant.takes;
       chained = λ links value has next long k.
           subst (λ bs. IsRead (g.P.Pages.store c.read.new.self) value bs (c.loop-left.left - c.len-left.result) c.in-Chain.next)
           (ap (λ zs. c.loop-left.bytes.items ++ zs) (sym c.deref.ensures.value) ∙ sym c.in_ok-extend_from_slice.ensures.items)

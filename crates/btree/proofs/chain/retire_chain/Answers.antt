@@ -25,7 +25,8 @@ returns-in_err-shared-clause-retires g c =
 pub returns-in_default : goal.returns-in_default
 returns-in_default g c =
     record {
-      few = λ k. tt;
+      few = λ k.
+          let same = c.in_ok-shared.ensures.same k in omega (arith, ap length same.made, ap length (c.loop-left.invariant.few same.word));
       grows = grows_trans _ _ _ c.loop-left.invariant.grows
           (grows_same (g.P.Pages.store c.loop-left.pages) (g.P.Pages.store c.read.new.self) c.in_ok-shared.ensures.stays c.in_ok-shared.ensures.same);
       retires = λ links value has next long k.
@@ -74,3 +75,14 @@ loop-left-preserved g c =
 
 pub returns-clause-few : goal.returns-clause-few
 returns-clause-few g c = λ k. omega (arith, ap length (c.loop-left.invariant.few k))
+
+pub returns-in_err-shared-clause-few : goal.returns-in_err-shared-clause-few
+returns-in_err-shared-clause-few g c =
+    λ k. let same = c.in_err-shared.ensures.same k in omega (arith, ap length same.made, ap length (c.loop-left.invariant.few same.word))
+
+pub returns-in_err-retire-clause-few : goal.returns-in_err-retire-clause-few
+returns-in_err-retire-clause-few g c =
+    λ k.
+    let f = c.in_err-retire.ensures.retires k in
+    let same = c.in_ok-shared.ensures.same f.same.word in
+    omega (arith, ap length f.same.made, ap length same.made, ap length (c.loop-left.invariant.few same.word))

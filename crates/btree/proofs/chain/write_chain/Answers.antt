@@ -1,4 +1,7 @@
 use Rattle.std.proofs.Common.{◌*◌, ◌-◌, arith, drop}
+use Rattle.std.proofs.lemmas.List.{length-drop}
+use Rattle.btree.specs.Few.{chain_pages}
+use Rattle.btree.proofs.FewLemmas.{chain_few, same_few}
 use Rattle.btree.proofs.StoreLemmas.{grows_made, grows_trans}
 use Rattle.btree.proofs.ChainLemmas.{chained_on, drop_on, first_of, some_left}
 use Rattle.btree.proofs.chain.write_chain.Goals as goal
@@ -19,3 +22,24 @@ loop-left-preserved g c =
           c.min-end.ensures c.in_ok-bytes.ensures.items)
           (drop_on c.args.value.now c.loop-left.left c.loop-left-test.true);
     }
+
+pub returns-in_err-bytes-clause-few : goal.returns-in_err-bytes-clause-few
+returns-in_err-bytes-clause-few g c =
+    λ long k. chain_few (g.P.Pages.store c.args.pages.now) (g.P.Pages.store c.loop-left.pages) c.args.value.now
+    (drop (4076 * c.loop-left.left) c.args.value.now) _ long (omega (arith, length-drop (4076 * c.loop-left.left) c.args.value.now))
+    (c.loop-left.invariant.written k)
+
+pub returns-in_err-next-clause-few : goal.returns-in_err-next-clause-few
+returns-in_err-next-clause-few g c =
+    λ long k.
+    let f = c.in_err-next.ensures.makes k in
+    same_few (g.P.Pages.store c.args.pages.now) (g.P.Pages.store c.loop-left.pages) (g.P.Pages.store c.fresh.new.self) (chain_pages c.args.value.now)
+    (chain_few (g.P.Pages.store c.args.pages.now) (g.P.Pages.store c.loop-left.pages) c.args.value.now
+    (drop (4076 * c.loop-left.left) c.args.value.now) _ long (omega (arith, length-drop (4076 * c.loop-left.left) c.args.value.now))
+    (c.loop-left.invariant.written f.same.word)) f.same
+
+pub returns-clause-few : goal.returns-clause-few
+returns-clause-few g c =
+    λ long k. chain_few (g.P.Pages.store c.args.pages.now) (g.P.Pages.store c.loop-left.pages) c.args.value.now
+    (drop (4076 * c.loop-left.left) c.args.value.now) _ long (omega (arith, length-drop (4076 * c.loop-left.left) c.args.value.now))
+    (c.loop-left.invariant.written k)

@@ -1,9 +1,9 @@
-use Rattle.std.proofs.Common.{◌-◌, ◌*◌, length, ◌≡◌, ◌∙◌, ◌++◌, ◌∷◌, ◌+◌, [], Some, map, sym, ap, subst, arith, refl, inr, suc}
+use Rattle.std.proofs.Common.{◌-◌, ◌*◌, ◌≤◌, length, ◌≡◌, ◌∙◌, ◌++◌, ◌∷◌, ◌+◌, [], Some, map, sym, ap, subst, arith, refl, inl, inr, suc}
 use Rattle.btree.specs.Loose.{arm_stub, under_key}
 use Rattle.btree.specs.LooseView.{stub_in}
 use Rattle.btree.specs.EditView.{edit_in}
 use Rattle.btree.specs.View.{content_in}
-use Rattle.btree.specs.Few.{IsFewOrOne, edit_pages}
+use Rattle.btree.specs.Few.{IsFewOrOne, MakesUpTo, edit_pages}
 use Rattle.btree.specs.Keys.{change, sum_of, times}
 use Rattle.btree.specs.Store.{Store}
 use Rattle.btree.specs.Tree.{Shows, IsSound, entries_of, pages_of}
@@ -17,7 +17,7 @@ use Rattle.btree.specs.Change.{IsBehind}
 use Rattle.btree.specs.Turn.{IsHeld}
 use Rattle.btree.proofs.EndLemmas.{last_is_child, within_up_to}
 use Rattle.btree.proofs.FewParts.{branch_few}
-use Rattle.btree.proofs.FewLemmas.{all_mine, branch_two, children_few, few_alone, few_on, few_or_one_on, unit_little}
+use Rattle.btree.proofs.FewLemmas.{all_mine, branch_two, children_few, few_alone, few_made, few_on, few_or_one_on, stopped, sum_both, unit_little, zero_or}
 use Rattle.btree.proofs.SplitLemmas.{two_parts}
 use Rattle.btree.proofs.ListLemmas.{long_append, long_map}
 use Rattle.btree.proofs.OneChildLemmas.{amid, amid_turned, key_little, prepared_child}
@@ -202,7 +202,8 @@ change_below-returns-clause-few g t c =
 
 pub change_children-returns-clause-few : goal.change_children-returns-clause-few
 change_children-returns-clause-few g t c =
-    λ one little two k.
+    λ most little two k.
+    let one : length c.args.edits.now ≡ 1 = omega arith in
     let g3 = c.settle.ensures.grows.frame k in
     let g2 = c.in_ok-front.ensures.grows.frame g3.word in
     let left = c.in_ok-left.field-0.left in
@@ -214,7 +215,7 @@ change_children-returns-clause-few g t c =
     c.child_place-at.ensures.here (λ lt. omega (arith, c.in_ok-front.ensures.some lt, c.in_ok-left.ensures.left)) in
     let front = c.in_ok-front.ensures.none m.none in
     let front_is : c.in_ok-front.front ≡ left = (let whole = front.0 in cc) in
-    let b = c.in_ok-below.ensures.few m.one
+    let b = c.in_ok-below.ensures.few (omega (arith, m.one))
     (unit_little (map stub_in c.args.loose.units.items) (map stub_in left.units.items) (map stub_in right.units.items)
     (stub_in c.in_ok-left.field-0.unit) _ c.in_ok-left.ensures.parts little.0 c.as_slice-key.ensures.value) g2.word in
     children_few (g.P.Pages.store c.args.pages.now) (g.P.Pages.store c.change_below.new.pages) (g.P.Pages.store c.change_children.new.pages)
@@ -307,3 +308,136 @@ change_child-returns-clause-turns g t c =
     (amid s base c.args.low.now high entries reached c.args.branch.now c.args.at c.args.rank c.low_bound-key.result.now c.branch_child-page.result.page edits h
     deep mine rise between
     c.low_bound-key.ensures.first c.low_bound-key.ensures.later child_is mid (sheaf_in c.in_ok-below.below) g1 u) deep little k)
+
+-- ---- what failed
+
+pub change_below-returns-in_err-shared-clause-few : goal.change_below-returns-in_err-shared-clause-few
+change_below-returns-in_err-shared-clause-few g t c =
+    λ one little k.
+    let same = c.in_err-shared.ensures.same k in
+    let m : MakesUpTo (g.P.Pages.store c.args.pages.now) (g.P.Pages.store c.read.new.self)
+    (4 * c.args.rank + sum_of edit_pages (map edit_in c.args.edits.now) + 1) = omega (arith, ap length same.made) in
+    stopped _ _ _ c.from_residual.result c.from_residual.ensures.1 m
+
+pub change_below-returns-in_err-retire-clause-few : goal.change_below-returns-in_err-retire-clause-few
+change_below-returns-in_err-retire-clause-few g t c =
+    λ one little k.
+    let f = c.in_err-retire.ensures.retires k in
+    let same = c.in_ok-shared.ensures.same f.same.word in
+    let m : MakesUpTo (g.P.Pages.store c.args.pages.now) (g.P.Pages.store c.retire.new.self)
+    (4 * c.args.rank + sum_of edit_pages (map edit_in c.args.edits.now) + 1) = omega (arith, ap length (f.same.made ∙ same.made)) in
+    stopped _ _ _ c.from_residual-in_err-retire.result c.from_residual-in_err-retire.ensures.1 m
+
+pub change_below-returns-in_default-clause-few : goal.change_below-returns-in_default-clause-few
+change_below-returns-in_default-clause-few g t c =
+    λ one little k.
+    let gone = c.in_ok-retire.ensures.retires k in
+    let same = c.in_ok-shared.ensures.same gone.frame.word in
+    let m : MakesUpTo (g.P.Pages.store c.args.pages.now) (g.P.Pages.store c.retire.new.self)
+    (4 * c.args.rank + sum_of edit_pages (map edit_in c.args.edits.now) + 1) = omega (arith, ap length (gone.made ∙ same.made)) in
+    m
+
+pub change_below-returns-then-rank-eq0-clause-few : goal.change_below-returns-then-rank-eq0-clause-few
+change_below-returns-then-rank-eq0-clause-few g t c =
+    λ one little k.
+    let gone = c.in_ok-retire.ensures.retires k in
+    let same = c.in_ok-shared.ensures.same gone.frame.word in
+    let m : MakesUpTo (g.P.Pages.store c.args.pages.now) (g.P.Pages.store c.retire.new.self)
+    (4 * c.args.rank + sum_of edit_pages (map edit_in c.args.edits.now) + 1) = omega (arith, ap length (gone.made ∙ same.made)) in
+    m
+
+pub change_below-returns-in_err-units-clause-few : goal.change_below-returns-in_err-units-clause-few
+change_below-returns-in_err-units-clause-few g t c =
+    λ one little k.
+    let gone = c.in_ok-retire.ensures.retires k in
+    let same = c.in_ok-shared.ensures.same gone.frame.word in
+    let m : MakesUpTo (g.P.Pages.store c.args.pages.now) (g.P.Pages.store c.retire.new.self)
+    (4 * c.args.rank + sum_of edit_pages (map edit_in c.args.edits.now) + 1) = omega (arith, ap length (gone.made ∙ same.made)) in
+    stopped _ _ _ c.from_residual-in_err-units.result c.from_residual-in_err-units.ensures.1 m
+
+pub change_child-returns-in_err-below-clause-few : goal.change_child-returns-in_err-below-clause-few
+change_child-returns-in_err-below-clause-few g t c =
+    λ one little k.
+    let f = c.in_err-below.ensures.few one
+    (key_little c.args.low.now c.args.branch.now c.args.at c.low_bound-key.result.now c.requires.sound c.requires.place c.low_bound-key.ensures.first
+    c.low_bound-key.ensures.later little) k in
+    let m : MakesUpTo (g.P.Pages.store c.args.pages.now) (g.P.Pages.store c.change_below.new.pages)
+    (4 * c.args.rank + sum_of edit_pages (map edit_in c.args.edits.now) + 1) = omega (arith, f, c.requires.rank) in
+    stopped _ _ _ c.from_residual.result c.from_residual.ensures.1 m
+
+pub change_children-returns-then-len-eq0-clause-few : goal.change_children-returns-then-len-eq0-clause-few
+change_children-returns-then-len-eq0-clause-few g t c =
+    λ one little two k. record { rank_is = refl; small = little.0; size = omega (arith, little.1); made = omega arith }
+
+pub change_children-returns-in_err-below-clause-few : goal.change_children-returns-in_err-below-clause-few
+change_children-returns-in_err-below-clause-few g t c =
+    λ most little two k.
+    let left = c.in_ok-left.field-0.left in
+    let right = c.in_ok-left.field-0.right in
+    let theirs = c.edits_at.result.0.now in
+    let mine = c.edits_at.result.1.now in
+    let both = sum_both edit_pages (map edit_in theirs) (map edit_in mine) in
+    let long : length mine ≤ 1 =
+    omega (
+      arith,
+      most,
+      ap length c.edits_at.ensures.parts,
+      long_append (map edit_in theirs) (map edit_in mine),
+      long_map edit_in mine,
+      long_map edit_in c.args.edits.now,
+    ) in
+    let f = c.in_err-below.ensures.few long
+    (unit_little (map stub_in c.args.loose.units.items) (map stub_in left.units.items) (map stub_in right.units.items)
+    (stub_in c.in_ok-left.field-0.unit) _ c.in_ok-left.ensures.parts little.0 c.as_slice-key.ensures.value) k in
+    let m : MakesUpTo (g.P.Pages.store c.args.pages.now) (g.P.Pages.store c.change_below.new.pages)
+    (4 * c.args.loose.rank + sum_of edit_pages (map edit_in c.args.edits.now)) =
+    omega (arith, f, both, ap (sum_of edit_pages) c.edits_at.ensures.parts, c.requires.rank, c.in_ok-left.ensures.left_rank) in
+    stopped _ _ _ c.from_residual-in_err-below.result c.from_residual-in_err-below.ensures.1 m
+
+pub change_children-returns-in_err-front-clause-few : goal.change_children-returns-in_err-front-clause-few
+change_children-returns-in_err-front-clause-few g t c =
+    λ most little two k.
+    let s = g.P.Pages.store c.args.pages.now in
+    let mid = g.P.Pages.store c.change_below.new.pages in
+    let new = g.P.Pages.store c.change_children.new.pages in
+    let left = c.in_ok-left.field-0.left in
+    let right = c.in_ok-left.field-0.right in
+    let theirs = c.edits_at.result.0.now in
+    let mine = c.edits_at.result.1.now in
+    let both = sum_both edit_pages (map edit_in theirs) (map edit_in mine) in
+    let long : length mine ≤ 1 =
+    omega (
+      arith,
+      most,
+      ap length c.edits_at.ensures.parts,
+      long_append (map edit_in theirs) (map edit_in mine),
+      long_map edit_in mine,
+      long_map edit_in c.args.edits.now,
+    ) in
+    let b = few_made s mid _ _ _ (sheaf_in c.in_ok-below.below) (c.in_ok-below.ensures.few long
+    (unit_little (map stub_in c.args.loose.units.items) (map stub_in left.units.items) (map stub_in right.units.items)
+    (stub_in c.in_ok-left.field-0.unit) _ c.in_ok-left.ensures.parts little.0 c.as_slice-key.ensures.value)
+    (c.in_err-front.ensures.grows.frame k).word) in
+    let one : length c.args.edits.now ≡ 1 = omega arith in
+    let m : MakesUpTo s new (4 * c.args.loose.rank + sum_of edit_pages (map edit_in c.args.edits.now)) = elim (zero_or (length theirs)) [
+      | inl none ↦ (let whole = (c.in_err-front.ensures.none none).0 in absurd cc)
+      | inr some ↦ elim (zero_or c.child_place-at.result) [
+        | inl first ↦ (let same = c.in_err-front.ensures.empty (omega (arith, c.in_ok-left.ensures.left, first)) in
+            omega (
+              arith,
+              b,
+              both,
+              ap (sum_of edit_pages) c.edits_at.ensures.parts,
+              c.requires.rank,
+              c.in_ok-left.ensures.left_rank,
+              ap (λ (x : Store). length x.made) same,
+            ))
+        | inr later ↦ (let mine_alone = all_mine c.args.edits.now theirs mine c.deref.result.now c.args.loose.units.items
+            (map stub_in left.units.items) (map stub_in right.units.items) (stub_in c.in_ok-left.field-0.unit) c.as_slice-key.result.now
+            c.child_place-at.result _ one
+            c.edits_at.ensures.parts c.edits_at.ensures.before c.deref.ensures.value c.in_ok-left.ensures.parts c.as_slice-key.ensures.value
+            (omega (arith, c.in_ok-left.ensures.left, long_map stub_in left.units.items))
+            c.child_place-at.ensures.here (λ lt. later) in absurd (omega (arith, mine_alone.none, some)))
+      ]
+    ] in
+    stopped _ _ _ c.from_residual-in_err-front.result c.from_residual-in_err-front.ensures.1 m

@@ -3,7 +3,7 @@ use Rattle.page.specs.Content.{IsItem}
 use Rattle.btree.specs.Keys.{Each}
 use Rattle.btree.specs.Loose.{item_stub}
 use Rattle.btree.specs.View.{item_in}
-use Rattle.btree.proofs.FewLemmas.{cells_few}
+use Rattle.btree.proofs.FewLemmas.{cells_few, stopped}
 use Rattle.btree.proofs.ChangingLemmas.{each_of_all, leaf_changed}
 use Rattle.btree.proofs.changing.change_cells.Goals as goal
 
@@ -21,3 +21,11 @@ returns-clause-few g c = λ one k.
     (c.in_ok-edit_cells.ensures.small (subst (Each IsItem) (sym c.in_ok-cells.ensures.ok) (each_of_all c.args.leaf.now c.in_ok-cells.ensures.sound.each)))
     c.in_ok-cells.ensures.ok c.in_ok-edit_cells.ensures.size c.in_ok-cells.ensures.sound.room (omega arith) in
     record { rank_is = refl; small = f.0; size = f.1; made = c.in_ok-edit_cells.ensures.few k }
+
+pub returns-in_err-edit_cells-clause-few : goal.returns-in_err-edit_cells-clause-few
+returns-in_err-edit_cells-clause-few g c =
+    λ one k. stopped _ _ _ c.from_residual-in_err-edit_cells.result c.from_residual-in_err-edit_cells.ensures.1 (c.in_err-edit_cells.ensures.few k)
+
+pub returns-in_err-units-clause-few : goal.returns-in_err-units-clause-few
+returns-in_err-units-clause-few g c =
+    λ one k. stopped _ _ _ c.from_residual-in_err-units.result c.from_residual-in_err-units.ensures.1 (c.in_ok-edit_cells.ensures.few k)

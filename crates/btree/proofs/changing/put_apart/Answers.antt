@@ -1,10 +1,10 @@
 use Rattle.std.proofs.Common.{◌≡◌, ◌∙◌, ◌-◌, ◌*◌, ◌+◌, arith, length, map, refl, subst, sym}
-use Rattle.btree.specs.Few.{IsFewOrOne}
+use Rattle.btree.specs.Few.{IsFewOrOne, MakesUpTo}
 use Rattle.btree.specs.LooseView.{stub_in}
 use Rattle.btree.specs.Turn.{sheaf_in}
 use Rattle.btree.proofs.EndLemmas.{within_up_to}
 use Rattle.btree.proofs.FewParts.{branch_few}
-use Rattle.btree.proofs.FewLemmas.{branch_two, children_few}
+use Rattle.btree.proofs.FewLemmas.{branch_two, children_few, few_made, stopped}
 use Rattle.btree.proofs.ListLemmas.{long_map}
 use Rattle.btree.proofs.OneChildLemmas.{apart_done, left_there, right_there}
 use Rattle.btree.proofs.changing.put_apart.Goals as goal
@@ -45,3 +45,21 @@ returns-clause-turns g c =
     (sheaf_in c.args.below) c.settle.result m
     (c.settle.ensures.turns base c.args.low.now m.key m.between high m.front_entries m.mid_entries m.back_entries m.front_pages m.mid_pages m.back_pages
     front m.held behind m.over (within_up_to m.key m.between m.inside) m.within k)
+
+pub returns-in_err-units-clause-few : goal.returns-in_err-units-clause-few
+returns-in_err-units-clause-few g c =
+    λ first count little below k.
+    let s = g.P.Pages.store c.args.pages.now in
+    let rank = c.args.rank in
+    let m : MakesUpTo first s (4 * rank + count) =
+    omega (arith, c.requires.rank, few_made first s (rank - 1) 10880 (4 * (rank - 1) + count) (sheaf_in c.args.below) below) in
+    stopped _ _ _ c.from_residual.result c.from_residual.ensures.1 m
+
+pub returns-in_err-left-clause-few : goal.returns-in_err-left-clause-few
+returns-in_err-left-clause-few g c =
+    λ first count little below k.
+    let s = g.P.Pages.store c.args.pages.now in
+    let rank = c.args.rank in
+    let m : MakesUpTo first s (4 * rank + count) =
+    omega (arith, c.requires.rank, few_made first s (rank - 1) 10880 (4 * (rank - 1) + count) (sheaf_in c.args.below) below) in
+    stopped _ _ _ c.from_residual-in_err-left.result c.from_residual-in_err-left.ensures.1 m

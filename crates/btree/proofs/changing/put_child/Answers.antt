@@ -1,5 +1,5 @@
 use Rattle.btree.specs.Turn.{sheaf_in}
-use Rattle.btree.proofs.FewLemmas.{few_alone}
+use Rattle.btree.proofs.FewLemmas.{few_above_one, few_alone}
 use Rattle.btree.proofs.changing.put_child.Goals as goal
 
 pub returns-then-size-le-QUARTER-clause-few : goal.returns-then-size-le-QUARTER-clause-few
@@ -16,3 +16,9 @@ pub returns-in-None-clause-few : goal.returns-in-None-clause-few
 returns-in-None-clause-few g c =
     λ first count little below k. few_alone first (g.P.Pages.store c.put_apart-in-None.new.pages) c.args.rank _ _ c.put_apart-in-None.result
     (c.put_apart-in-None.ensures.few first count little below k)
+
+pub returns-in-Some-clause-few : goal.returns-in-Some-clause-few
+returns-in-Some-clause-few g c =
+    λ first count little below k.
+    few_above_one first (g.P.Pages.store c.args.pages.now) (g.P.Pages.store c.write_branch.new.pages) c.args.rank count (sheaf_in c.args.below)
+    c.write_branch.result c.requires.rank below (c.write_branch.ensures.few little k)

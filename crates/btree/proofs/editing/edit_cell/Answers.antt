@@ -36,8 +36,11 @@ returns-in-Some-clause-few g c =
     λ k.
     let same = ap (λ (v : _). put_pages (option_map (λ b. b.now) v)) c.in-Some.is in
     costs_on (g.P.Pages.store c.args.pages.now) (g.P.Pages.store c.take_out.new.pages) (g.P.Pages.store c.put_in.new.pages) 0
-    (chain_pages c.in-Some.value.now) _ c.put_in.result (c.in_ok-at.ensures.few (c.put_in.ensures.grows.frame k).word) (c.put_in.ensures.few k)
+    (chain_pages c.in-Some.value.now) _ (c.in_ok-at.ensures.few (c.put_in.ensures.grows.frame k).word) (c.put_in.ensures.few k)
     (omega (arith, same))
 
 pub returns-in-Some-clause-size : goal.returns-in-Some-clause-size
 returns-in-Some-clause-size g c = grown_on _ _ _ c.put_in.result c.in_ok-at.ensures.size c.put_in.ensures.size
+
+pub returns-in_err-at-clause-few : goal.returns-in_err-at-clause-few
+returns-in_err-at-clause-few g c = λ k. omega (arith, c.in_err-at.ensures.few k)

@@ -2,7 +2,7 @@ use Rattle.std.proofs.Common.{arith, map, subst, sym}
 use Rattle.btree.specs.View.{item_in}
 use Rattle.btree.specs.Calls.{IsEdited}
 use Rattle.btree.proofs.EditLemmas.{edited_on, edits_more}
-use Rattle.btree.proofs.FewLemmas.{edits_few}
+use Rattle.btree.proofs.FewLemmas.{edits_failed, edits_few}
 use Rattle.btree.proofs.StoreLemmas.{answer_failed, cause_later, grows_trans}
 use Rattle.btree.proofs.editing.edit_cells.Goals as goal
 
@@ -36,3 +36,10 @@ loop-edit-preserved g c =
           (sym (edits_more c.args.edits.now c.loop-edit.edit-index _ c.loop-edit-test.true))
           (edited_on (g.P.Pages.store c.args.pages.now) (g.P.Pages.store c.loop-edit.pages) (g.P.Pages.store c.edit_cell.new.pages) _ _ pairs _ _ h more);
     }
+
+pub returns-in_err-edit_cell-clause-few : goal.returns-in_err-edit_cell-clause-few
+returns-in_err-edit_cell-clause-few g c =
+    λ k.
+    let before = c.loop-edit.invariant.few (c.in_err-edit_cell.ensures.grows.frame k).word in
+    edits_failed (g.P.Pages.store c.args.pages.now) (g.P.Pages.store c.loop-edit.pages)
+    (g.P.Pages.store c.edit_cell.new.pages) c.args.edits.now c.loop-edit.edit-index _ c.loop-edit-test.true before (c.in_err-edit_cell.ensures.few k)

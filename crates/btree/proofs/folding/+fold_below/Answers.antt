@@ -1,4 +1,4 @@
-use Rattle.std.proofs.Common.{◌≡◌, ◌∙◌, ◌++◌, suc, ap, sym, subst, arith, rules, append-nil, length, inr}
+use Rattle.std.proofs.Common.{◌≡◌, ◌∙◌, ◌++◌, suc, ap, refl, sym, subst, arith, rules, append-nil, length, inr}
 use Rattle.std.specs.Option.{option_map}
 use Rattle.page.specs.Content.{Arm}
 use Rattle.page.specs.Format.{Sheet}
@@ -46,6 +46,7 @@ loop-i-init g t c =
     record {
       grows = grows_itself (g.P.Pages.store c.read.new.self);
       same = same_itself (g.P.Pages.store c.read.new.self);
+      takes = refl;
       made = λ start all d twigs e part made k. subst (λ es. g.F.Fold.makes start es c.args.fold.now)
           (sym (append-nil all)
           ∙ ap (λ es. all ++ es)
@@ -120,6 +121,7 @@ loop-i-preserved g t c =
       grows = grows_trans (g.P.Pages.store c.read.new.self) (g.P.Pages.store c.loop-i.pages)
           (g.P.Pages.store c.fold_below.new.pages) c.loop-i.invariant.grows c.in_ok-fold_below.ensures.grows;
       same = λ k. let now = c.in_ok-fold_below.ensures.same k in same_trans _ _ _ (c.loop-i.invariant.same now.word) now;
+      takes = c.in_ok-fold_below.ensures.takes ∙ c.loop-i.invariant.takes;
       made = λ start all d twigs e p made k.
           let v = (c.in_ok-fold_below.ensures.grows.frame k).word in
           let here = child_here (g.P.Pages.store c.read.new.self) c.args.page c.args.level d c.args.low.now

@@ -14,6 +14,7 @@ abbrev pub invariant-loop-i : goal.invariant-loop-i
 invariant-loop-i g l = record {
   grows : Grows (g.P.Pages.store l.initial.pages) (g.P.Pages.store l.pages);
   same : KeepsWord (g.P.Pages.store l.pages) → IsSame (g.P.Pages.store l.initial.pages) (g.P.Pages.store l.pages);
+  takes : (g.P.Pages.store l.pages).full_takes ≡ (g.P.Pages.store l.initial.pages).full_takes;
   made : (start : g.row.F.Denot) (all : List Entry) (d : ℕ) (twigs : Body (suc d)) → l.branch ≡ map arm_of twigs
       → IsPart (g.P.Pages.store l.initial.pages) l.page l.level (suc d) l.low (option_map (λ b. b.now) l.high) twigs → g.F.Fold.makes start all l.initial.fold
       → KeepsWord (g.P.Pages.store l.pages) → g.F.Fold.makes start (all ++ between l.bounds (entries_of (suc d) (take l.i twigs))) l.fold;

@@ -1,4 +1,4 @@
-use Rattle.std.proofs.Common.{◌∙◌, ◌++◌, zero, ap, sym, subst, arith, append-nil, length, map}
+use Rattle.std.proofs.Common.{◌∙◌, ◌++◌, zero, ap, refl, sym, subst, arith, append-nil, length, map}
 use Rattle.std.specs.Option.{option_map}
 use Rattle.page.specs.Content.{Item}
 use Rattle.btree.specs.Keys.{IsPast, IsWithin, entry_of}
@@ -14,6 +14,7 @@ loop-i-init g c =
     record {
       grows = grows_itself (g.P.Pages.store c.args.pages.now);
       same = same_itself (g.P.Pages.store c.args.pages.now);
+      takes = refl;
       made = λ start all pairs e rise shown made k. subst (λ es. g.F.Fold.makes start es c.args.fold.now)
           (sym (append-nil all)
           ∙ ap (λ es. all ++ es)
@@ -56,6 +57,7 @@ loop-i-preserved g c =
     record {
       grows = grows_trans _ _ _ c.loop-i.invariant.grows c.in_ok-lend.ensures.grows;
       same = λ k. let now = c.in_ok-lend.ensures.same k in same_trans _ _ _ (c.loop-i.invariant.same now.word) now;
+      takes = c.in_ok-lend.ensures.takes ∙ c.loop-i.invariant.takes;
       made = λ start all pairs e rise shown made k.
           let w = (c.in_ok-lend.ensures.grows.frame k).word in
           let h = here c.args.bounds.from.now

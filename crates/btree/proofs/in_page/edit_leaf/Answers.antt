@@ -1,4 +1,4 @@
-use Rattle.std.proofs.Common.{◌∷◌, [], ap, subst, sym}
+use Rattle.std.proofs.Common.{◌∷◌, [], ap, arith, subst, sym}
 use Rattle.std.specs.Option.{option_map}
 use Rattle.btree.specs.EditView.{edit_in}
 use Rattle.btree.specs.Calls.{IsEdited}
@@ -25,3 +25,6 @@ returns-in-Some-clause-edits g c =
     leaf_edited (g.P.Pages.store c.args.pages.now) (g.P.Pages.store c.cut_key.new.pages) (g.P.Pages.store c.put_cell.new.pages)
     (edit_in c.args.edit) c.in-Some.value.now pairs _ _ c.put_cell.result (ap (option_map (λ b. b.now)) c.in-Some.is)
     (c.in_ok-left.ensures.grows.frame g2.word) g2 (c.in_ok-left.ensures.takes pairs e rise shown g2.word) (c.put_cell.ensures.puts k) rise shown
+
+pub returns-in_err-left-clause-few : goal.returns-in_err-left-clause-few
+returns-in_err-left-clause-few g c = λ k. omega (arith, c.in_err-left.ensures.few k)

@@ -2,7 +2,7 @@ use Rattle.std.proofs.Common.{arith, subst, sym}
 use Rattle.page.specs.Content.{item_size, total}
 use Rattle.btree.specs.Calls.{IsEdited}
 use Rattle.btree.proofs.EditLemmas.{edited_on, edits_more}
-use Rattle.btree.proofs.FewLemmas.{edits_few}
+use Rattle.btree.proofs.FewLemmas.{edits_failed, edits_few}
 use Rattle.btree.proofs.InPageLemmas.{room_after, room_next}
 use Rattle.btree.proofs.StoreLemmas.{answer_failed, cause_later, grows_trans}
 use Rattle.btree.proofs.in_page.edit_page.Goals as goal
@@ -45,3 +45,10 @@ loop-edit-preserved g c =
           (sym (edits_more c.args.edits.now c.loop-edit.edit-index _ c.loop-edit-test.true))
           (edited_on (g.P.Pages.store c.args.pages.now) (g.P.Pages.store c.loop-edit.pages) (g.P.Pages.store c.edit_leaf.new.pages) _ _ pairs _ _ h more);
     }
+
+pub returns-in_err-next-clause-few : goal.returns-in_err-next-clause-few
+returns-in_err-next-clause-few g c =
+    λ k.
+    let before = c.loop-edit.invariant.few (c.in_err-next.ensures.grows.frame k).word in
+    edits_failed (g.P.Pages.store c.args.pages.now) (g.P.Pages.store c.loop-edit.pages)
+    (g.P.Pages.store c.edit_leaf.new.pages) c.args.edits.now c.loop-edit.edit-index _ c.loop-edit-test.true before (c.in_err-next.ensures.few k)

@@ -1,8 +1,10 @@
-use Rattle.std.proofs.Common.{◌∷◌, ◌++◌, [], ◌∙◌, arith, inl, inr, map, refl}
+use Rattle.std.proofs.Common.{◌+◌, ◌∷◌, ◌++◌, [], ◌∙◌, ap, arith, inl, inr, length, map, refl}
+use Rattle.btree.specs.Few.{MakesUpTo}
 use Rattle.btree.specs.LooseView.{stub_in}
 use Rattle.btree.proofs.ChangingLemmas.{each_of_all, leaf_changed}
 use Rattle.btree.proofs.EditLemmas.{not_edited}
 use Rattle.btree.proofs.FewParts.{leaf_few}
+use Rattle.btree.proofs.FewLemmas.{stopped}
 use Rattle.btree.proofs.InPageLemmas.{leaf_written, none, one_few}
 use Rattle.btree.proofs.in_page.write_leaf.Goals as goal
 
@@ -36,3 +38,17 @@ returns-clause-turns g c =
     (c.in_ok-page.ensures.makes k)
     (c.in_ok-key.ensures.items ∙ c.leaf_key.ensures (none key)) c.child_unit.ensures.range
     (c.in_ok-push_unit.ensures.ok ∙ (λ i. map stub_in (c.new-units.ensures.items i) ++ c.child_unit.ensures.stub i ∷ []))
+
+pub returns-in_err-page-clause-few : goal.returns-in_err-page-clause-few
+returns-in_err-page-clause-few g c =
+    λ k.
+    let f = c.in_err-page.ensures.makes k in
+    let m : MakesUpTo (g.P.Pages.store c.args.pages.now) (g.P.Pages.store c.fresh.new.self) (0 + 1) = omega (arith, ap length f.same.made) in
+    stopped _ _ _ c.from_residual-in_err-page.result c.from_residual-in_err-page.ensures.1 m
+
+pub returns-in_err-push_unit-clause-few : goal.returns-in_err-push_unit-clause-few
+returns-in_err-push_unit-clause-few g c =
+    λ k.
+    let made = c.in_ok-page.ensures.makes k in
+    let m : MakesUpTo (g.P.Pages.store c.args.pages.now) (g.P.Pages.store c.fresh.new.self) (0 + 1) = omega (arith, ap length made.made) in
+    stopped _ _ _ c.from_residual-in_err-push_unit.result c.from_residual-in_err-push_unit.ensures.1 m

@@ -1,9 +1,10 @@
 use Rattle.std.proofs.Common.{◌≡◌, ◌<◌, ◌++◌, arith, length, refl, rules}
+use Rattle.btree.specs.Few.{AreNotJoined}
 use Rattle.btree.specs.LooseView.{stub_in}
 use Rattle.btree.specs.Turn.{sheaf_in}
 use Rattle.btree.proofs.ListLemmas.{long_map}
 use Rattle.btree.proofs.StoreLemmas.{cause_later, frame_trans, grows_trans}
-use Rattle.btree.proofs.FewLemmas.{few_before, few_behind, few_concat, few_left_gone, few_level, few_on, few_right_gone}
+use Rattle.btree.proofs.FewLemmas.{few_before, few_behind, few_concat, few_left_gone, few_level, few_on, few_right_gone, not_joined_none, stopped}
 use Rattle.btree.proofs.HeldLemmas.{concat_turns, glue_held, held_later, turns_failed}
 use Rattle.btree.proofs.JoinLemmas.{left_gone, ready_joined, right_gone, turned_left, turned_right, up_to_trans}
 use Rattle.btree.proofs.joining.+join.Goals as goal
@@ -182,3 +183,43 @@ returns-clause-few g t c =
     (g.P.Pages.store c.raise_before.new.pages) c.in_ok-first.back.rank c.args.right.rank _ _ 4 4 0 c.raise_before.result (omega (arith, o.made, b.made))
     (c.raise_before.ensures.few (b.small, omega (arith, b.size, o.opened_size, little)) o.small k) c.in_ok-first.ensures.back_rank (omega (arith, o.size))
     (omega arith))
+
+-- ---- what failed
+
+pub returns-in_err-front-clause-few : goal.returns-in_err-front-clause-few
+returns-in_err-front-clause-few g t c =
+    λ k hl hr.
+    stopped _ _ _ c.from_residual.result c.from_residual.ensures.1
+    (not_joined_none (g.P.Pages.store c.args.pages.now) (g.P.Pages.store c.take_last.new.pages) 5440 (sheaf_in c.args.left) (sheaf_in c.args.right)
+    (c.in_err-front.ensures.few k hl))
+
+pub returns-in_err-first-clause-few : goal.returns-in_err-first-clause-few
+returns-in_err-first-clause-few g t c =
+    λ k hl hr.
+    stopped _ _ _ c.from_residual-in_err-first.result c.from_residual-in_err-first.ensures.1
+    (not_joined_none (g.P.Pages.store c.args.pages.now) (g.P.Pages.store c.take_first.new.pages) 5440 (sheaf_in c.args.left) (sheaf_in c.args.right)
+    (c.in_err-first.ensures.few k hr))
+
+pub returns-in_err-below-clause-few : goal.returns-in_err-below-clause-few
+returns-in_err-below-clause-few g t c =
+    λ k hl hr.
+    let o = c.in_ok-front.ensures.few (c.in_err-below.ensures.grows.frame k).word hl in
+    let b = c.in_err-below.ensures.few k o.opened_small hr in
+    let n : AreNotJoined (g.P.Pages.store c.args.pages.now) (g.P.Pages.store c.join.new.pages) 5440 (sheaf_in c.args.left) (sheaf_in c.args.right) = record {
+      level = λ e. absurd (omega arith);
+      behind = λ e some le. let m = b.level (omega (arith, e, c.in_ok-front.ensures.back_rank)) in omega (arith, o.made, m);
+      before = λ e some le. absurd (omega arith);
+    } in
+    stopped _ _ _ c.from_residual-in_err-below.result c.from_residual-in_err-below.ensures.1 n
+
+pub returns-in_err-below-2-clause-few : goal.returns-in_err-below-2-clause-few
+returns-in_err-below-2-clause-few g t c =
+    λ k hl hr.
+    let o = c.in_ok-first.ensures.few (c.in_err-below-2.ensures.grows.frame k).word hr in
+    let b = c.in_err-below-2.ensures.few k hl o.opened_small in
+    let n : AreNotJoined (g.P.Pages.store c.args.pages.now) (g.P.Pages.store c.join-2.new.pages) 5440 (sheaf_in c.args.left) (sheaf_in c.args.right) = record {
+      level = λ e. absurd (omega arith);
+      behind = λ e some le. absurd (omega arith);
+      before = λ e some le. let m = b.level (omega (arith, e, c.in_ok-first.ensures.front_rank)) in omega (arith, o.made, m);
+    } in
+    stopped _ _ _ c.from_residual-in_err-below-2.result c.from_residual-in_err-below-2.ensures.1 n

@@ -1,7 +1,8 @@
 use Rattle.std.proofs.Common.{◌++◌, arith}
+use Rattle.btree.specs.Few.{MakesUpTo}
 use Rattle.btree.specs.Turn.{sheaf_in}
 use Rattle.btree.proofs.ListLemmas.{times_append}
-use Rattle.btree.proofs.FewLemmas.{few_concat, few_parts}
+use Rattle.btree.proofs.FewLemmas.{few_concat, few_parts, stopped}
 use Rattle.btree.proofs.HeldLemmas.{concat_turns, joined_long, turns_failed}
 use Rattle.btree.proofs.joining.raise_before.Goals as goal
 
@@ -33,3 +34,10 @@ returns-clause-few g c =
     few_concat (g.P.Pages.store c.args.pages.now) (g.P.Pages.store c.raise.new.pages) c.args.back.rank _ 4 (sheaf_in c.in_ok-above.above)
     (sheaf_in c.args.back) c.concat.result (omega (arith, c.requires.next, c.in_ok-above.ensures.rank)) c.concat.ensures.rank c.concat.ensures.ok f.small small
     (omega (arith, p.1)) (omega (arith, f.made, p.0))
+
+pub returns-in_err-above-clause-few : goal.returns-in_err-above-clause-few
+returns-in_err-above-clause-few g c =
+    λ little small k.
+    let m : MakesUpTo (g.P.Pages.store c.args.pages.now) (g.P.Pages.store c.raise.new.pages) 4 =
+    omega (arith, c.in_err-above.ensures.few k little.0, little.1) in
+    stopped _ _ _ c.from_residual.result c.from_residual.ensures.1 m

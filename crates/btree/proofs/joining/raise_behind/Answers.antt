@@ -1,7 +1,8 @@
 use Rattle.std.proofs.Common.{◌++◌, arith, refl}
+use Rattle.btree.specs.Few.{MakesUpTo}
 use Rattle.btree.specs.Turn.{sheaf_in}
 use Rattle.btree.proofs.ListLemmas.{times_append}
-use Rattle.btree.proofs.FewLemmas.{few_concat, few_parts}
+use Rattle.btree.proofs.FewLemmas.{few_concat, few_parts, stopped}
 use Rattle.btree.proofs.HeldLemmas.{concat_turns, glue_held, held_later, joined_long, turns_failed}
 use Rattle.btree.proofs.joining.raise_behind.Goals as goal
 
@@ -34,3 +35,10 @@ returns-clause-few g c =
     few_concat (g.P.Pages.store c.args.pages.now) (g.P.Pages.store c.raise.new.pages) c.args.front.rank _ 4 (sheaf_in c.args.front)
     (sheaf_in c.in_ok-above.above) c.concat.result refl c.concat.ensures.rank c.concat.ensures.ok small f.small (omega (arith, p.1))
     (omega (arith, f.made, p.0))
+
+pub returns-in_err-above-clause-few : goal.returns-in_err-above-clause-few
+returns-in_err-above-clause-few g c =
+    λ little small k.
+    let m : MakesUpTo (g.P.Pages.store c.args.pages.now) (g.P.Pages.store c.raise.new.pages) 4 =
+    omega (arith, c.in_err-above.ensures.few k little.0, little.1) in
+    stopped _ _ _ c.from_residual.result c.from_residual.ensures.1 m

@@ -2,7 +2,7 @@ use Rattle.std.proofs.Common.{◌<◌, arith, length, map, refl, rules}
 use Rattle.btree.specs.LooseView.{stub_in}
 use Rattle.btree.specs.Turn.{sheaf_in}
 use Rattle.btree.proofs.ListLemmas.{long_map}
-use Rattle.btree.proofs.FewLemmas.{off_first}
+use Rattle.btree.proofs.FewLemmas.{off_first, stopped}
 use Rattle.btree.proofs.EndLemmas.{first_failed, first_is_child, first_off, first_units, took_first}
 use Rattle.btree.proofs.joining.take_first.Goals as goal
 
@@ -45,3 +45,12 @@ returns-clause-few g c =
     c.remove-unit.ensures.items c.deref.ensures.value) small in
     let o = c.in_ok-opened.ensures.few off.2 k in
     record { small = off.0; size = off.1; opened_small = o.small; opened_size = o.size; made = o.made }
+
+pub returns-in_err-opened-clause-few : goal.returns-in_err-opened-clause-few
+returns-in_err-opened-clause-few g c =
+    λ k small.
+    let some : 0 < length c.args.loose.units.items = search rules in
+    let off = off_first (map stub_in c.args.loose.units.items) _ _
+    (first_units c.args.loose.units.items c.remove-unit.new.self.items c.remove-unit.result c.deref.result.now some c.remove-unit.ensures.value
+    c.remove-unit.ensures.items c.deref.ensures.value) small in
+    stopped _ _ _ c.from_residual.result c.from_residual.ensures.1 (c.in_err-opened.ensures.few off.2 k)

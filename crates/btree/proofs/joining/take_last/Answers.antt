@@ -2,7 +2,7 @@ use Rattle.std.proofs.Common.{arith, map, refl}
 use Rattle.btree.specs.LooseView.{stub_in}
 use Rattle.btree.specs.Turn.{sheaf_in}
 use Rattle.btree.proofs.ListLemmas.{long_map}
-use Rattle.btree.proofs.FewLemmas.{off_last}
+use Rattle.btree.proofs.FewLemmas.{off_last, stopped}
 use Rattle.btree.proofs.EndLemmas.{last_failed, last_is_child, last_off, last_units, took_last}
 use Rattle.btree.proofs.joining.take_last.Goals as goal
 
@@ -42,3 +42,10 @@ returns-clause-few g c =
     (last_units c.args.loose.units.items c.pop.new.self.items c.in-Some.unit c.deref.result.now c.in-Some.ensures.items c.deref.ensures.value) small in
     let o = c.in_ok-opened.ensures.few off.2 k in
     record { small = off.0; size = off.1; opened_small = o.small; opened_size = o.size; made = o.made }
+
+pub returns-in_err-opened-clause-few : goal.returns-in_err-opened-clause-few
+returns-in_err-opened-clause-few g c =
+    λ k small.
+    let off = off_last (map stub_in c.args.loose.units.items) _ _
+    (last_units c.args.loose.units.items c.pop.new.self.items c.in-Some.unit c.deref.result.now c.in-Some.ensures.items c.deref.ensures.value) small in
+    stopped _ _ _ c.from_residual.result c.from_residual.ensures.1 (c.in_err-opened.ensures.few off.2 k)

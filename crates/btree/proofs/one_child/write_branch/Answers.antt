@@ -1,4 +1,6 @@
-use Rattle.std.proofs.Common.{◌∙◌, ◌++◌, ◌∷◌, [], List, ℕ, ap, arith, map, subst}
+use Rattle.std.proofs.Common.{◌∙◌, ◌++◌, ◌∷◌, [], List, ℕ, ap, arith, length, map, subst}
+use Rattle.btree.specs.Few.{MakesUpTo}
+use Rattle.btree.proofs.FewLemmas.{stopped}
 use Rattle.page.specs.Content.{branch}
 use Rattle.page.proofs.ChildPageLemmas.{with_branch}
 use Rattle.btree.specs.Loose.{arm_stub}
@@ -19,3 +21,17 @@ returns-clause-turns g c =
     (c.in_ok-push_unit.ensures.ok
     ∙ (λ i. map stub_in (c.new-units.ensures.items i)
     ++ (c.child_unit.ensures.stub ∙ ap (λ (key : List ℕ). arm_stub (record { key = key; child = c.in_ok-written.written })) c.in_ok-key.ensures.items) i ∷ []))
+
+pub returns-in_err-written-clause-few : goal.returns-in_err-written-clause-few
+returns-in_err-written-clause-few g c =
+    λ little k.
+    let f = c.in_err-written.ensures.makes k in
+    let m : MakesUpTo (g.P.Pages.store c.args.pages.now) (g.P.Pages.store c.fresh.new.self) 1 = omega (arith, ap length f.same.made) in
+    stopped _ _ _ c.from_residual-in_err-written.result c.from_residual-in_err-written.ensures.1 m
+
+pub returns-in_err-push_unit-clause-few : goal.returns-in_err-push_unit-clause-few
+returns-in_err-push_unit-clause-few g c =
+    λ little k.
+    let made = c.in_ok-written.ensures.makes k in
+    let m : MakesUpTo (g.P.Pages.store c.args.pages.now) (g.P.Pages.store c.fresh.new.self) 1 = omega (arith, ap length made.made) in
+    stopped _ _ _ c.from_residual-in_err-push_unit.result c.from_residual-in_err-push_unit.ensures.1 m

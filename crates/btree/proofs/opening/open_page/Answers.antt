@@ -1,5 +1,7 @@
 use Rattle.std.proofs.Common.{◌∙◌, ◌∷◌, sym, ap, arith, length, refl}
 use Rattle.page.specs.Format.{Sheet}
+use Rattle.btree.specs.Few.{MakesUpTo}
+use Rattle.btree.proofs.FewLemmas.{stopped}
 use Rattle.btree.proofs.StoreLemmas.{answer_failed, frame_same, frame_trans}
 use Rattle.btree.proofs.HeldLemmas.{opened}
 use Rattle.btree.proofs.opening.open_page.Goals as goal
@@ -27,3 +29,26 @@ returns-clause-few g c =
     let same = c.in_ok-shared.ensures.same gone.frame.word in
     let few = c.in_ok-units.ensures.few little in
     record { rank_is = refl; small = few.0; size = few.1; made = omega (arith, ap length (gone.made ∙ same.made)) }
+
+pub returns-in_err-shared-clause-few : goal.returns-in_err-shared-clause-few
+returns-in_err-shared-clause-few g c =
+    λ little k.
+    let same = c.in_err-shared.ensures.same k in
+    let m : MakesUpTo (g.P.Pages.store c.args.pages.now) (g.P.Pages.store c.read.new.self) 0 = omega (arith, ap length same.made) in
+    stopped _ _ _ c.from_residual.result c.from_residual.ensures.1 m
+
+pub returns-in_err-retire-clause-few : goal.returns-in_err-retire-clause-few
+returns-in_err-retire-clause-few g c =
+    λ little k.
+    let f = c.in_err-retire.ensures.retires k in
+    let same = c.in_ok-shared.ensures.same f.same.word in
+    let m : MakesUpTo (g.P.Pages.store c.args.pages.now) (g.P.Pages.store c.retire.new.self) 0 = omega (arith, ap length (f.same.made ∙ same.made)) in
+    stopped _ _ _ c.from_residual-in_err-retire.result c.from_residual-in_err-retire.ensures.1 m
+
+pub returns-in_err-units-clause-few : goal.returns-in_err-units-clause-few
+returns-in_err-units-clause-few g c =
+    λ little k.
+    let gone = c.in_ok-retire.ensures.retires k in
+    let same = c.in_ok-shared.ensures.same gone.frame.word in
+    let m : MakesUpTo (g.P.Pages.store c.args.pages.now) (g.P.Pages.store c.retire.new.self) 0 = omega (arith, ap length (gone.made ∙ same.made)) in
+    stopped _ _ _ c.from_residual-in_err-units.result c.from_residual-in_err-units.ensures.1 m

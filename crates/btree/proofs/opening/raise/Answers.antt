@@ -1,9 +1,10 @@
 use Rattle.std.proofs.Common.{◌∙◌, sym, ap, subst, map, refl}
 use Rattle.btree.specs.Keys.{Each}
-use Rattle.btree.specs.Few.{AreFewPages}
+use Rattle.btree.specs.Few.{AreFewPages, WritesUpTo}
 use Rattle.btree.specs.Loose.{IsEnough, IsStub, stubs_size}
 use Rattle.btree.specs.LooseView.{stub_in}
 use Rattle.btree.specs.Turn.{sheaf_in}
+use Rattle.btree.proofs.FewLemmas.{stopped}
 use Rattle.btree.proofs.HeldLemmas.{raised, ready_enough}
 use Rattle.btree.proofs.opening.raise.Goals as goal
 
@@ -22,3 +23,11 @@ returns-clause-few g c =
     let same = c.deref.ensures.value in
     subst (λ us. AreFewPages (g.P.Pages.store c.args.pages.now) (g.P.Pages.store c.write_parts.new.pages) (stubs_size (map stub_in us))
     (map stub_in c.in_ok-units.units.items)) same (c.in_ok-units.ensures.few k (subst (λ us. Each IsStub (map stub_in us)) (sym same) h))
+
+pub returns-in_err-units-clause-few : goal.returns-in_err-units-clause-few
+returns-in_err-units-clause-few g c =
+    λ k h.
+    let same = c.deref.ensures.value in
+    stopped _ _ _ c.from_residual.result c.from_residual.ensures.1
+    (subst (λ us. WritesUpTo (g.P.Pages.store c.args.pages.now) (g.P.Pages.store c.write_parts.new.pages) (stubs_size (map stub_in us))) same
+    (c.in_err-units.ensures.few k (subst (λ us. Each IsStub (map stub_in us)) (sym same) h)))

@@ -3,7 +3,8 @@ use Rattle.btree.proofs.ListLemmas.{long_map}
 use Rattle.btree.specs.LooseView.{stub_in}
 use Rattle.btree.proofs.StoreLemmas.{grows_itself, grows_trans}
 use Rattle.btree.specs.Loose.{stubs_size}
-use Rattle.btree.proofs.FewParts.{AreFewSoFar, few_done, few_none, few_step}
+use Rattle.btree.proofs.FewLemmas.{stopped}
+use Rattle.btree.proofs.FewParts.{AreFewSoFar, few_done, few_none, few_step, few_stopped, few_stopped_later}
 use Rattle.btree.proofs.RaiseLemmas.{ArePartly, partly_done, partly_failed, partly_none, partly_step, writes_failed}
 use Rattle.btree.proofs.parts.write_parts.Goals as goal
 
@@ -66,3 +67,19 @@ pub returns-clause-few : goal.returns-clause-few
 returns-clause-few g c = λ k h.
     few_done (g.P.Pages.store c.args.pages.now) (g.P.Pages.store c.loop-rest.pages) _ _ _ (c.loop-rest.invariant.few k h)
     (let none : length c.loop-rest.rest.now ≡ 0 = search rules in omega (arith, long_map stub_in c.loop-rest.rest.now))
+
+pub returns-in_err-unit-clause-few : goal.returns-in_err-unit-clause-few
+returns-in_err-unit-clause-few g c =
+    λ k h.
+    stopped _ _ _ c.from_residual.result c.from_residual.ensures.1
+    (few_stopped (g.P.Pages.store c.args.pages.now) (g.P.Pages.store c.loop-rest.pages) (g.P.Pages.store c.write_part.new.pages)
+    (stubs_size (map stub_in c.args.units.now)) _ _ (c.loop-rest.invariant.few (c.in_err-unit.ensures.grows.frame k).word h) (c.in_err-unit.ensures.one k))
+
+pub returns-in_err-push_unit-clause-few : goal.returns-in_err-push_unit-clause-few
+returns-in_err-push_unit-clause-few g c =
+    λ k h.
+    stopped _ _ _ c.from_residual-in_err-push_unit.result c.from_residual-in_err-push_unit.ensures.1
+    (few_stopped_later (g.P.Pages.store c.args.pages.now) (g.P.Pages.store c.loop-rest.pages) (g.P.Pages.store c.write_part.new.pages)
+    (stubs_size (map stub_in c.args.units.now)) c.part_len-at.result _ c.loop-rest.rest.now _ c.in_ok-unit.unit
+    (let some : 0 < length c.loop-rest.rest.now = search rules in some)
+    (c.loop-rest.invariant.few (c.in_ok-unit.ensures.grows.frame k).word h) c.part_len-at.ensures.full (c.in_ok-unit.ensures.one k))

@@ -1,7 +1,8 @@
 use Rattle.std.proofs.Common.{◌≡◌, ◌<◌, ◌∙◌, ◌∷◌, length, map, ap, arith, inl, inr, rules}
+use Rattle.btree.specs.Loose.{stubs_size}
 use Rattle.btree.specs.LooseView.{stub_in}
 use Rattle.btree.specs.Turn.{sheaf_in}
-use Rattle.btree.proofs.FewLemmas.{not_alone, root_few}
+use Rattle.btree.proofs.FewLemmas.{not_alone, raise_failed, root_few}
 use Rattle.btree.proofs.HeldLemmas.{no_stubs}
 use Rattle.btree.proofs.ListLemmas.{long_map}
 use Rattle.btree.proofs.RaiseLemmas.{head_of}
@@ -74,9 +75,18 @@ returns-clause-few g t c =
     let word = (c.write_root.ensures.grows.frame k).word in
     let some : 0 < length c.args.top.units.items = search rules in
     root_few (g.P.Pages.store c.args.pages.now) (g.P.Pages.store c.raise.new.pages) (g.P.Pages.store c.write_root.new.pages) halvings _
-    (map stub_in c.in_ok-above.above.units.items) c.write_root.result little.1
+    (map stub_in c.in_ok-above.above.units.items) little.1
     (omega (arith, c.in_ok-above.ensures.some some, long_map stub_in c.in_ok-above.above.units.items)) (c.in_ok-above.ensures.few word little.0)
     (λ h less. c.write_root.ensures.few h less k) (λ one. c.write_root.ensures.alone one k)
 
 pub returns-clause-alone : goal.returns-clause-alone
 returns-clause-alone g t c = λ one k. absurd (not_alone (map stub_in c.args.top.units.items) one c.in_default.ensures.none)
+
+pub returns-in_err-above-clause-few : goal.returns-in_err-above-clause-few
+returns-in_err-above-clause-few g t c =
+    λ halvings little k.
+    raise_failed (g.P.Pages.store c.args.pages.now) (g.P.Pages.store c.raise.new.pages) halvings (stubs_size (map stub_in c.args.top.units.items)) little.1
+    (c.in_err-above.ensures.few k little.0)
+
+pub returns-in_err-above-clause-alone : goal.returns-in_err-above-clause-alone
+returns-in_err-above-clause-alone g t c = λ one k. absurd (not_alone (map stub_in c.args.top.units.items) one c.in_default.ensures.none)

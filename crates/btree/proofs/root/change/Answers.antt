@@ -29,4 +29,7 @@ returns-clause-few g c =
     λ before entries tree one k.
     let u = c.in_ok-top.ensures.few before entries tree one (c.write_root.ensures.grows.frame k).word in
     costs_on (g.P.Pages.store c.args.pages.now) (g.P.Pages.store c.change_root.new.pages)
-    (g.P.Pages.store c.write_root.new.pages) u.pages _ _ c.write_root.result u.made (c.write_root.ensures.few u.halvings u.little k) u.enough
+    (g.P.Pages.store c.write_root.new.pages) u.pages _ _ u.made (c.write_root.ensures.few u.halvings u.little k) u.enough
+
+pub returns-in_err-top-clause-few : goal.returns-in_err-top-clause-few
+returns-in_err-top-clause-few g c = λ before entries tree one k. c.in_err-top.ensures.few before entries tree one k

@@ -1,8 +1,8 @@
-use Rattle.std.proofs.Common.{[], None, ap, length, map, arith, inl, inr}
+use Rattle.std.proofs.Common.{◌+◌, ◌*◌, [], None, ap, length, map, arith, inl, inr}
 use Rattle.btree.specs.EditView.{edit_in}
-use Rattle.btree.specs.Few.{edit_pages, levels_of}
+use Rattle.btree.specs.Few.{MakesUpTo, edit_pages, levels_of}
 use Rattle.btree.specs.Keys.{sum_of}
-use Rattle.btree.proofs.FewLemmas.{few_or_one_on, first_few, levels_few}
+use Rattle.btree.proofs.FewLemmas.{few_or_one_on, first_few, levels_few, stopped}
 use Rattle.btree.proofs.GetLemmas.{root_part}
 use Rattle.btree.proofs.RootLemmas.{all_between, turned_behind}
 use Rattle.btree.proofs.StoreLemmas.{part_kept}
@@ -41,4 +41,12 @@ returns-clause-few g c =
     (sum_of edit_pages (map edit_in c.args.edits.now)) c.change_below.result c.if-root-eq0.false
     (λ t. c.in_ok-below.ensures.levels t.d [] None t.body (root_part old c.args.root t.d t.body t.tree) word)
     (few_or_one_on old mid (g.P.Pages.store c.change_below.new.pages) _ _ _ _ _ 0 c.change_below.result (omega (arith, ap (λ zs. length zs) same.made))
-    (c.change_below.ensures.few one (omega arith) k) (omega arith) (omega arith))
+    (c.change_below.ensures.few (omega (arith, one)) (omega arith) k) (omega arith) (omega arith))
+
+pub returns-in_err-below-clause-few : goal.returns-in_err-below-clause-few
+returns-in_err-below-clause-few g c =
+    λ before entries tree one k.
+    let same = c.in_err-below.ensures.same k in
+    let m : MakesUpTo (g.P.Pages.store c.args.pages.now) (g.P.Pages.store c.levels_below.new.pages)
+    (4 * levels_of tree + 3 + sum_of edit_pages (map edit_in c.args.edits.now)) = omega (arith, ap length same.made) in
+    stopped _ _ _ c.from_residual.result c.from_residual.ensures.1 m

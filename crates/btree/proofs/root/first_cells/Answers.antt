@@ -5,7 +5,7 @@ use Rattle.btree.specs.EditView.{edit_in}
 use Rattle.btree.specs.Loose.{item_stub}
 use Rattle.btree.specs.View.{item_in}
 use Rattle.btree.proofs.ChangingLemmas.{leaf_changed}
-use Rattle.btree.proofs.FewLemmas.{cells_few}
+use Rattle.btree.proofs.FewLemmas.{cells_few, stopped}
 use Rattle.btree.proofs.RootLemmas.{all_between}
 use Rattle.btree.proofs.StoreLemmas.{answer_failed}
 use Rattle.btree.proofs.root.first_cells.Goals as goal
@@ -32,3 +32,10 @@ returns-clause-few g c =
     let f = cells_few _ _ [] _ (length c.args.edits.now) (c.in_ok-units.ensures ∙ ap (λ cs. map item_stub (map item_in cs)) c.deref.ensures.value)
     (c.in_ok-edit_cells.ensures.small (subst (Each IsItem) (sym none) tt)) none c.in_ok-edit_cells.ensures.size (omega arith) (omega arith) in
     record { rank_is = refl; small = f.0; size = f.1; made = c.in_ok-edit_cells.ensures.few k }
+
+pub returns-in_err-edit_cells-clause-few : goal.returns-in_err-edit_cells-clause-few
+returns-in_err-edit_cells-clause-few g c = λ one k. stopped _ _ _ c.from_residual.result c.from_residual.ensures.1 (c.in_err-edit_cells.ensures.few k)
+
+pub returns-in_err-units-clause-few : goal.returns-in_err-units-clause-few
+returns-in_err-units-clause-few g c =
+    λ one k. stopped _ _ _ c.from_residual-in_err-units.result c.from_residual-in_err-units.ensures.1 (c.in_ok-edit_cells.ensures.few k)

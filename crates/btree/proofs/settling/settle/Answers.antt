@@ -2,7 +2,7 @@ use Rattle.std.proofs.Common.{◌++◌, Some, ap, arith, length}
 use Rattle.btree.specs.LooseView.{stub_in}
 use Rattle.btree.specs.Turn.{sheaf_in}
 use Rattle.btree.proofs.ChangingLemmas.{behind_later}
-use Rattle.btree.proofs.FewLemmas.{few_left_first, few_right_first}
+use Rattle.btree.proofs.FewLemmas.{few_left_failed, few_left_first, few_right_failed, few_right_first, not_settled_none, stopped}
 use Rattle.btree.proofs.HeldLemmas.{held_later, turns_failed}
 use Rattle.btree.proofs.JoinLemmas.{up_to_trans}
 use Rattle.btree.proofs.ListLemmas.{long_map}
@@ -104,3 +104,33 @@ returns-clause-turns g c =
     base low mid high first amid last lp mp rp (sheaf_in c.in_ok-back.back) c.meet-2.result g2 u
     (c.meet-2.ensures.turns base low mid high first (amid ++ last) lp u.after
     (held_later _ _ base low (Some mid) first lp _ (frame_trans _ _ _ g1 g2) h1) u.held over within k))
+
+-- ---- what failed
+
+pub returns-in_err-to_the_left-clause-few : goal.returns-in_err-to_the_left-clause-few
+returns-in_err-to_the_left-clause-few g c =
+    λ k hl hb hr.
+    let same = c.in_err-to_the_left.ensures.same k in
+    stopped _ _ _ c.from_residual.result c.from_residual.ensures.1
+    (not_settled_none (g.P.Pages.store c.args.pages.now) (g.P.Pages.store c.goes_to_the_left.new.pages) (sheaf_in c.args.left) (sheaf_in c.args.below)
+    (sheaf_in c.args.right) (omega (arith, ap length same.made)))
+
+pub returns-in_err-front-clause-few : goal.returns-in_err-front-clause-few
+returns-in_err-front-clause-few g c =
+    λ k hl hb hr.
+    let same = c.in_ok-to_the_left.ensures.same (c.in_err-front.ensures.grows.frame k).word in
+    let some = c.in_ok-to_the_left.ensures.some c.if-to_the_left.true in
+    stopped _ _ _ c.from_residual-in_err-front.result c.from_residual-in_err-front.ensures.1
+    (few_left_failed (g.P.Pages.store c.args.pages.now) (g.P.Pages.store c.goes_to_the_left.new.pages) (g.P.Pages.store c.meet.new.pages)
+    (sheaf_in c.args.left) (sheaf_in c.args.below) (sheaf_in c.args.right) (omega (arith, ap length same.made))
+    (omega (arith, some, long_map stub_in c.args.left.units.items)) (c.in_err-front.ensures.few k hl hb))
+
+pub returns-in_err-back-clause-few : goal.returns-in_err-back-clause-few
+returns-in_err-back-clause-few g c =
+    λ k hl hb hr.
+    let same = c.in_ok-to_the_left.ensures.same (c.in_err-back.ensures.grows.frame k).word in
+    let right = long_map stub_in c.args.right.units.items in
+    stopped _ _ _ c.from_residual-in_err-back.result c.from_residual-in_err-back.ensures.1
+    (few_right_failed (g.P.Pages.store c.args.pages.now) (g.P.Pages.store c.goes_to_the_left.new.pages) (g.P.Pages.store c.meet_behind-2.new.pages)
+    (sheaf_in c.args.left) (sheaf_in c.args.below) (sheaf_in c.args.right) (omega (arith, ap length same.made))
+    (λ some. c.in_err-back.ensures.few (omega (arith, right)) k hb hr) (λ none. c.in_err-back.ensures.none (omega (arith, right)) k))

@@ -15,7 +15,7 @@ returns-in_err-batch g c =
 pub returns-then-is_some : goal.returns-then-is_some
 returns-then-is_some g c =
     looks_never g.D.Disk.history c.args.root _
-    (λ entries all. map entry_in all.items ≡ entries) c.args.pager.now c.entries_below.new.pager c.in_ok-batch.batch faults.Length c.in_ok-batch.ensures
+    (λ entries all. map entry_in all.items ≡ entries) c.args.pager.now c.entries_below.new.pager c.in_ok-batch.batch faults.Length tt c.in_ok-batch.ensures
     (λ entries right. no_next c.in_ok-batch.batch entries (sym c.if-is_some.ensures) right)
 
 pub returns : goal.returns

@@ -1,4 +1,4 @@
-use Rattle.std.proofs.Common.{◌≡◌, ℕ, take}
+use Rattle.std.proofs.Common.{◌≡◌, ℕ, ◌+◌, ◌*◌, take}
 use Rattle.page.specs.History.{KeepsWord, now, reads}
 use Rattle.page.specs.Crash.{GoesOn, LeavesOnly, IsImageOutside}
 use Rattle.roots.specs.Image.{IsOnPages}
@@ -11,6 +11,7 @@ invariant-loop-shared g l =
     let h = g.D.Disk.history l.disk in
     record {
       on : GoesOn start h;
+      calls : KeepsWord h → h.clock ≡ start.clock + 8 * l.shared-index;
       any_moment : LeavesOnly start h (IsImageOutside (now start) (IsOnPages (numbers_of l.made)));
       others : KeepsWord h → (k : ℕ) → (IsOnPages (numbers_of l.made) k → ⊥) → now h k ≡ now start k;
       written : KeepsWord h → LieBehind 0 l.made → AreWritten (reads (now h)) (take l.shared-index l.made);

@@ -1,4 +1,5 @@
 use Rattle.std.proofs.Common.{ap, subst, ◌∙◌}
+use Rattle.pager.specs.Asking.{OnlyWrites}
 use Rattle.collections.specs.Committing.{Commits}
 use Rattle.collections.specs.State.{State}
 use Rattle.collections.specs.Versions.{CommitsVersions, pins_of}
@@ -14,6 +15,13 @@ returns-clause-commits g c =
     subst (λ (s : State D). Commits history c.commit.result s (record { pager = c.commit.new.self; root = i.root })) c.self.view_is
     (commits_so history
     (record { pager = i.pager; root = i.root }) c.commit.new.self c.commit.result c.commit.ensures.commits c.commit.ensures.takes c.commit.ensures.moves)
+
+pub returns-clause-calls : goal.returns-clause-calls
+returns-clause-calls g c =
+    let D = g.row.D.Denot in
+    let history = g.D.Disk.history in
+    let i = c.self.inside in
+    subst (λ (s : State D). OnlyWrites history c.commit.result s.pager c.commit.new.self) c.self.view_is c.commit.ensures.calls
 
 pub returns-clause-versions : goal.returns-clause-versions
 returns-clause-versions g c =

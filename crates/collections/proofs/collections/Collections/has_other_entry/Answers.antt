@@ -1,4 +1,4 @@
-use Rattle.std.proofs.Common.{◌≡◌, List, ℕ, Ok, sym, subst, ◌∙◌}
+use Rattle.std.proofs.Common.{◌≡◌, List, ℕ, sym, subst, ◌∙◌}
 use Rattle.std.specs.List.{list_any}
 use Rattle.std.specs.Option.{option_map}
 use Rattle.std.proofs.lemmas.Result.{err_from_is_err_and}
@@ -31,7 +31,7 @@ returns g c =
     c.any_other.ensures ∙ (λ i. list_any (λ x. is_another (c.deref-4.ensures.value i) id (entry_in x).key) (c.deref-3.ensures.value i)) in
     tree_on g.D.Disk.history (IsBatchOf range)
     (IsTest (has_other_key c.args.number c.args.index c.args.key.now id)) c.args.self.now c.tree_entries.new.self batch
-    (Ok c.any_other.result) c.in_ok-batch.ensures
+    c.any_other.result c.in_ok-batch.ensures
     (λ entries p. told
     ∙ others_told c.args.number c.args.index c.args.key.now id front range batch c.in_ok-front.ensures c.deref-2.ensures.value ends
     (sym c.if-is_some.ensures) entries p)

@@ -1,4 +1,4 @@
-use Rattle.std.proofs.Common.{◌≡◌, ℕ, List, take, sym, subst, ap, ◌∙◌}
+use Rattle.std.proofs.Common.{◌≡◌, ℕ, List, length, take, sym, subst, ap, ◌∙◌}
 use Rattle.page.specs.Format.{Sheet}
 use Rattle.freelist.specs.Book.{Book, undone}
 use Rattle.pager.specs.Kept.{IsKept}
@@ -6,6 +6,7 @@ use Rattle.pager.specs.Pinning.{KeepsOlder}
 use Rattle.pager.specs.State.{State}
 use Rattle.pager.specs.Turn.{LeadsBack, Returns}
 use Rattle.pager.proofs.AgainLemmas.{undone_keeps}
+use Rattle.pager.proofs.LimitLemmas.{undone_limit}
 use Rattle.pager.proofs.OrderLemmas.{all_positive, lower_than}
 use Rattle.pager.proofs.ReturnLemmas.{returns_back}
 use Rattle.pager.proofs.UndoLemmas.{kept_undone, leads_back}
@@ -65,3 +66,9 @@ returns-clause-versions g c =
     subst (λ (s : State D). KeepsOlder history made s (after c.truncate.new.self.items c.truncate-2.new.self.items c.undo_to.new.self)) c.self.view_is
     (subst (KeepsOlder history made p) (λ j. after (sym c.truncate.ensures.items j) (sym c.truncate-2.ensures.items j) (sym book j))
     (undone_keeps history p c.self.invariant.booked (all_positive i.made.items i.places.items c.self.invariant.order) made retired))
+
+pub returns-clause-limit : goal.returns-clause-limit
+returns-clause-limit g c =
+    let i = c.self.inside in
+    let book : c.undo_to.new.self ≡ undone c.args.mark.made i.book = c.undo_to.ensures ∙ ap (λ (n : ℕ). undone n i.book) c.args.mark.same in
+    ap (λ (b : Book). length b.states) book ∙ undone_limit c.args.mark.made i.book ∙ ap (λ (s : State g.row.D.Denot). length s.book.states) c.self.view_is
