@@ -1,5 +1,5 @@
 use Rattle.std.proofs.Common.{◌*◌, ◌-◌, arith, drop}
-use Rattle.btree.proofs.StoreLemmas.{grows_made, grows_trans}
+use Rattle.btree.proofs.StoreLemmas.{grows_failed, grows_itself, grows_made, grows_trans}
 use Rattle.btree.proofs.ChainLemmas.{chained_on, drop_on, first_of, some_left}
 use Rattle.btree.proofs.chain.write_chain.Goals as goal
 
@@ -19,3 +19,8 @@ loop-left-preserved g c =
           c.min-end.ensures c.in_ok-bytes.ensures.items)
           (drop_on c.args.value.now c.loop-left.left c.loop-left-test.true);
     }
+
+pub returns-in_err-next-clause-grows : goal.returns-in_err-next-clause-grows
+returns-in_err-next-clause-grows g c = 
+    grows_trans _ _ _ c.loop-left.invariant.grows
+    (grows_failed (g.P.Pages.store c.loop-left.pages) (g.P.Pages.store c.fresh.new.self) _ c.in_err-next.ensures.stays c.in_err-next.ensures.makes)

@@ -4,6 +4,7 @@ use Rattle.btree.proofs.ChangingLemmas.{each_of_all, leaf_changed}
 use Rattle.btree.proofs.EditLemmas.{not_edited}
 use Rattle.btree.proofs.FewParts.{leaf_few}
 use Rattle.btree.proofs.InPageLemmas.{leaf_written, none, one_few}
+use Rattle.btree.proofs.StoreLemmas.{grows_failed, grows_itself, grows_made}
 use Rattle.btree.proofs.in_page.write_leaf.Goals as goal
 
 pub returns-then-len-lt2-clause-few : goal.returns-then-len-lt2-clause-few
@@ -36,3 +37,15 @@ returns-clause-turns g c =
     (c.in_ok-page.ensures.makes k)
     (c.in_ok-key.ensures.items ∙ c.leaf_key.ensures (none key)) c.child_unit.ensures.range
     (c.in_ok-push_unit.ensures.ok ∙ (λ i. map stub_in (c.new-units.ensures.items i) ++ c.child_unit.ensures.stub i ∷ []))
+
+pub returns-in_err-key-clause-grows : goal.returns-in_err-key-clause-grows
+returns-in_err-key-clause-grows g c = grows_itself (g.P.Pages.store c.args.pages.now)
+
+pub returns-in_err-page-clause-grows : goal.returns-in_err-page-clause-grows
+returns-in_err-page-clause-grows g c = grows_failed (g.P.Pages.store c.args.pages.now) (g.P.Pages.store c.fresh.new.self) _ c.in_err-page.ensures.stays c.in_err-page.ensures.makes
+
+pub returns-in_err-push_unit-clause-grows : goal.returns-in_err-push_unit-clause-grows
+returns-in_err-push_unit-clause-grows g c = grows_made (g.P.Pages.store c.args.pages.now) (g.P.Pages.store c.fresh.new.self) _ _ c.in_ok-page.ensures.stays c.in_ok-page.ensures.makes
+
+pub returns-clause-grows : goal.returns-clause-grows
+returns-clause-grows g c = grows_made (g.P.Pages.store c.args.pages.now) (g.P.Pages.store c.fresh.new.self) _ _ c.in_ok-page.ensures.stays c.in_ok-page.ensures.makes

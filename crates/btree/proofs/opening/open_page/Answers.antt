@@ -1,6 +1,6 @@
 use Rattle.std.proofs.Common.{◌∙◌, ◌∷◌, sym, ap, arith, length, refl}
 use Rattle.page.specs.Format.{Sheet}
-use Rattle.btree.proofs.StoreLemmas.{answer_failed, frame_same, frame_trans}
+use Rattle.btree.proofs.StoreLemmas.{answer_failed, frame_same, frame_trans, grows_failed, grows_retired, grows_same, grows_trans}
 use Rattle.btree.proofs.HeldLemmas.{opened}
 use Rattle.btree.proofs.opening.open_page.Goals as goal
 
@@ -27,3 +27,21 @@ returns-clause-few g c =
     let same = c.in_ok-shared.ensures.same gone.frame.word in
     let few = c.in_ok-units.ensures.few little in
     record { rank_is = refl; small = few.0; size = few.1; made = omega (arith, ap length (gone.made ∙ same.made)) }
+
+pub returns-in_err-shared-clause-grows : goal.returns-in_err-shared-clause-grows
+returns-in_err-shared-clause-grows g c = grows_same (g.P.Pages.store c.args.pages.now) (g.P.Pages.store c.read.new.self) c.in_err-shared.ensures.stays c.in_err-shared.ensures.same
+
+pub returns-in_err-retire-clause-grows : goal.returns-in_err-retire-clause-grows
+returns-in_err-retire-clause-grows g c = 
+    grows_trans _ _ _ (grows_same (g.P.Pages.store c.args.pages.now) (g.P.Pages.store c.read.new.self) c.in_ok-shared.ensures.stays c.in_ok-shared.ensures.same)
+    (grows_failed (g.P.Pages.store c.read.new.self) (g.P.Pages.store c.retire.new.self) _ c.in_err-retire.ensures.stays c.in_err-retire.ensures.retires)
+
+pub returns-in_err-units-clause-grows : goal.returns-in_err-units-clause-grows
+returns-in_err-units-clause-grows g c = 
+    grows_trans _ _ _ (grows_same (g.P.Pages.store c.args.pages.now) (g.P.Pages.store c.read.new.self) c.in_ok-shared.ensures.stays c.in_ok-shared.ensures.same)
+    (grows_retired (g.P.Pages.store c.read.new.self) (g.P.Pages.store c.retire.new.self) _ c.in_ok-retire.ensures.stays c.in_ok-retire.ensures.retires)
+
+pub returns-clause-grows : goal.returns-clause-grows
+returns-clause-grows g c = 
+    grows_trans _ _ _ (grows_same (g.P.Pages.store c.args.pages.now) (g.P.Pages.store c.read.new.self) c.in_ok-shared.ensures.stays c.in_ok-shared.ensures.same)
+    (grows_retired (g.P.Pages.store c.read.new.self) (g.P.Pages.store c.retire.new.self) _ c.in_ok-retire.ensures.stays c.in_ok-retire.ensures.retires)

@@ -1,5 +1,6 @@
 use Rattle.std.proofs.Common.{◌∙◌}
 use Rattle.btree.proofs.FewParts.{one_page}
+use Rattle.btree.proofs.StoreLemmas.{grows_failed, grows_itself, grows_made}
 use Rattle.btree.proofs.parts.write_part.Goals as goal
 
 pub returns-clause-one : goal.returns-clause-one
@@ -8,3 +9,15 @@ returns-clause-one g c =
     (g.P.Pages.store c.fresh.new.self) c.args.units.now c.in-Some.first.now c.child_unit.result c.in_ok-key.key.items c.in_ok-page.page _
     (c.in_ok-page.ensures.makes k) c.in-Some.ensures.item.3.0 c.in-Some.ensures.item.1
     (c.in_ok-key.ensures.items ∙ c.deref.ensures.value) c.child_unit.ensures.stub c.child_unit.ensures.range
+
+pub returns-in_err-content-clause-grows : goal.returns-in_err-content-clause-grows
+returns-in_err-content-clause-grows g c = grows_itself (g.P.Pages.store c.args.pages.now)
+
+pub returns-in_err-key-clause-grows : goal.returns-in_err-key-clause-grows
+returns-in_err-key-clause-grows g c = grows_itself (g.P.Pages.store c.args.pages.now)
+
+pub returns-in_err-page-clause-grows : goal.returns-in_err-page-clause-grows
+returns-in_err-page-clause-grows g c = grows_failed (g.P.Pages.store c.args.pages.now) (g.P.Pages.store c.fresh.new.self) _ c.in_err-page.ensures.stays c.in_err-page.ensures.makes
+
+pub returns-clause-grows : goal.returns-clause-grows
+returns-clause-grows g c = grows_made (g.P.Pages.store c.args.pages.now) (g.P.Pages.store c.fresh.new.self) _ _ c.in_ok-page.ensures.stays c.in_ok-page.ensures.makes

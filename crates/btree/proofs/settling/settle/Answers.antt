@@ -104,3 +104,9 @@ returns-clause-turns g c =
     base low mid high first amid last lp mp rp (sheaf_in c.in_ok-back.back) c.meet-2.result g2 u
     (c.meet-2.ensures.turns base low mid high first (amid ++ last) lp u.after
     (held_later _ _ base low (Some mid) first lp _ (frame_trans _ _ _ g1 g2) h1) u.held over within k))
+
+pub returns-in_err-front-clause-grows : goal.returns-in_err-front-clause-grows
+returns-in_err-front-clause-grows g c = grows_trans _ _ _ c.in_ok-to_the_left.ensures.grows c.in_err-front.ensures.grows
+
+pub returns-in_err-back-clause-grows : goal.returns-in_err-back-clause-grows
+returns-in_err-back-clause-grows g c = grows_trans _ _ _ c.in_ok-to_the_left.ensures.grows c.in_err-back.ensures.grows
