@@ -1,4 +1,5 @@
-use Rattle.std.proofs.Common.{◌≡◌, ap, ◌∙◌, arith, map, rules}
+use Rattle.std.proofs.Common.{◌≡◌, [], ◌∷◌, ap, ◌∙◌, arith, map}
+use Rattle.std.proofs.lemmas.List.{map-append}
 use Rattle.index.specs.Steps.{longest}
 use Rattle.index.specs.View.{texts_of}
 use Rattle.index.proofs.TextLemmas.{field_more, field_refused, field_without_room, refused}
@@ -25,4 +26,5 @@ fields-preserved c =
     field_more c.args.fields.now c.fields.field-index c.field-item.result c.args.source.now c.fields.room
     (map (λ texts. texts_of texts.items) c.fields.all.items) _ c.fields-test.true c.field-item.is
     c.fields.invariant (texts_of c.in_ok-texts.texts.items) _ c.in-Some.left c.in_ok-texts.ensures (omega (arith, long_is, c.in-Some.ensures.0))
-    (omega (arith, long_is, c.in-Some.ensures.1)) (search rules)
+    (omega (arith, long_is, c.in-Some.ensures.1)) (ap (map (λ texts. texts_of texts.items)) c.in_ok-push.ensures.items
+    ∙ map-append (λ texts. texts_of texts.items) c.fields.all.items (c.in_ok-texts.texts ∷ []))
