@@ -142,7 +142,8 @@ impl DocumentFold for Giving<'_> {
         if offer_within(self.alloc, &mut self.batch, self.projection, document)? {
             return Ok(());
         }
-        self.next = Some(text_of(self.alloc, document)?);
+        let text = text_of(self.alloc, document)?;
+        drop(self.next.replace(text));
         Ok(())
     }
 }
@@ -215,7 +216,9 @@ pub fn batch_of_turn<D: Disk>(
         to: span.end.as_deref(),
     };
     let giving = begun(alloc, walk, asked)?;
-    let given = file.fold_documents_within(home.number, texts, giving)?;
+    let given = file.fold_documents_within(home.number, texts, giving);
+    drop(span);
+    let given = given?;
     Ok(ended(given, asked)?)
 }
 
@@ -240,6 +243,8 @@ pub fn batch_of_version<D: Disk>(
         to: span.end.as_deref(),
     };
     let giving = begun(alloc, walk, asked)?;
-    let given = file.fold_documents_in(version, number, texts, giving)?;
+    let given = file.fold_documents_in(version, number, texts, giving);
+    drop(span);
+    let given = given?;
     Ok(ended(given, asked)?)
 }

@@ -48,7 +48,10 @@ fn is_behind(
     let Some(id) = document.get("_id") else {
         return Ok(true);
     };
-    let text = group_text(alloc, &id.value(alloc)?)?;
+    let id = id.value(alloc)?;
+    let text = group_text(alloc, &id);
+    drop(id);
+    let text = text?;
     match ids.get((lent / 4 * 3).saturating_sub(1)) {
         Some(id) => Ok(is_below(&text, Some(id))),
         None => Ok(true),
@@ -123,7 +126,9 @@ pub(crate) fn fold_dense<D: Disk, F: DocumentFold + Drop>(
         lent: 0,
         is_sparse: false,
     };
-    let walked = file.fold_documents_within(number, texts, walk)?;
+    let walked = file.fold_documents_within(number, texts, walk);
+    drop(span);
+    let walked = walked?;
     if walked.is_sparse {
         return Ok(None);
     }
