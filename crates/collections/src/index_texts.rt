@@ -122,11 +122,11 @@ impl<D: Disk> Collections<D> {
         });
         drop(keys);
         let batch = batch?;
-        let texts = texts_in(self.alloc, number, index, &batch.entries)?;
-        Ok(FirstTexts {
-            texts,
-            are_all: batch.next.is_none(),
-        })
+        let texts = texts_in(self.alloc, number, index, &batch.entries);
+        let are_all = batch.next.is_none();
+        drop(batch);
+        let texts = texts?;
+        Ok(FirstTexts { texts, are_all })
     }
 
     /// All of these, where there are at most so many.

@@ -142,8 +142,7 @@ impl DocumentFold for Giving<'_> {
         if offer_within(self.alloc, &mut self.batch, self.projection, document)? {
             return Ok(());
         }
-        let text = text_of(self.alloc, document)?;
-        drop(self.next.replace(text));
+        self.next = Some(text_of(self.alloc, document)?);
         Ok(())
     }
 }

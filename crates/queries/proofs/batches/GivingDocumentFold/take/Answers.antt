@@ -26,4 +26,4 @@ pub returns-clause-takes : goal.returns-clause-takes
 returns-clause-takes c = λ start all h.
     is_left start c.args.self.now all c.args.document.now h (sym c.is_over.ensures ∙ c.if-is_over.false) _ c.in_ok-offer_within.field-0
     (sym c.in_ok-matches_raw.ensures ∙ c.if-not-branch.false) (omega (arith, c.if-self-gt0.false)) refl refl refl refl
-    c.in_ok-offer_within.ensures.offered c.if-branch.false c.in_ok-text.text c.replace.ensures.after c.in_ok-text.ensures.text
+    c.in_ok-offer_within.ensures.offered c.if-branch.false c.in_ok-text_of.field-0 refl c.in_ok-text_of.ensures.text
