@@ -160,11 +160,7 @@ fn is_greater(best: &Option<Value>, found: &Found<'_>) -> bool
 }
 
 /// Takes a value in the place of the best so far, if it is better.
-fn take_better(
-    best: &mut Option<Value>,
-    found: Found<'_>,
-    is_better: bool,
-) -> Result<(), NoMemory>
+fn take_better(best: &mut Option<Value>, found: Found<'_>, is_better: bool) -> Result<(), NoMemory>
     ensures { OnOk result (option_map tree best.new
         ≡ (if is_better then found_of found.entry else option_map tree best.old)) }
 {

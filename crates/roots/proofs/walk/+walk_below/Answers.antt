@@ -329,12 +329,9 @@ returns-clause-found g t c keeps =
 
 pub returns-in_err-walk_leaf-in-Leaf-clause-looks : goal.returns-in_err-walk_leaf-in-Leaf-clause-looks
 returns-in_err-walk_leaf-in-Leaf-clause-looks g t c =
-    looks_failed {Y = ℕ} (g.D.Disk.history c.args.disk.now) (g.D.Disk.history c.read_sheet.new.disk) (g.D.Disk.history c.walk_leaf.new.disk)
+    looks_failed {Y = Unit {0}} (g.D.Disk.history c.args.disk.now) (g.D.Disk.history c.read_sheet.new.disk) (g.D.Disk.history c.walk_leaf.new.disk)
     c.from_residual-in_err-walk_leaf-in-Leaf.result c.in_err-walk_leaf-in-Leaf.field-0.0 (handed_on _ _ c.from_residual-in_err-walk_leaf-in-Leaf.ensures.1)
     c.read_sheet.ensures.looks.reads c.in_err-walk_leaf-in-Leaf.ensures.looks
-
-pub returns-in_err-walk_leaf-in-Leaf-clause-marks : goal.returns-in_err-walk_leaf-in-Leaf-clause-marks
-returns-in_err-walk_leaf-in-Leaf-clause-marks g t c limit marked = c.in_err-walk_leaf-in-Leaf.ensures.marks limit (c.in_ok-note.ensures.marks limit marked)
 
 pub returns-in-Leaf-clause-looks : goal.returns-in-Leaf-clause-looks
 returns-in-Leaf-clause-looks g t c =
