@@ -1,6 +1,6 @@
 -- Text that is put at the end piece by piece.
 use Rattle.std.proofs.Common.{◌≡◌, ℕ, zero, suc, ◌+◌, ◌<◌, ◌≤◌, List, [], ◌∷◌, ◌++◌, length, map, take, drop, set, get_or, Result, Ok, Err, sym, ◌∙◌, ap, subst}
-use Rattle.std.proofs.Common.{append_assoc, arith, drop-cons}
+use Rattle.std.proofs.Common.{arith}
 use Rattle.std.proofs.lemmas.List.{length-append}
 use Rattle.bson.specs.View.{tree, pairs_of, items_of}
 use Rattle.bson.specs.declared.value.Value.{Value}
@@ -27,34 +27,6 @@ last_put limit piece whole old mid new (Err e) same h =
 -- what is left is as long as what is missing
 pub left_over : (mid rest old whole : List ℕ) → mid ++ rest ≡ old ++ whole → length mid + length rest ≡ length old + length whole
 left_over mid rest old whole same = sym (length-append mid rest) ∙ ap length same ∙ length-append old whole
-
--- ---- one more item, one more pair
-
-drop_step : {X : Type 0} (xs : List X) (i : ℕ) (x : X) → i < length xs → x ≡ get_or xs i x → drop i xs ≡ x ∷ drop (i + 1) xs
-drop_step xs i x within is =
-    let next : suc i ≡ i + 1 = omega arith in
-    drop-cons xs i x within ∙ (λ j. sym is j ∷ drop (next j) xs)
-
-pub item_put : (vs : List Value) (i : ℕ) (v : Value) (out new whole : List ℕ) → i < length vs → v ≡ get_or vs i v
-    → out ++ items_text (items_of (drop i vs)) ≡ whole → new ≡ out ++ tree_text (tree v) → new ++ items_text (items_of (drop (i + 1) vs)) ≡ whole
-item_put vs i v out new whole lt is so_far put =
-    let rest = items_text (items_of (drop (i + 1) vs)) in
-    ap (λ (bs : List ℕ). bs ++ rest) put ∙ append_assoc out (tree_text (tree v)) rest
-    ∙ sym (ap (λ (ws : List Value). out ++ items_text (items_of ws)) (drop_step vs i v lt is))
-    ∙ so_far
-
-pub pair_put : (ps : List Pair) (i : ℕ) (p : Pair) (out mid new whole : List ℕ) → i < length ps → p ≡ get_or ps i p
-    → out ++ pairs_text (pairs_of (drop i ps)) ≡ whole → mid ≡ out ++ class (tree p.value) ∷ (p.name ++ 0 ∷ []) → new ≡ mid ++ tree_text (tree p.value)
-    → new ++ pairs_text (pairs_of (drop (i + 1) ps)) ≡ whole
-pair_put ps i p out mid new whole lt is so_far head put =
-    let rest = pairs_text (pairs_of (drop (i + 1) ps)) in
-    let piece = class (tree p.value) ∷ (p.name ++ 0 ∷ []) in
-    ap (λ (bs : List ℕ). bs ++ rest) (put ∙ ap (λ (bs : List ℕ). bs ++ tree_text (tree p.value)) head)
-    ∙ append_assoc (out ++ piece) (tree_text (tree p.value)) rest
-    ∙ append_assoc out piece (tree_text (tree p.value) ++ rest)
-    ∙ ap (λ (bs : List ℕ). out ++ class (tree p.value) ∷ bs) (append_assoc p.name (0 ∷ []) (tree_text (tree p.value) ++ rest))
-    ∙ sym (ap (λ (qs : List Pair). out ++ pairs_text (pairs_of qs)) (drop_step ps i p lt is))
-    ∙ so_far
 
 pub zero_part : (bytes : List ℕ) (i : ℕ) → i < length bytes → get_or bytes i 0 ≡ 0 → 2 ≤ length (escaped_text (drop i bytes))
 zero_part [] i lt is = absurd (omega arith)

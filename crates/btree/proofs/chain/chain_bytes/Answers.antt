@@ -46,7 +46,7 @@ returns-then-page-ne0-clause-reads g c =
     c.if-page-ne0.true (ends (g.P.Pages.store c.loop-left.pages) value _ _ _ (omega arith) (c.loop-left.invariant.chained links value has next long k))
 
 pub returns-in_err-shared-clause-grows : goal.returns-in_err-shared-clause-grows
-returns-in_err-shared-clause-grows g c = 
+returns-in_err-shared-clause-grows g c =
     grows_trans _ _ _ c.loop-left.invariant.grows
     (grows_same (g.P.Pages.store c.loop-left.pages) (g.P.Pages.store c.read.new.self) c.in_err-shared.ensures.stays c.in_err-shared.ensures.same)
 

@@ -21,6 +21,6 @@ loop-left-preserved g c =
     }
 
 pub returns-in_err-next-clause-grows : goal.returns-in_err-next-clause-grows
-returns-in_err-next-clause-grows g c = 
+returns-in_err-next-clause-grows g c =
     grows_trans _ _ _ c.loop-left.invariant.grows
     (grows_failed (g.P.Pages.store c.loop-left.pages) (g.P.Pages.store c.fresh.new.self) _ c.in_err-next.ensures.stays c.in_err-next.ensures.makes)

@@ -176,12 +176,12 @@ pub returns-then-not-is_within-clause-same : goal.returns-then-not-is_within-cla
 returns-then-not-is_within-clause-same g t c = λ k. let now = c.loop-i.invariant.same k in same_trans _ _ _ (c.in_ok-shared.ensures.same now.word) now
 
 pub returns-in_err-fold_below-clause-grows : goal.returns-in_err-fold_below-clause-grows
-returns-in_err-fold_below-clause-grows g t c = 
+returns-in_err-fold_below-clause-grows g t c =
     grows_trans _ _ _ (grows_trans _ _ _ (grows_same (g.P.Pages.store c.args.pages.now) (g.P.Pages.store c.read.new.self) c.in_ok-shared.ensures.stays c.in_ok-shared.ensures.same)
     c.loop-i.invariant.grows) c.in_err-fold_below.ensures.grows
 
 pub returns-in_err-fold_below-clause-same : goal.returns-in_err-fold_below-clause-same
-returns-in_err-fold_below-clause-same g t c = 
+returns-in_err-fold_below-clause-same g t c =
     λ k. let last = c.in_err-fold_below.ensures.same k in
     let now = c.loop-i.invariant.same last.word in
     same_trans _ _ _ (same_trans _ _ _ (c.in_ok-shared.ensures.same now.word) now) last

@@ -32,16 +32,16 @@ pub returns-in_err-shared-clause-grows : goal.returns-in_err-shared-clause-grows
 returns-in_err-shared-clause-grows g c = grows_same (g.P.Pages.store c.args.pages.now) (g.P.Pages.store c.read.new.self) c.in_err-shared.ensures.stays c.in_err-shared.ensures.same
 
 pub returns-in_err-retire-clause-grows : goal.returns-in_err-retire-clause-grows
-returns-in_err-retire-clause-grows g c = 
+returns-in_err-retire-clause-grows g c =
     grows_trans _ _ _ (grows_same (g.P.Pages.store c.args.pages.now) (g.P.Pages.store c.read.new.self) c.in_ok-shared.ensures.stays c.in_ok-shared.ensures.same)
     (grows_failed (g.P.Pages.store c.read.new.self) (g.P.Pages.store c.retire.new.self) _ c.in_err-retire.ensures.stays c.in_err-retire.ensures.retires)
 
 pub returns-in_err-units-clause-grows : goal.returns-in_err-units-clause-grows
-returns-in_err-units-clause-grows g c = 
+returns-in_err-units-clause-grows g c =
     grows_trans _ _ _ (grows_same (g.P.Pages.store c.args.pages.now) (g.P.Pages.store c.read.new.self) c.in_ok-shared.ensures.stays c.in_ok-shared.ensures.same)
     (grows_retired (g.P.Pages.store c.read.new.self) (g.P.Pages.store c.retire.new.self) _ c.in_ok-retire.ensures.stays c.in_ok-retire.ensures.retires)
 
 pub returns-clause-grows : goal.returns-clause-grows
-returns-clause-grows g c = 
+returns-clause-grows g c =
     grows_trans _ _ _ (grows_same (g.P.Pages.store c.args.pages.now) (g.P.Pages.store c.read.new.self) c.in_ok-shared.ensures.stays c.in_ok-shared.ensures.same)
     (grows_retired (g.P.Pages.store c.read.new.self) (g.P.Pages.store c.retire.new.self) _ c.in_ok-retire.ensures.stays c.in_ok-retire.ensures.retires)

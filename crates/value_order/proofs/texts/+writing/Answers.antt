@@ -4,7 +4,7 @@ use Rattle.std.proofs.lemmas.Result.{err_from_is_err_and}
 use Rattle.bson.specs.View.{tree, pairs_of, items_of}
 use Rattle.value_order.specs.Order.{class}
 use Rattle.value_order.specs.KeyText.{tree_text, pairs_text, items_text}
-use Rattle.value_order.proofs.PutLaws.{item_part, item_put, left_over, pair_part, pair_put, piece_refused}
+use Rattle.value_order.proofs.PutLaws.{piece_refused, left_over, item_part, pair_part}
 use Rattle.value_order.proofs.WalkLaws.{item_smaller, pair_smaller}
 use Rattle.value_order.proofs.texts.+writing.Goals as goal
 
@@ -52,19 +52,3 @@ put_pairs-returns-in_err-put_value t c =
     (piece_refused c.args.limit (tree_text (tree c.pair-item.result.value))
     (pairs_text (pairs_of c.args.pairs.now)) c.args.out.now.items c.put_head.new.out.items c.put_value.new.out.items c.put_value.new.out.items
     c.in_err-put_value.field-0.0 (omega (arith, left, part, head)) c.in_err-put_value.ensures)
-
-pub put_items-items-preserved : goal.put_items-items-preserved
-put_items-items-preserved t c =
-    record {
-      room = c.in_ok-put_value.ensures.1;
-      same = item_put c.args.items.now c.items.item-index c.item-item.result c.items.out.items c.put_value.new.out.items _ c.items-test.true c.item-item.is
-          c.items.invariant.same c.in_ok-put_value.ensures.0;
-    }
-
-pub put_pairs-pairs-preserved : goal.put_pairs-pairs-preserved
-put_pairs-pairs-preserved t c =
-    record {
-      room = c.in_ok-put_value.ensures.1;
-      same = pair_put c.args.pairs.now c.pairs.pair-index c.pair-item.result c.pairs.out.items c.put_head.new.out.items c.put_value.new.out.items _
-          c.pairs-test.true c.pair-item.is c.pairs.invariant.same c.in_ok-put_head.ensures.0 c.in_ok-put_value.ensures.0;
-    }
