@@ -1,7 +1,6 @@
 //! `hello`: what does a client have to know of the server?
 
-ghost use Rattle.std.specs.Prelude.{◌≡◌, IfOk, OnOk};
-ghost use Rattle.bson.specs.Tree.{no_pairs};
+ghost use Rattle.std.specs.Prelude.{◌≡◌, IfOk};
 ghost use Rattle.database_model.specs.Hello.{hello_reply, run_hello};
 ghost use Rattle.database_model.specs.Refusals.{ok_reply};
 ghost use Rattle.replies.specs.View.{IsSendable, Runs};
@@ -16,40 +15,32 @@ use replies::{ConnId, done, put};
 use statements::STORED_LIMIT;
 use std::alloc::Global;
 
-/// Puts the limits and the number of a connection into the reply of its `hello`.
-fn put_limits(reply: &mut Document, connection: ConnId) -> Result<(), NoMemory>
-    requires { reply.old ≡ no_pairs }
-    ensures { OnOk result (reply.new ≡ hello_reply connection) }
-{
-    put(reply, "isWritablePrimary", Value::Bool(true))?;
-    put(
-        reply,
-        "maxBsonObjectSize",
-        Value::Int32(STORED_LIMIT as i32),
-    )?;
-    put(
-        reply,
-        "maxMessageSizeBytes",
-        Value::Int32(MESSAGE_LIMIT as i32),
-    )?;
-    put(
-        reply,
-        "maxWriteBatchSize",
-        Value::Int32(MOST_STATEMENTS as i32),
-    )?;
-    put(
-        reply,
-        "connectionId",
-        Value::Int32(connection.number() as i32),
-    )
-}
-
 /// The reply of a `hello` on a connection.
 fn hello_reply(alloc: Global, connection: ConnId) -> Result<Document, NoMemory>
     ensures { IfOk result (λ d. d ≡ ok_reply (hello_reply connection)) }
 {
     let mut reply = Document::new(alloc);
-    put_limits(&mut reply, connection)?;
+    put(&mut reply, "isWritablePrimary", Value::Bool(true))?;
+    put(
+        &mut reply,
+        "maxBsonObjectSize",
+        Value::Int32(STORED_LIMIT as i32),
+    )?;
+    put(
+        &mut reply,
+        "maxMessageSizeBytes",
+        Value::Int32(MESSAGE_LIMIT as i32),
+    )?;
+    put(
+        &mut reply,
+        "maxWriteBatchSize",
+        Value::Int32(MOST_STATEMENTS as i32),
+    )?;
+    put(
+        &mut reply,
+        "connectionId",
+        Value::Int32(connection.number() as i32),
+    )?;
     done(reply)
 }
 

@@ -424,3 +424,111 @@ returns-in-Err-Device-clause-void g c none =
     let taken : c.deref_mut.result.now ≡ c.args.connections.now.items = c.deref_mut.ensures.value in
     idle_commit g.D.Disk.history c.args.engine.now c.serve_connections.new.engine c.commit_turn.new.self c.commit_turn.result c.requires.rests
     (c.serve_connections.ensures.idle (ap calls taken ∙ none)) c.commit_turn.ensures
+
+pub returns-then-not-serve_connections-clause-sound : goal.returns-then-not-serve_connections-clause-sound
+returns-then-not-serve_connections-clause-sound g c = c.undo_turn.ensures.sound
+
+pub returns-then-not-serve_connections-clause-idle : goal.returns-then-not-serve_connections-clause-idle
+returns-then-not-serve_connections-clause-idle g c = c.undo_turn.ensures.turn_start
+
+pub returns-then-not-serve_connections-clause-rests : goal.returns-then-not-serve_connections-clause-rests
+returns-then-not-serve_connections-clause-rests g c = c.undo_turn.ensures.rests
+
+pub returns-then-not-serve_connections-clause-rested : goal.returns-then-not-serve_connections-clause-rested
+returns-then-not-serve_connections-clause-rested g c = c.undo_turn.ensures.rested
+
+pub returns-then-not-serve_connections-clause-running : goal.returns-then-not-serve_connections-clause-running
+returns-then-not-serve_connections-clause-running g c = c.undo_turn.ensures.running ∙ c.serve_connections.ensures.running
+
+pub returns-in-Ok-clause-sound : goal.returns-in-Ok-clause-sound
+returns-in-Ok-clause-sound g c = c.commit_turn.ensures.sound
+
+pub returns-in-Ok-clause-idle : goal.returns-in-Ok-clause-idle
+returns-in-Ok-clause-idle g c = c.commit_turn.ensures.ended
+
+pub returns-in-Err-Memory-clause-sound : goal.returns-in-Err-Memory-clause-sound
+returns-in-Err-Memory-clause-sound g c = c.commit_turn.ensures.sound
+
+pub returns-in-Err-Memory-clause-idle : goal.returns-in-Err-Memory-clause-idle
+returns-in-Err-Memory-clause-idle g c = c.commit_turn.ensures.ended
+
+pub returns-in-Err-Full-clause-sound : goal.returns-in-Err-Full-clause-sound
+returns-in-Err-Full-clause-sound g c = c.commit_turn.ensures.sound
+
+pub returns-in-Err-Full-clause-idle : goal.returns-in-Err-Full-clause-idle
+returns-in-Err-Full-clause-idle g c = c.commit_turn.ensures.ended
+
+pub returns-in-Err-Device-clause-sound : goal.returns-in-Err-Device-clause-sound
+returns-in-Err-Device-clause-sound g c = c.commit_turn.ensures.sound
+
+pub returns-in-Err-Device-clause-idle : goal.returns-in-Err-Device-clause-idle
+returns-in-Err-Device-clause-idle g c = c.commit_turn.ensures.ended
+
+pub returns-then-not-serve_connections-clause-breaks : goal.returns-then-not-serve_connections-clause-breaks
+returns-then-not-serve_connections-clause-breaks g c = λ none. absurd cc
+
+pub returns-then-not-serve_connections-clause-stops : goal.returns-then-not-serve_connections-clause-stops
+returns-then-not-serve_connections-clause-stops g c = λ none. absurd cc
+
+pub returns-then-not-serve_connections-clause-device : goal.returns-then-not-serve_connections-clause-device
+returns-then-not-serve_connections-clause-device g c = λ none. absurd cc
+
+pub returns-in-Ok-clause-breaks : goal.returns-in-Ok-clause-breaks
+returns-in-Ok-clause-breaks g c = λ none. absurd cc
+
+pub returns-in-Ok-clause-stops : goal.returns-in-Ok-clause-stops
+returns-in-Ok-clause-stops g c = λ none. absurd cc
+
+pub returns-in-Ok-clause-device : goal.returns-in-Ok-clause-device
+returns-in-Ok-clause-device g c = λ none. absurd cc
+
+pub returns-in-Err-Memory-clause-breaks : goal.returns-in-Err-Memory-clause-breaks
+returns-in-Err-Memory-clause-breaks g c = λ none. absurd cc
+
+pub returns-in-Err-Memory-clause-stops : goal.returns-in-Err-Memory-clause-stops
+returns-in-Err-Memory-clause-stops g c = λ none. absurd cc
+
+pub returns-in-Err-Memory-clause-device : goal.returns-in-Err-Memory-clause-device
+returns-in-Err-Memory-clause-device g c = λ none. absurd cc
+
+pub returns-in-Err-Full-clause-breaks : goal.returns-in-Err-Full-clause-breaks
+returns-in-Err-Full-clause-breaks g c = λ none. absurd cc
+
+pub returns-in-Err-Full-clause-stops : goal.returns-in-Err-Full-clause-stops
+returns-in-Err-Full-clause-stops g c = λ none. absurd cc
+
+pub returns-in-Err-Full-clause-device : goal.returns-in-Err-Full-clause-device
+returns-in-Err-Full-clause-device g c = λ none. absurd cc
+
+pub returns-in-Err-Device-clause-settles : goal.returns-in-Err-Device-clause-settles
+returns-in-Err-Device-clause-settles g c = tt
+
+pub returns-in-Err-Device-clause-commits : goal.returns-in-Err-Device-clause-commits
+returns-in-Err-Device-clause-commits g c = tt
+
+pub returns-in-Err-Device-clause-running : goal.returns-in-Err-Device-clause-running
+returns-in-Err-Device-clause-running g c = tt
+
+pub returns-in-Ok-clause-rests : goal.returns-in-Ok-clause-rests
+returns-in-Ok-clause-rests g c = c.commit_turn.ensures.rests
+
+pub returns-in-Ok-clause-rested : goal.returns-in-Ok-clause-rested
+returns-in-Ok-clause-rested g c = c.commit_turn.ensures.rested
+
+pub returns-in-Err-Memory-clause-rests : goal.returns-in-Err-Memory-clause-rests
+returns-in-Err-Memory-clause-rests g c = c.commit_turn.ensures.rests
+
+pub returns-in-Err-Memory-clause-rested : goal.returns-in-Err-Memory-clause-rested
+returns-in-Err-Memory-clause-rested g c = c.commit_turn.ensures.rested
+
+pub returns-in-Err-Full-clause-rests : goal.returns-in-Err-Full-clause-rests
+returns-in-Err-Full-clause-rests g c = c.commit_turn.ensures.rests
+
+pub returns-in-Err-Full-clause-rested : goal.returns-in-Err-Full-clause-rested
+returns-in-Err-Full-clause-rested g c = c.commit_turn.ensures.rested
+
+pub returns-in-Err-Device-clause-rests : goal.returns-in-Err-Device-clause-rests
+returns-in-Err-Device-clause-rests g c = c.commit_turn.ensures.rests
+
+pub returns-in-Err-Device-clause-rested : goal.returns-in-Err-Device-clause-rested
+returns-in-Err-Device-clause-rested g c = c.commit_turn.ensures.rested
