@@ -119,14 +119,12 @@ impl<D: Disk> Collections<D> {
             from: &keys.from,
             to: keys.to.as_deref(),
             limit: most,
-        });
-        drop(keys);
-        let batch = batch?;
-        let texts = texts_in(self.alloc, number, index, &batch.entries);
-        let are_all = batch.next.is_none();
-        drop(batch);
-        let texts = texts?;
-        Ok(FirstTexts { texts, are_all })
+        })?;
+        let texts = texts_in(self.alloc, number, index, &batch.entries)?;
+        Ok(FirstTexts {
+            texts,
+            are_all: batch.next.is_none(),
+        })
     }
 
     /// All of these, where there are at most so many.

@@ -19,7 +19,7 @@ returns-in_err-batch g c =
     rw (p.1, p.2)
     (asks_refused g.D.Disk.history (IsNumberedIndex c.args.number c.args.index)
     (λ now at (found : FirstTexts). AreFirstTexts c.args.first.now c.args.last.now at found.are_all (texts_of found.texts.items)) c.args.self.now
-    c.entries_in-batch.new.self
+    c.entries_in.new.self
     (IsInTree (IsBatchOf range)) c.in_err-batch.field-0.0 c.in_err-batch.ensures)
 
 pub returns-in_err-texts : goal.returns-in_err-texts
@@ -29,7 +29,7 @@ returns-in_err-texts g c =
     rw (p.1, p.2)
     (asks_on g.D.Disk.history (IsNumberedIndex c.args.number c.args.index)
     (λ now at (found : FirstTexts). AreFirstTexts c.args.first.now c.args.last.now at found.are_all (texts_of found.texts.items)) c.args.self.now
-    c.entries_in-batch.new.self
+    c.entries_in.new.self
     (IsInTree (IsBatchOf range)) c.in_ok-batch.batch (Err c.in_err-texts.field-0.0) c.in_ok-batch.ensures (λ now at place q. c.in_err-texts.ensures))
 
 pub returns : goal.returns
@@ -42,9 +42,9 @@ returns g c =
     subst (IsEndOf (key_under c.args.number c.args.index last)) (sym c.as_deref.ensures.value) c.in_ok-keys.ensures.to in
     asks_on g.D.Disk.history (IsNumberedIndex c.args.number c.args.index)
     (λ now at (found : FirstTexts). AreFirstTexts c.args.first.now c.args.last.now at found.are_all (texts_of found.texts.items)) c.args.self.now
-    c.entries_in-batch.new.self
-    (IsInTree (IsBatchOf range)) batch (Ok (record { texts = c.in_ok-texts.texts; are_all = c.is_none-are_all.result })) c.in_ok-batch.ensures
+    c.entries_in.new.self
+    (IsInTree (IsBatchOf range)) batch (Ok (record { texts = c.in_ok-texts.texts; are_all = c.is_none.result })) c.in_ok-batch.ensures
     (λ now at place p.
     texts_asked now at c.args.number c.args.index first last range batch (key_under c.args.number c.args.index []) c.deref-2.result.now
-    (texts_of c.in_ok-texts.texts.items) c.is_none-are_all.result c.is_none-are_all.ensures p place
+    (texts_of c.in_ok-texts.texts.items) c.is_none.result c.is_none.ensures p place
     (c.deref.ensures.value ∙ c.in_ok-keys.ensures.from) ends refl c.deref-2.ensures.value c.in_ok-texts.ensures)
