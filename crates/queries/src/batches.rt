@@ -215,9 +215,7 @@ pub fn batch_of_turn<D: Disk>(
         to: span.end.as_deref(),
     };
     let giving = begun(alloc, walk, asked)?;
-    let given = file.fold_documents_within(home.number, texts, giving);
-    drop(span);
-    let given = given?;
+    let given = file.fold_documents_within(home.number, texts, giving)?;
     Ok(ended(given, asked)?)
 }
 
@@ -242,8 +240,6 @@ pub fn batch_of_version<D: Disk>(
         to: span.end.as_deref(),
     };
     let giving = begun(alloc, walk, asked)?;
-    let given = file.fold_documents_in(version, number, texts, giving);
-    drop(span);
-    let given = given?;
+    let given = file.fold_documents_in(version, number, texts, giving)?;
     Ok(ended(given, asked)?)
 }

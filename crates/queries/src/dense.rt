@@ -126,9 +126,7 @@ pub(crate) fn fold_dense<D: Disk, F: DocumentFold + Drop>(
         lent: 0,
         is_sparse: false,
     };
-    let walked = file.fold_documents_within(number, texts, walk);
-    drop(span);
-    let walked = walked?;
+    let walked = file.fold_documents_within(number, texts, walk)?;
     if walked.is_sparse {
         return Ok(None);
     }

@@ -15,7 +15,7 @@ returns-in_err-walked-clause-reads g c = λ passes.
     let walk : DenseWalk g.row.F.Denot = record { alloc = c.args.alloc; ids = c.args.ids; fold = c.args.fold; lent = 0; is_sparse = false } in
     let e = err_from_is_err_and c.from_residual-in_err-walked.result c.from_residual-in_err-walked.ensures.1 in
     rw (e.1, e.2)
-    (refused_dense g.D.Disk.history g.F.DocumentFold.makes walk c.args.number (texts_of c.args.ids.now) texts c.args.file.now c.fold_documents_within-walked.new.self
+    (refused_dense g.D.Disk.history g.F.DocumentFold.makes walk c.args.number (texts_of c.args.ids.now) texts c.args.file.now c.fold_documents_within.new.self
     passes c.in_err-walked.field-0.0 c.in_err-walked.ensures.reads)
 
 pub returns-clause-reads : goal.returns-clause-reads
@@ -26,7 +26,7 @@ returns-clause-reads g c = λ passes.
     let walk : DenseWalk g.row.F.Denot = record { alloc = c.args.alloc; ids = c.args.ids; fold = c.args.fold; lent = 0; is_sparse = false } in
     let span = c.in_ok-span.span in
     walked_dense g.D.Disk.history g.F.DocumentFold.makes walk c.in_ok-walked.walked c.args.number (texts_of ids) texts c.deref-2.result.now
-    c.args.file.now c.fold_documents_within-walked.new.self
+    c.args.file.now c.fold_documents_within.new.self
     (λ t. c.deref-3.ensures.value ∙ c.in_ok-span.ensures.0 ∙ c.deref.ensures.value
     ∙ sym (text_at ids 0 c.index-ids-0.result t some c.index-ids-0.is))
     (c.as_deref.ensures.value ∙ c.in_ok-span.ensures.1)
