@@ -117,3 +117,13 @@ returns-in_err-rest-clause-file g c =
 pub returns-in_err-open_kept-clause-file : goal.returns-in_err-open_kept-clause-file
 returns-in_err-open_kept-clause-file g c =
     pins_as_before g.D.Disk.history c.args.self.now.file c.args.self.now.cursors c.open_kept.new.self c.in_err-open_kept.ensures.err
+
+pub returns-in_err-rest-clause-runs : goal.returns-in_err-rest-clause-runs
+returns-in_err-rest-clause-runs g c =
+    let e = err_from_is_err_and c.from_residual-in_err-rest.result c.from_residual-in_err-rest.ensures.1 in
+    rw e.1 (refl, λ other. absurd (other e.2))
+
+pub returns-in_err-open_kept-clause-runs : goal.returns-in_err-open_kept-clause-runs
+returns-in_err-open_kept-clause-runs g c =
+    let e = err_from_is_err_and c.from_residual-in_err-open_kept.result c.from_residual-in_err-open_kept.ensures.1 in
+    rw e.1 ((λ i. world_of c.args.self.now.told.value (table_of (c.in_err-open_kept.ensures.err i))), λ other. absurd (other e.2))
