@@ -69,20 +69,13 @@ impl IndexSpec {
         ensures { IfOk result (λ document. document ≡ spelled self.now) }
     {
         let mut document = Document::new(alloc);
-        self.put_into(alloc, &mut document)?;
-        Ok(document)
-    }
-
-    fn put_into(&self, alloc: Global, document: &mut Document) -> Result<(), NoMemory>
-        requires { document.old ≡ no_pairs }
-        ensures { OnOk result (document.new ≡ spelled self.now) }
-    {
-        put_field(document, "i", Value::Int32(self.number() as i32))?;
+        put_field(&mut document, "i", Value::Int32(self.number() as i32))?;
         let name = Text::from_str(alloc, self.name())?;
-        put_field(document, "name", Value::String(name))?;
-        put_field(document, "key", Value::Document(self.key(alloc)?))?;
-        put_field(document, "unique", Value::Bool(self.is_unique()))?;
-        put_field(document, "multi", Value::Bool(self.is_multi()))
+        put_field(&mut document, "name", Value::String(name))?;
+        put_field(&mut document, "key", Value::Document(self.key(alloc)?))?;
+        put_field(&mut document, "unique", Value::Bool(self.is_unique()))?;
+        put_field(&mut document, "multi", Value::Bool(self.is_multi()))?;
+        Ok(document)
     }
 }
 

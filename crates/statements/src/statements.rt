@@ -195,27 +195,13 @@ pub fn update_reply(alloc: Global, tally: Tally) -> Result<Document, NoMemory>
         ≡ ok_reply (counts_reply tally.matched tally.modified tally.upserted)) }
 {
     let mut reply = Document::new(alloc);
-    put_tally(&mut reply, tally)?;
-    done(reply)
-}
-
-fn put_tally(reply: &mut Document, tally: Tally) -> Result<(), NoMemory>
-    requires { reply.old ≡ no_pairs }
-    ensures { OnOk result (reply.new
-        ≡ counts_reply tally.matched tally.modified tally.upserted) }
-{
-    let Tally {
-        matched,
-        modified,
-        upserted,
-    } = tally;
-    put(reply, "n", total_value(matched))?;
-    put(reply, "nModified", total_value(modified))?;
-    if upserted.is_empty() {
-        drop(upserted);
-        return Ok(());
+    put(&mut reply, "n", total_value(tally.matched))?;
+    put(&mut reply, "nModified", total_value(tally.modified))?;
+    if tally.upserted.is_empty() {
+        return done(reply);
     }
-    put(reply, "upserted", Value::Array(upserted))
+    put(&mut reply, "upserted", Value::Array(tally.upserted))?;
+    done(reply)
 }
 
 /// Puts a document in the place of another, which it gives.
