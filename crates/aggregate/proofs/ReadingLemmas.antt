@@ -6,7 +6,7 @@ use Rattle.bson.specs.declared.value.Pair.{Pair}
 use Rattle.bson.specs.declared.value.Value.{Value}
 use Rattle.std.specs.Prelude.{◌≢◌}
 use Rattle.std.specs.Result.{IsErrAnd, IfOk}
-use Rattle.outcome.specs.Outcome.{Gives}
+use Rattle.outcome.specs.Outcome.{Gives, ◌>>=◌}
 use Rattle.path.specs.declared.refusal.Refusal.{Refusal}
 use Rattle.path.specs.declared.refusal.Refusal.TheVariants as refusals
 use Rattle.aggregate.specs.Operands.{only_pair}
@@ -36,3 +36,16 @@ refused view planned (Err e) f is told = λ known. told (λ same. known (is ∙ 
 pub if_ok_map : {A E : Type 0} (r : Result A E) (P Q : A → Type 0) → ((a : A) → P a → Q a) → IfOk r P → IfOk r Q
 if_ok_map (Ok a) P Q f h = f a h
 if_ok_map (Err e) P Q f h = h
+
+-- What one element more makes of a state, in a loop that ends at the first that is refused.
+module _ {X S Y : Type 0} (step : X → S → Result S Refusal) (run : List X → S → Result Y Refusal)
+    (one : (x : X) (xs : List X) (s : S) → run (x ∷ xs) s ≡ (step x s >>= λ n. run xs n)) (xs : List X) (i : ℕ) (x : X) (s : S)
+    (whole : Result Y Refusal) (lt : i < length xs) (is : x ≡ get_or xs i x) (so_far : run (drop i xs) s ≡ whole) where
+  with_one : (step x s >>= λ n. run (drop (i + 1) xs) n) ≡ whole
+  with_one = sym (ap (λ (ys : List X). run ys s) (drop_step xs i x lt is) ∙ one x (drop (i + 1) xs) s) ∙ so_far
+
+  pub one_refused : (e : Refusal) → step x s ≡ Err e → whole ≡ Err e
+  one_refused e gave = sym with_one ∙ ap (λ (p : Result S Refusal). p >>= λ n. run (drop (i + 1) xs) n) gave
+
+  pub one_more : (n : S) → step x s ≡ Ok n → run (drop (i + 1) xs) n ≡ whole
+  one_more n gave = sym (ap (λ (p : Result S Refusal). p >>= λ n. run (drop (i + 1) xs) n) gave) ∙ with_one

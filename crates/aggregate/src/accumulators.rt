@@ -3,14 +3,14 @@
 //! One more accumulator is one more entry here (its name, where it starts, what one value more makes of it, what it gives in
 //! the end) and a `State`.
 
-ghost use Rattle.std.specs.Prelude.{◌≡◌, ◌+ℤ◌, IfOk, OnOk, Ok, option_map};
+ghost use Rattle.std.specs.Prelude.{◌≡◌, ◌+ℤ◌, IfOk, OnOk, Ok, Some, if◌then◌else◌, option_map};
 ghost use Rattle.bson.specs.Tree.{array};
 ghost use Rattle.bson.specs.View.{tree, items_of};
 ghost use Rattle.path.specs.Edits.{within};
 ghost use Rattle.outcome.specs.Outcome.{Gives};
 ghost use Rattle.filter.specs.Matches.{is_null};
 ghost use Rattle.value_order.specs.Order.{compare};
-ghost use Rattle.aggregate.specs.Accumulators.{accumulator_named, start, sum_with, is_below, lesser, greater, best_with, first_with};
+ghost use Rattle.aggregate.specs.Accumulators.{accumulator_named, start, is_below, lesser, greater, best_with, first_with};
 ghost use Rattle.aggregate.specs.Accumulators.{pushed_with, take, outcome};
 ghost use Rattle.aggregate.specs.Expression.{or_null};
 ghost use Rattle.aggregate.specs.Found.{found_of};
@@ -22,6 +22,7 @@ use bson::{Array, BuildFault, NoMemory, Value};
 use path::Refusal;
 use std::alloc::{AllocError, Global};
 use std::cmp::Ordering;
+use std::mem;
 use value_order::compare;
 
 /// What is made of the values of a group.
@@ -89,14 +90,14 @@ fn plus(total: i128, number: i64) -> Result<i128, NoMemory>
 }
 
 impl Total {
-    /// Adds a value; what isn't a number is passed over.
-    fn add(&mut self, value: &Value) -> Result<(), NoMemory>
+    /// Adds a value; what isn't a number is passed over, and what is missing.
+    fn add(&mut self, value: Option<&Value>) -> Result<(), NoMemory>
         ensures { OnOk result (total_of self.new
-            ≡ sum_with self.old.narrow self.old.sum (tree value.now)) }
+            ≡ take (total_of self.old) (option_map (λ v. tree v.now) value.entry)) }
     {
         match value {
-            Value::Int32(number) => self.sum = plus(self.sum, i64::from(*number))?,
-            Value::Int64(number) => {
+            Some(Value::Int32(number)) => self.sum = plus(self.sum, i64::from(*number))?,
+            Some(Value::Int64(number)) => {
                 self.sum = plus(self.sum, *number)?;
                 self.narrow = false;
             }
@@ -124,25 +125,61 @@ fn is_null(value: &Value) -> bool
     }
 }
 
+/// Whether a value takes the place of the least so far; null and what is missing never do.
+fn is_lesser(best: &Option<Value>, found: &Found<'_>) -> bool
+    ensures { best_with lesser (option_map tree best.now) (found_of found.now)
+        ≡ (if result then found_of found.now else option_map tree best.now) }
+{
+    let Some(value) = found.get() else {
+        return false;
+    };
+    if is_null(value) {
+        return false;
+    }
+    match best {
+        None => true,
+        Some(first) => is_below(value, first),
+    }
+}
+
+/// Whether a value takes the place of the greatest so far; null and what is missing never do.
+fn is_greater(best: &Option<Value>, found: &Found<'_>) -> bool
+    ensures { best_with greater (option_map tree best.now) (found_of found.now)
+        ≡ (if result then found_of found.now else option_map tree best.now) }
+{
+    let Some(value) = found.get() else {
+        return false;
+    };
+    if is_null(value) {
+        return false;
+    }
+    match best {
+        None => true,
+        Some(first) => is_below(first, value),
+    }
+}
+
+/// Takes a value in the place of the best so far, if it is better.
+fn take_better(best: &mut Option<Value>, found: Found<'_>, is_better: bool) -> Result<(), NoMemory>
+    ensures { OnOk result (option_map tree best.new
+        ≡ (if is_better then found_of found.entry else option_map tree best.old)) }
+{
+    if !is_better {
+        drop(found);
+        return Ok(());
+    }
+    let value = found.into_value()?;
+    drop(mem::replace(best, value));
+    Ok(())
+}
+
 /// Takes a value that is less than the least so far; null and what is missing are passed over.
 fn take_lesser(best: &mut Option<Value>, found: Found<'_>) -> Result<(), NoMemory>
     ensures { OnOk result (option_map tree best.new
         ≡ best_with lesser (option_map tree best.old) (found_of found.entry)) }
 {
-    let Some(value) = found.get() else {
-        return Ok(());
-    };
-    if is_null(value) {
-        return Ok(());
-    }
-    let gives_way = match best {
-        None => true,
-        Some(first) => is_below(value, first),
-    };
-    if gives_way {
-        *best = found.into_value()?;
-    }
-    Ok(())
+    let is_better = is_lesser(best, &found);
+    take_better(best, found, is_better)
 }
 
 /// Takes a value that is greater than the greatest so far; null and what is missing are passed over.
@@ -150,29 +187,27 @@ fn take_greater(best: &mut Option<Value>, found: Found<'_>) -> Result<(), NoMemo
     ensures { OnOk result (option_map tree best.new
         ≡ best_with greater (option_map tree best.old) (found_of found.entry)) }
 {
-    let Some(value) = found.get() else {
-        return Ok(());
-    };
-    if is_null(value) {
-        return Ok(());
-    }
-    let gives_way = match best {
-        None => true,
-        Some(first) => is_below(first, value),
-    };
-    if gives_way {
-        *best = found.into_value()?;
-    }
-    Ok(())
+    let is_better = is_greater(best, &found);
+    take_better(best, found, is_better)
 }
 
 fn take_first(first: &mut Option<Value>, found: Found<'_>) -> Result<(), NoMemory>
     ensures { OnOk result (option_map tree first.new
         ≡ first_with (option_map tree first.old) (found_of found.entry)) }
 {
-    if first.is_none() {
-        *first = Some(or_null(found)?);
+    if first.is_some() {
+        drop(found);
+        return Ok(());
     }
+    take_last(first, found)
+}
+
+/// Takes a value in the place of the one before.
+fn take_last(last: &mut Option<Value>, found: Found<'_>) -> Result<(), NoMemory>
+    ensures { OnOk result (option_map tree last.new ≡ Some (or_null (found_of found.entry))) }
+{
+    let value = or_null(found)?;
+    drop(mem::replace(last, Some(value)));
     Ok(())
 }
 
@@ -242,17 +277,15 @@ impl State {
             ≡ take (state_of self.old) (found_of found.entry)) }
     {
         match self {
-            State::Total(total) => match found.get() {
-                Some(value) => total.add(value),
-                None => Ok(()),
-            },
+            State::Total(total) => {
+                let added = total.add(found.get());
+                drop(found);
+                added
+            }
             State::Least(best) => take_lesser(best, found),
             State::Greatest(best) => take_greater(best, found),
             State::First(first) => take_first(first, found),
-            State::Last(last) => {
-                *last = Some(or_null(found)?);
-                Ok(())
-            }
+            State::Last(last) => take_last(last, found),
             State::Push(values) => push_value(values, found),
         }
     }

@@ -1,14 +1,18 @@
 -- Joining what was taken out of neighbouring pages.
-use Rattle.std.proofs.Common.{◌≡◌, ℕ, ◌≤◌, List, [], ◌++◌, length, Option, Some, None, Result, Ok, Err, sym, ap, ◌∙◌, subst, arith, inl, inr, append-nil}
-use Rattle.std.proofs.Common.{append_assoc}
+use Rattle.std.proofs.Common.{◌≡◌, ℕ, ◌+◌, ◌<◌, ◌≤◌, Bool, true, false, List, [], ◌++◌, length, Option, Some, None, Result, Ok, Err, refl, sym, ap, ◌∙◌, subst}
+use Rattle.std.proofs.Common.{append_assoc, append-nil, arith, inl, inr}
+use Rattle.std.specs.Prelude.{◌==◌}
+use Rattle.std.specs.Result.{IfOk}
+use Rattle.std.proofs.lemmas.Bool.Decides.{nat_tests}
+use Rattle.btree.specs.LooseView.{stub_in}
 use Rattle.btree.specs.declared.loose.Loose.{Loose}
 use Rattle.btree.specs.declared.pages.TreeFault.{TreeFault}
 use Rattle.btree.specs.Keys.{Entry, IsNotUnder}
 use Rattle.btree.specs.Store.{Store, Frame}
 use Rattle.btree.proofs.HeldLemmas.{IsTurn}
-use Rattle.btree.specs.Turn.{AreParted, IsFirstCut, IsHeld, IsReady, IsTurned, IsUpTo, Sheaf, sheaf_in}
+use Rattle.btree.specs.Turn.{AreParted, IsFirstCut, IsHeld, IsJoined, IsReady, IsTurned, IsUpTo, Sheaf, sheaf_in}
 use Rattle.btree.proofs.KeyLemmas.{not_under_trans}
-use Rattle.btree.proofs.ListLemmas.{times_append}
+use Rattle.btree.proofs.ListLemmas.{long_map, times_append}
 use Rattle.btree.proofs.RaiseLemmas.{no_entries}
 use Rattle.btree.proofs.StoreLemmas.{cause_later, frame_trans}
 use Rattle.btree.proofs.WideLemmas.{spread_high, spread_low, up_to_wider}
@@ -116,3 +120,62 @@ turned_right old a b new base low mid high first last left_pages right_pages fro
     }
 turned_right old a b new base low mid high first last left_pages right_pages front back below (Err e) g1 g2 p t u =
     cause_later old b new e (frame_trans old a b g1 g2) u
+
+-- ---- the height of what is joined
+
+pub some_there : (len n : ℕ) (b : Bool) → b ≡ (len == 0) → b ≡ false → len ≡ n → 0 < n
+some_there len n b told is_false is = let test : (len == 0) ≡ false = sym told ∙ is_false in grind (arith, nat_tests)
+
+pub none_there : (len n : ℕ) (b : Bool) → b ≡ (len == 0) → b ≡ true → len ≡ n → n ≡ 0
+none_there len n b told is_true is = let test : (len == 0) ≡ true = sym told ∙ is_true in grind (arith, nat_tests)
+
+module _ (left right : Loose) where
+  pub joined_gone : length left.units.items ≡ 0 → IsJoined (sheaf_in left) (sheaf_in right) (sheaf_in right)
+  joined_gone none =
+      record {
+        left_higher = λ le some. absurd (omega (arith, none, some, long_map stub_in left.units.items));
+        right_higher = λ le some. (refl, omega arith);
+      }
+
+  pub joined_alone : length right.units.items ≡ 0 → IsJoined (sheaf_in left) (sheaf_in right) (sheaf_in left)
+  joined_alone none =
+      record {
+        left_higher = λ le some. (refl, omega arith);
+        right_higher = λ le some. absurd (omega (arith, none, some, long_map stub_in right.units.items));
+      }
+
+  pub joined_level : (r : Result Loose TreeFault) → left.rank ≡ right.rank → IfOk r (λ both. both.rank ≡ left.rank)
+      → IfOk r (λ both. length both.units.items ≡ length left.units.items + length right.units.items)
+      → IfOk r (λ both. IsJoined (sheaf_in left) (sheaf_in right) (sheaf_in both))
+  joined_level (Err e) level rank long = tt
+  joined_level (Ok both) level rank long =
+      let long_left = long_map stub_in left.units.items in
+      let long_right = long_map stub_in right.units.items in
+      let long_both = long_map stub_in both.units.items in
+      record {
+        left_higher = λ le some. (rank, omega (arith, long, long_left, long_both));
+        right_higher = λ le some. (rank ∙ level, omega (arith, long, long_right, long_both));
+      }
+
+  -- what stands for the lower one was put behind what is left of the higher one, or before it
+  pub joined_behind : (r : Result Loose TreeFault) (front : Loose) → right.rank < left.rank → front.rank ≡ left.rank
+      → length front.units.items + 1 ≡ length left.units.items → IfOk r (λ both. both.rank ≡ front.rank)
+      → IfOk r (λ both. length front.units.items + 1 ≤ length both.units.items)
+      → IfOk r (λ both. IsJoined (sheaf_in left) (sheaf_in right) (sheaf_in both))
+  joined_behind (Err e) front lower same one rank long = tt
+  joined_behind (Ok both) front lower same one rank long =
+      record {
+        left_higher = λ le some. (rank ∙ same, omega (arith, one, long, long_map stub_in left.units.items, long_map stub_in both.units.items));
+        right_higher = λ le some. absurd (omega (arith, lower, le));
+      }
+
+  pub joined_before : (r : Result Loose TreeFault) (back : Loose) → left.rank < right.rank → back.rank ≡ right.rank
+      → length back.units.items + 1 ≡ length right.units.items → IfOk r (λ both. both.rank ≡ back.rank)
+      → IfOk r (λ both. length back.units.items + 1 ≤ length both.units.items)
+      → IfOk r (λ both. IsJoined (sheaf_in left) (sheaf_in right) (sheaf_in both))
+  joined_before (Err e) back lower same one rank long = tt
+  joined_before (Ok both) back lower same one rank long =
+      record {
+        left_higher = λ le some. absurd (omega (arith, lower, le));
+        right_higher = λ le some. (rank ∙ same, omega (arith, one, long, long_map stub_in right.units.items, long_map stub_in both.units.items));
+      }

@@ -1,8 +1,10 @@
 //! What the entries of an index tell, from one text up to another.
 
-ghost use Rattle.std.specs.Prelude.{◌≡◌, ◌++◌, IfSome, OnOk, map, option_map};
+ghost use Rattle.std.specs.Prelude.{◌≡◌, ◌++◌, [], IfOk, IfSome, OnOk, map, option_map};
 ghost use Rattle.std.specs.Option.{option_to_list};
 ghost use Rattle.btree.specs.Scan.{entry_in};
+ghost use Rattle.entries.specs.OtherKeys.{IsEndOf};
+ghost use Rattle.entries.specs.StateEntries.{key_under};
 ghost use Rattle.index.specs.View.{texts_of};
 ghost use Rattle.collections.specs.IndexTexts.{AreFirstTexts, AreTextsBetween, IsNumberedIndex, text_behind, texts_behind};
 ghost use Rattle.collections.specs.Reading.{OrMemory, ReadsOf};
@@ -51,6 +53,44 @@ fn texts_behind(alloc: Global, front: &[u8], entries: &[Entry]) -> Result<Vec<Ve
     Ok(texts)
 }
 
+/// What the keys of entries of an index go on with.
+fn texts_in(
+    alloc: Global,
+    number: u32,
+    index: u32,
+    entries: &[Entry],
+) -> Result<Vec<Vec<u8>>, Refusal>
+    ensures { OrMemory (λ texts. texts_of texts.items
+        ≡ texts_behind (key_under number index []) (map entry_in entries.now)) result }
+{
+    let front = first_key(alloc, number, index)?;
+    texts_behind(alloc, &front, entries)
+}
+
+/// The keys in the tree from one text of an index up to another and all that goes on from it.
+#[derive(Drop)]
+struct KeyRange {
+    from: Vec<u8>,
+    to: Option<Vec<u8>>,
+}
+
+fn keys_between(
+    alloc: Global,
+    number: u32,
+    index: u32,
+    first: &[u8],
+    last: &[u8],
+) -> Result<KeyRange, NoMemory>
+    ensures from { IfOk result (λ keys. keys.from.items ≡ key_under number index first.now) }
+    ensures to { IfOk result (λ keys.
+        IsEndOf (key_under number index last.now) (option_map (λ v. v.items) keys.to)) }
+{
+    let until = index_key(alloc, number, index, last)?;
+    let to = end_of(alloc, &until)?;
+    let from = index_key(alloc, number, index, first)?;
+    Ok(KeyRange { from, to })
+}
+
 /// Texts of entries of an index, in ascending order, and whether these are all that were asked for.
 #[derive(Debug, Drop)]
 pub struct FirstTexts {
@@ -74,16 +114,13 @@ impl<D: Disk> Collections<D> {
             AreFirstTexts first.now last.now at found.are_all (texts_of found.texts.items))
             result self.old self.new }
     {
-        let from = index_key(self.alloc, number, index, first)?;
-        let until = index_key(self.alloc, number, index, last)?;
-        let to = end_of(self.alloc, &until)?;
-        let front = first_key(self.alloc, number, index)?;
+        let keys = keys_between(self.alloc, number, index, first, last)?;
         let batch = self.entries_in(Range {
-            from: &from,
-            to: to.as_deref(),
+            from: &keys.from,
+            to: keys.to.as_deref(),
             limit: most,
         })?;
-        let texts = texts_behind(self.alloc, &front, &batch.entries)?;
+        let texts = texts_in(self.alloc, number, index, &batch.entries)?;
         Ok(FirstTexts {
             texts,
             are_all: batch.next.is_none(),

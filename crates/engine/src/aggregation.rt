@@ -81,7 +81,6 @@ impl<D: Disk> Engine<D> {
     }
 
     /// Gives a first batch of documents, and opens a cursor on the others.
-    #[tactic(auto, using(crate::proofs::KeepingPins::pins_as_before))]
     fn give_all(
         &mut self,
         connection: ConnId,

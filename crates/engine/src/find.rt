@@ -105,7 +105,6 @@ impl<D: Disk> Engine<D> {
     }
 
     /// Gives a first batch of the documents that were found, as far as they are asked for, and opens a cursor on the others.
-    #[tactic(auto, using(crate::proofs::KeepingPins::pins_as_before))]
     pub(crate) fn give_found(
         &mut self,
         connection: ConnId,
@@ -131,7 +130,6 @@ impl<D: Disk> Engine<D> {
     }
 
     /// Gives a first batch of documents of which a projection is given, and opens a cursor on the others.
-    #[tactic(auto, using(crate::proofs::KeepingPins::pins_as_before))]
     fn give_asked(
         &mut self,
         connection: ConnId,

@@ -3,7 +3,7 @@
 ghost use Rattle.std.specs.Prelude.{◌≡◌, ◌≤◌, ◌&&◌, not, IfOk, OnOk, length};
 ghost use Rattle.std.specs.List.{list_any};
 ghost use Rattle.std.specs.Ordering.{int_eq};
-ghost use Rattle.bson.specs.Tree.{scalar, int64, item, no_items, append_items};
+ghost use Rattle.bson.specs.Tree.{scalar, int64, item, no_items, no_pairs, append_items};
 ghost use Rattle.database_model.specs.KillCursors.{no_ids, with_id, told_apart, has_cursor, id_items, kill_reply, run_kill_cursors};
 ghost use Rattle.cursors.specs.Held.{cursors_of};
 ghost use Rattle.database_model.specs.Refusals.{ok_reply};
@@ -108,22 +108,28 @@ fn kill_reply(alloc: Global, told: &ToldApart) -> Result<Document, NoMemory>
     ensures { IfOk result (λ d. d ≡ ok_reply (kill_reply told.now)) }
 {
     let mut reply = Document::new(alloc);
+    put_told(alloc, &mut reply, told)?;
+    done(reply)
+}
+
+fn put_told(alloc: Global, reply: &mut Document, told: &ToldApart) -> Result<(), NoMemory>
+    requires { reply.old ≡ no_pairs }
+    ensures { OnOk result (reply.new ≡ kill_reply told.now) }
+{
     put(
-        &mut reply,
+        reply,
         "cursorsKilled",
         Value::Array(id_array(alloc, &told.killed)?),
     )?;
     put(
-        &mut reply,
+        reply,
         "cursorsNotFound",
         Value::Array(id_array(alloc, &told.not_found)?),
-    )?;
-    done(reply)
+    )
 }
 
 impl<D: Disk> Engine<D> {
     /// Ends the cursors of a connection and a namespace that have one of these ids.
-    #[tactic(auto, using(crate::proofs::KeepingPins::pins_as_before))]
     pub(crate) fn kill_cursors(
         &mut self,
         connection: ConnId,

@@ -1,6 +1,6 @@
 -- Definitions as documents.
 use Rattle.std.proofs.Common.{◌≡◌, ℕ, zero, suc, ◌+◌, ◌<◌, ◌≤◌, Bool, true, false, ◌||◌, nat_lt, List, [], ◌∷◌, ◌++◌, length, drop, get_or, Option, Some, None}
-use Rattle.std.proofs.Common.{Result, Ok, Err, refl, sym, ap, subst, ◌∙◌, arith}
+use Rattle.std.proofs.Common.{Result, Ok, Err, append_assoc, refl, sym, ap, subst, ◌∙◌, arith}
 use Rattle.std.specs.Prelude.{◌≢◌, pos, negsuc, if◌then◌else◌}
 use Rattle.std.specs.List.{AllByRecursion}
 use Rattle.std.specs.Option.{option_and_then, option_map}
@@ -207,3 +207,21 @@ five_pairs (v ∷ w ∷ x ∷ y ∷ z ∷ u ∷ ps) a b c d e low high p q r s t
 
 pub trees : (a b c d e : Pair) → IsPairs (pairs_of (a ∷ b ∷ c ∷ d ∷ e ∷ [])) → IsTree (tree b.value) × IsTree (tree c.value)
 trees a b c d e h = (h.3.1, h.3.3.1)
+
+-- ---- one more field that is read
+
+behind_one : (done : List Field) (f : Field) (o : Option (List Field))
+    → option_map (λ fs. (done ++ f ∷ []) ++ fs) o ≡ option_map (λ fs. done ++ fs) (option_map (λ fs. f ∷ fs) o)
+behind_one done f None = refl
+behind_one done f (Some fs) = ap Some (append_assoc done (f ∷ []) fs)
+
+pub key_field_more : (ps : List Pair) (i : ℕ) (p : Pair) (done next : List Field) (f : Field) (whole : Option (List Field)) → i < length ps
+    → p ≡ get_or ps i p → field_in p.name (tree p.value) ≡ Some f → next ≡ done ++ f ∷ []
+    → option_map (λ fs. done ++ fs) (fields_in (pairs_of (drop i ps))) ≡ whole → option_map (λ fs. next ++ fs) (fields_in (pairs_of (drop (i + 1) ps))) ≡ whole
+key_field_more ps i p done next f whole lt is reads grown so_far =
+    let rest = fields_in (pairs_of (drop (i + 1) ps)) in
+    ap (λ (gs : List Field). option_map (λ fs. gs ++ fs) rest) grown
+    ∙ behind_one done f rest
+    ∙ sym (ap (λ (o : Option Field). option_map (λ fs. done ++ fs) (option_and_then (λ g. option_map (λ fs. g ∷ fs) rest) o)) reads)
+    ∙ sym (ap (λ (qs : List Pair). option_map (λ fs. done ++ fs) (fields_in (pairs_of qs))) (drop_step ps i p lt is))
+    ∙ so_far

@@ -1,6 +1,6 @@
 //! What the catalogue says of collections and indexes, and bytes that say nothing.
 
-use bson::encode;
+use bson::{Document, NoMemory, encode};
 use entries::{catalogue_told, namespace_in};
 use ext_json::read;
 use index::IndexSpec;
@@ -37,11 +37,26 @@ const NO_INDEXES: [&str; 19] = [
 /// Whether a document of the catalogue is read as an index and spelled again, byte for byte, also from a copy.
 fn is_kept(alloc: Global, text: &str) -> Result<bool, Fail> {
     let document = read(alloc, text)?;
-    let Some(index) = IndexSpec::read(alloc, &document)? else {
-        return Ok(false);
+    let again = spelled_again(alloc, &document);
+    let bytes = encode(alloc, &document);
+    drop(document);
+    Ok(again?.as_deref() == Some(bytes?.as_slice()))
+}
+
+/// The bytes of a document that the copy of an index is spelled as which another one spells.
+fn spelled_again(alloc: Global, document: &Document) -> Result<Option<Vec<u8>>, Fail> {
+    let Some(index) = IndexSpec::read(alloc, document)? else {
+        return Ok(None);
     };
-    let again = index.copy()?.document(alloc)?;
-    Ok(encode(alloc, &again)?.as_slice() == encode(alloc, &document)?.as_slice())
+    let copy = index.copy();
+    drop(index);
+    let copy = copy?;
+    let again = copy.document(alloc);
+    drop(copy);
+    let again = again?;
+    let bytes = encode(alloc, &again);
+    drop(again);
+    Ok(Some(bytes?))
 }
 
 #[test]
@@ -85,15 +100,31 @@ const NAMESPACES: [(&[u8], Option<&str>); 9] = [
     (b"\0\0\0\0\0\0\0", None),
 ];
 
+/// The number of a collection that a value tells.
+fn number_told(alloc: Global, value: &[u8]) -> Result<Option<u32>, NoMemory> {
+    let Some(told) = catalogue_told(alloc, value)? else {
+        return Ok(None);
+    };
+    let number = told.number;
+    drop(told);
+    Ok(Some(number))
+}
+
+/// Whether a key is of this namespace.
+fn is_of(alloc: Global, key: &[u8], namespace: Option<&str>) -> Result<bool, NoMemory> {
+    let found = namespace_in(alloc, key)?;
+    let is_of = found.as_deref() == namespace;
+    drop(found);
+    Ok(is_of)
+}
+
 #[test]
 fn collections(rt: HostRuntime) -> Result<(), Fail> {
     for (value, number) in NUMBERS {
-        let told = catalogue_told(rt.alloc(), value)?;
-        assert_eq!(rt; told.map(|told| told.number), number, "{value:?}");
+        assert_eq!(rt; number_told(rt.alloc(), value)?, number, "{value:?}");
     }
     for (key, namespace) in NAMESPACES {
-        let found = namespace_in(rt.alloc(), key)?;
-        assert_eq!(rt; found.as_deref(), namespace, "{key:?}");
+        assert!(rt; is_of(rt.alloc(), key, namespace)?, "{key:?}");
     }
     Ok(())
 }

@@ -76,13 +76,19 @@ fn shown(alloc: Global, index: &IndexSpec, source: &str) -> Result<String, Fail>
     Ok(out)
 }
 
+fn shown_on(alloc: Global, paths: &str, source: &str) -> Result<String, Fail> {
+    let index = index_on(alloc, paths)?;
+    let shown = shown(alloc, &index, source);
+    drop(index);
+    shown
+}
+
 #[test]
 fn keys(rt: HostRuntime) -> Result<(), Fail> {
     for row in KEYS {
         let (paths, rest) = split(row);
         let (source, wanted) = split(rest);
-        let index = index_on(rt.alloc(), paths)?;
-        let shown = shown(rt.alloc(), &index, source)?;
+        let shown = shown_on(rt.alloc(), paths, source)?;
         assert_eq!(rt; shown.as_str().trim(), wanted, "{row}");
     }
     Ok(())

@@ -44,16 +44,22 @@ fn has_text(alloc: Global, value: &Value, wanted: &str) -> Result<bool, Fail> {
     Ok(digits.as_str() == wanted && is_complement && is_group)
 }
 
+/// Whether the value of `v` in a document has this text.
+fn is_right(alloc: Global, source: &str, wanted: &str) -> Result<bool, Fail> {
+    let document = read(alloc, source)?;
+    let is_right = match document.get("v") {
+        Some(value) => has_text(alloc, value, wanted),
+        None => Ok(false),
+    };
+    drop(document);
+    is_right
+}
+
 #[test]
 fn texts(rt: HostRuntime) -> Result<(), Fail> {
     for row in ROWS {
-        let (text, wanted) = split(row);
-        let document = read(rt.alloc(), text)?;
-        let is_right = match document.get("v") {
-            Some(value) => has_text(rt.alloc(), value, wanted)?,
-            None => false,
-        };
-        assert!(rt; is_right, "{row}");
+        let (source, wanted) = split(row);
+        assert!(rt; is_right(rt.alloc(), source, wanted)?, "{row}");
     }
     Ok(())
 }

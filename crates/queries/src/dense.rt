@@ -48,7 +48,10 @@ fn is_behind(
     let Some(id) = document.get("_id") else {
         return Ok(true);
     };
-    let text = group_text(alloc, &id.value(alloc)?)?;
+    let id = id.value(alloc)?;
+    let text = group_text(alloc, &id);
+    drop(id);
+    let text = text?;
     match ids.get((lent / 4 * 3).saturating_sub(1)) {
         Some(id) => Ok(is_below(&text, Some(id))),
         None => Ok(true),

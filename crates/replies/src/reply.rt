@@ -172,9 +172,16 @@ pub fn listed_document(alloc: Global, name: &str) -> Result<Document, NoMemory>
     ensures { IfOk result (λ d. d ≡ listed name.now) }
 {
     let mut listed = Document::new(alloc);
-    put(&mut listed, "name", text_value(alloc, name)?)?;
-    put(&mut listed, "type", text_value(alloc, "collection")?)?;
+    put_listed(alloc, &mut listed, name)?;
     Ok(listed)
+}
+
+fn put_listed(alloc: Global, document: &mut Document, name: &str) -> Result<(), NoMemory>
+    requires { document.old ≡ no_pairs }
+    ensures { OnOk result (document.new ≡ listed name.now) }
+{
+    put(document, "name", text_value(alloc, name)?)?;
+    put(document, "type", text_value(alloc, "collection")?)
 }
 
 /// What `listIndexes` says of an index with this key and this name.
@@ -202,11 +209,18 @@ pub fn refusal_document(alloc: Global, refusal: Refusal) -> Result<Document, NoM
     ensures { IfOk result (λ d. d ≡ refusal_reply refusal) }
 {
     let mut reply = Document::new(alloc);
-    put(&mut reply, "ok", Value::Int32(0))?;
-    put(&mut reply, "errmsg", text_value(alloc, refusal.text())?)?;
-    put(&mut reply, "code", Value::Int32(refusal.code()))?;
-    put(&mut reply, "codeName", text_value(alloc, refusal.name())?)?;
+    put_refusal(alloc, &mut reply, refusal)?;
     Ok(reply)
+}
+
+fn put_refusal(alloc: Global, reply: &mut Document, refusal: Refusal) -> Result<(), NoMemory>
+    requires { reply.old ≡ no_pairs }
+    ensures { OnOk result (reply.new ≡ refusal_reply refusal) }
+{
+    put(reply, "ok", Value::Int32(0))?;
+    put(reply, "errmsg", text_value(alloc, refusal.text())?)?;
+    put(reply, "code", Value::Int32(refusal.code()))?;
+    put(reply, "codeName", text_value(alloc, refusal.name())?)
 }
 
 /// The bytes of the document that says that memory ran out, for where there may be no memory to make it.

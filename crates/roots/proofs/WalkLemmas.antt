@@ -1,7 +1,7 @@
 -- A walk over pages, one page after the other.
 use Rattle.std.proofs.Common.{◌≡◌, ◌≢◌, ℕ, zero, suc, ◌+◌, ◌-◌, ◌<◌, ◌≤◌, true, List, [], ◌∷◌, ◌++◌, length, take, drop, min, refl, sym, ◌∙◌, ap, subst, arith}
 use Rattle.std.proofs.Common.{append_assoc, append-nil, length-append, length-take, length-drop, map}
-use Rattle.std.specs.Prelude.{is_ok, Some, slice_get, Result, Ok, Err, IfErr}
+use Rattle.std.specs.Prelude.{is_ok, Some, slice_get, Result, Ok, Err, IfErr, IsErrAnd}
 use Rattle.std.specs.List.{flat_map}
 use Rattle.std.proofs.lemmas.List.{take_all}
 use Rattle.page.specs.Content.{Arm, Content, Item, branch, chain, inline, leaf, spilled}
@@ -276,6 +276,11 @@ marks_behind old mid new (Ok x) first later = λ limit marked. later limit (firs
 marks_behind old mid new (Err e) first later = tt
 
 -- a fault goes through
+-- a fault that was handed on
+pub handed_on : {X : Type 0} (result : Result X OpenFault) (f : OpenFault) → IsErrAnd result (λ e. e ≡ f) → result ≡ Err f
+handed_on (Ok x) f is = absurd is
+handed_on (Err e) f is = ap Err is
+
 pub looks_failed : {X Y : Type 0} (a b c : History) (result : Result X OpenFault) (e : OpenFault) → result ≡ Err e → ReadsOnly a b → Looks {X = Y} (Err e) b c
     → Looks result a c
 looks_failed a b c result e is first looks = record {

@@ -51,19 +51,26 @@ fn kept(cache: &mut PageCache) -> [Option<u8>; 5] {
     ]
 }
 
+/// Puts 1,025 pages, of which page 1 is read, and another byte for page 5; the byte that page 1 had.
+fn fill_past_room(cache: &mut PageCache, alloc: Global) -> Result<Option<u8>, AllocError> {
+    fill(cache, alloc, 1, 1025, 7)?;
+    let byte = byte_of(cache, 1);
+    fill(cache, alloc, 1025, 1026, 8)?;
+    fill(cache, alloc, 5, 6, 30)?;
+    Ok(byte)
+}
+
 /// 1,024 pages find room. Of 1,025 the one goes that was used longest ago, which is page 2, since page 1 was read.
 #[test]
 fn the_oldest_page_goes(rt: HostRuntime) -> Result<(), Fail> {
     let mut cache = PageCache::new(rt.alloc())?;
-    fill(&mut cache, rt.alloc(), 1, 1025, 7)?;
-    assert_eq!(rt; byte_of(&mut cache, 1), Some(7));
-    fill(&mut cache, rt.alloc(), 1025, 1026, 8)?;
-    fill(&mut cache, rt.alloc(), 5, 6, 30)?;
-    assert_eq!(rt;
-        kept(&mut cache),
-        [Some(7), None, Some(7), Some(30), Some(8)]
-    );
+    let filled = fill_past_room(&mut cache, rt.alloc());
+    let before = kept(&mut cache);
     cache.remove(5);
-    assert_eq!(rt; kept(&mut cache), [Some(7), None, Some(7), None, Some(8)]);
+    let after = kept(&mut cache);
+    drop(cache);
+    assert_eq!(rt; filled?, Some(7));
+    assert_eq!(rt; before, [Some(7), None, Some(7), Some(30), Some(8)]);
+    assert_eq!(rt; after, [Some(7), None, Some(7), None, Some(8)]);
     Ok(())
 }

@@ -46,6 +46,20 @@ fn step(file: &mut FileDisk, memory: &mut MemDisk, random: u64) -> bool {
     }
 }
 
+/// The first of two thousand steps after which the two differ.
+fn first_wrong_step(file: &mut FileDisk, memory: &mut MemDisk) -> Option<u32> {
+    let mut random: u64 = 88_172_645_463_325_252;
+    for i in 0..2000 {
+        random ^= random << 13;
+        random ^= random >> 7;
+        random ^= random << 17;
+        if !step(file, memory, random) {
+            return Some(i);
+        }
+    }
+    None
+}
+
 /// Two thousand steps. What was synced is there when the file is opened again, also where it would have been made.
 #[test]
 fn a_file_beside_memory(rt: HostRuntime) -> Result<(), Fail> {
@@ -54,20 +68,17 @@ fn a_file_beside_memory(rt: HostRuntime) -> Result<(), Fail> {
         panic!(&rt; "the file isn't made");
     };
     let mut memory = MemDisk::new(rt.alloc());
-    let mut random: u64 = 88_172_645_463_325_252;
-    for i in 0..2000 {
-        random ^= random << 13;
-        random ^= random >> 7;
-        random ^= random << 17;
-        assert!(rt; step(&mut file, &mut memory, random), "step {i}");
-    }
-    assert!(rt; same_sectors(&mut file, &mut memory, 0, 128) && file.sync().is_ok());
+    let wrong = first_wrong_step(&mut file, &mut memory);
+    let synced = same_sectors(&mut file, &mut memory, 0, 128) && file.sync().is_ok();
     drop(file);
     let Ok(mut again) = FileDisk::open(&rt, path, true) else {
         panic!(&rt; "the file isn't opened again");
     };
-    assert!(rt; same_sectors(&mut again, &mut memory, 0, 128));
+    let kept = same_sectors(&mut again, &mut memory, 0, 128);
     drop(again);
+    drop(memory);
+    assert_eq!(rt; wrong, None);
+    assert!(rt; synced && kept);
     fs::remove_file(&rt, path)?;
     Ok(())
 }
@@ -94,6 +105,22 @@ fn a_file_is_locked(rt: HostRuntime) -> Result<(), Fail> {
     Ok(())
 }
 
+/// Whether a disk is read and written, and then not synced.
+fn works_till_sync(disk: &mut FileDisk) -> bool {
+    let mut bytes = [1; 512];
+    let read = disk.read(3, &mut bytes).is_ok() && bytes == [0; 512];
+    let written = disk.write(0, &bytes).is_ok();
+    read && written && disk.sync() == Err(DeviceFault)
+}
+
+fn each_call_fails(disk: &mut FileDisk) -> bool {
+    let mut bytes = [1; 512];
+    let synced = disk.sync();
+    let read = disk.read(3, &mut bytes);
+    let written = disk.write(0, &bytes);
+    synced == Err(DeviceFault) && read == Err(DeviceFault) && written == Err(DeviceFault)
+}
+
 /// A file that can't be written: after the first failure each call fails.
 #[test]
 fn a_failure_stays(rt: HostRuntime) -> Result<(), Fail> {
@@ -102,16 +129,29 @@ fn a_failure_stays(rt: HostRuntime) -> Result<(), Fail> {
     let Ok(mut disk) = FileDisk::open_to_read(&rt, path) else {
         panic!(&rt; "the file isn't opened");
     };
-    let mut bytes = [1; 512];
-    assert!(rt; disk.read(3, &mut bytes).is_ok() && bytes == [0; 512]);
-    assert!(rt; disk.write(0, &bytes).is_ok());
-    assert!(rt; disk.sync() == Err(DeviceFault));
-    assert!(rt; disk.sync() == Err(DeviceFault));
-    assert!(rt; disk.read(3, &mut bytes) == Err(DeviceFault));
-    assert!(rt; disk.write(0, &bytes) == Err(DeviceFault));
+    let (works, fails) = (works_till_sync(&mut disk), each_call_fails(&mut disk));
     drop(disk);
+    assert!(rt; works && fails);
     fs::remove_file(&rt, path)?;
     Ok(())
+}
+
+/// The first of sixteen calls that is done after one has failed.
+fn first_gone_on(disk: &mut FileDisk) -> Option<u64> {
+    let mut has_failed = false;
+    for i in 0..16 {
+        let mut bytes = [1; 512];
+        let call = match i % 4 {
+            0 | 1 => disk.write(8 * i + 8, &bytes),
+            2 => disk.sync(),
+            _ => disk.read(0, &mut bytes),
+        };
+        if has_failed && call.is_ok() {
+            return Some(i);
+        }
+        has_failed = call.is_err();
+    }
+    None
 }
 
 /// Once a call has failed, each later one fails. `tests/file_calls` refuses each write and each sync of this test in turn.
@@ -122,18 +162,9 @@ fn a_refused_call_stays(rt: HostRuntime) -> Result<(), Fail> {
     let Ok(mut disk) = FileDisk::open(&rt, path, false) else {
         panic!(&rt; "the file isn't opened");
     };
-    let mut has_failed = false;
-    for i in 0..16 {
-        let mut bytes = [1; 512];
-        let call = match i % 4 {
-            0 | 1 => disk.write(8 * i + 8, &bytes),
-            2 => disk.sync(),
-            _ => disk.read(0, &mut bytes),
-        };
-        assert!(rt; call.is_err() || !has_failed, "call {i} goes on");
-        has_failed = call.is_err();
-    }
+    let gone_on = first_gone_on(&mut disk);
     drop(disk);
+    assert_eq!(rt; gone_on, None);
     fs::remove_file(&rt, path)?;
     Ok(())
 }

@@ -2,6 +2,7 @@
 
 use page::{Disk, MemDisk};
 use roots::{OpenFault, Store};
+use std::alloc::Global;
 
 /// What stands in a root's sector.
 #[derive(Clone, Copy, Debug)]
@@ -63,16 +64,34 @@ fn bytes_of(sector: Sector) -> [u8; 512] {
     bytes
 }
 
+/// A disk with these roots.
+fn disk_of(alloc: Global, even: Sector, odd: Sector) -> MemDisk {
+    let mut disk = MemDisk::new(alloc);
+    // what isn't written is told by what is opened then
+    let _ = disk.write(0, &bytes_of(even));
+    let _ = disk.write(1, &bytes_of(odd));
+    disk
+}
+
+/// The generation that is opened.
+fn opened(disk: MemDisk) -> Result<u64, OpenFault> {
+    match Store::open(disk) {
+        Ok(store) => {
+            let generation = store.root().generation;
+            drop(store);
+            Ok(generation)
+        }
+        Err((disk, fault)) => {
+            drop(disk);
+            Err(fault)
+        }
+    }
+}
+
 #[test]
 fn roots_are_judged(rt: HostRuntime) {
     for (even, odd, wanted) in ROWS {
-        let mut disk = MemDisk::new(rt.alloc());
-        assert!(rt; disk.write(0, &bytes_of(even)).is_ok());
-        assert!(rt; disk.write(1, &bytes_of(odd)).is_ok());
-        let opened = match Store::open(disk) {
-            Ok(store) => Ok(store.root().generation),
-            Err((_disk, fault)) => Err(fault),
-        };
+        let opened = opened(disk_of(rt.alloc(), even, odd));
         assert_eq!(rt; opened, wanted, "{even:?} and {odd:?}");
     }
 }

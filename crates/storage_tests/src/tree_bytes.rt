@@ -102,20 +102,36 @@ fn first_wrong(alloc: Global, pager: &mut Pager<MemDisk>, rows: &[Found]) -> Opt
     None
 }
 
+/// The first row that isn't so in a file of these pages.
+fn wrong_in(alloc: Global, fronts: &[&[u8]; 7], rows: &[Found]) -> Result<Option<usize>, Fail> {
+    let mut pager = pager_of(alloc, fronts)?;
+    let wrong = first_wrong(alloc, &mut pager, rows);
+    drop(pager);
+    Ok(wrong)
+}
+
 #[test]
 fn keys_are_found(rt: HostRuntime) -> Result<(), Fail> {
-    let mut pager = pager_of(rt.alloc(), &CHAINS)?;
-    assert_eq!(rt; first_wrong(rt.alloc(), &mut pager, &IN_CHAINS), None);
-    let mut pager = pager_of(rt.alloc(), &TREE)?;
-    assert_eq!(rt; first_wrong(rt.alloc(), &mut pager, &IN_TREE), None);
+    assert_eq!(rt; wrong_in(rt.alloc(), &CHAINS, &IN_CHAINS)?, None);
+    assert_eq!(rt; wrong_in(rt.alloc(), &TREE, &IN_TREE)?, None);
     Ok(())
+}
+
+/// The first scan that doesn't give what its row says.
+fn first_wrong_scan(alloc: Global, pager: &mut Pager<MemDisk>, rows: &[Scanned]) -> Option<usize> {
+    for (row, scanned) in rows.iter().enumerate() {
+        if !is_scanned(alloc, pager, scanned) {
+            return Some(row);
+        }
+    }
+    None
 }
 
 #[test]
 fn ranges_are_handed_out(rt: HostRuntime) -> Result<(), Fail> {
     let mut pager = pager_of(rt.alloc(), &TREE)?;
-    for (row, scanned) in SCANNED.iter().enumerate() {
-        assert!(rt; is_scanned(rt.alloc(), &mut pager, scanned), "row {row}");
-    }
+    let wrong = first_wrong_scan(rt.alloc(), &mut pager, &SCANNED);
+    drop(pager);
+    assert_eq!(rt; wrong, None);
     Ok(())
 }

@@ -45,3 +45,23 @@ pub returns-then-page-ne0-clause-reads : goal.returns-then-page-ne0-clause-reads
 returns-then-page-ne0-clause-reads g c =
     λ links value has next long k.
     c.if-page-ne0.true (ends (g.P.Pages.store c.loop-left.pages) value _ _ _ (omega arith) (c.loop-left.invariant.chained links value has next long k))
+
+pub returns-in_err-shared-clause-grows : goal.returns-in_err-shared-clause-grows
+returns-in_err-shared-clause-grows g c =
+    grows_trans _ _ _ c.loop-left.invariant.grows
+    (grows_same (g.P.Pages.store c.loop-left.pages) (g.P.Pages.store c.read.new.self) c.in_err-shared.ensures.stays c.in_err-shared.ensures.same)
+
+pub returns-in_err-shared-clause-same : goal.returns-in_err-shared-clause-same
+returns-in_err-shared-clause-same g c = λ k. let now = c.in_err-shared.ensures.same k in same_trans _ _ _ (c.loop-left.invariant.same now.word) now
+
+pub returns-then-len-min-clause-grows : goal.returns-then-len-min-clause-grows
+returns-then-len-min-clause-grows g c = grows_trans _ _ _ c.loop-left.invariant.grows (grows_same (g.P.Pages.store c.loop-left.pages) (g.P.Pages.store c.read.new.self) c.in_ok-shared.ensures.stays c.in_ok-shared.ensures.same)
+
+pub returns-then-len-min-clause-same : goal.returns-then-len-min-clause-same
+returns-then-len-min-clause-same g c = λ k. let now = c.in_ok-shared.ensures.same k in same_trans _ _ _ (c.loop-left.invariant.same now.word) now
+
+pub returns-in_err-extend_from_slice-clause-grows : goal.returns-in_err-extend_from_slice-clause-grows
+returns-in_err-extend_from_slice-clause-grows g c = grows_trans _ _ _ c.loop-left.invariant.grows (grows_same (g.P.Pages.store c.loop-left.pages) (g.P.Pages.store c.read.new.self) c.in_ok-shared.ensures.stays c.in_ok-shared.ensures.same)
+
+pub returns-in_err-extend_from_slice-clause-same : goal.returns-in_err-extend_from_slice-clause-same
+returns-in_err-extend_from_slice-clause-same g c = λ k. let now = c.in_ok-shared.ensures.same k in same_trans _ _ _ (c.loop-left.invariant.same now.word) now

@@ -2,7 +2,7 @@ use Rattle.std.proofs.Common.{◌*◌, ◌-◌, arith, drop}
 use Rattle.std.proofs.lemmas.List.{length-drop}
 use Rattle.btree.specs.Few.{chain_pages}
 use Rattle.btree.proofs.FewLemmas.{chain_few, same_few}
-use Rattle.btree.proofs.StoreLemmas.{grows_made, grows_trans}
+use Rattle.btree.proofs.StoreLemmas.{grows_made, grows_trans, grows_failed, grows_itself}
 use Rattle.btree.proofs.ChainLemmas.{chained_on, drop_on, first_of, some_left}
 use Rattle.btree.proofs.chain.write_chain.Goals as goal
 
@@ -43,3 +43,8 @@ returns-clause-few g c =
     λ long k. chain_few (g.P.Pages.store c.args.pages.now) (g.P.Pages.store c.loop-left.pages) c.args.value.now
     (drop (4076 * c.loop-left.left) c.args.value.now) _ long (omega (arith, length-drop (4076 * c.loop-left.left) c.args.value.now))
     (c.loop-left.invariant.written k)
+
+pub returns-in_err-next-clause-grows : goal.returns-in_err-next-clause-grows
+returns-in_err-next-clause-grows g c =
+    grows_trans _ _ _ c.loop-left.invariant.grows
+    (grows_failed (g.P.Pages.store c.loop-left.pages) (g.P.Pages.store c.fresh.new.self) _ c.in_err-next.ensures.stays c.in_err-next.ensures.makes)

@@ -9,12 +9,11 @@ use Rattle.btree.specs.Store.{Store}
 use Rattle.btree.specs.Tree.{Shows, IsSound, entries_of, pages_of}
 use Rattle.page.specs.Content.{Arm}
 use Rattle.page.specs.Format.{Sheet}
-use Rattle.btree.specs.Turn.{sheaf_in}
-use Rattle.btree.proofs.StoreLemmas.{answer_failed, cause_later, frame_same, frame_trans, grows_retired, grows_same, grows_trans, shows_kept}
+use Rattle.btree.specs.Turn.{sheaf_in, IsHeld}
+use Rattle.btree.proofs.StoreLemmas.{answer_failed, cause_later, frame_same, frame_trans, grows_failed, grows_retired, grows_same, grows_trans, shows_kept}
 use Rattle.btree.proofs.HeldLemmas.{IsTurn, branch_stubs, held_later, opened, turns_failed}
 use Rattle.btree.proofs.ChangingLemmas.{at_leaf, begins, behind_later, branch_deep, turned_on}
 use Rattle.btree.specs.Change.{IsBehind}
-use Rattle.btree.specs.Turn.{IsHeld}
 use Rattle.btree.proofs.EndLemmas.{last_is_child, within_up_to}
 use Rattle.btree.proofs.FewParts.{branch_few}
 use Rattle.btree.proofs.FewLemmas.{all_mine, branch_two, children_few, few_alone, few_made, few_on, few_or_one_on, stopped, sum_both, unit_little, zero_or}
@@ -441,3 +440,25 @@ change_children-returns-in_err-front-clause-few g t c =
       ]
     ] in
     stopped _ _ _ c.from_residual-in_err-front.result c.from_residual-in_err-front.ensures.1 m
+
+pub change_below-returns-in_err-shared-clause-grows : goal.change_below-returns-in_err-shared-clause-grows
+change_below-returns-in_err-shared-clause-grows g t c =
+    grows_same (g.P.Pages.store c.args.pages.now) (g.P.Pages.store c.read.new.self) c.in_err-shared.ensures.stays c.in_err-shared.ensures.same
+
+pub change_below-returns-in_err-retire-clause-grows : goal.change_below-returns-in_err-retire-clause-grows
+change_below-returns-in_err-retire-clause-grows g t c =
+    grows_trans _ _ _ (grows_same (g.P.Pages.store c.args.pages.now) (g.P.Pages.store c.read.new.self) c.in_ok-shared.ensures.stays c.in_ok-shared.ensures.same)
+    (grows_failed (g.P.Pages.store c.read.new.self) (g.P.Pages.store c.retire.new.self) _ c.in_err-retire.ensures.stays c.in_err-retire.ensures.retires)
+
+pub change_below-returns-in_err-retire-clause-turns : goal.change_below-returns-in_err-retire-clause-turns
+change_below-returns-in_err-retire-clause-turns g t c =
+    λ base d high body rank at shown whole sound little rise between word.
+    let f = c.in_err-retire.ensures.retires word in
+    answer_failed (g.P.Pages.store c.args.pages.now) (g.P.Pages.store c.retire.new.self) _ _ _ c.from_residual-in_err-retire.ensures.1
+    (cause_later (g.P.Pages.store c.args.pages.now) (g.P.Pages.store c.read.new.self) (g.P.Pages.store c.retire.new.self) _
+    (frame_same _ _ (c.in_ok-shared.ensures.same f.same.word)) f.cause)
+
+pub change_below-returns-in_err-units-clause-grows : goal.change_below-returns-in_err-units-clause-grows
+change_below-returns-in_err-units-clause-grows g t c =
+    grows_trans _ _ _ (grows_same (g.P.Pages.store c.args.pages.now) (g.P.Pages.store c.read.new.self) c.in_ok-shared.ensures.stays c.in_ok-shared.ensures.same)
+    (grows_retired (g.P.Pages.store c.read.new.self) (g.P.Pages.store c.retire.new.self) _ c.in_ok-retire.ensures.stays c.in_ok-retire.ensures.retires)

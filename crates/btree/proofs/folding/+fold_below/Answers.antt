@@ -6,7 +6,7 @@ use Rattle.btree.specs.Tree.{Body, arm_of, entries_of}
 use Rattle.btree.specs.View.{content_in}
 use Rattle.btree.specs.Calls.{IsAnswer}
 use Rattle.btree.specs.Fold.{between}
-use Rattle.btree.proofs.StoreLemmas.{answer_failed, frame_same, frame_trans, grows_itself, grows_trans, part_kept, same_itself, same_trans}
+use Rattle.btree.proofs.StoreLemmas.{answer_failed, frame_same, frame_trans, grows_itself, grows_same, grows_trans, part_kept, same_itself, same_trans}
 use Rattle.btree.proofs.ListLemmas.{long_map}
 use Rattle.btree.proofs.GetLemmas.{not_between, too_deep, bounds_are}
 use Rattle.btree.proofs.ScanLemmas.{at_branch, scan_leaf_below, none_before, child_here, child_on, child_past, child_rest, scan_failed, take_all}
@@ -149,3 +149,47 @@ returns-clause-folds g t c =
     (take_all twigs c.loop-i.i (omega (arith, ap length e, long_map (arm_of {B = Body d}) twigs, c.loop-i-test.false)))
     (c.loop-i.invariant.made start all d twigs e p made k))
     d body part
+
+pub returns-in_err-shared-clause-grows : goal.returns-in_err-shared-clause-grows
+returns-in_err-shared-clause-grows g t c = grows_same (g.P.Pages.store c.args.pages.now) (g.P.Pages.store c.read.new.self) c.in_err-shared.ensures.stays c.in_err-shared.ensures.same
+
+pub returns-then-not-lies_between-clause-grows : goal.returns-then-not-lies_between-clause-grows
+returns-then-not-lies_between-clause-grows g t c = grows_same (g.P.Pages.store c.args.pages.now) (g.P.Pages.store c.read.new.self) c.in_ok-shared.ensures.stays c.in_ok-shared.ensures.same
+
+pub returns-in-Leaf-clause-grows : goal.returns-in-Leaf-clause-grows
+returns-in-Leaf-clause-grows g t c = grows_trans _ _ _ (grows_same (g.P.Pages.store c.args.pages.now) (g.P.Pages.store c.read.new.self) c.in_ok-shared.ensures.stays c.in_ok-shared.ensures.same) c.fold_leaf.ensures.grows
+
+pub returns-in-Leaf-clause-same : goal.returns-in-Leaf-clause-same
+returns-in-Leaf-clause-same g t c = λ k. let now = c.fold_leaf.ensures.same k in same_trans _ _ _ (c.in_ok-shared.ensures.same now.word) now
+
+pub returns-then-len-eq0-clause-grows : goal.returns-then-len-eq0-clause-grows
+returns-then-len-eq0-clause-grows g t c = grows_same (g.P.Pages.store c.args.pages.now) (g.P.Pages.store c.read.new.self) c.in_ok-shared.ensures.stays c.in_ok-shared.ensures.same
+
+pub returns-then-is_done-clause-grows : goal.returns-then-is_done-clause-grows
+returns-then-is_done-clause-grows g t c = grows_trans _ _ _ (grows_same (g.P.Pages.store c.args.pages.now) (g.P.Pages.store c.read.new.self) c.in_ok-shared.ensures.stays c.in_ok-shared.ensures.same) c.loop-i.invariant.grows
+
+pub returns-then-is_done-clause-same : goal.returns-then-is_done-clause-same
+returns-then-is_done-clause-same g t c = λ k. let now = c.loop-i.invariant.same k in same_trans _ _ _ (c.in_ok-shared.ensures.same now.word) now
+
+pub returns-then-not-is_within-clause-grows : goal.returns-then-not-is_within-clause-grows
+returns-then-not-is_within-clause-grows g t c = grows_trans _ _ _ (grows_same (g.P.Pages.store c.args.pages.now) (g.P.Pages.store c.read.new.self) c.in_ok-shared.ensures.stays c.in_ok-shared.ensures.same) c.loop-i.invariant.grows
+
+pub returns-then-not-is_within-clause-same : goal.returns-then-not-is_within-clause-same
+returns-then-not-is_within-clause-same g t c = λ k. let now = c.loop-i.invariant.same k in same_trans _ _ _ (c.in_ok-shared.ensures.same now.word) now
+
+pub returns-in_err-fold_below-clause-grows : goal.returns-in_err-fold_below-clause-grows
+returns-in_err-fold_below-clause-grows g t c =
+    grows_trans _ _ _ (grows_trans _ _ _ (grows_same (g.P.Pages.store c.args.pages.now) (g.P.Pages.store c.read.new.self) c.in_ok-shared.ensures.stays c.in_ok-shared.ensures.same)
+    c.loop-i.invariant.grows) c.in_err-fold_below.ensures.grows
+
+pub returns-in_err-fold_below-clause-same : goal.returns-in_err-fold_below-clause-same
+returns-in_err-fold_below-clause-same g t c =
+    λ k. let last = c.in_err-fold_below.ensures.same k in
+    let now = c.loop-i.invariant.same last.word in
+    same_trans _ _ _ (same_trans _ _ _ (c.in_ok-shared.ensures.same now.word) now) last
+
+pub returns-clause-grows : goal.returns-clause-grows
+returns-clause-grows g t c = grows_trans _ _ _ (grows_same (g.P.Pages.store c.args.pages.now) (g.P.Pages.store c.read.new.self) c.in_ok-shared.ensures.stays c.in_ok-shared.ensures.same) c.loop-i.invariant.grows
+
+pub returns-clause-same : goal.returns-clause-same
+returns-clause-same g t c = λ k. let now = c.loop-i.invariant.same k in same_trans _ _ _ (c.in_ok-shared.ensures.same now.word) now

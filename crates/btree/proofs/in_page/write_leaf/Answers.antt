@@ -6,6 +6,7 @@ use Rattle.btree.proofs.EditLemmas.{not_edited}
 use Rattle.btree.proofs.FewParts.{leaf_few}
 use Rattle.btree.proofs.FewLemmas.{stopped}
 use Rattle.btree.proofs.InPageLemmas.{leaf_written, none, one_few}
+use Rattle.btree.proofs.StoreLemmas.{grows_failed, grows_itself, grows_made}
 use Rattle.btree.proofs.in_page.write_leaf.Goals as goal
 
 pub returns-then-len-lt2-clause-few : goal.returns-then-len-lt2-clause-few
@@ -52,3 +53,15 @@ returns-in_err-push_unit-clause-few g c =
     let made = c.in_ok-page.ensures.makes k in
     let m : MakesUpTo (g.P.Pages.store c.args.pages.now) (g.P.Pages.store c.fresh.new.self) (0 + 1) = omega (arith, ap length made.made) in
     stopped _ _ _ c.from_residual-in_err-push_unit.result c.from_residual-in_err-push_unit.ensures.1 m
+
+pub returns-in_err-key-clause-grows : goal.returns-in_err-key-clause-grows
+returns-in_err-key-clause-grows g c = grows_itself (g.P.Pages.store c.args.pages.now)
+
+pub returns-in_err-page-clause-grows : goal.returns-in_err-page-clause-grows
+returns-in_err-page-clause-grows g c = grows_failed (g.P.Pages.store c.args.pages.now) (g.P.Pages.store c.fresh.new.self) _ c.in_err-page.ensures.stays c.in_err-page.ensures.makes
+
+pub returns-in_err-push_unit-clause-grows : goal.returns-in_err-push_unit-clause-grows
+returns-in_err-push_unit-clause-grows g c = grows_made (g.P.Pages.store c.args.pages.now) (g.P.Pages.store c.fresh.new.self) _ _ c.in_ok-page.ensures.stays c.in_ok-page.ensures.makes
+
+pub returns-clause-grows : goal.returns-clause-grows
+returns-clause-grows g c = grows_made (g.P.Pages.store c.args.pages.now) (g.P.Pages.store c.fresh.new.self) _ _ c.in_ok-page.ensures.stays c.in_ok-page.ensures.makes

@@ -6,20 +6,20 @@ use Rattle.btree.proofs.ListLemmas.{long_map}
 use Rattle.btree.proofs.StoreLemmas.{cause_later, frame_trans, grows_trans}
 use Rattle.btree.proofs.FewLemmas.{few_before, few_behind, few_concat, few_left_gone, few_level, few_on, few_right_gone, not_joined_none, stopped}
 use Rattle.btree.proofs.HeldLemmas.{concat_turns, glue_held, held_later, turns_failed}
-use Rattle.btree.proofs.JoinLemmas.{left_gone, ready_joined, right_gone, turned_left, turned_right, up_to_trans}
+use Rattle.btree.proofs.JoinLemmas.{joined_alone, joined_before, joined_behind, joined_gone, joined_level, left_gone, none_there, ready_joined, right_gone, some_there, turned_left, turned_right, up_to_trans}
 use Rattle.btree.proofs.joining.+join.Goals as goal
 
 pub returns-then-is_empty-clause-turns : goal.returns-then-is_empty-clause-turns
 returns-then-is_empty-clause-turns g t c =
     λ base low mid high first last lp rp h1 h2 over upto k.
-    let none : length c.args.left.units.items ≡ 0 = search rules in
+    let none = none_there c.args.left.units.len (length c.args.left.units.items) _ c.is_empty.ensures c.if-is_empty.true c.args.left.units.ok.0 in
     left_gone (g.P.Pages.store c.args.pages.now) base low mid high first last lp rp (sheaf_in c.args.left) (sheaf_in c.args.right) h1 h2 over upto
     (omega (arith, long_map stub_in c.args.left.units.items))
 
 pub returns-then-is_empty-2-clause-turns : goal.returns-then-is_empty-2-clause-turns
 returns-then-is_empty-2-clause-turns g t c =
     λ base low mid high first last lp rp h1 h2 over upto k.
-    let none : length c.args.right.units.items ≡ 0 = search rules in
+    let none = none_there c.args.right.units.len (length c.args.right.units.items) _ c.is_empty-2.ensures c.if-is_empty-2.true c.args.right.units.ok.0 in
     right_gone (g.P.Pages.store c.args.pages.now) base low mid high first last lp rp (sheaf_in c.args.left) (sheaf_in c.args.right) h1 h2 over upto
     (omega (arith, long_map stub_in c.args.right.units.items))
 
@@ -34,8 +34,8 @@ returns-then-left-right-clause-turns g t c =
 pub returns-in_err-front-clause-turns : goal.returns-in_err-front-clause-turns
 returns-in_err-front-clause-turns g t c =
     λ base low mid high first last lp rp h1 h2 over upto k.
-    let some : 0 < length c.args.left.units.items = search rules in
-    let more : 0 < length c.args.right.units.items = search rules in
+    let some = some_there c.args.left.units.len (length c.args.left.units.items) _ c.is_empty.ensures c.if-is_empty.false c.args.left.units.ok.0 in
+    let more = some_there c.args.right.units.len (length c.args.right.units.items) _ c.is_empty-2.ensures c.if-is_empty-2.false c.args.right.units.ok.0 in
     turns_failed (g.P.Pages.store c.args.pages.now) (g.P.Pages.store c.take_last.new.pages) base low high _ _ c.from_residual.result _ c.from_residual.ensures.1
     (c.in_err-front.ensures.parts base low _ first lp h1 (omega (arith, h2.rank_is (omega (arith, long_map stub_in c.args.right.units.items)))) some k)
 
@@ -44,8 +44,8 @@ returns-in_err-below-clause-turns g t c =
     λ base low mid high first last lp rp h1 h2 over upto k.
     let v = (c.in_err-below.ensures.grows.frame k).word in
     let g1 = c.in_ok-front.ensures.grows.frame v in
-    let some : 0 < length c.args.left.units.items = search rules in
-    let more : 0 < length c.args.right.units.items = search rules in
+    let some = some_there c.args.left.units.len (length c.args.left.units.items) _ c.is_empty.ensures c.if-is_empty.false c.args.left.units.ok.0 in
+    let more = some_there c.args.right.units.len (length c.args.right.units.items) _ c.is_empty-2.ensures c.if-is_empty-2.false c.args.right.units.ok.0 in
     let p = c.in_ok-front.ensures.parts base low _ first lp h1 (omega (arith, h2.rank_is (omega (arith, long_map stub_in c.args.right.units.items)))) some v in
     turns_failed (g.P.Pages.store c.args.pages.now)
     (g.P.Pages.store c.join.new.pages) base low high _ _ c.from_residual-in_err-below.result _ c.from_residual-in_err-below.ensures.1
@@ -59,8 +59,8 @@ returns-then-left-right-2-clause-turns g t c =
     let g3 = c.raise_behind.ensures.grows.frame k in
     let g2 = c.in_ok-below.ensures.grows.frame g3.word in
     let g1 = c.in_ok-front.ensures.grows.frame g2.word in
-    let some : 0 < length c.args.left.units.items = search rules in
-    let more : 0 < length c.args.right.units.items = search rules in
+    let some = some_there c.args.left.units.len (length c.args.left.units.items) _ c.is_empty.ensures c.if-is_empty.false c.args.left.units.ok.0 in
+    let more = some_there c.args.right.units.len (length c.args.right.units.items) _ c.is_empty-2.ensures c.if-is_empty-2.false c.args.right.units.ok.0 in
     let p = c.in_ok-front.ensures.parts base low _ first lp h1
     (omega (arith, h2.rank_is (omega (arith, long_map stub_in c.args.right.units.items)))) some g2.word in
     let u = c.in_ok-below.ensures.turns base p.0.mid mid high p.0.back_entries last p.0.back_pages rp p.0.back_held
@@ -77,8 +77,8 @@ returns-then-left-right-2-clause-turns g t c =
 pub returns-in_err-first-clause-turns : goal.returns-in_err-first-clause-turns
 returns-in_err-first-clause-turns g t c =
     λ base low mid high first last lp rp h1 h2 over upto k.
-    let some : 0 < length c.args.left.units.items = search rules in
-    let more : 0 < length c.args.right.units.items = search rules in
+    let some = some_there c.args.left.units.len (length c.args.left.units.items) _ c.is_empty.ensures c.if-is_empty.false c.args.left.units.ok.0 in
+    let more = some_there c.args.right.units.len (length c.args.right.units.items) _ c.is_empty-2.ensures c.if-is_empty-2.false c.args.right.units.ok.0 in
     turns_failed (g.P.Pages.store c.args.pages.now)
     (g.P.Pages.store c.take_first.new.pages) base low high _ _ c.from_residual-in_err-first.result _ c.from_residual-in_err-first.ensures.1
     (c.in_err-first.ensures.parts base mid high last rp h2 (omega (arith, h1.rank_is (omega (arith, long_map stub_in c.args.left.units.items)))) more upto k)
@@ -88,8 +88,8 @@ returns-in_err-below-2-clause-turns g t c =
     λ base low mid high first last lp rp h1 h2 over upto k.
     let v = (c.in_err-below-2.ensures.grows.frame k).word in
     let g1 = c.in_ok-first.ensures.grows.frame v in
-    let some : 0 < length c.args.left.units.items = search rules in
-    let more : 0 < length c.args.right.units.items = search rules in
+    let some = some_there c.args.left.units.len (length c.args.left.units.items) _ c.is_empty.ensures c.if-is_empty.false c.args.left.units.ok.0 in
+    let more = some_there c.args.right.units.len (length c.args.right.units.items) _ c.is_empty-2.ensures c.if-is_empty-2.false c.args.right.units.ok.0 in
     let p = c.in_ok-first.ensures.parts base mid high last rp h2
     (omega (arith, h1.rank_is (omega (arith, long_map stub_in c.args.left.units.items)))) more upto v in
     turns_failed (g.P.Pages.store c.args.pages.now)
@@ -104,8 +104,8 @@ returns-clause-turns g t c =
     let g3 = c.raise_before.ensures.grows.frame k in
     let g2 = c.in_ok-below-2.ensures.grows.frame g3.word in
     let g1 = c.in_ok-first.ensures.grows.frame g2.word in
-    let some : 0 < length c.args.left.units.items = search rules in
-    let more : 0 < length c.args.right.units.items = search rules in
+    let some = some_there c.args.left.units.len (length c.args.left.units.items) _ c.is_empty.ensures c.if-is_empty.false c.args.left.units.ok.0 in
+    let more = some_there c.args.right.units.len (length c.args.right.units.items) _ c.is_empty-2.ensures c.if-is_empty-2.false c.args.right.units.ok.0 in
     let p = c.in_ok-first.ensures.parts base mid high last rp h2
     (omega (arith, h1.rank_is (omega (arith, long_map stub_in c.args.left.units.items)))) more upto g2.word in
     let u = c.in_ok-below-2.ensures.turns base low mid p.0.between first p.0.front_entries lp p.0.front_pages
@@ -135,14 +135,14 @@ returns-clause-grows g t c = grows_trans _ _ _ (grows_trans _ _ _ c.in_ok-first.
 pub returns-then-is_empty-clause-few : goal.returns-then-is_empty-clause-few
 returns-then-is_empty-clause-few g t c =
     λ k hl hr.
-    let none : length c.args.left.units.items ≡ 0 = search rules in
+    let none = none_there c.args.left.units.len (length c.args.left.units.items) _ c.is_empty.ensures c.if-is_empty.true c.args.left.units.ok.0 in
     few_left_gone (g.P.Pages.store c.args.pages.now) 5440 (sheaf_in c.args.left) (sheaf_in c.args.right)
     (omega (arith, long_map stub_in c.args.left.units.items)) hr
 
 pub returns-then-is_empty-2-clause-few : goal.returns-then-is_empty-2-clause-few
 returns-then-is_empty-2-clause-few g t c =
     λ k hl hr.
-    let none : length c.args.right.units.items ≡ 0 = search rules in
+    let none = none_there c.args.right.units.len (length c.args.right.units.items) _ c.is_empty-2.ensures c.if-is_empty-2.true c.args.right.units.ok.0 in
     few_right_gone (g.P.Pages.store c.args.pages.now) 5440 (sheaf_in c.args.left) (sheaf_in c.args.right)
     (omega (arith, long_map stub_in c.args.right.units.items)) hl
 
@@ -223,3 +223,37 @@ returns-in_err-below-2-clause-few g t c =
       before = λ e some le. let m = b.level (omega (arith, e, c.in_ok-first.ensures.front_rank)) in omega (arith, o.made, m);
     } in
     stopped _ _ _ c.from_residual-in_err-below-2.result c.from_residual-in_err-below-2.ensures.1 n
+
+pub returns-then-is_empty-clause-joined : goal.returns-then-is_empty-clause-joined
+returns-then-is_empty-clause-joined g t c =
+    joined_gone c.args.left c.args.right
+    (none_there c.args.left.units.len (length c.args.left.units.items) _ c.is_empty.ensures c.if-is_empty.true c.args.left.units.ok.0)
+
+pub returns-then-is_empty-2-clause-joined : goal.returns-then-is_empty-2-clause-joined
+returns-then-is_empty-2-clause-joined g t c =
+    joined_alone c.args.left c.args.right
+    (none_there c.args.right.units.len (length c.args.right.units.items) _ c.is_empty-2.ensures c.if-is_empty-2.true c.args.right.units.ok.0)
+
+pub returns-then-left-right-clause-joined : goal.returns-then-left-right-clause-joined
+returns-then-left-right-clause-joined g t c =
+    joined_level c.args.left c.args.right c.concat.result c.if-left-right.true c.concat.ensures.rank c.concat.ensures.long
+
+pub returns-then-left-right-2-clause-joined : goal.returns-then-left-right-2-clause-joined
+returns-then-left-right-2-clause-joined g t c =
+    let last = c.in_ok-front.last in
+    let j = c.in_ok-below.ensures.joined.left_higher (omega (arith, c.in_ok-front.ensures.back_rank))
+    (omega (arith, c.in_ok-front.ensures.back, long_map stub_in last.units.items)) in
+    joined_behind c.args.left c.args.right c.raise_behind.result c.in_ok-front.front (omega arith) c.in_ok-front.ensures.front_rank
+    c.in_ok-front.ensures.front c.raise_behind.ensures.rank
+    (c.raise_behind.ensures.long
+    (omega (arith, j.1, c.in_ok-front.ensures.back, long_map stub_in last.units.items, long_map stub_in c.in_ok-below.below.units.items)))
+
+pub returns-clause-joined : goal.returns-clause-joined
+returns-clause-joined g t c =
+    let first = c.in_ok-first.first in
+    let j = c.in_ok-below-2.ensures.joined.right_higher (omega (arith, c.in_ok-first.ensures.front_rank))
+    (omega (arith, c.in_ok-first.ensures.front, long_map stub_in first.units.items)) in
+    joined_before c.args.left c.args.right c.raise_before.result c.in_ok-first.back (omega arith) c.in_ok-first.ensures.back_rank
+    c.in_ok-first.ensures.back c.raise_before.ensures.rank
+    (c.raise_before.ensures.long
+    (omega (arith, j.1, c.in_ok-first.ensures.front, long_map stub_in first.units.items, long_map stub_in c.in_ok-below-2.below.units.items)))

@@ -2,7 +2,7 @@ use Rattle.std.proofs.Common.{◌≡◌, ◌∙◌, ap, sym, length, inr, rules}
 use Rattle.btree.specs.View.{content_in}
 use Rattle.page.specs.Content.{Arm}
 use Rattle.page.specs.Format.{Sheet}
-use Rattle.btree.proofs.StoreLemmas.{answer_failed, frame_same}
+use Rattle.btree.proofs.StoreLemmas.{answer_failed, frame_same, grows_same, grows_trans, same_trans}
 use Rattle.btree.proofs.GetLemmas.{not_between, in_leaf, too_deep, in_child, bounds_are}
 use Rattle.btree.proofs.lookup.+get_below.Goals as goal
 
@@ -45,3 +45,24 @@ returns-clause-looks g t c =
     (frame_same (g.P.Pages.store c.args.pages.now) (g.P.Pages.store c.read.new.self) (c.in_ok-shared.ensures.same w)) c.child_of_key-at.ensures
     (bounds_are _ _ _ _ _ _ c.low_bound-from.ensures.first c.low_bound-from.ensures.later c.high_bound-to.ensures.last c.high_bound-to.ensures.inner)
     (λ e. sym (ap (λ (a : Arm). a.child) (c.branch_child.ensures e))) (λ d body part within. c.get_below.ensures.looks d body part within k) d body part within
+
+pub returns-in_err-shared-clause-grows : goal.returns-in_err-shared-clause-grows
+returns-in_err-shared-clause-grows g t c = grows_same (g.P.Pages.store c.args.pages.now) (g.P.Pages.store c.read.new.self) c.in_err-shared.ensures.stays c.in_err-shared.ensures.same
+
+pub returns-then-not-lies_between-clause-grows : goal.returns-then-not-lies_between-clause-grows
+returns-then-not-lies_between-clause-grows g t c = grows_same (g.P.Pages.store c.args.pages.now) (g.P.Pages.store c.read.new.self) c.in_ok-shared.ensures.stays c.in_ok-shared.ensures.same
+
+pub returns-in-Leaf-clause-grows : goal.returns-in-Leaf-clause-grows
+returns-in-Leaf-clause-grows g t c = grows_trans _ _ _ (grows_same (g.P.Pages.store c.args.pages.now) (g.P.Pages.store c.read.new.self) c.in_ok-shared.ensures.stays c.in_ok-shared.ensures.same) c.value_in_leaf.ensures.grows
+
+pub returns-in-Leaf-clause-same : goal.returns-in-Leaf-clause-same
+returns-in-Leaf-clause-same g t c = λ k. let now = c.value_in_leaf.ensures.same k in same_trans _ _ _ (c.in_ok-shared.ensures.same now.word) now
+
+pub returns-then-len-eq0-clause-grows : goal.returns-then-len-eq0-clause-grows
+returns-then-len-eq0-clause-grows g t c = grows_same (g.P.Pages.store c.args.pages.now) (g.P.Pages.store c.read.new.self) c.in_ok-shared.ensures.stays c.in_ok-shared.ensures.same
+
+pub returns-clause-grows : goal.returns-clause-grows
+returns-clause-grows g t c = grows_trans _ _ _ (grows_same (g.P.Pages.store c.args.pages.now) (g.P.Pages.store c.read.new.self) c.in_ok-shared.ensures.stays c.in_ok-shared.ensures.same) c.get_below.ensures.grows
+
+pub returns-clause-same : goal.returns-clause-same
+returns-clause-same g t c = λ k. let now = c.get_below.ensures.same k in same_trans _ _ _ (c.in_ok-shared.ensures.same now.word) now

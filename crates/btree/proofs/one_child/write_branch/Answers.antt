@@ -7,6 +7,7 @@ use Rattle.btree.specs.Loose.{arm_stub}
 use Rattle.btree.specs.LooseView.{stub_in}
 use Rattle.btree.specs.Store.{IsMade}
 use Rattle.btree.proofs.OneChildLemmas.{amid_written}
+use Rattle.btree.proofs.StoreLemmas.{grows_failed, grows_itself, grows_made}
 use Rattle.btree.proofs.one_child.write_branch.Goals as goal
 
 pub returns-clause-turns : goal.returns-clause-turns
@@ -35,3 +36,18 @@ returns-in_err-push_unit-clause-few g c =
     let made = c.in_ok-written.ensures.makes k in
     let m : MakesUpTo (g.P.Pages.store c.args.pages.now) (g.P.Pages.store c.fresh.new.self) 1 = omega (arith, ap length made.made) in
     stopped _ _ _ c.from_residual-in_err-push_unit.result c.from_residual-in_err-push_unit.ensures.1 m
+
+pub returns-in_err-key-clause-grows : goal.returns-in_err-key-clause-grows
+returns-in_err-key-clause-grows g c = grows_itself (g.P.Pages.store c.args.pages.now)
+
+pub returns-in_err-made-clause-grows : goal.returns-in_err-made-clause-grows
+returns-in_err-made-clause-grows g c = grows_itself (g.P.Pages.store c.args.pages.now)
+
+pub returns-in_err-written-clause-grows : goal.returns-in_err-written-clause-grows
+returns-in_err-written-clause-grows g c = grows_failed (g.P.Pages.store c.args.pages.now) (g.P.Pages.store c.fresh.new.self) _ c.in_err-written.ensures.stays c.in_err-written.ensures.makes
+
+pub returns-in_err-push_unit-clause-grows : goal.returns-in_err-push_unit-clause-grows
+returns-in_err-push_unit-clause-grows g c = grows_made (g.P.Pages.store c.args.pages.now) (g.P.Pages.store c.fresh.new.self) _ _ c.in_ok-written.ensures.stays c.in_ok-written.ensures.makes
+
+pub returns-clause-grows : goal.returns-clause-grows
+returns-clause-grows g c = grows_made (g.P.Pages.store c.args.pages.now) (g.P.Pages.store c.fresh.new.self) _ _ c.in_ok-written.ensures.stays c.in_ok-written.ensures.makes

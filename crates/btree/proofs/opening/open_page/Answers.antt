@@ -2,7 +2,7 @@ use Rattle.std.proofs.Common.{◌∙◌, ◌∷◌, sym, ap, arith, length, refl
 use Rattle.page.specs.Format.{Sheet}
 use Rattle.btree.specs.Few.{MakesUpTo}
 use Rattle.btree.proofs.FewLemmas.{stopped}
-use Rattle.btree.proofs.StoreLemmas.{answer_failed, frame_same, frame_trans}
+use Rattle.btree.proofs.StoreLemmas.{answer_failed, frame_same, frame_trans, grows_failed, grows_retired, grows_same, grows_trans}
 use Rattle.btree.proofs.HeldLemmas.{opened}
 use Rattle.btree.proofs.opening.open_page.Goals as goal
 
@@ -52,3 +52,21 @@ returns-in_err-units-clause-few g c =
     let same = c.in_ok-shared.ensures.same gone.frame.word in
     let m : MakesUpTo (g.P.Pages.store c.args.pages.now) (g.P.Pages.store c.retire.new.self) 0 = omega (arith, ap length (gone.made ∙ same.made)) in
     stopped _ _ _ c.from_residual-in_err-units.result c.from_residual-in_err-units.ensures.1 m
+
+pub returns-in_err-shared-clause-grows : goal.returns-in_err-shared-clause-grows
+returns-in_err-shared-clause-grows g c = grows_same (g.P.Pages.store c.args.pages.now) (g.P.Pages.store c.read.new.self) c.in_err-shared.ensures.stays c.in_err-shared.ensures.same
+
+pub returns-in_err-retire-clause-grows : goal.returns-in_err-retire-clause-grows
+returns-in_err-retire-clause-grows g c =
+    grows_trans _ _ _ (grows_same (g.P.Pages.store c.args.pages.now) (g.P.Pages.store c.read.new.self) c.in_ok-shared.ensures.stays c.in_ok-shared.ensures.same)
+    (grows_failed (g.P.Pages.store c.read.new.self) (g.P.Pages.store c.retire.new.self) _ c.in_err-retire.ensures.stays c.in_err-retire.ensures.retires)
+
+pub returns-in_err-units-clause-grows : goal.returns-in_err-units-clause-grows
+returns-in_err-units-clause-grows g c =
+    grows_trans _ _ _ (grows_same (g.P.Pages.store c.args.pages.now) (g.P.Pages.store c.read.new.self) c.in_ok-shared.ensures.stays c.in_ok-shared.ensures.same)
+    (grows_retired (g.P.Pages.store c.read.new.self) (g.P.Pages.store c.retire.new.self) _ c.in_ok-retire.ensures.stays c.in_ok-retire.ensures.retires)
+
+pub returns-clause-grows : goal.returns-clause-grows
+returns-clause-grows g c =
+    grows_trans _ _ _ (grows_same (g.P.Pages.store c.args.pages.now) (g.P.Pages.store c.read.new.self) c.in_ok-shared.ensures.stays c.in_ok-shared.ensures.same)
+    (grows_retired (g.P.Pages.store c.read.new.self) (g.P.Pages.store c.retire.new.self) _ c.in_ok-retire.ensures.stays c.in_ok-retire.ensures.retires)

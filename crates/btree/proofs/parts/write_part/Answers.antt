@@ -2,6 +2,7 @@ use Rattle.std.proofs.Common.{◌∙◌, ap, arith, length}
 use Rattle.btree.specs.Few.{MakesUpTo}
 use Rattle.btree.proofs.FewLemmas.{stopped}
 use Rattle.btree.proofs.FewParts.{one_page}
+use Rattle.btree.proofs.StoreLemmas.{grows_failed, grows_itself, grows_made}
 use Rattle.btree.proofs.parts.write_part.Goals as goal
 
 pub returns-clause-one : goal.returns-clause-one
@@ -17,3 +18,15 @@ returns-in_err-page-clause-one g c =
     let f = c.in_err-page.ensures.makes k in
     let m : MakesUpTo (g.P.Pages.store c.args.pages.now) (g.P.Pages.store c.fresh.new.self) 0 = omega (arith, ap length f.same.made) in
     stopped _ _ _ c.from_residual-in_err-page.result c.from_residual-in_err-page.ensures.1 m
+
+pub returns-in_err-content-clause-grows : goal.returns-in_err-content-clause-grows
+returns-in_err-content-clause-grows g c = grows_itself (g.P.Pages.store c.args.pages.now)
+
+pub returns-in_err-key-clause-grows : goal.returns-in_err-key-clause-grows
+returns-in_err-key-clause-grows g c = grows_itself (g.P.Pages.store c.args.pages.now)
+
+pub returns-in_err-page-clause-grows : goal.returns-in_err-page-clause-grows
+returns-in_err-page-clause-grows g c = grows_failed (g.P.Pages.store c.args.pages.now) (g.P.Pages.store c.fresh.new.self) _ c.in_err-page.ensures.stays c.in_err-page.ensures.makes
+
+pub returns-clause-grows : goal.returns-clause-grows
+returns-clause-grows g c = grows_made (g.P.Pages.store c.args.pages.now) (g.P.Pages.store c.fresh.new.self) _ _ c.in_ok-page.ensures.stays c.in_ok-page.ensures.makes

@@ -3,7 +3,7 @@ use Rattle.page.specs.Content.{Arm}
 use Rattle.page.specs.Format.{Sheet}
 use Rattle.btree.specs.View.{content_in}
 use Rattle.btree.proofs.RootLemmas.{first_part}
-use Rattle.btree.proofs.StoreLemmas.{answer_failed, cause_later, frame_same, part_kept}
+use Rattle.btree.proofs.StoreLemmas.{answer_failed, cause_later, frame_same, grows_same, grows_trans, part_kept, same_trans}
 use Rattle.btree.proofs.root.+levels_below.Goals as goal
 
 pub returns-in_err-below-clause-levels : goal.returns-in_err-below-clause-levels
@@ -48,3 +48,24 @@ returns-clause-levels g t c =
     let is = c.in_ok-below.ensures.levels n.below n.low n.high n.body
     (part_kept before mid frame c.branch_child.result.page (c.args.level + 1) n.below n.low n.high n.body n.part) k in
     omega (arith, is, n.one_less)
+
+pub returns-in_err-shared-clause-grows : goal.returns-in_err-shared-clause-grows
+returns-in_err-shared-clause-grows g t c = grows_same (g.P.Pages.store c.args.pages.now) (g.P.Pages.store c.read.new.self) c.in_err-shared.ensures.stays c.in_err-shared.ensures.same
+
+pub returns-in_err-below-clause-grows : goal.returns-in_err-below-clause-grows
+returns-in_err-below-clause-grows g t c = grows_trans _ _ _ (grows_same (g.P.Pages.store c.args.pages.now) (g.P.Pages.store c.read.new.self) c.in_ok-shared.ensures.stays c.in_ok-shared.ensures.same) c.in_err-below.ensures.grows
+
+pub returns-in_err-below-clause-same : goal.returns-in_err-below-clause-same
+returns-in_err-below-clause-same g t c = λ k. let now = c.in_err-below.ensures.same k in same_trans _ _ _ (c.in_ok-shared.ensures.same now.word) now
+
+pub returns-then-below-clause-grows : goal.returns-then-below-clause-grows
+returns-then-below-clause-grows g t c = grows_trans _ _ _ (grows_same (g.P.Pages.store c.args.pages.now) (g.P.Pages.store c.read.new.self) c.in_ok-shared.ensures.stays c.in_ok-shared.ensures.same) c.in_ok-below.ensures.grows
+
+pub returns-then-below-clause-same : goal.returns-then-below-clause-same
+returns-then-below-clause-same g t c = λ k. let now = c.in_ok-below.ensures.same k in same_trans _ _ _ (c.in_ok-shared.ensures.same now.word) now
+
+pub returns-clause-grows : goal.returns-clause-grows
+returns-clause-grows g t c = grows_trans _ _ _ (grows_same (g.P.Pages.store c.args.pages.now) (g.P.Pages.store c.read.new.self) c.in_ok-shared.ensures.stays c.in_ok-shared.ensures.same) c.in_ok-below.ensures.grows
+
+pub returns-clause-same : goal.returns-clause-same
+returns-clause-same g t c = λ k. let now = c.in_ok-below.ensures.same k in same_trans _ _ _ (c.in_ok-shared.ensures.same now.word) now

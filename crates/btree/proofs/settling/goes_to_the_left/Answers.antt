@@ -4,7 +4,7 @@ use Rattle.btree.specs.Turn.{sheaf_in}
 use Rattle.btree.proofs.ChangingLemmas.{behind_some}
 use Rattle.btree.proofs.ListLemmas.{long_map}
 use Rattle.btree.proofs.SettleLemmas.{child_there}
-use Rattle.btree.proofs.StoreLemmas.{answer_failed, cause_later, frame_same, same_trans}
+use Rattle.btree.proofs.StoreLemmas.{answer_failed, cause_later, frame_same, grows_trans, same_trans}
 use Rattle.btree.proofs.settling.goes_to_the_left.Goals as goal
 
 pub returns-clause-same : goal.returns-clause-same
@@ -44,3 +44,12 @@ returns-in_err-behind-clause-cause g c =
     (λ page load. let at = child_there s base m.mid high last rp c.args.right.now c.index-2.result.now c.index-2.result.now 0 page m.held some
     c.index-2.ensures load in
     (at.0, g1.kept page at.0 at.1))))
+
+pub returns-in_err-behind-clause-grows : goal.returns-in_err-behind-clause-grows
+returns-in_err-behind-clause-grows g c = grows_trans _ _ _ c.in_ok-before.ensures.grows c.in_err-behind.ensures.grows
+
+pub returns-clause-grows : goal.returns-clause-grows
+returns-clause-grows g c = grows_trans _ _ _ c.in_ok-before.ensures.grows c.in_ok-behind.ensures.grows
+
+pub returns-clause-cause : goal.returns-clause-cause
+returns-clause-cause g c = λ base low mid between high first last lp rp h b k. tt

@@ -134,3 +134,9 @@ returns-in_err-back-clause-few g c =
     (few_right_failed (g.P.Pages.store c.args.pages.now) (g.P.Pages.store c.goes_to_the_left.new.pages) (g.P.Pages.store c.meet_behind-2.new.pages)
     (sheaf_in c.args.left) (sheaf_in c.args.below) (sheaf_in c.args.right) (omega (arith, ap length same.made))
     (λ some. c.in_err-back.ensures.few (omega (arith, right)) k hb hr) (λ none. c.in_err-back.ensures.none (omega (arith, right)) k))
+
+pub returns-in_err-front-clause-grows : goal.returns-in_err-front-clause-grows
+returns-in_err-front-clause-grows g c = grows_trans _ _ _ c.in_ok-to_the_left.ensures.grows c.in_err-front.ensures.grows
+
+pub returns-in_err-back-clause-grows : goal.returns-in_err-back-clause-grows
+returns-in_err-back-clause-grows g c = grows_trans _ _ _ c.in_ok-to_the_left.ensures.grows c.in_err-back.ensures.grows

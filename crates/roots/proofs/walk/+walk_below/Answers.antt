@@ -21,7 +21,8 @@ use Rattle.roots.specs.Walk.{CanReach, pages_in, pages_so_far}
 use Rattle.roots.proofs.FoundLemmas.{branch_found, child_can, child_reached, child_there, depth_failed, fan_height, fan_more, leaf_found, no_fan_found}
 use Rattle.roots.proofs.FoundLemmas.{not_past, page_there, part_moved, part_within}
 use Rattle.roots.proofs.ImageLemmas.{live_below}
-use Rattle.roots.proofs.WalkLemmas.{all_taken, at_branch, at_leaf, behind_first, can_first, can_rest, looks_failed, not_damaged, read_content, same_pages}
+use Rattle.roots.proofs.WalkLemmas.{all_taken, at_branch, at_leaf, behind_first, can_first, can_rest, handed_on, looks_failed, not_damaged, read_content}
+use Rattle.roots.proofs.WalkLemmas.{same_pages}
 use Rattle.roots.proofs.walk.+walk_below.Goals as goal
 
 pub returns-then-not-is_within-clause-reaches : goal.returns-then-not-is_within-clause-reaches
@@ -33,7 +34,7 @@ returns-then-not-is_within-clause-reaches g t c keeps d body part can damaged =
 pub returns-in_err-note-clause-reaches : goal.returns-in_err-note-clause-reaches
 returns-in_err-note-clause-reaches g t c keeps d body part can =
     depth_failed d (c.args.page ∷ pages_of d body) (pages_so_far c.args.reached.now)
-    (pages_so_far c.note.new.self) c.from_residual.result c.in_err-note.field-0.0 (search rules)
+    (pages_so_far c.note.new.self) c.from_residual.result c.in_err-note.field-0.0 (handed_on _ _ c.from_residual.ensures.1)
     (λ damaged. c.in_err-note.ensures.refused damaged c.args.root.pages (can_first c.args.root.pages c.args.reached.now c.args.page (pages_of d body) can)
     (live_below (reads (now (g.D.Disk.history c.args.disk.now))) c.args.root c.args.page part.at.live))
 
@@ -41,7 +42,7 @@ pub returns-in_err-image-clause-reaches : goal.returns-in_err-image-clause-reach
 returns-in_err-image-clause-reaches g t c keeps d body part can =
     let sheets = sheet_at (reads (now (g.D.Disk.history c.args.disk.now))) c.args.root in
     depth_failed d (c.args.page ∷ pages_of d body) (pages_so_far c.args.reached.now)
-    (pages_so_far c.note.new.self) c.from_residual-in_err-image.result c.in_err-image.field-0.0 (search rules)
+    (pages_so_far c.note.new.self) c.from_residual-in_err-image.result c.in_err-image.field-0.0 (handed_on _ _ c.from_residual-in_err-image.ensures.1)
     (not_damaged sheets sheets c.args.page (content_of d body) c.in_err-image.field-0.0 part.at.live part.at.holds refl (c.in_err-image.ensures.sheet keeps))
 
 pub returns-in_err-walk_leaf-in-Leaf-clause-reaches : goal.returns-in_err-walk_leaf-in-Leaf-clause-reaches
@@ -60,7 +61,7 @@ returns-in_err-walk_leaf-in-Leaf-clause-reaches g t c keeps d body part can =
     (pages_so_far c.walk_leaf.new.reached) c.from_residual-in_err-walk_leaf-in-Leaf.result)
     (λ pairs e part can.
     depth_failed zero (c.args.page ∷ pages_of zero pairs) (pages_so_far c.args.reached.now)
-    (pages_so_far c.walk_leaf.new.reached) c.from_residual-in_err-walk_leaf-in-Leaf.result c.in_err-walk_leaf-in-Leaf.field-0.0 (search rules)
+    (pages_so_far c.walk_leaf.new.reached) c.from_residual-in_err-walk_leaf-in-Leaf.result c.in_err-walk_leaf-in-Leaf.field-0.0 (handed_on _ _ c.from_residual-in_err-walk_leaf-in-Leaf.ensures.1)
     (c.in_err-walk_leaf-in-Leaf.ensures.reaches keeps pairs e part.shown part.sound.1
     (can_rest c.args.root.pages c.args.reached.now c.note.new.self c.args.page
     (pages_of zero pairs) can c.in_ok-note.ensures.marks c.in_ok-note.ensures.noted)))
@@ -127,7 +128,7 @@ returns-in_err-below-clause-looks g t c =
     let h0 = g.D.Disk.history c.args.disk.now in
     let h1 = g.D.Disk.history c.read_sheet.new.disk in
     let h2 = g.D.Disk.history c.loop-i.disk in
-    looks_failed {Y = ℕ} h0 h2 (g.D.Disk.history c.walk_below.new.disk) c.from_residual-in_err-below.result c.in_err-below.field-0.0 (search rules)
+    looks_failed {Y = ℕ} h0 h2 (g.D.Disk.history c.walk_below.new.disk) c.from_residual-in_err-below.result c.in_err-below.field-0.0 (handed_on _ _ c.from_residual-in_err-below.ensures.1)
     (reads_further h0 h1 h2 c.read_sheet.ensures.looks.reads c.loop-i.invariant.only) c.in_err-below.ensures.looks
 
 within : (d : ℕ) (arms : List Arm) (twigs : List (Twig (Body d))) (i : ℕ) → arms ≡ map arm_of twigs → i < length arms → i < length twigs
@@ -164,7 +165,7 @@ returns-in_err-below-clause-reaches g t c keeps d body part can =
     (pages_of (suc d) twigs) can c.in_ok-note.ensures.marks c.in_ok-note.ensures.noted in
     let a = at_place twigs i (within d arms twigs i e (omega arith)) in
     depth_failed (suc d) (c.args.page ∷ pages_of (suc d) twigs) (pages_so_far c.args.reached.now)
-    (pages_so_far c.walk_below.new.reached) c.from_residual-in_err-below.result c.in_err-below.field-0.0 (search rules)
+    (pages_so_far c.walk_below.new.reached) c.from_residual-in_err-below.result c.in_err-below.field-0.0 (handed_on _ _ c.from_residual-in_err-below.ensures.1)
     (c.in_err-below.ensures.reaches keeps d a.mid.body
     (child_there h1 h2 c.args.root (inv.only.same k2) c.args.page c.args.level d low high twigs arms i a child from to e c.child-child.ensures bounds part)
     (child_can c.args.root d twigs arms i a child e c.child-child.ensures c.args.root.pages c.note.new.self c.loop-i.reached can1 inv.marks
@@ -325,3 +326,17 @@ returns-clause-found g t c keeps =
     branch_found (pages_in h0 c.args.root) c.args.page c.loop-i.depth (c.loop-i.depth + 1) low high arms i (pages_so_far c.args.reached.now)
     (pages_so_far c.note.new.self) (pages_so_far c.loop-i.reached) at c.len-i-end.ensures.sound
     c.if-not-is_within.ensures (omega (arith, c.loop-i-test.false)) (omega arith) c.in_ok-note.ensures.noted fan
+
+pub returns-in_err-walk_leaf-in-Leaf-clause-looks : goal.returns-in_err-walk_leaf-in-Leaf-clause-looks
+returns-in_err-walk_leaf-in-Leaf-clause-looks g t c =
+    looks_failed {Y = Unit {0}} (g.D.Disk.history c.args.disk.now) (g.D.Disk.history c.read_sheet.new.disk) (g.D.Disk.history c.walk_leaf.new.disk)
+    c.from_residual-in_err-walk_leaf-in-Leaf.result c.in_err-walk_leaf-in-Leaf.field-0.0 (handed_on _ _ c.from_residual-in_err-walk_leaf-in-Leaf.ensures.1)
+    c.read_sheet.ensures.looks.reads c.in_err-walk_leaf-in-Leaf.ensures.looks
+
+pub returns-in-Leaf-clause-looks : goal.returns-in-Leaf-clause-looks
+returns-in-Leaf-clause-looks g t c =
+    record {
+      reads = reads_further (g.D.Disk.history c.args.disk.now) (g.D.Disk.history c.read_sheet.new.disk) (g.D.Disk.history c.walk_leaf.new.disk)
+          c.read_sheet.ensures.looks.reads c.walk_leaf.ensures.looks.reads;
+      cause = tt;
+    }

@@ -1,13 +1,22 @@
-use Rattle.std.proofs.Common.{◌≡◌, Bool, List, Bor, Option, Some, Ok, Err, Result, refl, sym, ap, subst, ◌∙◌}
+use Rattle.std.proofs.Common.{◌≡◌, Bool, List, Bor, Option, Some, Ok, Err, Result, inl, inr, map, length, refl, sym, ap, subst, ◌∙◌, arith}
+use Rattle.std.proofs.lemmas.List.{length-map}
 use Rattle.std.specs.Prelude.{option_map}
 use Rattle.std.proofs.lemmas.Result.{err_from_is_err_and}
 use Rattle.bson.specs.Tree.{Pairs}
 use Rattle.index.specs.Definition.{Definition}
 use Rattle.entries.specs.Entering.{Enters}
+use Rattle.index.specs.IndexKeys.{noted}
 use Rattle.index.specs.KeyTexts.{keys_in_all}
+use Rattle.entries.specs.declared.catalogue_reading.Catalogued.{Catalogued}
+use Rattle.collections.specs.Reading.{IsWithinLimits}
 use Rattle.path.specs.declared.refusal.Refusal.{Refusal}
 use Rattle.engine.proofs.EnteringSteps.{enter_done, enter_old_unkeyed, enter_refused, enter_undecided, is_new_where_none}
 use Rattle.engine.proofs.engine.Engine.enter_keyed.Goals as goal
+
+limits_noted : (home after : Catalogued) (d : Pairs) → IsWithinLimits home → after.number ≡ home.number
+    → after.indexes.items ≡ map (noted d) home.indexes.items → IsWithinLimits after
+limits_noted home after d limits number items =
+    (omega (arith, number, limits.0), omega (arith, ap length items, length-map home.indexes.items (noted d), limits.1))
 
 pub returns-in_err-is_duplicate-clause-notes : goal.returns-in_err-is_duplicate-clause-notes
 returns-in_err-is_duplicate-clause-notes g c =
@@ -75,3 +84,43 @@ returns-in_ok-entered-in-Some-clause-notes g c =
     after.home after.self c.enter_document-entered.ensures.number c.enter_document-entered.ensures.noted
     (subst (λ (o : Option Pairs). Enters a.edits.now after.self a.namespace.now a.home.now.number a.home.now.indexes.items o d) told
     c.in_ok-entered-in-Some.ensures.enters)
+
+-- memory ran out once the document was known to be no duplicate
+pub returns-in_err-enter_document-in-None-clause-notes : goal.returns-in_err-enter_document-in-None-clause-notes
+returns-in_err-enter_document-in-None-clause-notes g c =
+    let p = err_from_is_err_and c.from_residual-in_err-enter_document-in-None.result c.from_residual-in_err-enter_document-in-None.ensures.1 in
+    rw p.1 (record { reads = c.in_ok-is_duplicate.ensures.reads; answers = λ k found noted may. inr (inl p.2) })
+
+pub returns-in_err-entered-in-Some-clause-notes : goal.returns-in_err-entered-in-Some-clause-notes
+returns-in_err-entered-in-Some-clause-notes g c =
+    let p = err_from_is_err_and c.from_residual-in_err-entered-in-Some.result c.from_residual-in_err-entered-in-Some.ensures.1 in
+    rw p.1 (record { reads = c.in_ok-is_duplicate.ensures.reads; answers = λ k found noted may. inr (inl p.2) })
+
+pub returns-in_err-is_duplicate-clause-limits : goal.returns-in_err-is_duplicate-clause-limits
+returns-in_err-is_duplicate-clause-limits g c = c.requires.limits
+
+pub returns-then-branch-clause-limits : goal.returns-then-branch-clause-limits
+returns-then-branch-clause-limits g c = c.requires.limits
+
+pub returns-in_err-old-in-Some-clause-limits : goal.returns-in_err-old-in-Some-clause-limits
+returns-in_err-old-in-Some-clause-limits g c = c.requires.limits
+
+pub returns-in_err-enter_document-in-None-clause-limits : goal.returns-in_err-enter_document-in-None-clause-limits
+returns-in_err-enter_document-in-None-clause-limits g c =
+    limits_noted c.args.home.now c.enter_document.new.home c.args.keyed.now.document.now c.requires.limits c.enter_document.ensures.number
+    c.enter_document.ensures.noted
+
+pub returns-in_ok-enter_document-in-None-clause-limits : goal.returns-in_ok-enter_document-in-None-clause-limits
+returns-in_ok-enter_document-in-None-clause-limits g c =
+    limits_noted c.args.home.now c.enter_document.new.home c.args.keyed.now.document.now c.requires.limits c.enter_document.ensures.number
+    c.enter_document.ensures.noted
+
+pub returns-in_err-entered-in-Some-clause-limits : goal.returns-in_err-entered-in-Some-clause-limits
+returns-in_err-entered-in-Some-clause-limits g c =
+    limits_noted c.args.home.now c.enter_document-entered.new.home c.args.keyed.now.document.now c.requires.limits c.enter_document-entered.ensures.number
+    c.enter_document-entered.ensures.noted
+
+pub returns-in_ok-entered-in-Some-clause-limits : goal.returns-in_ok-entered-in-Some-clause-limits
+returns-in_ok-entered-in-Some-clause-limits g c =
+    limits_noted c.args.home.now c.enter_document-entered.new.home c.args.keyed.now.document.now c.requires.limits c.enter_document-entered.ensures.number
+    c.enter_document-entered.ensures.noted

@@ -12,7 +12,7 @@ use Rattle.database_model.specs.Lawful.{IsWithin}
 use Rattle.replies.specs.FirstBatch.{IsFirstBatch, IsNoBatch}
 use Rattle.replies.specs.View.{projected}
 use Rattle.engine.specs.View.{world_of, world}
-use Rattle.engine.proofs.KeepingPins.{pins_of_opened}
+use Rattle.engine.proofs.KeepingPins.{pins_as_before, pins_of_opened}
 use Rattle.replies.proofs.WholeLemmas.{all_stay}
 use Rattle.engine.proofs.Running.{given_none, given_opened, given_whole, table, with_cursor}
 use Rattle.engine.proofs.engine.Engine.give_all.Goals as goal
@@ -101,3 +101,29 @@ pub returns-clause-file : goal.returns-clause-file
 returns-clause-file g c =
     pins_of_opened g.D.Disk.history c.args.self.now.file c.args.self.now.cursors c.open_kept.new.self c.args.connection c.args.namespace.now
     (map (project c.new-whole.result) c.in_ok-rest.rest.items) c.in_ok-open_kept.ensures.ok
+
+pub returns-in_err-reply-clause-file : goal.returns-in_err-reply-clause-file
+returns-in_err-reply-clause-file g c =
+    pins_as_before g.D.Disk.history c.args.self.now.file c.args.self.now.cursors c.args.self.now.cursors refl
+
+pub returns-then-len-count-clause-file : goal.returns-then-len-count-clause-file
+returns-then-len-count-clause-file g c =
+    pins_as_before g.D.Disk.history c.args.self.now.file c.args.self.now.cursors c.args.self.now.cursors refl
+
+pub returns-in_err-rest-clause-file : goal.returns-in_err-rest-clause-file
+returns-in_err-rest-clause-file g c =
+    pins_as_before g.D.Disk.history c.args.self.now.file c.args.self.now.cursors c.args.self.now.cursors refl
+
+pub returns-in_err-open_kept-clause-file : goal.returns-in_err-open_kept-clause-file
+returns-in_err-open_kept-clause-file g c =
+    pins_as_before g.D.Disk.history c.args.self.now.file c.args.self.now.cursors c.open_kept.new.self c.in_err-open_kept.ensures.err
+
+pub returns-in_err-rest-clause-runs : goal.returns-in_err-rest-clause-runs
+returns-in_err-rest-clause-runs g c =
+    let e = err_from_is_err_and c.from_residual-in_err-rest.result c.from_residual-in_err-rest.ensures.1 in
+    rw e.1 (refl, λ other. absurd (other e.2))
+
+pub returns-in_err-open_kept-clause-runs : goal.returns-in_err-open_kept-clause-runs
+returns-in_err-open_kept-clause-runs g c =
+    let e = err_from_is_err_and c.from_residual-in_err-open_kept.result c.from_residual-in_err-open_kept.ensures.1 in
+    rw e.1 ((λ i. world_of c.args.self.now.told.value (table_of (c.in_err-open_kept.ensures.err i))), λ other. absurd (other e.2))

@@ -1,4 +1,4 @@
-use Rattle.std.proofs.Common.{◌≡◌, List, map, sym, ap, subst, ◌∙◌}
+use Rattle.std.proofs.Common.{◌≡◌, List, map, refl, sym, ap, subst, ◌∙◌}
 use Rattle.std.specs.Prelude.{All}
 use Rattle.bson.specs.Tree.{Pairs}
 use Rattle.projection.specs.Projection.{project}
@@ -9,6 +9,7 @@ use Rattle.database_model.specs.Lawful.{IsWithin}
 use Rattle.replies.specs.View.{projected, Runs}
 use Rattle.engine.specs.View.{world}
 use Rattle.engine.proofs.Finding.{given_within_limits}
+use Rattle.engine.proofs.KeepingPins.{pins_as_before}
 use Rattle.engine.proofs.engine.Engine.give_found.Goals as goal
 
 pub give_asked-requires-clause-within : goal.give_asked-requires-clause-within
@@ -32,3 +33,7 @@ returns-clause-runs g c =
     ∙ ap (λ (x : Query). map (project x.projection) (window x.skip x.limit ds)) c.query.view_is in
     subst (λ (es : List Pairs). Runs w (first_batch w c.args.connection c.args.namespace.now es (batch_of c.args.most es))
     (world c.give_asked.new.self) c.give_asked.result) found c.give_asked.ensures.runs
+
+pub returns-in_err-asked-clause-file : goal.returns-in_err-asked-clause-file
+returns-in_err-asked-clause-file g c =
+    pins_as_before g.D.Disk.history c.args.self.now.file c.args.self.now.cursors c.args.self.now.cursors refl

@@ -12,6 +12,7 @@ use Rattle.replies.specs.View.{with_ok, IsSendable}
 use Rattle.engine.specs.View.{world_of, world}
 use Rattle.engine.proofs.Running.{run_kill_cursors-is}
 use Rattle.replies.proofs.SpelledSizes.{kill-sendable, told_few}
+use Rattle.engine.proofs.KeepingPins.{pins_as_before}
 use Rattle.engine.proofs.engine.Engine.kill_cursors.Goals as goal
 
 pub returns-clause-runs : goal.returns-clause-runs
@@ -30,3 +31,11 @@ returns-clause-sendable g c =
     (omega (arith, c.requires)) in
     let told = subst (λ (t : ToldApart). (length t.killed ≤ 1000) × (length t.not_found ≤ 1000)) (sym c.in_ok-told.ensures) few in
     subst IsSendable (sym c.in_ok-reply.ensures) (kill-sendable c.in_ok-told.told told.0 told.1)
+
+pub returns-in_err-told-clause-file : goal.returns-in_err-told-clause-file
+returns-in_err-told-clause-file g c =
+    pins_as_before g.D.Disk.history c.args.self.now.file c.args.self.now.cursors c.args.self.now.cursors refl
+
+pub returns-in_err-reply-clause-file : goal.returns-in_err-reply-clause-file
+returns-in_err-reply-clause-file g c =
+    pins_as_before g.D.Disk.history c.args.self.now.file c.args.self.now.cursors c.args.self.now.cursors refl
