@@ -2,7 +2,7 @@
 use Rattle.std.proofs.Common.{◌≡◌, ℕ, Bool, true, false, Option, Some, None, List, [], ◌∷◌, ◌++◌, Result, Ok, Err, map, refl, sym, ap, subst, ◌∙◌}
 use Rattle.std.proofs.Common.{append_assoc}
 use Rattle.std.specs.Prelude.{is_some, IfOk}
-use Rattle.std.specs.Global.{Vec, Global}
+use Rattle.std.specs.Global.{Vec}
 use Rattle.std.specs.List.{filter}
 use Rattle.std.proofs.lemmas.List.{append-nil}
 use Rattle.bson.specs.Tree.{Tree, Pairs}
@@ -143,7 +143,7 @@ module _ (by : Grouping) (entries : List Entry) (stages : List Stage) (limit : �
       judged None none f = stays_within stages limit ds es none f
       judged (Some e) none f = absurd cc
 
-  pub gives_within : (r : Result (Vec Pairs Global) Refusal) → Gives refusals.OutOfMemory (λ v. v.items) r (after_groups by entries stages limit)
+  pub gives_within : (r : Result (Vec Pairs) Refusal) → Gives refusals.OutOfMemory (λ v. v.items) r (after_groups by entries stages limit)
       → IfOk r (λ v. first_fault limit v.items ≡ None)
   gives_within (Ok v) gives = finished_within v.items (entry_documents by.fields entries) gives
   gives_within (Err e) gives = tt

@@ -1,9 +1,10 @@
-use Rattle.std.proofs.Common.{rules, sym, ◌∙◌}
+use Rattle.std.proofs.Common.{ap, sym, ◌∙◌}
 use Rattle.bson.specs.View.{tree}
-use Rattle.aggregate.proofs.PlaceLemmas.{same_there}
+use Rattle.aggregate.specs.Group.{same}
+use Rattle.aggregate.specs.declared.groups.Group.{Group}
 use Rattle.aggregate.proofs.groups.has_at.Goals as goal
 
 pub returns-in-Some : goal.returns-in-Some
 returns-in-Some c = λ is.
-    let within = c.in-Some.ensures.0 in
-    (within, same_there c.args.groups.now c.args.at c.in-Some.group.now (tree c.args.id.now) within (search rules) (sym c.is_same.ensures ∙ is))
+    let there = c.in-Some.ensures.lookup.3 in
+    (there.0, λ d. ap (λ (g : Group). same (tree g.id) (tree c.args.id.now)) (sym (there.1 d)) ∙ sym c.is_same.ensures ∙ is)

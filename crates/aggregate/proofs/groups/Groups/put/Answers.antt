@@ -17,7 +17,7 @@ returns-in-Some-clause-put g c = λ indexed.
     let fields = map group_field_of c.args.fields.now in
     let old = c.index_mut.result.now in
     let new : Group = record { id = old.id; states = c.take_all.new.states } in
-    let there = c.in-Some.ensures.place indexed (c.in_ok-text.ensures ∙ ap tree_text (sym c.get.ensures)) in
+    let there = c.in-Some.ensures.place indexed (c.in_ok-text.ensures ∙ ap tree_text (c.get.ensures ∙ sym c.get-2.ensures)) in
     on_ok c.take_all.result
     (λ took.
     put_there fields (g.S.PathSource.source c.args.document.now) c.args.self.now.groups.items c.in-Some.at old new
@@ -30,7 +30,7 @@ returns-in-Some-clause-indexed g c = λ indexed.
     let fields = map group_field_of c.args.fields.now in
     let old = c.index_mut.result.now in
     let new : Group = record { id = old.id; states = c.take_all.new.states } in
-    let there = c.in-Some.ensures.place indexed (c.in_ok-text.ensures ∙ ap tree_text (sym c.get.ensures)) in
+    let there = c.in-Some.ensures.place indexed (c.in_ok-text.ensures ∙ ap tree_text (c.get.ensures ∙ sym c.get-2.ensures)) in
     on_ok c.take_all.result
     (λ took.
     indexed_there fields (g.S.PathSource.source c.args.document.now) c.args.self.now _ c.in-Some.at old new
