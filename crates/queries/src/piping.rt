@@ -2,10 +2,13 @@
 
 ghost use Rattle.std.specs.Prelude.{◌≡◌, All, IfOk, [], length};
 ghost use Rattle.aggregate.specs.Gathering.{HasGathered};
+ghost use Rattle.aggregate.specs.Taking.{takes};
 ghost use Rattle.aggregate.specs.View.{pipeline_of};
 ghost use Rattle.collections.specs.Reading.{ReadsOf};
 ghost use Rattle.database_model.specs.Lawful.{IsWithin};
+ghost use Rattle.index.specs.View.{texts_of};
 ghost use Rattle.queries.specs.Asking.{IsAsked};
+ghost use Rattle.queries.specs.ById.{AreIdsOf};
 ghost use Rattle.queries.specs.Folding.{Gathers};
 ghost use Rattle.queries.specs.Piping.{Pipes};
 
@@ -70,6 +73,25 @@ fn grouped_scanned<D: Disk>(
         .into_documents(alloc, STORED_LIMIT as u32))
 }
 
+/// What a pipeline makes of the documents of the collection of a number, where those that it takes have some of these `_id`s, told by
+/// their ascending key texts.
+fn piped_by_ids<D: Disk>(
+    alloc: Global,
+    file: &mut Collections<D>,
+    number: u32,
+    pipeline: &Pipeline,
+    ids: &[Vec<u8>],
+) -> Result<Result<Vec<Document>, Refusal>, Refusal>
+    ensures reads { ReadsOf D.history
+        (AreIdsOf number (takes (pipeline_of pipeline.now)) (texts_of ids.now))
+        (λ now c given. Pipes (pipeline_of pipeline.now) given c.documents)
+        result file.old file.new }
+    ensures within { IfOk result (λ given. IfOk given (λ v. All IsWithin v.items)) }
+{
+    let few = needed_by_ids(alloc, file, number, pipeline, ids)?;
+    Ok(piped(pipeline, few))
+}
+
 /// What a pipeline makes of a collection's documents that groups them. Where a `$match` in front asks for an `_id`, or an index serves
 /// it, they are looked up.
 fn grouped_in<D: Disk>(
@@ -86,10 +108,7 @@ fn grouped_in<D: Disk>(
     ensures within { IfOk result (λ given. IfOk given (λ v. All IsWithin v.items)) }
 {
     match asked_ids(alloc, file, home, pipeline)? {
-        Some(ids) => {
-            let few = needed_by_ids(alloc, file, home.number, pipeline, &ids)?;
-            Ok(piped(pipeline, few))
-        }
+        Some(ids) => piped_by_ids(alloc, file, home.number, pipeline, &ids),
         None => grouped_scanned(alloc, file, home, pipeline, gathering),
     }
 }

@@ -1,17 +1,15 @@
-use Rattle.std.proofs.Common.{List, ℕ, Option, Result, Ok, Err, Vec, Global, subst, sym}
+use Rattle.std.proofs.Common.{List, ℕ, Option, Result, Vec, Global, subst, sym}
 use Rattle.std.specs.Prelude.{IfSome}
 use Rattle.std.proofs.lemmas.Result.{err_from_is_err_and}
 use Rattle.bson.specs.Tree.{Pairs}
 use Rattle.aggregate.specs.Taking.{takes}
 use Rattle.aggregate.specs.View.{pipeline_of}
-use Rattle.database_model.specs.Aggregate.{AreEnough}
 use Rattle.index.specs.View.{texts_of}
 use Rattle.path.specs.declared.refusal.Refusal.{Refusal}
 use Rattle.queries.specs.Asking.{IsAsked}
 use Rattle.queries.specs.ById.{AreIdsOf}
 use Rattle.queries.specs.Piping.{Pipes}
-use Rattle.queries.proofs.PipingLemmas.{enough_pipes}
-use Rattle.queries.proofs.ReadingLemmas.{reads_behind, reads_made, reads_refused}
+use Rattle.queries.proofs.ReadingLemmas.{reads_behind, reads_refused}
 use Rattle.queries.proofs.piping.grouped_in.Goals as goal
 
 pub returns-in_err-ids-clause-reads : goal.returns-in_err-ids-clause-reads
@@ -25,44 +23,17 @@ returns-in_err-ids-clause-reads g c =
     (λ now of (given : Result (Vec Pairs Global) Refusal). Pipes stages given of.documents) c.args.file.now c.asked_ids.new.file c.in_err-ids.field-0.0
     c.in_err-ids.ensures)
 
-pub returns-in_err-few-clause-reads : goal.returns-in_err-few-clause-reads
-returns-in_err-few-clause-reads g c =
-    let home = c.args.home.now in
-    let stages = pipeline_of c.args.pipeline.now in
-    let ids : List (List ℕ) = texts_of c.deref.result.now in
-    let e = err_from_is_err_and c.from_residual-in_err-few.result c.from_residual-in_err-few.ensures.1 in
-    rw (e.1, e.2)
-    (reads_behind g.D.Disk.history (IsAsked home)
-    (λ now of (o : Option (Vec (Vec ℕ Global) Global)). IfSome o (λ ids. AreIdsOf home.number (takes stages) (texts_of ids.items) now of))
-    (AreIdsOf home.number (takes stages) ids) (λ now of (given : Result (Vec Pairs Global) Refusal). Pipes stages given of.documents)
-    (λ now of (given : Result (Vec Pairs Global) Refusal). Pipes stages given of.documents)
-    c.args.file.now c.asked_ids.new.file c.needed_by_ids.new.file c.in_ok-ids.field-0 (Err c.in_err-few.field-0.0) c.in_ok-ids.ensures
-    (reads_refused g.D.Disk.history (AreIdsOf home.number (takes stages) ids) (λ now of (few : Vec Pairs Global). AreEnough stages few.items of.documents)
-    (λ now of (given : Result (Vec Pairs Global) Refusal). Pipes stages given of.documents) c.asked_ids.new.file c.needed_by_ids.new.file
-    c.in_err-few.field-0.0 c.in_err-few.ensures.reads)
-    (λ now of asked told. record {
-      other = of;
-      was = subst (λ ts. AreIdsOf home.number (takes stages) (texts_of ts) now of) (sym c.deref.ensures.value)
-          (subst (λ (o : Option (Vec (Vec ℕ Global) Global)). IfSome o (λ ids. AreIdsOf home.number (takes stages) (texts_of ids.items) now of)) c.in-Some.is
-          told);
-      right = λ given right. right;
-    }))
-
 pub returns-in-Some-clause-reads : goal.returns-in-Some-clause-reads
 returns-in-Some-clause-reads g c =
     let home = c.args.home.now in
     let stages = pipeline_of c.args.pipeline.now in
     let ids : List (List ℕ) = texts_of c.deref.result.now in
-    let few : Vec Pairs Global = c.in_ok-few.few in
     reads_behind g.D.Disk.history (IsAsked home)
     (λ now of (o : Option (Vec (Vec ℕ Global) Global)). IfSome o (λ ids. AreIdsOf home.number (takes stages) (texts_of ids.items) now of))
     (AreIdsOf home.number (takes stages) ids) (λ now of (given : Result (Vec Pairs Global) Refusal). Pipes stages given of.documents)
     (λ now of (given : Result (Vec Pairs Global) Refusal). Pipes stages given of.documents)
-    c.args.file.now c.asked_ids.new.file c.needed_by_ids.new.file c.in_ok-ids.field-0 (Ok c.piped.result) c.in_ok-ids.ensures
-    (reads_made g.D.Disk.history (AreIdsOf home.number (takes stages) ids) (λ now of (few : Vec Pairs Global). AreEnough stages few.items of.documents)
-    (λ now of (given : Result (Vec Pairs Global) Refusal). Pipes stages given of.documents) c.asked_ids.new.file c.needed_by_ids.new.file
-    few c.piped.result c.in_ok-few.ensures.reads
-    (λ now of is enough. enough_pipes stages c.piped.result of.documents few.items c.in_ok-few.ensures.within enough c.piped.ensures.pipes))
+    c.args.file.now c.asked_ids.new.file c.piped_by_ids.new.file c.in_ok-ids.field-0 c.piped_by_ids.result c.in_ok-ids.ensures
+    c.piped_by_ids.ensures.reads
     (λ now of asked told. record {
       other = of;
       was = subst (λ ts. AreIdsOf home.number (takes stages) (texts_of ts) now of) (sym c.deref.ensures.value)

@@ -5,5 +5,5 @@ use Rattle.queries.proofs.piping.GroupingDocumentFold.take.Goals as goal
 
 pub returns-clause-takes : goal.returns-clause-takes
 returns-clause-takes c = λ start all h stages before begun.
-    subst (λ (xs : List Pairs). HasGathered stages xs c.take.new.self.gathering) (append_assoc before all (c.args.document.now ∷ []))
+    subst (λ (xs : List Pairs). HasGathered stages xs c.take.new.self) (append_assoc before all (c.args.document.now ∷ []))
     (c.in_ok-take.ensures stages (before ++ all) (h stages before begun))
