@@ -10,3 +10,4 @@ pub mod PlaceLemmas
 pub mod LawLemmas
 pub mod SumLemmas
 pub mod TakingLemmas
+pub mod GatheringLemmas

@@ -201,9 +201,3 @@ module _ (fields : List GroupField) (ps : Pairs) where
             | inl last ↦ new b e (last.1)
             | inr other ↦ old b e (omega (arith, lt, len, other.1))
           ]
-
-pub same_there : (xs : List Group) (at : ℕ) (x : Group) (k : Tree) → at < length xs → x ≡ get_or xs at x → same (tree x.id) k ≡ true → (d : Group)
-    → same (tree (get_or xs at d).id) k ≡ true
-same_there [] at x k lt is e d = absurd (omega (arith, lt))
-same_there (y ∷ ys) zero x k lt is e d = sym (ap (λ (z : Group). same (tree z.id) k) is) ∙ e
-same_there (y ∷ ys) (suc at) x k lt is e d = same_there ys at x k (omega (arith, lt)) is e d

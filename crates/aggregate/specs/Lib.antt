@@ -25,4 +25,5 @@ pub mod View
 pub mod GroupView
 pub mod Table
 pub mod Groups
+pub mod Gathering
 pub mod Laws

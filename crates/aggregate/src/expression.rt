@@ -8,8 +8,9 @@ ghost use Rattle.aggregate.specs.Found.{found_of};
 ghost use Rattle.aggregate.specs.GroupView.{expression_of};
 
 use crate::operands::{dollar_path, source_path};
-use crate::path_value::{Found, path_value};
-use bson::{Document, NoMemory, Value};
+use crate::path_source::PathSource;
+use crate::path_value::Found;
+use bson::{NoMemory, Value};
 use path::{Path, Refusal};
 use std::alloc::Global;
 
@@ -48,17 +49,17 @@ impl Expression {
     }
 
     /// What it is for a document.
-    pub(crate) fn value<'a>(
+    pub(crate) fn value<'a, S: PathSource>(
         &'a self,
         alloc: Global,
-        document: &'a Document,
+        document: &'a S,
     ) -> Result<Found<'a>, NoMemory>
         ensures { IfOk result (λ f. found_of f
-            ≡ expression_value (expression_of self.now) document.now) }
+            ≡ expression_value (expression_of self.now) (S.source document.now)) }
     {
         match self {
             Expression::Constant(value) => Ok(Found::There(value)),
-            Expression::Source(path) => path_value(alloc, document, path),
+            Expression::Source(path) => document.value_at(alloc, path),
         }
     }
 }

@@ -15,6 +15,7 @@ use crate::expression::Expression;
 use crate::fields::set_field;
 use crate::names::FieldName;
 use crate::operands::only_pair_in;
+use crate::path_source::PathSource;
 use crate::path_value::Found;
 use bson::{Document, NoMemory, Value};
 use path::Refusal;
@@ -191,9 +192,15 @@ impl IdField {
     }
 
     /// The document with the field, where its path gives something.
-    fn put(&self, alloc: Global, whole: &Document, document: Document) -> Result<Document, Refusal>
+    fn put<S: PathSource>(
+        &self,
+        alloc: Global,
+        whole: &S,
+        document: Document,
+    ) -> Result<Document, Refusal>
         ensures { let f = id_field_of self.now in Gives Refusal.OutOfMemory (λ d. d) result
-            (with_id_field f.name (expression_value f.expression whole.now) document) }
+            (with_id_field f.name (expression_value f.expression (S.source whole.now))
+            document) }
     {
         let found = self.expression.value(alloc, whole)?;
         match found.into_value()? {
@@ -213,9 +220,13 @@ fn copy_id_fields(alloc: Global, fields: &[IdField]) -> Result<Vec<IdField>, NoM
     Ok(all)
 }
 
-fn with_id_fields(alloc: Global, fields: &[IdField], whole: &Document) -> Result<Document, Refusal>
+fn with_id_fields<S: PathSource>(
+    alloc: Global,
+    fields: &[IdField],
+    whole: &S,
+) -> Result<Document, Refusal>
     ensures { Gives Refusal.OutOfMemory (λ d. d) result
-        (with_id_fields (map id_field_of fields.now) whole.now no_pairs) }
+        (with_id_fields (map id_field_of fields.now) (S.source whole.now) no_pairs) }
 {
     let mut document = Document::new(alloc);
     'fields: for field in fields {
@@ -235,13 +246,13 @@ impl GroupId {
     }
 
     /// The value by which a document is put into a group. A missing one is null; in a document it is left out.
-    pub(crate) fn value<'a>(
+    pub(crate) fn value<'a, S: PathSource>(
         &'a self,
         alloc: Global,
-        document: &'a Document,
+        document: &'a S,
     ) -> Result<IdValue<'a>, Refusal>
         ensures { Gives Refusal.OutOfMemory id_value_of result
-            (id_value (id_of self.now) document.now) }
+            (id_value (id_of self.now) (S.source document.now)) }
     {
         match self {
             GroupId::One(expression) => Ok(or_null(expression.value(alloc, document)?)),

@@ -3,27 +3,22 @@
 //! A group keeps its `_id` and what its accumulators have, and no document. It is looked up by the text of its `_id`, which
 //! is equal for values that the order calls equal.
 
-ghost use Rattle.std.specs.Prelude.{◌≡◌, [], false, IfOk, OnOk, map};
-ghost use Rattle.std.specs.List.{filter};
+ghost use Rattle.std.specs.Prelude.{◌≡◌, ◌<◌, [], false, true, IfOk, IfSome, OnOk, Some, length, map};
 ghost use Rattle.bson.specs.View.{tree};
 ghost use Rattle.outcome.specs.Outcome.{Gives};
 ghost use Rattle.value_order.specs.KeyText.{tree_text};
 ghost use Rattle.aggregate.specs.Group.{same, grouped};
 ghost use Rattle.aggregate.specs.GroupView.{state_of, group_field_of, grouping_of, id_value_of};
-ghost use Rattle.aggregate.specs.Taking.{takes};
-ghost use Rattle.aggregate.specs.View.{stage_of};
 ghost use Rattle.aggregate.specs.Groups.{entry_of, entries_of, IsIndexed, IsPlace};
 ghost use Rattle.aggregate.specs.Table.{has, starts, taken, put_document, with_outcomes, entry_document, entry_documents, grouped_from};
 
 use crate::accumulators::State;
 use crate::fields::set_field;
 use crate::grouping::{GroupField, Grouping, IdValue};
-use crate::stage::Stage;
-use crate::taking::takes;
+use crate::path_source::PathSource;
 use bson::{Document, NoMemory, Value};
 use indexmap::IndexMap;
 use path::Refusal;
-use sort::AsDocument;
 use std::alloc::Global;
 use std::cmp::Ordering;
 use std::mem;
@@ -38,7 +33,7 @@ struct Group {
 
 /// Groups, in the order of their first documents, with their places by the text of the `_id`.
 #[derive(Drop)]
-struct Groups {
+pub(crate) struct Groups {
     places: IndexMap<Vec<u8>, usize>,
     groups: Vec<Group>,
 }
@@ -64,6 +59,16 @@ fn search(groups: &[Group], id: &Value) -> Option<usize>
     None
 }
 
+/// Whether a group stands at a place and has this `_id`.
+fn has_at(groups: &[Group], at: usize, id: &Value) -> bool
+    ensures { result ≡ true → IsPlace groups.now (tree id.now) (Some at) }
+{
+    match groups.get(at) {
+        Some(group) => is_same(&group.id, id),
+        None => false,
+    }
+}
+
 /// What accumulators have of no document.
 fn starts(alloc: Global, fields: &[GroupField]) -> Result<Vec<State>, NoMemory>
     ensures { IfOk result (λ v. map state_of v.items ≡ starts (map group_field_of fields.now)) }
@@ -76,14 +81,15 @@ fn starts(alloc: Global, fields: &[GroupField]) -> Result<Vec<State>, NoMemory>
 }
 
 /// Gives each accumulator its field's value of a document.
-fn take_all(
+fn take_all<S: PathSource>(
     alloc: Global,
     fields: &[GroupField],
-    document: &Document,
+    document: &S,
     states: &mut Vec<State>,
 ) -> Result<(), NoMemory>
     ensures { OnOk result (map state_of states.new.items
-        ≡ taken (map group_field_of fields.now) document.now (map state_of states.old.items)) }
+        ≡ taken (map group_field_of fields.now) (S.source document.now)
+        (map state_of states.old.items)) }
 {
     'fields: for (at, field) in fields.iter().enumerate() {
         if states.len() <= at {
@@ -120,14 +126,14 @@ fn with_outcomes(
 
 impl Group {
     /// A group of one document.
-    fn new(
+    fn new<S: PathSource>(
         alloc: Global,
         fields: &[GroupField],
         id: IdValue<'_>,
-        document: &Document,
+        document: &S,
     ) -> Result<Group, NoMemory>
         ensures { let fs = map group_field_of fields.now in IfOk result (λ g. entry_of g
-            ≡ (id_value_of id.entry, taken fs document.now (starts fs))) }
+            ≡ (id_value_of id.entry, taken fs (S.source document.now) (starts fs))) }
     {
         let mut states = starts(alloc, fields)?;
         take_all(alloc, fields, document, &mut states)?;
@@ -149,7 +155,7 @@ impl Group {
 }
 
 impl Groups {
-    fn new(alloc: Global) -> Groups
+    pub(crate) fn new(alloc: Global) -> Groups
         ensures none { entries_of result ≡ [] }
         ensures indexed { IsIndexed result }
     {
@@ -162,36 +168,36 @@ impl Groups {
     /// The place of the group of an `_id` with this text. The order decides: texts of more than 4 GiB may be equal where
     /// the values are not.
     fn place(&self, text: &Vec<u8>, id: &Value) -> Option<usize>
-        requires indexed { IsIndexed self.now }
-        requires text { text.now.items ≡ tree_text (tree id.now) }
-        ensures { IsPlace self.now.groups.items (tree id.now) result }
+        ensures within { IfSome result (λ at. at < length self.now.groups.items) }
+        ensures place { IsIndexed self.now → text.now.items ≡ tree_text (tree id.now)
+            → IsPlace self.now.groups.items (tree id.now) result }
     {
         let Some(found) = self.places.get(text) else {
             return None;
         };
         let at = *found;
-        if is_same(&self.groups[at].id, id) {
+        if has_at(&self.groups, at, id) {
             return Some(at);
         }
         search(&self.groups, id)
     }
 
     /// Begins a group at the end with a document. Its `_id` has this text, and no group has that `_id` yet.
-    fn push_group(
+    fn push_group<S: PathSource>(
         &mut self,
         alloc: Global,
         fields: &[GroupField],
         id: IdValue<'_>,
-        document: &Document,
+        document: &S,
         text: Vec<u8>,
     ) -> Result<(), NoMemory>
-        requires indexed { IsIndexed self.old }
-        requires text { text.items ≡ tree_text (id_value_of id) }
-        requires new { has same (entries_of self.old) (id_value_of id) ≡ false }
-        ensures indexed { OnOk result (IsIndexed self.new) }
-        ensures put { OnOk result (entries_of self.new
-            ≡ put_document (map group_field_of fields.now) (id_value_of id.entry, document.now)
-            (entries_of self.old)) }
+        ensures indexed { IsIndexed self.old → text.items ≡ tree_text (id_value_of id.entry)
+            → has same (entries_of self.old) (id_value_of id.entry) ≡ false
+            → OnOk result (IsIndexed self.new) }
+        ensures put { has same (entries_of self.old) (id_value_of id.entry) ≡ false
+            → OnOk result (entries_of self.new
+            ≡ put_document (map group_field_of fields.now)
+            (id_value_of id.entry, S.source document.now) (entries_of self.old)) }
     {
         let group = Group::new(alloc, fields, id, document)?;
         self.places.insert(text, self.groups.len())?;
@@ -200,18 +206,17 @@ impl Groups {
     }
 
     /// Puts a document into its group, or into a new one at the end.
-    fn put(
+    pub(crate) fn put<S: PathSource>(
         &mut self,
         alloc: Global,
         fields: &[GroupField],
         id: IdValue<'_>,
-        document: &Document,
+        document: &S,
     ) -> Result<(), NoMemory>
-        requires { IsIndexed self.old }
-        ensures indexed { OnOk result (IsIndexed self.new) }
-        ensures put { OnOk result (entries_of self.new
-            ≡ put_document (map group_field_of fields.now) (id_value_of id.entry, document.now)
-            (entries_of self.old)) }
+        ensures indexed { IsIndexed self.old → OnOk result (IsIndexed self.new) }
+        ensures put { IsIndexed self.old → OnOk result (entries_of self.new
+            ≡ put_document (map group_field_of fields.now)
+            (id_value_of id.entry, S.source document.now) (entries_of self.old)) }
     {
         let text = group_text(alloc, id.get())?;
         match self.place(&text, id.get()) {
@@ -220,7 +225,12 @@ impl Groups {
         }
     }
 
-    fn into_documents(self, alloc: Global, fields: &[GroupField]) -> Result<Vec<Document>, Refusal>
+    /// A document for each group.
+    pub(crate) fn into_documents(
+        self,
+        alloc: Global,
+        fields: &[GroupField],
+    ) -> Result<Vec<Document>, Refusal>
         ensures { Gives Refusal.OutOfMemory (λ v. v.items) result
             (entry_documents (map group_field_of fields.now) (entries_of self)) }
     {
@@ -233,39 +243,18 @@ impl Groups {
     }
 }
 
-/// The groups of those documents that stages take, one after the other.
-fn grouped_from<T: AsDocument>(
-    stages: &[Stage],
-    grouping: &Grouping,
-    documents: &[T],
-) -> Result<Vec<Document>, Refusal>
+/// A document for each group of the documents, which are taken one after the other.
+fn grouped_from(grouping: &Grouping, documents: &[Document]) -> Result<Vec<Document>, Refusal>
     ensures { Gives Refusal.OutOfMemory (λ v. v.items) result
-        (grouped_from (grouping_of grouping.now)
-        (filter (takes (map stage_of stages.now)) (map T.document documents.now)) []) }
+        (grouped_from (grouping_of grouping.now) documents.now []) }
 {
     let alloc = grouping.alloc;
     let mut groups = Groups::new(alloc);
-    'documents: for lent in documents {
-        let document = lent.as_document();
-        if takes(stages, document) {
-            let id = grouping.id.value(alloc, document)?;
-            groups.put(alloc, &grouping.fields, id, document)?;
-        }
+    'documents: for document in documents {
+        let id = grouping.id.value(alloc, document)?;
+        groups.put(alloc, &grouping.fields, id, document)?;
     }
     groups.into_documents(alloc, &grouping.fields)
-}
-
-/// A document for each group of those documents that stages take, in the order of first appearance.
-pub(crate) fn grouped_of<T: AsDocument>(
-    stages: &[Stage],
-    grouping: &Grouping,
-    documents: &[T],
-) -> Result<Vec<Document>, Refusal>
-    ensures { Gives Refusal.OutOfMemory (λ v. v.items) result
-        (grouped (grouping_of grouping.now)
-        (filter (takes (map stage_of stages.now)) (map T.document documents.now))) }
-{
-    grouped_from(stages, grouping, documents)
 }
 
 /// A document for each group, in the order of first appearance.
@@ -273,5 +262,5 @@ pub(crate) fn grouped(grouping: &Grouping, documents: &[Document]) -> Result<Vec
     ensures { Gives Refusal.OutOfMemory (λ v. v.items) result
         (grouped (grouping_of grouping.now) documents.now) }
 {
-    grouped_of(&[], grouping, documents)
+    grouped_from(grouping, documents)
 }

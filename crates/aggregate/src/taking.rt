@@ -10,11 +10,7 @@ ghost use Rattle.aggregate.specs.GroupView.{grouping_of};
 ghost use Rattle.aggregate.specs.Taking.{takes, behind_match, groups_first, leading_match, run_behind_groups, KeepsFirst, Suffices, SufficesTaken, IsEnough};
 ghost use Rattle.aggregate.specs.View.{stage_of, pipeline_of};
 
-use crate::grouping::Grouping;
-use crate::groups::grouped_of;
-use crate::limits::within_limits;
-use crate::matching::matches;
-use crate::pipeline::{Pipeline, run_stages};
+use crate::pipeline::Pipeline;
 use crate::stage::Stage;
 use bson::{Document, NoMemory, RawDoc};
 use filter::Filter;
@@ -31,7 +27,7 @@ pub struct FirstSorted<'a> {
 }
 
 /// The stages behind a `$match` in front.
-fn behind_match(stages: &[Stage]) -> &[Stage]
+pub(crate) fn behind_match(stages: &[Stage]) -> &[Stage]
     ensures { map stage_of result.now ≡ behind_match (map stage_of stages.now) }
 {
     match stages.split_first() {
@@ -62,16 +58,6 @@ fn leading_match(stages: &[Stage]) -> Option<&Filter>
 }
 
 /// Whether stages take a document at all: where a `$match` is the first one, whether that matches.
-pub(crate) fn takes(stages: &[Stage], document: &Document) -> bool
-    ensures { result ≡ takes (map stage_of stages.now) document.now }
-{
-    match stages.first() {
-        Some(Stage::Match(filter)) => matches(filter, document),
-        _ => true,
-    }
-}
-
-/// The same of a document that stays its bytes.
 fn takes_raw(alloc: Global, stages: &[Stage], document: &RawDoc<'_>) -> Result<bool, NoMemory>
     ensures { IfOk result (λ answer. answer ≡ takes (map stage_of stages.now) document.now) }
 {
@@ -95,42 +81,6 @@ impl Pipeline {
         ensures { IfOk result (λ answer. answer ≡ takes (pipeline_of self.now) document.now) }
     {
         takes_raw(alloc, &self.stages, document)
-    }
-
-    /// What the pipeline makes of lent documents that are within the limits, where it groups them before all else but a
-    /// `$match`: so it needs none of them for its own. `None` where it doesn't; refused as `run` is.
-    pub fn run_lent<T: AsDocument>(
-        &self,
-        documents: &[T],
-        limit: u32,
-    ) -> Option<Result<Vec<Document>, Refusal>>
-        ensures runs { let lent = map T.document documents.now in first_fault limit lent ≡ None
-            → IfSome result (λ r. Gives Refusal.OutOfMemory (λ v. v.items) r
-            (run (pipeline_of self.now) limit lent)) }
-        ensures groups { is_some result ≡ groups_first (behind_match (pipeline_of self.now)) }
-    {
-        match behind_match(&self.stages).split_first() {
-            Some((Stage::Group(grouping), behind)) => {
-                Some(self.run_behind_groups(grouping, behind, documents, limit))
-            }
-            _ => None,
-        }
-    }
-
-    /// What stages make of the groups of those documents that the pipeline takes.
-    fn run_behind_groups<T: AsDocument>(
-        &self,
-        grouping: &Grouping,
-        behind: &[Stage],
-        documents: &[T],
-        limit: u32,
-    ) -> Result<Vec<Document>, Refusal>
-        ensures { let taken = filter (takes (pipeline_of self.now)) (map T.document documents.now) in
-            Gives Refusal.OutOfMemory (λ v. v.items) result
-            (run_behind_groups (grouping_of grouping.now) (map stage_of behind.now) limit taken) }
-    {
-        let groups = grouped_of(&self.stages, grouping, documents)?;
-        run_stages(self.alloc, behind, within_limits(groups, limit)?, limit)
     }
 
     /// How many of the first documents that it takes are enough, if all are within the limits: where there is a `$limit`

@@ -1,11 +1,7 @@
 -- What a pipeline makes of stored documents is within the limits of documents that are given.
-use Rattle.std.proofs.Common.{◌≡◌, ℕ, List, get_or, None, Result, Ok, Err}
-use Rattle.std.specs.Prelude.{All, IfOk}
-use Rattle.std.specs.Global.{Vec}
-use Rattle.outcome.specs.Outcome.{Gives}
+use Rattle.std.proofs.Common.{◌≡◌, ℕ, List, get_or, None, Ok}
+use Rattle.std.specs.Prelude.{All}
 use Rattle.bson.specs.Tree.{Pairs}
-use Rattle.path.specs.declared.refusal.Refusal.{Refusal}
-use Rattle.path.specs.declared.refusal.Refusal.TheVariants as refusals
 use Rattle.aggregate.specs.Stage.{Stage}
 use Rattle.aggregate.specs.Limits.{first_fault}
 use Rattle.aggregate.specs.Pipeline.{run as after_pipeline}
@@ -20,12 +16,6 @@ use Rattle.queries.proofs.WithinLemmas.{faultless_within, none_at_fault}
 pub piped_within : (stages : List Stage) (ds es : List Pairs) → All IsStored ds → after_pipeline stages 65535 ds ≡ Ok es → All IsWithin es
 piped_within stages ds es h e =
     faultless_within es (stays_within stages 65535 ds es (none_at_fault ds (λ k d below. stored_within (get_or ds k d) (h k d below))) e)
-
--- so is what it returns that was made of documents within them
-pub outcome_within : (stages : List Stage) (ds : List Pairs) (r : Result (Vec Pairs) Refusal) → All IsWithin ds
-    → Gives refusals.OutOfMemory (λ v. v.items) r (after_pipeline stages 65535 ds) → IfOk r (λ v. All IsWithin v.items)
-outcome_within stages ds (Ok v) h gives = faultless_within v.items (stays_within stages 65535 ds v.items (none_at_fault ds h) gives)
-outcome_within stages ds (Err e) h gives = tt
 
 -- the documents of lawful collections are within the limits
 pub none_of_lawful : (cs : List Collection) (name : List ℕ) → IsLawfulState cs → first_fault 65535 (documents_of cs name) ≡ None

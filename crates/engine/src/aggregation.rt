@@ -1,16 +1,15 @@
 //! `aggregate`: what a pipeline makes of the documents of a collection.
 
 ghost use Rattle.std.specs.Prelude.{◌≡◌, ◌≤◌, Some, All, IfOk, length};
-ghost use Rattle.outcome.specs.Outcome.{Gives};
-ghost use Rattle.aggregate.specs.Pipeline.{run as after_pipeline};
 ghost use Rattle.aggregate.specs.View.{pipeline_of};
-ghost use Rattle.database_model.specs.Aggregate.{run_aggregate, AreEnough};
+ghost use Rattle.database_model.specs.Aggregate.{run_aggregate};
 ghost use Rattle.database_model.specs.Cursors.{batch_of, first_batch};
 ghost use Rattle.engine.specs.Durable.{has_changes, IsSound};
 ghost use Rattle.database_model.specs.Lawful.{IsWithin};
 ghost use Rattle.engine.specs.Looking.{Looks};
 ghost use Rattle.engine.specs.Performing.{Performs};
 ghost use Rattle.pinned_cursors.specs.Turns.{Releases};
+ghost use Rattle.queries.specs.Piping.{Pipes};
 ghost use Rattle.replies.specs.View.{IsSendable, Runs};
 ghost use Rattle.engine.specs.View.{world};
 ghost use Rattle.database_model.specs.World.{documents_of};
@@ -21,37 +20,27 @@ use bson::{Document, SpelledDocument};
 use page::Disk;
 use path::Refusal;
 use projection::Projection;
-use queries::needed_in;
+use queries::piped_in;
 use replies::{ConnId, spelled_all};
 use statements::STORED_LIMIT;
 
-/// What a pipeline makes of documents.
-fn after_pipeline(pipeline: &Pipeline, documents: Vec<Document>) -> Result<Vec<Document>, Refusal>
-    requires { All IsWithin documents.items }
-    ensures gives { Gives Refusal.OutOfMemory (λ v. v.items) result
-        (after_pipeline (pipeline_of pipeline.now) 65535 documents.items) }
-    ensures within { IfOk result (λ v. All IsWithin v.items) }
-{
-    if let Some(given) = pipeline.run_lent(&documents, STORED_LIMIT as u32) {
-        return given;
-    }
-    pipeline.run(documents, STORED_LIMIT as u32)
-}
-
 impl<D: Disk> Engine<D> {
-    /// The documents of a collection that a pipeline needs. A missing collection reads as empty.
-    fn needed(&mut self, namespace: &str, pipeline: &Pipeline) -> Result<Vec<Document>, Refusal>
+    /// What a pipeline makes of the documents of a collection, or its refusal. A missing collection reads as empty.
+    fn piped(
+        &mut self,
+        namespace: &str,
+        pipeline: &Pipeline,
+    ) -> Result<Result<Vec<Document>, Refusal>, Refusal>
         requires { IsSound D.history self.old }
         ensures looks { Looks D.history
-            (λ now few. AreEnough (pipeline_of pipeline.now) few.items
-            (documents_of now namespace.now))
+            (λ now given. Pipes (pipeline_of pipeline.now) given (documents_of now namespace.now))
             result self.old self.new }
-        ensures within { IfOk result (λ few. All IsWithin few.items) }
+        ensures within { IfOk result (λ given. IfOk given (λ v. All IsWithin v.items)) }
     {
         let Some(home) = self.catalogued(namespace)? else {
-            return Ok(Vec::new(self.alloc));
+            return Ok(pipeline.run(Vec::new(self.alloc), STORED_LIMIT as u32));
         };
-        needed_in(self.alloc, &mut self.file, &home, pipeline)
+        piped_in(self.alloc, &mut self.file, &home, pipeline)
     }
 
     /// Gives a first batch of what a pipeline makes of a collection's documents. Where others are left, it opens a cursor on
@@ -75,8 +64,8 @@ impl<D: Disk> Engine<D> {
         ensures has_changes { has_changes self.new ≡ has_changes self.old }
         ensures sendable { IfOk result (λ d. IsSendable d) }
     {
-        let needed = self.needed(namespace, pipeline)?;
-        let given = after_pipeline(pipeline, needed)?;
+        let piped = self.piped(namespace, pipeline)?;
+        let given = piped?;
         self.give_all(connection, namespace, given, most)
     }
 

@@ -78,10 +78,6 @@ module _ (stages : List Stage) where
       let fault : first_fault 65535 (h.seen ++ []) ≡ None = subst (λ (xs : List Pairs). first_fault 65535 xs ≡ None) (sym (append-nil h.seen)) h.within in
       faultless_within last (subst (λ (xs : List Pairs). first_fault 65535 xs ≡ None) (append-nil last) ((on h.seen h.enough).same 65535 [] fault).0)
 
--- of no documents none are enough
-pub none_enough : (stages : List Stage) (ds : List Pairs) → ds ≡ [] → AreEnough stages [] ds
-none_enough stages ds none fault = ap (run stages 65535) (sym none)
-
 -- ---- one document
 
 module _ (stages : List Stage) (x : Pairs) where

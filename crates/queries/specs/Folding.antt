@@ -4,6 +4,8 @@ use Rattle.std.specs.Prelude.{length, take}
 use Rattle.std.specs.List.{filter}
 use Rattle.bson.specs.Tree.{Pairs}
 use Rattle.sort.specs.Sort.{SortField, order}
+use Rattle.aggregate.specs.Gathering.{HasGathered}
+use Rattle.aggregate.specs.Stage.{Stage}
 use Rattle.aggregate.specs.Taking.{IsEnough, SufficesTaken, takes}
 use Rattle.aggregate.specs.View.{pipeline_of}
 use Rattle.database_model.specs.Find.{matching}
@@ -11,6 +13,7 @@ use Rattle.database_model.specs.Lawful.{IsWithin}
 use Rattle.queries.specs.declared.counting.Counting.{Counting}
 use Rattle.queries.specs.declared.needed.Needing.{Needing}
 use Rattle.queries.specs.declared.ordering.Sorting.{Sorting}
+use Rattle.queries.specs.declared.piping.Grouping.{Grouping}
 use Rattle.queries.specs.declared.scanning.Selecting.{Selecting}
 
 -- So many of them that the filter matches were counted, as far as a number goes.
@@ -60,3 +63,9 @@ pub record Needs (start : Needing) (documents : List Pairs) (now : Needing) : Ty
   pub all : now.is_enough ≡ false → left ≡ []
   pub most : now.is_enough ≡ true
       → SufficesTaken (pipeline_of start.pipeline.now) (length now.needed.items)
+
+-- These were gathered behind whatever was gathered before.
+abbrev pub Gathers : Grouping → List Pairs → Grouping → Type 0
+Gathers start documents now = (stages : List Stage) (before : List Pairs)
+    → HasGathered stages before start.gathering
+    → HasGathered stages (before ++ documents) now.gathering

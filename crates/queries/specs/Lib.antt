@@ -7,3 +7,4 @@ pub mod Dense
 pub mod Folding
 pub mod IdRange
 pub mod Within
+pub mod Piping

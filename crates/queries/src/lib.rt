@@ -16,6 +16,7 @@ mod members;
 mod needed;
 mod needed_by_order;
 mod ordering;
+mod piping;
 mod scanning;
 mod selects;
 mod telling;
@@ -25,8 +26,8 @@ pub use batches::{BatchAsked, GivenBatch, Walk, batch_of_turn, batch_of_version}
 pub use by_id::put_id;
 pub use counting::count_in;
 pub use looking_up::{looked_up_in, selected_in};
-pub use needed::needed_in;
 pub use ordering::ordered_in;
+pub use piping::piped_in;
 pub use scanning::BATCH;
 pub use selects::Selects;
 pub use within::are_within;

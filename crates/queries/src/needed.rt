@@ -237,7 +237,7 @@ fn needed_side_by_side<D: Disk>(
 
 /// The documents of the collection of a number that a pipeline needs, where those that it takes have some of these `_id`s, told by
 /// their ascending key texts.
-fn needed_by_ids<D: Disk>(
+pub(crate) fn needed_by_ids<D: Disk>(
     alloc: Global,
     file: &mut Collections<D>,
     number: u32,
@@ -277,7 +277,7 @@ fn needed_by_id<D: Disk>(
 
 /// The documents of a collection in a file that a pipeline needs. Where it keeps the first ones of a `$sort` and an index is in that
 /// order, they are read in that order, as far as they are kept.
-pub fn needed_in<D: Disk>(
+pub(crate) fn needed_in<D: Disk>(
     alloc: Global,
     file: &mut Collections<D>,
     home: &Catalogued,

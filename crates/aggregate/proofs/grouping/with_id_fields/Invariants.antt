@@ -5,6 +5,6 @@ use Rattle.aggregate.specs.GroupView.{id_field_of}
 use Rattle.aggregate.proofs.grouping.with_id_fields.Given as goal
 
 abbrev pub invariant-fields : goal.invariant-fields
-invariant-fields l =
-    with_id_fields (map id_field_of (drop l.field-index l.fields)) l.whole l.document
-    ≡ with_id_fields (map id_field_of l.fields) l.whole no_pairs
+invariant-fields g l =
+    with_id_fields (map id_field_of (drop l.field-index l.fields)) (g.S.PathSource.source l.whole) l.document
+    ≡ with_id_fields (map id_field_of l.fields) (g.S.PathSource.source l.whole) no_pairs

@@ -1,7 +1,11 @@
-use Rattle.std.proofs.Common.{ap, sym, ◌∙◌}
+use Rattle.std.proofs.Common.{ap, subst, Err, Ok, Result, Vec, Global}
 use Rattle.std.proofs.lemmas.Result.{err_from_is_err_and}
+use Rattle.bson.specs.Tree.{Pairs}
 use Rattle.aggregate.specs.View.{pipeline_of}
 use Rattle.database_model.specs.Aggregate.{run_aggregate}
+use Rattle.database_model.specs.World.{documents_of}
+use Rattle.path.specs.declared.refusal.Refusal.{Refusal}
+use Rattle.queries.specs.Piping.{Pipes}
 use Rattle.engine.specs.View.{world}
 use Rattle.engine.proofs.GivingLemmas.{gives_behind, refuses_planned}
 use Rattle.engine.proofs.LookingLemmas.{performs_refused}
@@ -9,38 +13,42 @@ use Rattle.engine.proofs.Piping.{none_of_lawful}
 use Rattle.engine.proofs.Running.{asked_of, run_aggregate-is, run_aggregate-refused}
 use Rattle.engine.proofs.engine.Engine.aggregate.Goals as goal
 
-pub returns-in_err-needed-clause-performs : goal.returns-in_err-needed-clause-performs
-returns-in_err-needed-clause-performs g c =
+pub returns-in_err-piped-clause-performs : goal.returns-in_err-piped-clause-performs
+returns-in_err-piped-clause-performs g c =
     let w = world c.args.self.now in
     let p = err_from_is_err_and c.from_residual.result c.from_residual.ensures.1 in
     rw (p.1, p.2)
-    (performs_refused g.D.Disk.history c.args.self.now c.needed.new.self
+    (performs_refused g.D.Disk.history c.args.self.now c.piped.new.self
     (run_aggregate w c.args.connection (asked_of w c.args.connection c.args.namespace.now (pipeline_of c.args.pipeline.now) c.args.most))
-    c.in_err-needed.field-0.0 c.in_err-needed.ensures.looks.reads c.in_err-needed.ensures.looks.answers)
+    c.in_err-piped.field-0.0 c.in_err-piped.ensures.looks.reads c.in_err-piped.ensures.looks.answers)
 
 pub returns-in_err-given-clause-performs : goal.returns-in_err-given-clause-performs
 returns-in_err-given-clause-performs g c =
     let w = world c.args.self.now in
+    let name = c.args.namespace.now in
     let stages = pipeline_of c.args.pipeline.now in
-    let looks = c.in_ok-needed.ensures.looks in
+    let looks = c.in_ok-piped.ensures.looks in
     let p = err_from_is_err_and c.from_residual-in_err-given.result c.from_residual-in_err-given.ensures.1 in
     rw (p.1, p.2)
-    (refuses_planned g.D.Disk.history c.args.self.now c.needed.new.self
-    (run_aggregate w c.args.connection (asked_of w c.args.connection c.args.namespace.now stages c.args.most))
+    (refuses_planned g.D.Disk.history c.args.self.now c.piped.new.self
+    (run_aggregate w c.args.connection (asked_of w c.args.connection name stages c.args.most))
     c.in_err-given.field-0.0 looks.reads (λ k other.
-    run_aggregate-refused w c.args.connection c.args.namespace.now stages c.args.most c.in_err-given.field-0.0
-    (sym (looks.answers k (none_of_lawful w.collections c.args.namespace.now c.requires.sound.lawful)) ∙ c.in_err-given.ensures.gives other)))
+    run_aggregate-refused w c.args.connection name stages c.args.most c.in_err-given.field-0.0
+    (subst (λ (given : Result (Vec Pairs Global) Refusal). Pipes stages given (documents_of w.collections name)) c.in_err-given.is (looks.answers k)
+    (none_of_lawful w.collections name c.requires.sound.lawful) other)))
 
 pub returns-clause-performs : goal.returns-clause-performs
 returns-clause-performs g c =
     let w = world c.args.self.now in
+    let name = c.args.namespace.now in
     let stages = pipeline_of c.args.pipeline.now in
-    let looks = c.in_ok-needed.ensures.looks in
+    let looks = c.in_ok-piped.ensures.looks in
     let given = c.in_ok-given.given.items in
-    gives_behind g.D.Disk.history c.args.self.now c.needed.new.self c.give_all.new.self looks.reads c.give_all.ensures.file
+    gives_behind g.D.Disk.history c.args.self.now c.piped.new.self c.give_all.new.self looks.reads c.give_all.ensures.file
     (ap (λ t. t.value) c.give_all.ensures.told) c.give_all.ensures.has_changes
-    c.args.connection c.args.namespace.now given c.args.most
-    (run_aggregate w c.args.connection (asked_of w c.args.connection c.args.namespace.now stages c.args.most)) c.give_all.result
+    c.args.connection name given c.args.most
+    (run_aggregate w c.args.connection (asked_of w c.args.connection name stages c.args.most)) c.give_all.result
     c.requires.short c.in_ok-given.ensures.within c.give_all.ensures.runs
-    (λ k. run_aggregate-is w c.args.connection c.args.namespace.now stages c.args.most given
-    (sym (looks.answers k (none_of_lawful w.collections c.args.namespace.now c.requires.sound.lawful)) ∙ c.in_ok-given.ensures.gives))
+    (λ k. run_aggregate-is w c.args.connection name stages c.args.most given
+    (subst (λ (r : Result (Vec Pairs Global) Refusal). Pipes stages r (documents_of w.collections name)) c.in_ok-given.is (looks.answers k)
+    (none_of_lawful w.collections name c.requires.sound.lawful)))

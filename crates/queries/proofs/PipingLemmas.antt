@@ -1,0 +1,50 @@
+-- What a pipeline makes of documents, however they were read.
+use Rattle.std.proofs.Common.{◌≡◌, List, None, Result, Ok, Err, Vec, Global, sym, ap, subst, ◌∙◌}
+use Rattle.std.specs.Prelude.{All, IfOk}
+use Rattle.std.specs.List.{filter}
+use Rattle.bson.specs.Tree.{Pairs}
+use Rattle.outcome.specs.Outcome.{Gives}
+use Rattle.value_order.specs.KeyText.{tree_text}
+use Rattle.aggregate.specs.EnoughLaws.{All-filter, fault-within, within-fault}
+use Rattle.aggregate.specs.Limits.{first_fault, limit_fault}
+use Rattle.aggregate.specs.Pipeline.{run}
+use Rattle.aggregate.specs.Stage.{Stage}
+use Rattle.aggregate.specs.Taking.{takes}
+use Rattle.aggregate.specs.TakingLaws.{only_taken, stays_within}
+use Rattle.btree.specs.declared.folding.Bounds.{Bounds}
+use Rattle.collections.specs.Folding.{documents_within, lies_within}
+use Rattle.database_model.specs.Aggregate.{AreEnough}
+use Rattle.database_model.specs.Lawful.{IsWithin}
+use Rattle.entries.specs.State.{key_of}
+use Rattle.path.specs.declared.refusal.Refusal.{Refusal}
+use Rattle.path.specs.declared.refusal.Refusal.TheVariants as refusals
+use Rattle.queries.specs.Piping.{Pipes}
+use Rattle.queries.proofs.WithinLemmas.{faultless_within, none_at_fault}
+
+-- what is given of documents within the limits is within them
+pub outcome_within : (stages : List Stage) (ds : List Pairs) (r : Result (Vec Pairs Global) Refusal) → All IsWithin ds → Pipes stages r ds
+    → IfOk r (λ v. All IsWithin v.items)
+outcome_within stages ds (Ok v) h pipes = faultless_within v.items (stays_within stages 65535 ds v.items (none_at_fault ds h) (pipes (none_at_fault ds h)))
+outcome_within stages ds (Err e) h pipes = tt
+
+-- so is what has no fault
+pub given_within : (r : Result (Vec Pairs Global) Refusal) → IfOk r (λ v. first_fault 65535 v.items ≡ None) → IfOk r (λ v. All IsWithin v.items)
+given_within (Ok v) fine = faultless_within v.items fine
+given_within (Err e) fine = tt
+
+module _ (stages : List Stage) (given : Result (Vec Pairs Global) Refusal) (all : List Pairs) where
+  -- of documents that are enough the same is made as of all
+  pub enough_pipes : (few : List Pairs) → All IsWithin few → AreEnough stages few all → Pipes stages given few → Pipes stages given all
+  enough_pipes few within enough pipes = λ fault.
+      subst (Gives refusals.OutOfMemory (λ v. v.items) given) (enough fault) (pipes (none_at_fault few within))
+
+  -- and of those within bounds, where all that it takes lie within them
+  pub pipes_within : (texts : Bounds) → filter (takes stages) (documents_within texts all) ≡ filter (takes stages) all
+      → Pipes stages given (documents_within texts all) → Pipes stages given all
+  pipes_within texts same pipes = λ fault.
+      let found = documents_within texts all in
+      let good : first_fault 65535 found ≡ None =
+      within-fault 65535 found
+      (All-filter (λ d. limit_fault 65535 d ≡ None) (λ d. lies_within texts (tree_text (key_of d))) all (fault-within 65535 all fault)) in
+      subst (Gives refusals.OutOfMemory (λ v. v.items) given)
+      (sym (only_taken stages 65535 found) ∙ ap (run stages 65535) same ∙ only_taken stages 65535 all) (pipes good)
