@@ -85,9 +85,7 @@ impl Gathering<'_> {
             return Ok(());
         }
         match self.grouping.id.value(alloc, document) {
-            Ok(id) => self
-                .groups
-                .put(alloc, &self.grouping.fields, id, document),
+            Ok(id) => self.groups.put(alloc, &self.grouping.fields, id, document),
             Err(Refusal::OutOfMemory) => Err(AllocError),
             Err(refusal) => {
                 self.refused = Some(refusal);

@@ -58,7 +58,11 @@ pub(crate) fn path_value<'a>(
 
 /// What is left of a path gives of a value.
 #[cycle(path_values)]
-pub(crate) fn of_value<'a>(alloc: Global, value: &'a Value, parts: &[Part]) -> Result<Found<'a>, NoMemory>
+pub(crate) fn of_value<'a>(
+    alloc: Global,
+    value: &'a Value,
+    parts: &[Part],
+) -> Result<Found<'a>, NoMemory>
     ensures { IfOk result (λ f. found_of f ≡ path_value parts.now (tree value.now)) }
 {
     let [part, rest @ ..] = parts else {

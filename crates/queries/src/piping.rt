@@ -68,9 +68,7 @@ fn grouped_scanned<D: Disk>(
 {
     let grouping = Grouping { alloc, gathering };
     let walked = fold_asked(alloc, file, home, pipeline, grouping)?;
-    Ok(walked
-        .gathering
-        .into_documents(alloc, STORED_LIMIT as u32))
+    Ok(walked.gathering.into_documents(alloc, STORED_LIMIT as u32))
 }
 
 /// What a pipeline makes of the documents of the collection of a number, where those that it takes have some of these `_id`s, told by
