@@ -172,16 +172,9 @@ pub fn listed_document(alloc: Global, name: &str) -> Result<Document, NoMemory>
     ensures { IfOk result (λ d. d ≡ listed name.now) }
 {
     let mut listed = Document::new(alloc);
-    put_listed(alloc, &mut listed, name)?;
+    put(&mut listed, "name", text_value(alloc, name)?)?;
+    put(&mut listed, "type", text_value(alloc, "collection")?)?;
     Ok(listed)
-}
-
-fn put_listed(alloc: Global, document: &mut Document, name: &str) -> Result<(), NoMemory>
-    requires { document.old ≡ no_pairs }
-    ensures { OnOk result (document.new ≡ listed name.now) }
-{
-    put(document, "name", text_value(alloc, name)?)?;
-    put(document, "type", text_value(alloc, "collection")?)
 }
 
 /// What `listIndexes` says of an index with this key and this name.

@@ -8,25 +8,13 @@ use std::test::Fail;
 
 /// How many pages each page of the list names, in a file of so many pages of which none but page 0 is in use.
 fn listed(alloc: Global, pages: u32) -> Result<Vec<usize>, NoMemory> {
-    let mut book = FreePages::open(alloc, &[], pages, 1)?;
-    let written = book.write_list(alloc, pages);
-    drop(book);
-    let Some(list) = written? else {
-        return Ok(Vec::new(alloc));
-    };
-    let sizes = sizes_of(alloc, &list);
-    drop(list);
-    sizes
-}
-
-/// How many pages each page of a list names.
-fn sizes_of(alloc: Global, list: &FreeList) -> Result<Vec<usize>, NoMemory> {
     let mut sizes = Vec::new(alloc);
-    for at in 0..list.pages.len() {
-        let part = list.part(alloc, at)?;
-        let size = part.named.len();
-        drop(part);
-        sizes.push(size)?;
+    let mut book = FreePages::open(alloc, &[], pages, 1)?;
+    if let Some(list) = book.write_list(alloc, pages)? {
+        for at in 0..list.pages.len() {
+            let part = list.part(alloc, at)?;
+            sizes.push(part.named.len())?;
+        }
     }
     Ok(sizes)
 }
@@ -49,23 +37,13 @@ fn lists_have_the_pages_that_they_need(rt: HostRuntime) -> Result<(), Fail> {
     Ok(())
 }
 
-/// Retires page 1 of a book, and says whether it writes a list then.
-fn is_written(alloc: Global, book: &mut FreePages) -> Result<bool, NoMemory> {
-    book.retire(1, 5)?;
-    let list = book.write_list(alloc, 2)?;
-    let is_written = list.is_some();
-    drop(list);
-    Ok(is_written)
-}
-
 /// The one page that isn't in use was retired in this turn, so none is free for the list.
 #[test]
 fn a_list_without_room_is_refused(rt: HostRuntime) -> Result<(), Fail> {
     let mut book = FreePages::open(rt.alloc(), &[1], 2, 5)?;
-    let is_written = is_written(rt.alloc(), &mut book);
-    let full_takes = book.full_takes();
-    drop(book);
-    assert_eq!(rt; (is_written?, full_takes), (false, 1));
+    book.retire(1, 5)?;
+    assert!(rt; book.write_list(rt.alloc(), 2)?.is_none());
+    assert_eq!(rt; book.full_takes(), 1);
     Ok(())
 }
 
@@ -87,40 +65,17 @@ fn write_out(alloc: Global, list: &FreeList, disk: &mut MemDisk) -> Result<bool,
     Ok(written)
 }
 
-/// Writes the list of a file in which four of nine pages are in use.
-fn write_list(alloc: Global, disk: &mut MemDisk) -> Result<bool, NoMemory> {
-    let mut book = FreePages::open(alloc, &[1, 4, 6, 8], 9, 1)?;
-    let list = book.write_list(alloc, 9);
-    drop(book);
-    let Some(list) = list? else {
-        return Ok(false);
-    };
-    let written = write_out(alloc, &list, disk);
-    drop(list);
-    written
-}
-
-/// The pages that the list on a disk names.
-fn named_on(alloc: Global, disk: MemDisk) -> Result<Vec<u32>, ListFault> {
-    match Store::open(disk) {
-        Ok(mut store) => {
-            let list = read_list(alloc, &mut store, 9, 2, 3);
-            drop(store);
-            Ok(list?.named)
-        }
-        Err((disk, _)) => {
-            drop(disk);
-            Err(ListFault::Damaged)
-        }
-    }
-}
-
 #[test]
 fn a_list_is_read_from_a_disk(rt: HostRuntime) -> Result<(), Fail> {
     let mut disk = MemDisk::new(rt.alloc());
-    let written = write_list(rt.alloc(), &mut disk);
-    let named = named_on(rt.alloc(), disk);
-    assert!(rt; written?);
+    let mut book = FreePages::open(rt.alloc(), &[1, 4, 6, 8], 9, 1)?;
+    if let Some(list) = book.write_list(rt.alloc(), 9)? {
+        assert!(rt; write_out(rt.alloc(), &list, &mut disk)?);
+    }
+    let named = match Store::open(disk) {
+        Ok(mut store) => read_list(rt.alloc(), &mut store, 9, 2, 3).map(|list| list.named),
+        Err(_) => Err(ListFault::Damaged),
+    };
     assert!(rt; named.is_ok_and(|named| named.as_slice() == [3, 5, 7].as_slice()));
     Ok(())
 }

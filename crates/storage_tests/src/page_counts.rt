@@ -112,32 +112,19 @@ fn go(alloc: Global, pager: &mut Pager<MemDisk>, keys: u32, size: usize) -> bool
     true
 }
 
-/// How many pages a turn can take once entries of these lengths came and went.
-fn free_behind(
-    alloc: Global,
-    pager: &mut Pager<MemDisk>,
-    keys: u32,
-    size: usize,
-    lengths: &[usize],
-) -> Option<u32> {
-    let have_gone = come(alloc, pager, keys, size, lengths) && go(alloc, pager, keys, size);
-    if !have_gone || pager.root() != 0 {
-        return None;
-    }
-    Some(count_free(alloc, pager, 3_000))
-}
-
 #[test]
 fn entries_come_and_go(rt: HostRuntime) -> Result<(), Fail> {
     let alloc = rt.alloc();
     for (keys, size, lengths, limit, most) in COMING {
         let mut pager = new_file(alloc, limit)?;
-        let free = free_behind(alloc, &mut pager, keys, size, lengths);
-        let pages = pages_of(pager);
-        let Some(free) = free else {
-            panic!(&rt; "not all of {keys} keys came and went");
-        };
+        assert!(rt; come(alloc, &mut pager, keys, size, lengths), "{keys} keys");
+        assert!(rt;
+            go(alloc, &mut pager, keys, size) && pager.root() == 0,
+            "{keys} keys"
+        );
         // all but page 0, and the list that names all others: 1,019 with each page of its own
+        let free = count_free(alloc, &mut pager, 3_000);
+        let pages = pages_of(pager);
         let listed = pages.saturating_sub(1).div_ceil(1_020);
         assert!(rt;
             free.saturating_add(listed) == limit - 1 && pages <= most,
@@ -145,16 +132,6 @@ fn entries_come_and_go(rt: HostRuntime) -> Result<(), Fail> {
         );
     }
     Ok(())
-}
-
-/// Puts two thousand entries in ascending order.
-fn rise(alloc: Global, pager: &mut Pager<MemDisk>) -> bool {
-    for key in 0..2_000 {
-        if !turn(alloc, pager, key, 17, Some(330)) {
-            return false;
-        }
-    }
-    true
 }
 
 /// A key of 17 bytes and a value of 330 take 353 with their lengths: 11 go into a leaf's 4,080 bytes. Two
@@ -166,9 +143,11 @@ fn rise(alloc: Global, pager: &mut Pager<MemDisk>) -> bool {
 fn rising_entries_fill_their_leaves(rt: HostRuntime) -> Result<(), Fail> {
     let alloc = rt.alloc();
     let mut pager = new_file(alloc, 1_000)?;
-    let have_risen = rise(alloc, &mut pager);
+    for key in 0..2_000 {
+        assert!(rt; turn(alloc, &mut pager, key, 17, Some(330)));
+    }
     let pages = pages_of(pager);
-    assert!(rt; have_risen && pages <= 189 + 7 + 2, "{pages} pages");
+    assert!(rt; pages <= 189 + 7 + 2, "{pages} pages");
     Ok(())
 }
 
@@ -186,31 +165,22 @@ const LENGTHS: [(usize, u32); 9] = [
     (65_535, 19),
 ];
 
-/// The first length of a value after which the tree and the list have other pages.
-fn first_wrong_length(alloc: Global, pager: &mut Pager<MemDisk>) -> Option<usize> {
-    for (length, pages) in LENGTHS {
-        let is_put = turn(alloc, pager, 0, 4, Some(length));
-        let free = count_free(alloc, pager, 200);
-        if !is_put || free.wrapping_add(pages) != 99 {
-            return Some(length);
-        }
-    }
-    None
-}
-
 /// The old value and the new one have 18 pages each at most, and their lists one each: with page 0 the file
 /// has 39.
 #[test]
 fn values_replace_each_other(rt: HostRuntime) -> Result<(), Fail> {
     let mut pager = new_file(rt.alloc(), 100)?;
-    let wrong = first_wrong_length(rt.alloc(), &mut pager);
-    let pages = pages_of(pager);
-    assert_eq!(rt; wrong, None);
-    assert!(rt; pages <= 39);
+    for (length, pages) in LENGTHS {
+        assert!(rt; turn(rt.alloc(), &mut pager, 0, 4, Some(length)));
+        let free = count_free(rt.alloc(), &mut pager, 200);
+        assert_eq!(rt; free.wrapping_add(pages), 99, "{length}");
+    }
+    assert!(rt; pages_of(pager) <= 39);
     Ok(())
 }
 
-/// What a book gives while a version is pinned that reaches page 1, before and after a commit, and then.
+/// What a book of two pages gives while a version is pinned that reaches page 1, before and after a commit,
+/// and then.
 fn taken(book: &mut FreePages) -> Result<[Option<u32>; 4], NoMemory> {
     book.pin(5)?;
     book.retire(1, 5)?;
@@ -225,10 +195,7 @@ fn taken(book: &mut FreePages) -> Result<[Option<u32>; 4], NoMemory> {
 #[test]
 fn pinned_pages_are_not_taken(rt: HostRuntime) -> Result<(), Fail> {
     let mut book = FreePages::open(rt.alloc(), &[1, 2], 3, 5)?;
-    let taken = taken(&mut book);
-    let counts = (book.version(), book.full_takes());
-    drop(book);
-    assert_eq!(rt; taken?, [None, None, Some(1), None]);
-    assert_eq!(rt; counts, (6, 3));
+    assert_eq!(rt; taken(&mut book)?, [None, None, Some(1), None]);
+    assert_eq!(rt; (book.version(), book.full_takes()), (6, 3));
     Ok(())
 }
