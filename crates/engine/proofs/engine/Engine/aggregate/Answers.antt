@@ -1,8 +1,10 @@
-use Rattle.std.proofs.Common.{ap, subst, Err, Ok, Result, Vec, Global}
+use Rattle.std.proofs.Common.{ap, subst, Result, Vec, Global}
+use Rattle.std.specs.Prelude.{All, IfOk}
 use Rattle.std.proofs.lemmas.Result.{err_from_is_err_and}
 use Rattle.bson.specs.Tree.{Pairs}
 use Rattle.aggregate.specs.View.{pipeline_of}
 use Rattle.database_model.specs.Aggregate.{run_aggregate}
+use Rattle.database_model.specs.Lawful.{IsWithin}
 use Rattle.database_model.specs.World.{documents_of}
 use Rattle.path.specs.declared.refusal.Refusal.{Refusal}
 use Rattle.queries.specs.Piping.{Pipes}
@@ -34,7 +36,7 @@ returns-in_err-given-clause-performs g c =
     (run_aggregate w c.args.connection (asked_of w c.args.connection name stages c.args.most))
     c.in_err-given.field-0.0 looks.reads (λ k other.
     run_aggregate-refused w c.args.connection name stages c.args.most c.in_err-given.field-0.0
-    (subst (λ (given : Result (Vec Pairs Global) Refusal). Pipes stages given (documents_of w.collections name)) c.in_err-given.is (looks.answers k)
+    (subst (λ (given : Result (Vec Pairs Global) Refusal). Pipes stages given (documents_of w.collections name)) c.in_err-given.was (looks.answers k)
     (none_of_lawful w.collections name c.requires.sound.lawful) other)))
 
 pub returns-clause-performs : goal.returns-clause-performs
@@ -48,7 +50,8 @@ returns-clause-performs g c =
     (ap (λ t. t.value) c.give_all.ensures.told) c.give_all.ensures.has_changes
     c.args.connection name given c.args.most
     (run_aggregate w c.args.connection (asked_of w c.args.connection name stages c.args.most)) c.give_all.result
-    c.requires.short c.in_ok-given.ensures.within c.give_all.ensures.runs
+    c.requires.short
+    (subst (λ (r : Result (Vec Pairs Global) Refusal). IfOk r (λ v. All IsWithin v.items)) c.in_ok-given.was c.in_ok-piped.ensures.within) c.give_all.ensures.runs
     (λ k. run_aggregate-is w c.args.connection name stages c.args.most given
-    (subst (λ (r : Result (Vec Pairs Global) Refusal). Pipes stages r (documents_of w.collections name)) c.in_ok-given.is (looks.answers k)
+    (subst (λ (r : Result (Vec Pairs Global) Refusal). Pipes stages r (documents_of w.collections name)) c.in_ok-given.was (looks.answers k)
     (none_of_lawful w.collections name c.requires.sound.lawful)))
