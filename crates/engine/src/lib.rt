@@ -23,6 +23,7 @@ mod kill_cursors;
 pub mod laws;
 mod list_collections;
 mod list_indexes;
+mod listing;
 mod looking;
 mod numbering;
 mod refusal;

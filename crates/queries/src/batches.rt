@@ -87,7 +87,7 @@ fn is_reached(limit: usize, count: usize) -> bool
 
 /// Puts what a projection leaves of a document into a batch, if it goes into it, and says whether it did;
 /// `StorageFailed` where it is over the limits of those that are stored, as a disk may give some.
-fn offer_within(
+pub(crate) fn offer_within(
     alloc: Global,
     batch: &mut OpenBatch,
     projection: &Projection,
@@ -104,7 +104,7 @@ fn offer_within(
 }
 
 /// The key text of a document's `_id`.
-fn text_of(alloc: Global, document: &RawDoc<'_>) -> Result<Vec<u8>, Refusal>
+pub(crate) fn text_of(alloc: Global, document: &RawDoc<'_>) -> Result<Vec<u8>, Refusal>
     ensures text { IfOk result (λ text. text.items ≡ tree_text (key_of document.now)) }
     ensures refuses { IsStorable document.now → IfErr result (λ e. e ≡ Refusal.OutOfMemory) }
 {
