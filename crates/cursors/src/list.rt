@@ -1,6 +1,6 @@
 //! The list by which a cursor goes on that holds no documents: the key texts of their `_id`s.
 
-ghost use Rattle.std.specs.Prelude.{◌≡◌, ℕ, List, drop, map};
+ghost use Rattle.std.specs.Prelude.{◌≡◌, ◌<◌, ◌^◌, ℕ, List, drop, length, map};
 
 use crate::rest::Rest;
 use pager::Version;
@@ -37,7 +37,8 @@ impl TextList {
 
     /// Those that are left.
     pub fn left(&self) -> &[Vec<u8>]
-        ensures { map (λ v. v.items) result.now ≡ self.now }
+        ensures texts { map (λ v. v.items) result.now ≡ self.now }
+        ensures few { length result.now < 2 ^ 64 }
     {
         &self.texts[self.given..]
     }

@@ -23,10 +23,10 @@ use Rattle.pinned_cursors.specs.Turns.{Releases}
 use Rattle.path.specs.declared.refusal.Refusal.{Refusal}
 use Rattle.path.specs.declared.refusal.Refusal.TheVariants as refusals
 use Rattle.database_model.specs.Cursors.{batch_of, batch_reply, first_batch, is_refused, new_cursor}
-use Rattle.database_model.specs.Find.{Suffices, given, matching, query_result, run_find}
+use Rattle.database_model.specs.Find.{Suffices, given, matching, query_result, run_find, window}
 use Rattle.sort.specs.Sort.{SortField, order}
 use Rattle.queries.proofs.OrderingLemmas.{first_kept, unsorted}
-use Rattle.database_model.specs.Lawful.{IsLawful, IsStored, IsWithin}
+use Rattle.database_model.specs.Lawful.{IsKept, IsLawful, IsStored, IsWithin}
 use Rattle.database_model.specs.Refusals.{ok_reply}
 use Rattle.database_model.specs.World.{Cursor, World, documents_of}
 use Rattle.queries.specs.Batches.{GoesOn, IsGivenBatch, is_from, rest_from, rest_of, walk_rest}
@@ -43,7 +43,7 @@ use Rattle.engine.specs.Durable.{IsSound, disk_history}
 use Rattle.engine.specs.Performing.{Performs}
 use Rattle.engine.specs.TakingOut.{HasHome}
 use Rattle.engine.specs.View.{world, world_of}
-use Rattle.engine.specs.Walking.{IsWholeWalk}
+use Rattle.engine.specs.Walking.{AreOf, IsWholeWalk}
 use Rattle.engine.specs.declared.engine.Engine.{Engine}
 use Rattle.engine.proofs.Finding.{given_enough, given_within, stored_within, window_kept}
 use Rattle.engine.proofs.LostLemmas.{each_found}
@@ -59,7 +59,15 @@ walk_within rules p skip limit from ds stored =
     given_within p _ (window_kept IsWithin skip limit (matching rules (rest_from from ds))
     (All-filter (matches rules) IsWithin (rest_from from ds) (All-filter (is_from from) IsWithin ds within)))
 
--- what was found in the order of `_id` is what a query asks for without a sort, as far as so many suffice
+-- what was found in the order of a query is what it asks for, as far as so many suffice
+pub found_ordered : (w : World) (connection : ℕ) (name : List ℕ) (q : Query) (most enough : ℕ) (found : List Pairs) → Suffices q enough
+    → found ≡ take enough (order q.sort (matching q.filter (documents_of w.collections name))) → length found < 2 ^ 64 - 1
+    → first_batch w connection name (given q found) (batch_of most (given q found))
+    ≡ run_find w connection (record { namespace = name; query = q; batch_size = Some most })
+found_ordered w connection name q most enough found suffices is few =
+    run_find-is w connection name q most (given q found) (given_enough q enough (documents_of w.collections name) found suffices is few)
+
+-- so is what was found in the order of `_id`, where it asks for no sort
 pub found_plain : (w : World) (connection : ℕ) (name : List ℕ) (q : Query) (most : ℕ) → q.sort ≡ [] → (enough : ℕ) (found : List Pairs) → Suffices q enough
     → found ≡ take enough (matching q.filter (documents_of w.collections name)) → length found < 2 ^ 64 - 1
     → first_batch w connection name (given q found) (batch_of most (given q found))
@@ -68,8 +76,7 @@ found_plain w connection name q most none enough found suffices is few =
     let ds = documents_of w.collections name in
     let plain : order q.sort (matching q.filter ds) ≡ matching q.filter ds =
     ap (λ (fields : List SortField). order fields (matching q.filter ds)) none ∙ unsorted (matching q.filter ds) in
-    run_find-is w connection name q most (given q found)
-    (given_enough q enough ds found suffices (is ∙ ap (take enough) (sym plain)) few)
+    found_ordered w connection name q most enough found suffices (is ∙ ap (take enough) (sym plain)) few
 
 -- the batch that a whole walk gave is the first of what the query asks for
 module _ (w : World) (connection : ℕ) (name : List ℕ) (q : Query) (most : ℕ) (unsorted : q.sort ≡ []) (walk : Walk) (is : IsWholeWalk q walk)
@@ -236,3 +243,21 @@ module _ (ds : List Pairs) (up : IsRising ds) (rules : Conditions) (most : ℕ) 
 
   pub ordered_found : (fields : List SortField) (found : List Pairs) → found ≡ take most (order fields (matching rules ds)) → All Found found
   ordered_found fields found is = subst (All Found) (sym is) (first_kept Found fields most (matching rules ds) matching_found)
+
+-- They are so of the collection of a name, of which the catalogue has this.
+module _ (now : List Collection) (kept : All IsKept now) (name : List ℕ) (home : Catalogued) (at : HasHome now name home) where
+  rising_there : IsRising at.collection.documents
+  rising_there = (found_kept now name at.collection kept at.found).lawful.rising
+
+  pub first_of : (rules : Conditions) (most : ℕ) (found : List Pairs) → found ≡ take most (matching rules at.collection.documents) → AreOf now name home found
+  first_of rules most found is = record { at = at; there = first_found at.collection.documents rising_there rules most found is }
+
+  pub ordered_of : (rules : Conditions) (most : ℕ) (fields : List SortField) (found : List Pairs)
+      → found ≡ take most (order fields (matching rules at.collection.documents)) → AreOf now name home found
+  ordered_of rules most fields found is = record { at = at; there = ordered_found at.collection.documents rising_there rules most fields found is }
+
+-- so are those in a window of them, and those behind the first ones
+pub window_of : (now : List Collection) (name : List ℕ) (home : Catalogued) (skip limit : ℕ) (found : List Pairs) → AreOf now name home found
+    → AreOf now name home (window skip limit found)
+window_of now name home skip limit found h =
+    record { at = h.at; there = window_kept (λ d. find_document h.at.collection.documents (key_of d) ≡ Some d) skip limit found h.there }

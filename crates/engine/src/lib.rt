@@ -2,6 +2,7 @@
 #![tactic(auto)]
 
 mod aggregation;
+mod by_list;
 mod check_fault;
 mod checking;
 mod count;
@@ -23,7 +24,6 @@ mod kill_cursors;
 pub mod laws;
 mod list_collections;
 mod list_indexes;
-mod listing;
 mod looking;
 mod numbering;
 mod refusal;

@@ -58,6 +58,17 @@ lists_on texts p ds rest n l = record {
   same = ap (drop n) l.same ∙ drop-map (project p) n l.some;
 }
 
+-- the walk by which a cursor goes on, and its list, as queries take them
+pub record IsWalkOf (w : HeldWalk) (walk : Walk) : Type 0 where
+  pub way : w.way ≡ through walk.filter.now walk.limit walk.from.now
+  pub projection : walk.projection.now ≡ w.projection
+  pub skip : walk.skip ≡ 0
+
+pub record IsListOf (w : HeldWalk) (list : Listed) : Type 0 where
+  pub way : w.way ≡ listed (texts_of list.ids.now)
+  pub projection : list.projection.now ≡ w.projection
+  pub few : length list.ids.now < 2 ^ 64
+
 -- the next batch of the cursor is asked for
 pub record AsksNext (h : HeldCursor) (namespace : List ℕ) (most : ℕ) (asked : BatchAsked) : Type 0 where
   pub kind : asked.kind ≡ batches.Next
@@ -88,56 +99,49 @@ module _ {D : Type 0} (history : D → History) (h : HeldCursor) (w : HeldWalk) 
 
   -- ---- by its walk
 
-  module _ (walk : Walk) (goes : GoesFrom history old new) where
-    -- it is that of the cursor
-    pub record IsWalkOf : Type 0 where
-      pub way : w.way ≡ through walk.filter.now walk.limit walk.from.now
-      pub projection : walk.projection.now ≡ w.projection
-      pub skip : walk.skip ≡ 0
+  module _ (walk : Walk) (its : IsWalkOf w walk) (goes : GoesFrom history old new) where
+    left_by : (ds rest : List Pairs) → IsLeftBy w.way w.projection ds rest → rest ≡ rest_of walk ds
+    left_by ds rest left =
+        subst (λ (x : Way). IsLeftBy x w.projection ds rest) its.way left
+        ∙ (λ i. walk_rest walk.filter.now (sym its.projection i) (sym its.skip i) walk.limit walk.from.now ds)
 
-    module _ (its : IsWalkOf) where
-      left_by : (ds rest : List Pairs) → IsLeftBy w.way w.projection ds rest → rest ≡ rest_of walk ds
-      left_by ds rest left =
-          subst (λ (x : Way). IsLeftBy x w.projection ds rest) its.way left
-          ∙ (λ i. walk_rest walk.filter.now (sym its.projection i) (sym its.skip i) walk.limit walk.from.now ds)
+    next_so : (r : ReadsRest history old w h.cursor.rest) (b : GivenBatch) → IsGivenBatch walk asked r.home.documents b
+        → IsNextBatch history new h w namespace most b
+    next_so r b given =
+        let left : rest_of walk r.home.documents ≡ h.cursor.rest = sym (left_by r.home.documents h.cursor.rest r.left) in
+        record {
+          counted = given.counted ∙ (λ i. batch_of (asks.most_is i) (left i));
+          says = given.says
+              ∙ (λ i. ok_reply (batch_reply (batch_name (asks.kind i)) b.count (left i) (asks.number i) (asks.namespace_is i)));
+          few = omega (arith, subst (λ (xs : List Pairs). length xs ≤ 4294967295) left given.few);
+          next = by_next b.next given.next;
+        }
+      where
+        by_next : (next : Option (Vec ℕ))
+            → MatchOption next (length (rest_of walk r.home.documents) ≤ b.count) (λ text. GoesOn walk r.home.documents b.count text.items)
+            → MatchOption next (length h.cursor.rest ≤ b.count)
+            (λ text. (b.count < length h.cursor.rest) × ReadsRest history new (onwards b.count text.items w) (drop b.count h.cursor.rest))
+        by_next None none =
+            let left : rest_of walk r.home.documents ≡ h.cursor.rest = sym (left_by r.home.documents h.cursor.rest r.left) in
+            subst (λ (xs : List Pairs). length xs ≤ b.count) left none
+        by_next (Some text) on =
+            let left : rest_of walk r.home.documents ≡ h.cursor.rest = sym (left_by r.home.documents h.cursor.rest r.left) in
+            let behind : drop b.count h.cursor.rest ≡ walk_rest walk.filter.now w.projection 0 (walk.limit - b.count) text.items r.home.documents =
+            ap (drop b.count) (sym left) ∙ sym on.left
+            ∙ (λ i. walk_rest walk.filter.now (its.projection i) 0 (walk.limit - b.count) text.items r.home.documents) in (
+              subst (λ (xs : List Pairs). b.count < length xs) left on.more,
+              record {
+                collections = r.collections;
+                had = since_start_stays history old new goes w.version r.collections r.had;
+                home = r.home;
+                numbered = r.numbered;
+                stored = r.stored;
+                left = subst (λ (x : Way). IsLeftBy (further b.count text.items x) w.projection r.home.documents (drop b.count h.cursor.rest)) (sym its.way)
+                    behind;
+              },
+            )
 
-      next_so : (r : ReadsRest history old w h.cursor.rest) (b : GivenBatch) → IsGivenBatch walk asked r.home.documents b
-          → IsNextBatch history new h w namespace most b
-      next_so r b given =
-          let left : rest_of walk r.home.documents ≡ h.cursor.rest = sym (left_by r.home.documents h.cursor.rest r.left) in
-          record {
-            counted = given.counted ∙ (λ i. batch_of (asks.most_is i) (left i));
-            says = given.says
-                ∙ (λ i. ok_reply (batch_reply (batch_name (asks.kind i)) b.count (left i) (asks.number i) (asks.namespace_is i)));
-            few = omega (arith, subst (λ (xs : List Pairs). length xs ≤ 4294967295) left given.few);
-            next = by_next b.next given.next;
-          }
-        where
-          by_next : (next : Option (Vec ℕ))
-              → MatchOption next (length (rest_of walk r.home.documents) ≤ b.count) (λ text. GoesOn walk r.home.documents b.count text.items)
-              → MatchOption next (length h.cursor.rest ≤ b.count)
-              (λ text. (b.count < length h.cursor.rest) × ReadsRest history new (onwards b.count text.items w) (drop b.count h.cursor.rest))
-          by_next None none =
-              let left : rest_of walk r.home.documents ≡ h.cursor.rest = sym (left_by r.home.documents h.cursor.rest r.left) in
-              subst (λ (xs : List Pairs). length xs ≤ b.count) left none
-          by_next (Some text) on =
-              let left : rest_of walk r.home.documents ≡ h.cursor.rest = sym (left_by r.home.documents h.cursor.rest r.left) in
-              let behind : drop b.count h.cursor.rest ≡ walk_rest walk.filter.now w.projection 0 (walk.limit - b.count) text.items r.home.documents =
-              ap (drop b.count) (sym left) ∙ sym on.left
-              ∙ (λ i. walk_rest walk.filter.now (its.projection i) 0 (walk.limit - b.count) text.items r.home.documents) in (
-                subst (λ (xs : List Pairs). b.count < length xs) left on.more,
-                record {
-                  collections = r.collections;
-                  had = since_start_stays history old new goes w.version r.collections r.had;
-                  home = r.home;
-                  numbered = r.numbered;
-                  stored = r.stored;
-                  left = subst (λ (x : Way). IsLeftBy (further b.count text.items x) w.projection r.home.documents (drop b.count h.cursor.rest)) (sym its.way)
-                      behind;
-                },
-              )
-
-  pub reads_through : (walk : Walk) → IsWalkOf walk → (result : Result GivenBatch Refusal)
+  pub reads_through : (walk : Walk) → IsWalkOf w walk → (result : Result GivenBatch Refusal)
       → ReadsVersion history w.version (IsAskedIn w.number) (λ now c b. IsGivenBatch walk asked c.documents b) result old new
       → ReadsAt history h namespace most result old new
   reads_through walk its result reads = reads_of result reads.on reads.unchanged reads.same right
@@ -150,19 +154,13 @@ module _ {D : Type 0} (history : D → History) (h : HeldCursor) (w : HeldWalk) 
           at : (q : Result GivenBatch Refusal)
               → MatchResult q (λ b. IsGivenBatch walk asked r.home.documents b) (HasCause history old new)
               → MatchResult q (IsNextBatch history new h w namespace most) (HasCause history old new)
-          at (Ok b) given = next_so walk reads.on its r b given
+          at (Ok b) given = next_so walk its reads.on r b given
           at (Err e) cause = cause
 
   -- ---- by its list
 
   module _ (list : Listed) where
-    -- it is that of the cursor
-    pub record IsListOf : Type 0 where
-      pub way : w.way ≡ listed (texts_of list.ids.now)
-      pub projection : list.projection.now ≡ w.projection
-      pub few : length list.ids.now < 2 ^ 64
-
-    pub reads_listed : IsListOf → (result : Result GivenBatch Refusal)
+    pub reads_listed : IsListOf w list → (result : Result GivenBatch Refusal)
         → ReadsVersion history w.version (AreListedIn w.number (texts_of list.ids.now)) (λ now chosen b. IsListedBatch asked (given_of list.projection.now chosen) b)
         result old new
         → ReadsAt history h namespace most result old new

@@ -9,6 +9,7 @@ use Rattle.collections.specs.State.{State}
 use Rattle.collections.specs.View.{disk_history}
 use Rattle.database_model.specs.Cursors.{new_cursor}
 use Rattle.database_model.specs.Lawful.{IsStored}
+use Rattle.pager.specs.declared.version.Version.{Version}
 use Rattle.index.specs.View.{texts_of}
 use Rattle.projection.specs.Projection.{Projection}
 use Rattle.cursors.specs.Held.{Held, HeldWalk, Way, through, listed, cursors_of, table_of}

@@ -1,6 +1,6 @@
 //! Cursors that hold no documents give their next batches.
 
-ghost use Rattle.std.specs.Prelude.{◌≡◌, ◌≢◌, ◌<◌, ◌≤◌, IfOk, None, length};
+ghost use Rattle.std.specs.Prelude.{◌≡◌, ◌≢◌, ◌<◌, ◌≤◌, ◌^◌, IfOk, None, length};
 ghost use Rattle.cursors.specs.Held.{cursors_of, held_at};
 ghost use Rattle.index.specs.View.{texts_of};
 ghost use Rattle.database_model.specs.Lawful.{AreLawfulCursors};
@@ -37,6 +37,7 @@ fn walk_on(pinned: &PinnedWalk) -> Walk<'_>
 /// The list by which it goes on.
 fn list_on(pinned: &PinnedList) -> Listed<'_>
     ensures ids { texts_of result.ids.now ≡ pinned.now.texts }
+    ensures few { length result.ids.now < 2 ^ 64 }
     ensures projection { result.projection.now ≡ pinned.now.projection }
 {
     Listed {

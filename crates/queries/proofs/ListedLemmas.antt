@@ -1,7 +1,7 @@
 -- Documents of a version that are looked up one after the other, and put into a batch.
 use Rattle.std.proofs.Common.{◌≡◌, inl, ℕ, ◌+◌, ◌<◌, ◌≤◌, Bool, true, false, List, [], ◌∷◌, ◌++◌, length, map, take, drop, Option, Some, None, Result, Ok, Err}
 use Rattle.std.proofs.Common.{refl, sym, ap, subst, ◌∙◌, arith}
-use Rattle.std.specs.Prelude.{All, MatchOption, MatchResult, OnOk, if◌then◌else◌, is_some, nat_lt, nat_le, not}
+use Rattle.std.specs.Prelude.{All, IfErr, IfOk, MatchOption, MatchResult, if◌then◌else◌, is_some, nat_lt, nat_le, not}
 use Rattle.std.specs.Global.{Vec}
 use Rattle.std.proofs.lemmas.Bool.Decides.{nat_tests}
 use Rattle.std.proofs.lemmas.List.{drop-map, length-drop, length-map, length-take, take_all}
@@ -62,7 +62,7 @@ version_from history version Was P Is R old new s r reads on = record {
 -- ---- one document
 
 -- It is at a place.
-place_of : Stored → Place
+abbrev place_of : Stored → Place
 place_of one = record { collection = one.home; id = key_of one.document }
 
 is_there : (number : ℕ) (text : List ℕ) (now : List Collection) (one : Stored) → IsStoredIn number text now one
@@ -107,21 +107,21 @@ module _ {D : Type 0} (history : D → History) (version : Version) (number : �
       no e = cc
 
   pub offered : (document : Pairs) (r : Result Bool Refusal) → Reads (Ok (Some document))
-      → MatchResult r (λ is_taken. IsOffered before (project p document) is_taken after) (λ e. IsStorable document → e ≡ refusals.OutOfMemory) → Offers r
-  offered document r reads said = from_place (Ok (Some document)) r reads (λ one storable same. at r one storable (is_one same) said)
+      → IfOk r (λ is_taken. IsOffered before (project p document) is_taken after) → (IsStorable document → IfErr r (λ e. e ≡ refusals.OutOfMemory)) → Offers r
+  offered document r reads ok err = from_place (Ok (Some document)) r reads (λ one storable same. at r one storable (is_one same) ok err)
     where
       is_one : {x y : Pairs} → Some x ≡ Some y → x ≡ y
       is_one e = cc
 
       at : (q : Result Bool Refusal) (one : Stored) → IsStorable one.document → document ≡ one.document
-          → MatchResult q (λ is_taken. IsOffered before (project p document) is_taken after) (λ e. IsStorable document → e ≡ refusals.OutOfMemory)
+          → IfOk q (λ is_taken. IsOffered before (project p document) is_taken after) → (IsStorable document → IfErr q (λ e. e ≡ refusals.OutOfMemory))
           → MatchResult q (λ is_taken. IsOffered before (project p one.document) is_taken after) (HasCause history old new)
-      at (Ok is_taken) one storable same said = subst (λ (d : Pairs). IsOffered before (project p d) is_taken after) same said
-      at (Err e) one storable same said = inl (said (subst IsStorable (sym same) storable))
+      at (Ok is_taken) one storable same ok err = subst (λ (d : Pairs). IsOffered before (project p d) is_taken after) same ok
+      at (Err e) one storable same ok err = inl (err (subst IsStorable (sym same) storable))
 
 -- on any disk a batch that was offered a document has some
-pub still_some : (before after : OpenBatch) (d : Pairs) (is_taken : Bool) → IsOffered before d is_taken after → IsOpen before → IsOpen after
-still_some before after d is_taken h some =
+pub still_open : (before after : OpenBatch) (d : Pairs) (is_taken : Bool) → IsOffered before d is_taken after → IsOpen before → IsOpen after
+still_open before after d is_taken h some =
     record { ds = if is_taken then some.ds ++ d ∷ [] else some.ds; given = h.given some.ds some.given }
 
 -- ---- one after the other

@@ -8,8 +8,10 @@ use Rattle.database_model.specs.Find.{given, window}
 use Rattle.database_model.specs.Lawful.{IsWithin}
 use Rattle.replies.specs.View.{projected, Runs}
 use Rattle.engine.specs.View.{world}
+use Rattle.engine.specs.Walking.{AreOf}
 use Rattle.engine.proofs.Finding.{given_within_limits}
 use Rattle.engine.proofs.KeepingPins.{pins_as_before}
+use Rattle.engine.proofs.WalkingLemmas.{window_of}
 use Rattle.engine.proofs.engine.Engine.give_listed.Goals as goal
 
 pub give_by_list-requires-clause-within : goal.give_by_list-requires-clause-within
@@ -37,3 +39,12 @@ returns-clause-runs g c =
 pub returns-in_err-asked-clause-file : goal.returns-in_err-asked-clause-file
 returns-in_err-asked-clause-file g c =
     pins_as_before g.D.Disk.history c.args.self.now.file c.args.self.now.cursors c.args.self.now.cursors refl
+
+pub give_by_list-requires-clause-there : goal.give_by_list-requires-clause-there
+give_by_list-requires-clause-there g c = λ k.
+    let q = c.args.query.now in
+    let now = (world c.args.self.now).collections in
+    let h = c.requires.there k in
+    subst (λ (ds : List Pairs). AreOf now c.args.namespace.now c.args.home.now ds)
+    (sym (c.in_ok-asked.ensures ∙ ap (λ (x : Query). window x.skip x.limit c.args.found.items) c.query.view_is))
+    (window_of now c.args.namespace.now c.args.home.now q.skip q.limit c.args.found.items h)
