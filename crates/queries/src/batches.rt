@@ -104,7 +104,7 @@ pub(crate) fn offer_within(
 }
 
 /// The key text of a document's `_id`.
-pub(crate) fn text_of(alloc: Global, document: &RawDoc<'_>) -> Result<Vec<u8>, Refusal>
+fn text_of(alloc: Global, document: &RawDoc<'_>) -> Result<Vec<u8>, Refusal>
     ensures text { IfOk result (λ text. text.items ≡ tree_text (key_of document.now)) }
     ensures refuses { IsStorable document.now → IfErr result (λ e. e ≡ Refusal.OutOfMemory) }
 {

@@ -9,8 +9,8 @@ ghost use Rattle.replies.specs.OpenBatch.{AreOffered, HasGiven, IsOffered, IsOpe
 ghost use Rattle.replies.specs.View.{IsSendable};
 ghost use Rattle.queries.specs.Listed.{AreListedIn, IsListedBatch, IsStoredIn, given_of, id_text_of};
 
-use crate::batches::{BatchAsked, GivenBatch, offer_within, text_of};
-use bson::{NoMemory, SpelledDocument};
+use crate::batches::{BatchAsked, GivenBatch, offer_within};
+use bson::{NoMemory, RawDoc, SpelledDocument, Value};
 use collections::Collections;
 use page::Disk;
 use pager::Version;
@@ -18,6 +18,7 @@ use path::Refusal;
 use projection::Projection;
 use replies::OpenBatch;
 use std::alloc::Global;
+use value_order::group_text;
 
 /// Documents that are to be given: the key texts of their `_id`s, in their order.
 #[derive(Clone, Copy)]
@@ -26,13 +27,23 @@ pub struct Listed<'a> {
     pub projection: &'a Projection,
 }
 
+/// The key text of a document's `_id`; of null's where it has none, as a disk may give some.
+fn id_text_in(alloc: Global, document: &RawDoc<'_>) -> Result<Vec<u8>, NoMemory>
+    ensures { IfOk result (λ text. text.items ≡ id_text_of document.now) }
+{
+    match document.get("_id") {
+        Some(id) => group_text(alloc, &id.value(alloc)?),
+        None => group_text(alloc, &Value::Null),
+    }
+}
+
 /// The key texts of the `_id`s of documents, in their order.
-pub fn listed_texts(alloc: Global, documents: &[SpelledDocument]) -> Result<Vec<Vec<u8>>, Refusal>
+pub fn listed_texts(alloc: Global, documents: &[SpelledDocument]) -> Result<Vec<Vec<u8>>, NoMemory>
     ensures { IfOk result (λ ids. texts_of ids.items ≡ map id_text_of documents.now) }
 {
     let mut texts = Vec::with_capacity(alloc, documents.len())?;
     'documents: for document in documents {
-        texts.push(text_of(alloc, &document.raw())?)?;
+        texts.push(id_text_in(alloc, &document.raw())?)?;
     }
     Ok(texts)
 }
