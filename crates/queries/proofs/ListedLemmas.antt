@@ -148,129 +148,129 @@ next_of (d ∷ ds) text rest e = record { document = d; behind = ds; split = ref
     first e = cc
 
 module _ {D : Type 0} (history : D → History) (version : Version) (number : ℕ) (texts : List (List ℕ)) (p : Projection) (begun : OpenBatch) (start : State D)
-    where
-  abbrev Asks : List Collection → Chosen → Type 0
-  Asks now chosen = AreListedIn number texts now chosen
+  where
+    abbrev Asks : List Collection → Chosen → Type 0
+    Asks now chosen = AreListedIn number texts now chosen
 
-  -- Those before this one are in the batch.
-  pub record HasOffered (now : State D) (i : ℕ) (batch : OpenBatch) : Type 0 where
-    pub on : GoesFrom history start now
-    pub unchanged : is_changed now ≡ is_changed start
-    pub same : (s t : List Collection) → HasState history start s t → HasState history now s t
-    pub some : IsOpen batch
-    pub there : KeepsWord (disk_history history now) → (cs : List Collection) → HasVersion history start version cs → (chosen : Chosen) → Asks cs chosen
-        → IsBatchSoFar begun (given_of p chosen) i batch
+    -- Those before this one are in the batch.
+    pub record HasOffered (now : State D) (i : ℕ) (batch : OpenBatch) : Type 0 where
+      pub on : GoesFrom history start now
+      pub unchanged : is_changed now ≡ is_changed start
+      pub same : (s t : List Collection) → HasState history start s t → HasState history now s t
+      pub some : IsOpen batch
+      pub there : KeepsWord (disk_history history now) → (cs : List Collection) → HasVersion history start version cs → (chosen : Chosen) → Asks cs chosen
+          → IsBatchSoFar begun (given_of p chosen) i batch
 
-  pub begins : HasGiven begun [] → HasOffered start 0 begun
-  begins empty = record {
-    on = goes_itself history start;
-    unchanged = refl;
-    same = λ s t has. has;
-    some = record { ds = []; given = empty };
-    there = λ k cs has chosen asks. record { same_kind = refl; same_most = refl; given = empty };
-  }
-
-  -- the batch has what goes into it
-  abbrev IsWhole : OpenBatch → List Collection → Chosen → Type 0
-  IsWhole batch now chosen = AreOffered begun (given_of p chosen) batch.count batch
-
-  module _ (now new : State D) (i : ℕ) (batch next : OpenBatch) (come : HasOffered now i batch) (text : List ℕ) (rest : List (List ℕ))
-      (is : drop i texts ≡ text ∷ rest) where
-    abbrev Read : Result Bool Refusal → Type 0
-    Read r = ReadsVersion history version (IsStoredIn number text) (λ cs one is_taken. IsOffered batch (project p one.document) is_taken next) r now new
-
-    -- the one that the text tells, and how it stands among all
-    record IsTurnOf (cs : List Collection) (chosen : Chosen) : Type 0 where
-      pub document : Pairs
-      pub behind : List Pairs
-      pub at : drop i (given_of p chosen) ≡ project p document ∷ behind
-      pub stored : IsStoredIn number text cs (record { home = chosen.home; document = document })
-
-    turn_of : (cs : List Collection) → IsLawfulState cs → (chosen : Chosen) → Asks cs chosen → IsTurnOf cs chosen
-    turn_of cs state chosen asks =
-        let kept : IsKept chosen.home = (found_collection cs chosen.home.name chosen.home state asks.numbered.found).0 in
-        let left : map id_text_of (drop i chosen.documents) ≡ text ∷ rest =
-        sym (drop-map id_text_of i chosen.documents) ∙ ap (drop i) (sym asks.listed.spelled) ∙ is in
-        let n : IsNextOf text (drop i chosen.documents) = next_of (drop i chosen.documents) text rest left in
-        let Found : Pairs → Type 0 = λ d. find_document chosen.home.documents (key_of d) ≡ Some d in
-        let found : Found n.document =
-        All-head Found n.document n.behind (subst (λ (ds : List Pairs). All Found ds) n.split (All-drop Found i chosen.documents asks.listed.found)) in
-        record {
-          document = n.document;
-          behind = map (project p) n.behind;
-          at = drop-map (project p) i chosen.documents ∙ ap (map (project p)) n.split;
-          stored = record {
-            numbered = asks.numbered;
-            found = found;
-            storable = (found_document chosen.home.documents (key_of n.document) n.document kept.storable found).0;
-            spelled = n.spelled;
-          };
-        }
-
-    reaches : GoesFrom history now new → GoesFrom history start new
-    reaches goes = goes_on history start now new come.on goes
-
-    pub takes_it : Read (Ok true) → (IsOpen batch → IsOpen next) → HasOffered new (i + 1) next
-    takes_it reads opens = record {
-      on = reaches reads.on;
-      unchanged = reads.unchanged ∙ come.unchanged;
-      same = λ s t has. reads.same s t (come.same s t has);
-      some = opens come.some;
-      there = λ k cs has chosen asks.
-          let t : IsTurnOf cs chosen = turn_of cs has.state chosen asks in
-          let so_far = come.there (word_before history now new reads.on k) cs has chosen asks in
-          goes_further begun batch next (given_of p chosen) i (project p t.document) t.behind t.at so_far
-          (reads.answers k cs (versions_stay history start now come.on version cs has) (record { home = chosen.home; document = t.document }) t.stored);
+    pub begins : HasGiven begun [] → HasOffered start 0 begun
+    begins empty = record {
+      on = goes_itself history start;
+      unchanged = refl;
+      same = λ s t has. has;
+      some = record { ds = []; given = empty };
+      there = λ k cs has chosen asks. record { same_kind = refl; same_most = refl; given = empty };
     }
 
-    -- it has no room
-    pub is_full : Read (Ok false) → ReadsVersion history version Asks (λ cs chosen (_ : Unit {0}). IsWhole next cs chosen) (Ok tt) start new
-    is_full reads = record {
-      on = reaches reads.on;
-      unchanged = reads.unchanged ∙ come.unchanged;
-      same = λ s t has. reads.same s t (come.same s t has);
+    -- the batch has what goes into it
+    abbrev IsWhole : OpenBatch → List Collection → Chosen → Type 0
+    IsWhole batch now chosen = AreOffered begun (given_of p chosen) batch.count batch
+
+    module _ (now new : State D) (i : ℕ) (batch next : OpenBatch) (come : HasOffered now i batch) (text : List ℕ) (rest : List (List ℕ))
+        (is : drop i texts ≡ text ∷ rest) where
+      abbrev Read : Result Bool Refusal → Type 0
+      Read r = ReadsVersion history version (IsStoredIn number text) (λ cs one is_taken. IsOffered batch (project p one.document) is_taken next) r now new
+
+      -- the one that the text tells, and how it stands among all
+      record IsTurnOf (cs : List Collection) (chosen : Chosen) : Type 0 where
+        pub document : Pairs
+        pub behind : List Pairs
+        pub at : drop i (given_of p chosen) ≡ project p document ∷ behind
+        pub stored : IsStoredIn number text cs (record { home = chosen.home; document = document })
+
+      turn_of : (cs : List Collection) → IsLawfulState cs → (chosen : Chosen) → Asks cs chosen → IsTurnOf cs chosen
+      turn_of cs state chosen asks =
+          let kept : IsKept chosen.home = (found_collection cs chosen.home.name chosen.home state asks.numbered.found).0 in
+          let left : map id_text_of (drop i chosen.documents) ≡ text ∷ rest =
+          sym (drop-map id_text_of i chosen.documents) ∙ ap (drop i) (sym asks.listed.spelled) ∙ is in
+          let n : IsNextOf text (drop i chosen.documents) = next_of (drop i chosen.documents) text rest left in
+          let Found : Pairs → Type 0 = λ d. find_document chosen.home.documents (key_of d) ≡ Some d in
+          let found : Found n.document =
+          All-head Found n.document n.behind (subst (λ (ds : List Pairs). All Found ds) n.split (All-drop Found i chosen.documents asks.listed.found)) in
+          record {
+            document = n.document;
+            behind = map (project p) n.behind;
+            at = drop-map (project p) i chosen.documents ∙ ap (map (project p)) n.split;
+            stored = record {
+              numbered = asks.numbered;
+              found = found;
+              storable = (found_document chosen.home.documents (key_of n.document) n.document kept.storable found).0;
+              spelled = n.spelled;
+            };
+          }
+
+      reaches : GoesFrom history now new → GoesFrom history start new
+      reaches goes = goes_on history start now new come.on goes
+
+      pub takes_it : Read (Ok true) → (IsOpen batch → IsOpen next) → HasOffered new (i + 1) next
+      takes_it reads opens = record {
+        on = reaches reads.on;
+        unchanged = reads.unchanged ∙ come.unchanged;
+        same = λ s t has. reads.same s t (come.same s t has);
+        some = opens come.some;
+        there = λ k cs has chosen asks.
+            let t : IsTurnOf cs chosen = turn_of cs has.state chosen asks in
+            let so_far = come.there (word_before history now new reads.on k) cs has chosen asks in
+            goes_further begun batch next (given_of p chosen) i (project p t.document) t.behind t.at so_far
+            (reads.answers k cs (versions_stay history start now come.on version cs has) (record { home = chosen.home; document = t.document }) t.stored);
+      }
+
+      -- it has no room
+      pub is_full : Read (Ok false) → ReadsVersion history version Asks (λ cs chosen (_ : Unit {0}). IsWhole next cs chosen) (Ok tt) start new
+      is_full reads = record {
+        on = reaches reads.on;
+        unchanged = reads.unchanged ∙ come.unchanged;
+        same = λ s t has. reads.same s t (come.same s t has);
+        answers = λ k cs has chosen asks.
+            let t : IsTurnOf cs chosen = turn_of cs has.state chosen asks in
+            let so_far = come.there (word_before history now new reads.on k) cs has chosen asks in
+            counted_so (given_of p chosen)
+            (ends begun batch next (given_of p chosen) i (project p t.document) t.behind t.at so_far
+            (reads.answers k cs (versions_stay history start now come.on version cs has) (record { home = chosen.home; document = t.document }) t.stored))
+            (long_enough (given_of p chosen) (project p t.document) t.behind t.at);
+      }
+        where
+          long_enough : (ds : List Pairs) (d : Pairs) (behind : List Pairs) → drop i ds ≡ d ∷ behind → i ≤ length ds
+          long_enough ds d behind e = omega (arith, length-drop i ds, ap length e)
+
+          counted_so : (ds : List Pairs) → AreOffered begun ds i next → i ≤ length ds → AreOffered begun ds next.count next
+          counted_so ds h long =
+              let n : i ≡ next.count = omega (arith, h.given.counted, length-take i ds, long) in
+              subst (λ (m : ℕ). AreOffered begun ds m next) n h
+
+      pub fails : (e : Refusal) → Read (Err e) → ReadsVersion history version Asks (λ cs chosen (_ : Unit {0}). IsWhole next cs chosen) (Err e) start new
+      fails e reads = record {
+        on = reaches reads.on;
+        unchanged = reads.unchanged ∙ come.unchanged;
+        same = λ s t has. reads.same s t (come.same s t has);
+        answers = λ k cs has chosen asks.
+            let t : IsTurnOf cs chosen = turn_of cs has.state chosen asks in
+            widen_before history start now new come.on reads.on k e
+            (reads.answers k cs (versions_stay history start now come.on version cs has) (record { home = chosen.home; document = t.document }) t.stored);
+      }
+
+    -- all were offered
+    pub took_all : (now : State D) (i : ℕ) (batch : OpenBatch) → HasOffered now i batch → length texts ≤ i
+        → ReadsVersion history version Asks (λ cs chosen (_ : Unit {0}). IsWhole batch cs chosen) (Ok tt) start now
+    took_all now i batch come past = record {
+      on = come.on;
+      unchanged = come.unchanged;
+      same = come.same;
       answers = λ k cs has chosen asks.
-          let t : IsTurnOf cs chosen = turn_of cs has.state chosen asks in
-          let so_far = come.there (word_before history now new reads.on k) cs has chosen asks in
-          counted_so (given_of p chosen)
-          (ends begun batch next (given_of p chosen) i (project p t.document) t.behind t.at so_far
-          (reads.answers k cs (versions_stay history start now come.on version cs has) (record { home = chosen.home; document = t.document }) t.stored))
-          (long_enough (given_of p chosen) (project p t.document) t.behind t.at);
+          let so_far = come.there k cs has chosen asks in
+          let ds = given_of p chosen in
+          let many : length texts ≡ length ds = as_many chosen.home.documents texts chosen.documents p asks.listed in
+          offered_all begun batch ds i batch.count so_far (omega (arith, many, past))
+          (omega (arith, so_far.given.counted, length-take i ds, many, past));
     }
-      where
-        long_enough : (ds : List Pairs) (d : Pairs) (behind : List Pairs) → drop i ds ≡ d ∷ behind → i ≤ length ds
-        long_enough ds d behind e = omega (arith, length-drop i ds, ap length e)
-
-        counted_so : (ds : List Pairs) → AreOffered begun ds i next → i ≤ length ds → AreOffered begun ds next.count next
-        counted_so ds h long =
-            let n : i ≡ next.count = omega (arith, h.given.counted, length-take i ds, long) in
-            subst (λ (m : ℕ). AreOffered begun ds m next) n h
-
-    pub fails : (e : Refusal) → Read (Err e) → ReadsVersion history version Asks (λ cs chosen (_ : Unit {0}). IsWhole next cs chosen) (Err e) start new
-    fails e reads = record {
-      on = reaches reads.on;
-      unchanged = reads.unchanged ∙ come.unchanged;
-      same = λ s t has. reads.same s t (come.same s t has);
-      answers = λ k cs has chosen asks.
-          let t : IsTurnOf cs chosen = turn_of cs has.state chosen asks in
-          widen_before history start now new come.on reads.on k e
-          (reads.answers k cs (versions_stay history start now come.on version cs has) (record { home = chosen.home; document = t.document }) t.stored);
-    }
-
-  -- all were offered
-  pub took_all : (now : State D) (i : ℕ) (batch : OpenBatch) → HasOffered now i batch → length texts ≤ i
-      → ReadsVersion history version Asks (λ cs chosen (_ : Unit {0}). IsWhole batch cs chosen) (Ok tt) start now
-  took_all now i batch come past = record {
-    on = come.on;
-    unchanged = come.unchanged;
-    same = come.same;
-    answers = λ k cs has chosen asks.
-        let so_far = come.there k cs has chosen asks in
-        let ds = given_of p chosen in
-        let many : length texts ≡ length ds = as_many chosen.home.documents texts chosen.documents p asks.listed in
-        offered_all begun batch ds i batch.count so_far (omega (arith, many, past))
-        (omega (arith, so_far.given.counted, length-take i ds, many, past));
-  }
 
 -- ---- the batch then
 
