@@ -5,7 +5,7 @@ use Rattle.bson.specs.Tree.{Pairs}
 use Rattle.pager.specs.declared.version.Version.{Version}
 use Rattle.database_model.specs.World.{at_rest}
 use Rattle.database_model.specs.Cursors.{new_cursor}
-use Rattle.cursors.specs.Held.{HeldWalk, HeldCursor, Held, held_at}
+use Rattle.cursors.specs.Held.{Way, through, listed, HeldWalk, HeldCursor, Held, held_at}
 
 -- a new cursor stands behind all others
 abbrev pub opened : Held → ℕ → List ℕ → List Pairs → Option HeldWalk → Held
@@ -24,9 +24,14 @@ after h n walk = record {
   walk = walk;
 }
 
+-- the way on after n documents: it goes on from this key text, or by the other texts of its list
+abbrev pub further : ℕ → List ℕ → Way → Way
+further n from (through rules limit _) = through rules (limit - n) from
+further n from (listed texts) = listed (drop n texts)
+
 -- the walk gave n documents, and goes on from this key text
 abbrev pub onwards : ℕ → List ℕ → HeldWalk → HeldWalk
-onwards n from walk = record walk { limit = walk.limit - n; from = from }
+onwards n from walk = record walk { way = further n from walk.way }
 
 -- the cursor at a place gave n documents, and has others left
 abbrev pub gone_on : Held → ℕ → ℕ → Option HeldWalk → Held

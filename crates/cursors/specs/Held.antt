@@ -7,16 +7,20 @@ use Rattle.pager.specs.declared.version.Version.{Version}
 use Rattle.database_model.specs.World.{Cursor, CursorTable}
 use Rattle.database_model.specs.Cursors.{no_cursor}
 
--- How the walk of a cursor goes on: in a pinned version, through the collection of this number,
--- from this key text on. Of the documents that pass the filter so many may still come (0: all),
--- each as the projection leaves it.
+-- In which way a cursor goes on in a collection: through it from a key text on, where so many of the
+-- documents that pass the filter may still come (0: all); or by the key texts of the `_id`s of those
+-- that are left, in their order.
+pub data Way : Type 0 where
+  through : Conditions → ℕ → List ℕ → Way
+  listed : List (List ℕ) → Way
+
+-- How a cursor goes on: in a pinned version, in the collection of this number, in this way. Of each
+-- document comes what the projection leaves.
 pub record HeldWalk : Type 0 where
   pub version : Version
   pub number : ℕ
-  pub filter : Conditions
   pub projection : Projection
-  pub limit : ℕ
-  pub from : List ℕ
+  pub way : Way
 
 -- A cursor, and the walk by which it goes on. One without a walk keeps its documents.
 pub record HeldCursor : Type 0 where

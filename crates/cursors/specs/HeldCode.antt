@@ -1,13 +1,15 @@
 -- A code for open cursors, by which a proof tells two of them apart.
-use Rattle.std.specs.Prelude.{ℕ, List, Option, refl}
-use Rattle.std.specs.Coded.{Coded, code_by, coded×, coded_ℕ, coded_bool, coded_list, coded_option}
+use Rattle.std.specs.Prelude.{◌≡◌, ◌⊎◌, ℕ, List, Option, refl}
+use Rattle.std.proofs.Common.{inl, inr}
+use Rattle.std.specs.Coded.{Coded, code_by, coded×, coded⊎, coded_ℕ, coded_bool, coded_list}
+use Rattle.std.specs.Coded.{coded_option}
 use Rattle.filter.specs.Condition.{Conditions}
 use Rattle.filter.specs.ConditionCode.{coded_conditions}
 use Rattle.projection.specs.Projection.{Projection}
 use Rattle.pager.specs.declared.version.Version.{Version}
 use Rattle.database_model.specs.World.{Cursor}
 use Rattle.database_model.specs.Lawful.{cursor_code}
-use Rattle.cursors.specs.Held.{HeldWalk, HeldCursor, Held}
+use Rattle.cursors.specs.Held.{Way, through, listed, HeldWalk, HeldCursor, Held}
 
 abbrev version_code : Coded Version
 version_code =
@@ -17,22 +19,35 @@ version_code =
 abbrev projection_code : Coded Projection
 projection_code = coded× coded_bool (coded_list (coded_list (coded_list coded_ℕ)))
 
--- a walk by its version, its collection, its filter and projection, and where it goes on
+abbrev WaySum : Type 0
+WaySum = (Conditions × (ℕ × List ℕ)) ⊎ List (List ℕ)
+
+abbrev way_sum : Way → WaySum
+way_sum (through rules limit from) = inl (rules, (limit, from))
+way_sum (listed texts) = inr texts
+
+abbrev sum_way : WaySum → Way
+sum_way (inl w) = through w.0 w.1.0 w.1.1
+sum_way (inr texts) = listed texts
+
+pub sum_way-way_sum : (way : Way) → sum_way (way_sum way) ≡ way
+sum_way-way_sum (through rules limit from) = refl
+sum_way-way_sum (listed texts) = refl
+
+abbrev way_code : Coded Way
+way_code =
+    code_by WaySum
+    (coded⊎ (coded× coded_conditions (coded× coded_ℕ (coded_list coded_ℕ)))
+    (coded_list (coded_list coded_ℕ)))
+    way_sum sum_way sum_way-way_sum
+
+-- a walk by its version, its collection, its projection and its way
 abbrev walk_code : Coded HeldWalk
 walk_code =
-    code_by ((Version × ℕ) × ((Conditions × Projection) × (ℕ × List ℕ)))
-    (coded× (coded× version_code coded_ℕ)
-    (coded× (coded× coded_conditions projection_code)
-    (coded× coded_ℕ (coded_list coded_ℕ))))
-    (λ w. ((w.version, w.number), ((w.filter, w.projection), (w.limit, w.from))))
-    (λ p. record {
-      version = p.0.0;
-      number = p.0.1;
-      filter = p.1.0.0;
-      projection = p.1.0.1;
-      limit = p.1.1.0;
-      from = p.1.1.1;
-    })
+    code_by ((Version × ℕ) × (Projection × Way))
+    (coded× (coded× version_code coded_ℕ) (coded× projection_code way_code))
+    (λ w. ((w.version, w.number), (w.projection, w.way)))
+    (λ p. record { version = p.0.0; number = p.0.1; projection = p.1.0; way = p.1.1 })
     (λ _. refl)
 
 abbrev pub held_cursor_code : Coded HeldCursor

@@ -3,7 +3,7 @@
 //! What later commands do to a collection isn't seen by a cursor: it keeps the bytes of its documents, or
 //! reads a version of the collections that is pinned for it.
 
-ghost use Rattle.std.specs.Prelude.{◌≡◌, ◌≢◌, ◌==◌, ◌<◌, ◌≤◌, ◌^◌, ◌+◌, ◌++◌, [], ◌∷◌, false, true, All, length, map, None, Some, remove, OnOk, OnErr, IfOk, IfErr, IfSome, IfNone, option_map};
+ghost use Rattle.std.specs.Prelude.{◌≡◌, ◌≢◌, ◌==◌, ◌<◌, ◌≤◌, ◌^◌, ◌+◌, ◌++◌, [], ◌∷◌, false, true, All, length, map, None, Some, remove, OnOk, OnErr, IfOk, IfErr, IfSome, IfNone, not, is_some, option_map};
 ghost use Rattle.std.specs.List.{filter, list_any, position};
 ghost use Rattle.projection.specs.Projection.{project};
 ghost use Rattle.database_model.specs.World.{at_rest, count_of};
@@ -17,10 +17,11 @@ ghost use Rattle.replies.specs.View.{batch_name, projected, IsSendable};
 ghost use Rattle.cursors.specs.Held.{cursors_of, held_at, table_of};
 ghost use Rattle.cursors.specs.Changes.{advanced_kept, all_at_rest, gone_on, onwards, opened, pinned_by, rested, without};
 ghost use Rattle.cursors.specs.Ending.{first_ended, given_back, left};
-ghost use Rattle.cursors.specs.View.{rest_in, walk_in, walk_of};
+ghost use Rattle.cursors.specs.View.{list_of, rest_in, walk_in, walk_of};
 
 use crate::ending::Ends;
 use crate::kept::KeptDocuments;
+use crate::list::PinnedList;
 use crate::open_cursor::OpenCursor;
 use crate::source::Source;
 use crate::walk::PinnedWalk;
@@ -194,6 +195,27 @@ impl Cursors {
         self.open(connection, namespace, Source::Pinned(walk))
     }
 
+    /// Opens a cursor that goes on by a list of documents of a pinned version. An `Err` leaves all as it was.
+    pub fn open_listed(
+        &mut self,
+        connection: ConnId,
+        namespace: &str,
+        list: PinnedList,
+    ) -> Result<(), NoMemory>
+        requires number { self.old.next < 2 ^ 63 }
+        requires within { All IsWithin list.rest.value }
+        ensures ok { OnOk result (self.new ≡ opened self.old connection namespace.now
+            list.rest.value (Some (list_of list))) }
+        ensures table { OnOk result (table_of self.new ≡ record {
+          list = cursors_of self.old
+              ++ new_cursor self.old.next connection namespace.now list.rest.value ∷ [];
+          next = self.old.next + 1;
+        }) }
+        ensures err { OnErr result (self.new ≡ self.old) }
+    {
+        self.open(connection, namespace, Source::Listed(list))
+    }
+
     /// The reply with a first batch of documents of which a projection is given, and how many they are.
     /// `TooMany` where others are left and the connection may open no cursor.
     pub fn first_batch<T: Gives>(
@@ -257,14 +279,24 @@ impl Cursors {
         cursor.number()
     }
 
-    /// The walk of the cursor at a place; `None` where it keeps its documents.
-    pub fn walk_at(&self, at: usize) -> Option<&PinnedWalk>
+    /// Whether the cursor at a place keeps its documents.
+    pub fn keeps_at(&self, at: usize) -> bool
         requires { at < length self.now.list }
-        ensures walk { option_map (λ w. walk_of w.now) result ≡ (held_at self.now at).walk }
+        ensures { result ≡ not (is_some (held_at self.now at).walk) }
+    {
+        let cursor = &self.list[at];
+        cursor.keeps()
+    }
+
+    /// What the cursor at a place goes on by.
+    pub fn source_at(&self, at: usize) -> &Source
+        requires { at < length self.now.list }
+        ensures rest { rest_in result.now ≡ (held_at self.now at).cursor.rest }
+        ensures walk { walk_in result.now ≡ (held_at self.now at).walk }
         ensures within { All IsWithin (held_at self.now at).cursor.rest }
     {
         let cursor = &self.list[at];
-        cursor.walk()
+        cursor.source()
     }
 
     /// The reply with the next batch of the cursor at a place, which keeps its documents, and how many go
@@ -322,8 +354,8 @@ impl Cursors {
         let _pinned = self.end_at(at);
     }
 
-    /// The cursor at a place gave so many documents of its walk and has others left: it goes on from a key
-    /// text.
+    /// The cursor at a place, which reads a pinned version, gave so many documents and has others left: it
+    /// goes on from a key text.
     pub fn go_on(&mut self, at: usize, count: usize, from: Vec<u8>)
         requires there { at < length self.old.list }
         requires pinned { (held_at self.old at).walk ≢ None }

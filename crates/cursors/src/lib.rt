@@ -4,6 +4,7 @@
 mod cursors;
 mod ending;
 mod kept;
+mod list;
 mod open_cursor;
 mod rest;
 mod source;
@@ -11,5 +12,8 @@ mod walk;
 
 pub use cursors::Cursors;
 pub use ending::Ends;
+pub use kept::KeptDocuments;
+pub use list::{PinnedList, TextList};
 pub use rest::Rest;
+pub use source::Source;
 pub use walk::PinnedWalk;

@@ -1,6 +1,6 @@
 //! One open cursor.
 
-ghost use Rattle.std.specs.Prelude.{◌≡◌, ◌≢◌, ◌==◌, ◌<◌, ◌≤◌, ◌^◌, All, length, None, IfOk, option_map};
+ghost use Rattle.std.specs.Prelude.{◌≡◌, ◌≢◌, ◌==◌, ◌<◌, ◌≤◌, ◌^◌, All, length, None, IfOk, not, is_some, option_map};
 ghost use Rattle.database_model.specs.Lawful.{IsWithin};
 ghost use Rattle.database_model.specs.Refusals.{ok_reply};
 ghost use Rattle.database_model.specs.Cursors.{batch_reply, new_cursor, is_cursor};
@@ -9,11 +9,10 @@ ghost use Rattle.database_model.specs.KillCursors.{is_asked};
 ghost use Rattle.replies.specs.View.{batch_name, IsSendable};
 ghost use Rattle.cursors.specs.Changes.{after, onwards, pinned_by, rested};
 ghost use Rattle.cursors.specs.Ending.{is_ended};
-ghost use Rattle.cursors.specs.View.{rest_in, walk_in, walk_of};
+ghost use Rattle.cursors.specs.View.{rest_in, walk_in};
 
 use crate::ending::Ends;
 use crate::source::Source;
-use crate::walk::PinnedWalk;
 use bson::{NoMemory, SpelledDocument};
 use pager::Version;
 use replies::{BatchKind, ConnId};
@@ -125,15 +124,23 @@ impl OpenCursor {
         self.number
     }
 
-    /// Its walk; `None` where it keeps its documents.
-    pub(crate) fn walk(&self) -> Option<&PinnedWalk>
-        ensures walk { option_map (λ w. walk_of w.now) result ≡ self.now.walk }
-        ensures within { All IsWithin self.now.cursor.rest }
+    /// Whether it keeps its documents.
+    pub(crate) fn keeps(&self) -> bool
+        ensures { result ≡ not (is_some self.now.walk) }
     {
         match &self.source {
-            Source::Kept(_) => None,
-            Source::Pinned(walk) => Some(walk),
+            Source::Kept(_) => true,
+            _ => false,
         }
+    }
+
+    /// What it goes on by.
+    pub(crate) fn source(&self) -> &Source
+        ensures rest { rest_in result.now ≡ self.now.cursor.rest }
+        ensures walk { walk_in result.now ≡ self.now.walk }
+        ensures within { All IsWithin self.now.cursor.rest }
+    {
+        &self.source
     }
 
     /// The version that it has pinned.
@@ -143,6 +150,7 @@ impl OpenCursor {
         match &self.source {
             Source::Kept(_) => None,
             Source::Pinned(walk) => Some(walk.version),
+            Source::Listed(list) => Some(list.version),
         }
     }
 
@@ -153,7 +161,7 @@ impl OpenCursor {
     {
         match &self.source {
             Source::Kept(kept) => kept.left(),
-            Source::Pinned(_) => unreachable!("it keeps its documents"),
+            _ => unreachable!("it keeps its documents"),
         }
     }
 
@@ -173,7 +181,7 @@ impl OpenCursor {
     {
         match &self.source {
             Source::Kept(kept) => kept.batch(alloc, namespace, self.number, most),
-            Source::Pinned(_) => unreachable!("it keeps its documents"),
+            _ => unreachable!("it keeps its documents"),
         }
     }
 
@@ -185,21 +193,18 @@ impl OpenCursor {
     {
         match &mut self.source {
             Source::Kept(kept) => kept.give(count),
-            Source::Pinned(_) => unreachable!("it keeps its documents"),
+            _ => unreachable!("it keeps its documents"),
         }
         self.touched = true;
     }
 
-    /// One that walks through a pinned version gave so many, and goes on from a key text.
+    /// One that reads a pinned version gave so many, and goes on from a key text.
     pub(crate) fn go_on(&mut self, count: usize, from: Vec<u8>)
         requires { self.old.walk ≢ None }
         ensures { self.new ≡ after self.old count
             (option_map (onwards count from.items) self.old.walk) }
     {
-        match &mut self.source {
-            Source::Kept(_) => unreachable!("it walks through a pinned version"),
-            Source::Pinned(walk) => walk.go_on(count, from),
-        }
+        self.source.go_on(count, from);
         self.touched = true;
     }
 

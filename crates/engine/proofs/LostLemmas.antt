@@ -100,16 +100,20 @@ there_behind (x ∷ gone) d ds above there =
           (there_behind gone d (without_document (key_of x) ds) (All-tail (Above d) x gone above) there.1),
     )
 
+-- each document of a list in order is found by its `_id`
+pub each_found : (ds : List Pairs) → IsRising ds → All (λ d. find_document ds (key_of d) ≡ Some d) ds
+each_found [] up = λ k d below. absurd (omega (arith, below))
+each_found (x ∷ xs) up = λ k d below. stands k d below
+  where
+    stands : (k : ℕ) (d : Pairs) → k < length (x ∷ xs) → find_document (x ∷ xs) (key_of (get_or (x ∷ xs) k d)) ≡ Some (get_or (x ∷ xs) k d)
+    stands zero d below = first_there x xs
+    stands (suc k) d below =
+        found_behind (get_or xs k d) x xs (up 0 (suc k) d (omega arith) below)
+        ∙ each_found xs (rises_tail compare key_of x xs up) k d (omega (arith, below))
+
 place_there : (o : Option ℕ) (ds : List Pairs) → ((i : ℕ) → o ≡ Some i → i < length ds) → IsRising ds → AreThere (taken_at o ds) ds
 place_there None ds within up = tt
-place_there (Some i) ds within up = (stands ds i up (within i refl), tt)
-  where
-    stands : (xs : List Pairs) (k : ℕ) → IsRising xs → k < length xs → find_document xs (key_of (get_or xs k no_pairs)) ≡ Some (get_or xs k no_pairs)
-    stands [] k up within = absurd (omega (arith, within))
-    stands (x ∷ xs) zero up within = first_there x xs
-    stands (x ∷ xs) (suc k) up within =
-        found_behind (get_or xs k no_pairs) x xs (up 0 (suc k) no_pairs (omega arith) within)
-        ∙ stands xs k (rises_tail compare key_of x xs up) (omega (arith, within))
+place_there (Some i) ds within up = (each_found ds up i no_pairs (within i refl), tt)
 
 filter_there : (p : Pairs → Bool) (ds : List Pairs) → IsRising ds → AreThere (filter p ds) ds
 filter_there p [] up = tt

@@ -2,32 +2,35 @@
 use Rattle.std.proofs.Common.{◌≡◌, ℕ, ◌+◌, ◌-◌, ◌^◌, ◌<◌, ◌≤◌, true, false, List, [], ◌∷◌}
 use Rattle.std.proofs.Common.{◌++◌, length, drop, take, Option, Some, None, Result, Ok, Err, refl, sym}
 use Rattle.std.proofs.Common.{inl, inr, ap, subst, ◌∙◌, arith}
-use Rattle.std.specs.Prelude.{All, Bool, IfNone, IfSome, MatchOption, codes, is_some, not, unwrap_or}
+use Rattle.std.specs.Prelude.{All, Bool, IfNone, IfSome, MatchOption, codes, is_some, map, not, unwrap_or}
 use Rattle.std.specs.Global.{Vec}
-use Rattle.std.proofs.lemmas.List.Elements.{All-append, All-cons, All-filter}
+use Rattle.std.proofs.lemmas.List.Elements.{All-append, All-cons, All-filter, All-take}
 use Rattle.bson.specs.Tree.{Pairs}
 use Rattle.commands.specs.Find.{Find, Query}
 use Rattle.filter.specs.Condition.{Conditions}
 use Rattle.filter.specs.Matches.{matches}
-use Rattle.projection.specs.Projection.{Projection}
+use Rattle.projection.specs.Projection.{Projection, project}
 use Rattle.page.specs.History.{History, KeepsWord}
-use Rattle.collections.specs.Reading.{IsNumbered}
 use Rattle.collections.specs.State.{State}
-use Rattle.entries.specs.State.{Collection}
+use Rattle.entries.specs.LawfulState.{IsRising}
+use Rattle.entries.specs.State.{Collection, key_of}
+use Rattle.entries.specs.StateReads.{find_document}
 use Rattle.entries.specs.declared.catalogue_reading.Catalogued.{Catalogued}
-use Rattle.cursors.specs.Held.{Held, table_of}
-use Rattle.pinned_cursors.specs.Opening.{IsLeftOf, OpensPinned, rest_behind}
-use Rattle.pinned_cursors.specs.declared.opening.WalkSoFar.{WalkSoFar}
+use Rattle.cursors.specs.Held.{Held, Way, through, listed, table_of}
+use Rattle.pinned_cursors.specs.Opening.{IsLeftOf, OpensPinned}
+use Rattle.pinned_cursors.specs.Tied.{IsLeftBy}
+use Rattle.pinned_cursors.specs.Turns.{Releases}
 use Rattle.path.specs.declared.refusal.Refusal.{Refusal}
 use Rattle.path.specs.declared.refusal.Refusal.TheVariants as refusals
 use Rattle.database_model.specs.Cursors.{batch_of, batch_reply, first_batch, is_refused, new_cursor}
-use Rattle.database_model.specs.Find.{Suffices, given, matching, query_result, run_find}
+use Rattle.database_model.specs.Find.{Suffices, given, matching, query_result, run_find, window}
 use Rattle.sort.specs.Sort.{SortField, order}
-use Rattle.queries.proofs.OrderingLemmas.{unsorted}
-use Rattle.database_model.specs.Lawful.{IsLawful, IsStored, IsWithin}
+use Rattle.queries.proofs.OrderingLemmas.{first_kept, unsorted}
+use Rattle.database_model.specs.Lawful.{IsKept, IsLawful, IsStored, IsWithin}
 use Rattle.database_model.specs.Refusals.{ok_reply}
 use Rattle.database_model.specs.World.{Cursor, World, documents_of}
 use Rattle.queries.specs.Batches.{GoesOn, IsGivenBatch, is_from, rest_from, rest_of, walk_rest}
+use Rattle.queries.specs.Listed.{id_text_of}
 use Rattle.queries.specs.declared.batches.BatchAsked.{BatchAsked}
 use Rattle.queries.specs.declared.batches.GivenBatch.{GivenBatch}
 use Rattle.queries.specs.declared.batches.Walk.{Walk}
@@ -40,9 +43,10 @@ use Rattle.engine.specs.Durable.{IsSound, disk_history}
 use Rattle.engine.specs.Performing.{Performs}
 use Rattle.engine.specs.TakingOut.{HasHome}
 use Rattle.engine.specs.View.{world, world_of}
-use Rattle.engine.specs.Walking.{IsWholeWalk}
+use Rattle.engine.specs.Walking.{AreOf, IsWholeWalk}
 use Rattle.engine.specs.declared.engine.Engine.{Engine}
 use Rattle.engine.proofs.Finding.{given_enough, given_within, stored_within, window_kept}
+use Rattle.engine.proofs.LostLemmas.{each_found}
 use Rattle.engine.proofs.NamedLemmas.{documents_found}
 use Rattle.engine.proofs.Running.{opened_batch, refused_batch, run_find-is, whole_batch}
 use Rattle.engine.proofs.Sound.{lawful_world, performs_pins}
@@ -55,7 +59,15 @@ walk_within rules p skip limit from ds stored =
     given_within p _ (window_kept IsWithin skip limit (matching rules (rest_from from ds))
     (All-filter (matches rules) IsWithin (rest_from from ds) (All-filter (is_from from) IsWithin ds within)))
 
--- what was found in the order of `_id` is what a query asks for without a sort, as far as so many suffice
+-- what was found in the order of a query is what it asks for, as far as so many suffice
+pub found_ordered : (w : World) (connection : ℕ) (name : List ℕ) (q : Query) (most enough : ℕ) (found : List Pairs) → Suffices q enough
+    → found ≡ take enough (order q.sort (matching q.filter (documents_of w.collections name))) → length found < 2 ^ 64 - 1
+    → first_batch w connection name (given q found) (batch_of most (given q found))
+    ≡ run_find w connection (record { namespace = name; query = q; batch_size = Some most })
+found_ordered w connection name q most enough found suffices is few =
+    run_find-is w connection name q most (given q found) (given_enough q enough (documents_of w.collections name) found suffices is few)
+
+-- so is what was found in the order of `_id`, where it asks for no sort
 pub found_plain : (w : World) (connection : ℕ) (name : List ℕ) (q : Query) (most : ℕ) → q.sort ≡ [] → (enough : ℕ) (found : List Pairs) → Suffices q enough
     → found ≡ take enough (matching q.filter (documents_of w.collections name)) → length found < 2 ^ 64 - 1
     → first_batch w connection name (given q found) (batch_of most (given q found))
@@ -64,8 +76,7 @@ found_plain w connection name q most none enough found suffices is few =
     let ds = documents_of w.collections name in
     let plain : order q.sort (matching q.filter ds) ≡ matching q.filter ds =
     ap (λ (fields : List SortField). order fields (matching q.filter ds)) none ∙ unsorted (matching q.filter ds) in
-    run_find-is w connection name q most (given q found)
-    (given_enough q enough ds found suffices (is ∙ ap (take enough) (sym plain)) few)
+    found_ordered w connection name q most enough found suffices (is ∙ ap (take enough) (sym plain)) few
 
 -- the batch that a whole walk gave is the first of what the query asks for
 module _ (w : World) (connection : ℕ) (name : List ℕ) (q : Query) (most : ℕ) (unsorted : q.sort ≡ []) (walk : Walk) (is : IsWholeWalk q walk)
@@ -141,35 +152,48 @@ pub at_home : (now : List Collection) (name : List ℕ) (home : Catalogued) (f :
     → Q (documents_of now name)
 at_home now name home f Q h = subst Q (sym (documents_found now name f.collection f.found)) h
 
--- ---- the cursor on what is left
+-- ---- what is left of a collection
 
-module _ {D : Type 0} (history : D → History) (mid : Engine D) (h : IsSound history mid) (connection : ℕ) (name : List ℕ) (left : WalkSoFar)
-    (rest : List Pairs) (rest_is : rest ≡ rest_behind left (documents_of (world mid).collections name)) (file : State D) (held : Held) where
-  abbrev new : Engine D
-  new = record mid { file = file; cursors = held }
-
-  abbrev documents : List Pairs
-  documents = documents_of (world mid).collections name
-
-  abbrev Opens : {E : Type 0} → Result (Unit {0}) E → Type 0
-  Opens r = OpensPinned history connection name left rest r mid.file file mid.cursors held
-
-  rest_within : All IsWithin rest
-  rest_within = subst (λ (ds : List Pairs). All IsWithin ds) (sym rest_is)
-      (walk_within left.walk.now.filter.now left.walk.now.projection.now 0 (left.walk.now.limit - left.count) left.from.items documents
-      (stored_at (world mid).collections name h.lawful.kept).1)
-
-  -- what is left is of the collection of that name, whose number the walk has
-  left_of_home : (home : Catalogued) → left.number ≡ home.number → HasHome (world mid).collections name home → IsLeftOf history mid.file left rest
-  left_of_home home number at = record {
+module _ {D : Type 0} (history : D → History) (mid : Engine D) (h : IsSound history mid) (name : List ℕ) (home : Catalogued)
+    (at : HasHome (world mid).collections name home) where
+  -- in this way, of the one of that name
+  left_of_home : (p : Projection) (way : Way) (rest : List Pairs) → IsLeftBy way p at.collection.documents rest
+      → IsLeftOf history mid.file home.number p way rest
+  left_of_home p way rest left = record {
     start = mid.told.value.start;
     now = mid.told.value.now;
     has = h.file;
     home = at.collection;
-    numbered = subst (λ (n : ℕ). IsNumbered mid.told.value.now at.collection n) (sym number) at.catalogued.numbered;
+    numbered = at.catalogued.numbered;
     stored = (found_kept (world mid).collections at.collection.name at.collection h.lawful.kept at.catalogued.numbered.found).lawful.stored;
-    same = rest_is ∙ ap (rest_behind left) (documents_found (world mid).collections name at.collection at.found);
+    left = left;
   }
+
+  pub left_by_walk : (rules : Conditions) (p : Projection) (limit : ℕ) (from : List ℕ) (rest : List Pairs)
+      → rest ≡ walk_rest rules p 0 limit from (documents_of (world mid).collections name)
+      → IsLeftOf history mid.file home.number p (through rules limit from) rest
+  left_by_walk rules p limit from rest is =
+      left_of_home p (through rules limit from) rest
+      (is ∙ ap (walk_rest rules p 0 limit from) (documents_found (world mid).collections name at.collection at.found))
+
+  pub left_by_list : (p : Projection) (texts : List (List ℕ)) (some rest : List Pairs)
+      → All (λ d. find_document at.collection.documents (key_of d) ≡ Some d) some → texts ≡ map id_text_of some → rest ≡ map (project p) some
+      → IsLeftOf history mid.file home.number p (listed texts) rest
+  left_by_list p texts some rest found spelled is =
+      left_of_home p (listed texts) rest (record { some = some; there = record { found = found; spelled = spelled }; same = is })
+
+-- ---- the cursor on it
+
+module _ {D : Type 0} (history : D → History) (mid : Engine D) (connection : ℕ) (name : List ℕ) (number : ℕ) (p : Projection) (way : Way) (rest : List Pairs)
+    (file : State D) (held : Held) (left : KeepsWord (disk_history history mid) → IsLeftOf history mid.file number p way rest) where
+  abbrev new : Engine D
+  new = record mid { file = file; cursors = held }
+
+  abbrev Opens : {E : Type 0} → Result (Unit {0}) E → Type 0
+  Opens r = OpensPinned history connection name number p way rest r mid.file file mid.cursors held
+
+  pub opens_releases : {E : Type 0} (r : Result (Unit {0}) E) → Opens r → Releases history mid.file file mid.cursors held
+  opens_releases r opens = record { pins = opens.pins; tied = opens.tied left }
 
   abbrev with_rest : World
   with_rest = record (world mid) {
@@ -180,20 +204,19 @@ module _ {D : Type 0} (history : D → History) (mid : Engine D) (h : IsSound hi
   abbrev holds_within : Cursor → Type 0
   holds_within c = All IsWithin c.rest
 
-  with_rest_lawful : IsLawful with_rest
-  with_rest_lawful = record {
-    collections = h.lawful;
-    cursors = All-append holds_within (world mid).cursors (new_cursor (world mid).next connection name rest ∷ []) h.cursors
-        (All-cons holds_within (new_cursor (world mid).next connection name rest) [] rest_within (λ k d below. absurd (omega (arith, below))));
-  }
+  module _ {E : Type 0} (h : IsSound history mid) (rest_within : All IsWithin rest) (planned : Result (World × Pairs) Refusal) where
+    with_rest_lawful : IsLawful with_rest
+    with_rest_lawful = record {
+      collections = h.lawful;
+      cursors = All-append holds_within (world mid).cursors (new_cursor (world mid).next connection name rest ∷ []) h.cursors
+          (All-cons holds_within (new_cursor (world mid).next connection name rest) [] rest_within (λ k d below. absurd (omega (arith, below))));
+    }
 
-  module _ {E : Type 0} (planned : Result (World × Pairs) Refusal) (home : Catalogued) (number : left.number ≡ home.number)
-      (at : KeepsWord (disk_history history mid) → HasHome (world mid).collections name home) where
     pub opens_done : Opens {E = E} (Ok tt) → (reply : Pairs) → (KeepsWord (disk_history history mid) → with_ok planned ≡ Ok (with_rest, reply))
         → Performs history planned (Ok reply) mid new
     opens_done opens reply is =
         let made : world new ≡ with_rest = ap (world_of mid.told.value) opens.ok in
-        performs_pins history mid new planned (Ok reply) h opens.pins (opens.tied (λ k. left_of_home home number (at k)) h.tied) refl refl
+        performs_pins history mid new planned (Ok reply) h opens.pins (opens.tied left h.tied) refl refl
         (subst IsLawful (sym made) with_rest_lawful)
         (λ k. is (subst KeepsWord opens.pins.untouched.disk k)
         ∙ (λ i. let r : Result (World × Pairs) Refusal = Ok (sym made i, reply) in r)) tt
@@ -201,6 +224,40 @@ module _ {D : Type 0} (history : D → History) (mid : Engine D) (h : IsSound hi
     pub opens_failed : (fault : E) → Opens (Err fault) → (e : Refusal) → e ≡ refusals.OutOfMemory → Performs history planned (Err e) mid new
     opens_failed fault opens e memory =
         let same : world new ≡ world mid = ap (λ (t : Held). world_of mid.told.value (table_of t)) opens.err in
-        performs_pins history mid new planned (Err e) h opens.pins (opens.tied (λ k. left_of_home home number (at k)) h.tied) refl refl
+        performs_pins history mid new planned (Err e) h opens.pins (opens.tied left h.tied) refl refl
         (subst IsLawful (sym same) (lawful_world history mid h))
         (λ k. (same, inr (inl memory, λ k. inl (inl memory)))) same
+
+-- ---- what was found
+
+-- The first documents of a collection that match, in an order or in their own, are documents of it.
+module _ (ds : List Pairs) (up : IsRising ds) (rules : Conditions) (most : ℕ) where
+  abbrev Found : Pairs → Type 0
+  Found d = find_document ds (key_of d) ≡ Some d
+
+  matching_found : All Found (matching rules ds)
+  matching_found = All-filter (matches rules) Found ds (each_found ds up)
+
+  pub first_found : (found : List Pairs) → found ≡ take most (matching rules ds) → All Found found
+  first_found found is = subst (All Found) (sym is) (All-take Found most (matching rules ds) matching_found)
+
+  pub ordered_found : (fields : List SortField) (found : List Pairs) → found ≡ take most (order fields (matching rules ds)) → All Found found
+  ordered_found fields found is = subst (All Found) (sym is) (first_kept Found fields most (matching rules ds) matching_found)
+
+-- They are so of the collection of a name, of which the catalogue has this.
+module _ (now : List Collection) (kept : All IsKept now) (name : List ℕ) (home : Catalogued) (at : HasHome now name home) where
+  rising_there : IsRising at.collection.documents
+  rising_there = (found_kept now name at.collection kept at.found).lawful.rising
+
+  pub first_of : (rules : Conditions) (most : ℕ) (found : List Pairs) → found ≡ take most (matching rules at.collection.documents) → AreOf now name home found
+  first_of rules most found is = record { at = at; there = first_found at.collection.documents rising_there rules most found is }
+
+  pub ordered_of : (rules : Conditions) (most : ℕ) (fields : List SortField) (found : List Pairs)
+      → found ≡ take most (order fields (matching rules at.collection.documents)) → AreOf now name home found
+  ordered_of rules most fields found is = record { at = at; there = ordered_found at.collection.documents rising_there rules most fields found is }
+
+-- so are those in a window of them, and those behind the first ones
+pub window_of : (now : List Collection) (name : List ℕ) (home : Catalogued) (skip limit : ℕ) (found : List Pairs) → AreOf now name home found
+    → AreOf now name home (window skip limit found)
+window_of now name home skip limit found h =
+    record { at = h.at; there = window_kept (λ d. find_document h.at.collection.documents (key_of d) ≡ Some d) skip limit found h.there }

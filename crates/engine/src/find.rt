@@ -32,7 +32,7 @@ fn behind(documents: Vec<SpelledDocument>, place: usize) -> Result<Vec<SpelledDo
 }
 
 /// What is left of documents without those that are skipped and past the limit; a limit of 0 is none.
-fn window(
+pub(crate) fn window(
     documents: Vec<SpelledDocument>,
     skip: usize,
     limit: usize,
@@ -76,14 +76,17 @@ impl<D: Disk> Engine<D> {
         ensures has_changes { has_changes self.new ≡ has_changes self.old }
         ensures sendable { IfOk result (λ d. IsSendable d) }
     {
-        if query.sort.is_empty() && !self.file.is_changed() {
+        if self.file.is_changed() {
+            return self.find_all(connection, namespace, query, most);
+        }
+        if query.sort.is_empty() {
             return self.find_walking(connection, namespace, query, most);
         }
-        self.find_all(connection, namespace, query, most)
+        self.find_sorted(connection, namespace, query, most)
     }
 
-    /// The same of a query that asks for another order, or behind a change of the turn: all documents that are asked for are
-    /// read, and a cursor keeps those that are left.
+    /// The same behind a change of the turn, which no version has: all documents that are asked for are read, and a cursor keeps
+    /// those that are left.
     fn find_all(
         &mut self,
         connection: ConnId,

@@ -2,6 +2,7 @@
 #![tactic(auto)]
 
 mod aggregation;
+mod by_list;
 mod check_fault;
 mod checking;
 mod count;

@@ -69,7 +69,7 @@ impl<D: Disk> Engine<D> {
     }
 
     /// The documents of a collection that match a query, in its order: the first ones, up to so many.
-    fn ordered(
+    pub(crate) fn ordered(
         &mut self,
         home: &Catalogued,
         query: &Query,
@@ -81,6 +81,7 @@ impl<D: Disk> Engine<D> {
             ≡ take most (order query.now.sort (matching query.now.filter c.documents)))
             result self.old self.new }
         ensures within { IfOk result (λ found. All IsWithin found.items) }
+        ensures unchanged { is_changed (file_of self.new) ≡ is_changed (file_of self.old) }
     {
         ordered_in(
             self.alloc,

@@ -80,7 +80,7 @@ impl<D: Disk> Engine<D> {
             return self.give_found(connection, namespace, query, none, most);
         };
         match self.looked_up(&home, &query.filter, enough(query))? {
-            Some(found) => self.give_found(connection, namespace, query, found, most),
+            Some(found) => self.give_listed(connection, namespace, &home, query, found, most),
             None => self.give_walked(connection, namespace, &home, query, most),
         }
     }

@@ -1,6 +1,6 @@
 -- A cursor that keeps its documents gives the next ones.
 use Rattle.std.proofs.Common.{◌≡◌, inl, ℕ, ◌<◌, Bool, true, false, List, [], length, Option, Some, None, Result, Ok, Err, refl, sym, ap, subst, ◌∙◌}
-use Rattle.std.specs.Prelude.{nat_le, if◌then◌else◌, codes, is_some, option_map}
+use Rattle.std.specs.Prelude.{nat_le, if◌then◌else◌, codes, is_some, not}
 use Rattle.bson.specs.Tree.{Pairs}
 use Rattle.page.specs.History.{History}
 use Rattle.path.specs.declared.refusal.Refusal.{Refusal}
@@ -21,10 +21,13 @@ use Rattle.pinned_cursors.proofs.LawfulLemmas.{lawful_gone_on, lawful_without}
 use Rattle.pinned_cursors.proofs.TiedLemmas.{tied_removed, tied_set}
 use Rattle.pinned_cursors.proofs.TurnLemmas.{no_pins}
 
--- a cursor without a walk keeps its documents
-pub no_walk : {X : Type 0} (f : X → HeldWalk) (o : Option X) (walk : Option HeldWalk) → is_some o ≡ false → option_map f o ≡ walk → walk ≡ None
-no_walk f None walk none is = sym is
-no_walk f (Some x) walk none is = absurd cc
+-- a cursor that keeps its documents has no walk
+pub no_walk : (walk : Option HeldWalk) (keeps : Bool) → keeps ≡ not (is_some walk) → keeps ≡ true → walk ≡ None
+no_walk None keeps is true_is = refl
+no_walk (Some w) keeps is true_is = absurd (no (sym true_is ∙ is))
+  where
+    no : true ≡ false → ⊥
+    no e = cc
 
 module _ {D : Type 0} (history : D → History) (file : State D) (held : Held) (at : ℕ) (namespace : List ℕ) (most : Option ℕ) where
   nothing_read : ReadsThenPins history file file

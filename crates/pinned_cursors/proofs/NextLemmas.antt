@@ -1,16 +1,19 @@
 -- The next batch of a cursor is read from its version, and the cursor goes on or ends.
 use Rattle.std.proofs.Common.{◌≡◌, ◌≢◌, inl, inr, ℕ, zero, suc, ◌+◌, ◌-◌, ◌^◌, ◌<◌, ◌≤◌, true, false, List, [], ◌∷◌, length, drop}
 use Rattle.std.proofs.Common.{Option, Some, None, Result, Ok, Err, refl, sym, ap, subst, ◌∙◌, arith}
-use Rattle.std.specs.Prelude.{⊤, ◌==◌, ◌||◌, nat_le, if◌then◌else◌, option_map, unwrap_or, codes, MatchOption, MatchResult}
+use Rattle.std.specs.Prelude.{⊤, map, ◌==◌, ◌||◌, nat_le, if◌then◌else◌, option_map, unwrap_or, codes, MatchOption, MatchResult}
 use Rattle.std.specs.Global.{Vec}
+use Rattle.std.proofs.lemmas.List.{drop-map, length-map}
+use Rattle.std.proofs.lemmas.List.Elements.{All-drop}
 use Rattle.bson.specs.Tree.{Pairs}
 use Rattle.page.specs.History.{History, KeepsWord}
 use Rattle.path.specs.declared.refusal.Refusal.{Refusal}
 use Rattle.path.specs.declared.refusal.Refusal.TheVariants as refusals
 use Rattle.collections.specs.Calls.{GoesFrom, HasCause}
+use Rattle.collections.specs.Standing.{HasState}
 use Rattle.collections.specs.State.{State}
 use Rattle.collections.specs.Versions.{ReadsVersion}
-use Rattle.collections.specs.View.{disk_history, is_stopped}
+use Rattle.collections.specs.View.{disk_history, is_changed, is_stopped}
 use Rattle.collections.proofs.LawLemmas.{goes_from_itself}
 use Rattle.collections.proofs.VersionLemmas.{has_still, since_start_stays}
 use Rattle.database_model.specs.Cursors.{advanced, batch_len, batch_of, batch_reply, item_size}
@@ -19,16 +22,23 @@ use Rattle.database_model.specs.Refusals.{ok_reply}
 use Rattle.database_model.specs.World.{CursorTable}
 use Rattle.replies.specs.View.{batch_name}
 use Rattle.replies.specs.declared.batch_spelling.BatchKind.TheVariants as batches
+use Rattle.entries.specs.State.{Collection, key_of}
+use Rattle.entries.specs.StateReads.{find_document}
+use Rattle.index.specs.View.{texts_of}
+use Rattle.projection.specs.Projection.{Projection, project}
 use Rattle.queries.specs.Asking.{IsAskedIn}
 use Rattle.queries.specs.Batches.{GoesOn, IsGivenBatch, rest_of, walk_rest}
+use Rattle.queries.specs.Listed.{AreListedIn, Chosen, IsListedBatch, given_of, id_text_of}
+use Rattle.queries.specs.declared.listed.Listed.{Listed}
+use Rattle.queries.proofs.ListedLemmas.{as_many}
 use Rattle.queries.specs.declared.batches.BatchAsked.{BatchAsked}
 use Rattle.queries.specs.declared.batches.GivenBatch.{GivenBatch}
 use Rattle.queries.specs.declared.batches.Walk.{Walk}
-use Rattle.cursors.specs.Changes.{after, gone_on, onwards, without}
-use Rattle.cursors.specs.Held.{Held, HeldCursor, HeldWalk, cursors_of, held_at, no_held_cursor, table_of}
+use Rattle.cursors.specs.Changes.{after, further, gone_on, onwards, without}
+use Rattle.cursors.specs.Held.{Held, HeldCursor, HeldWalk, Way, through, listed, cursors_of, held_at, no_held_cursor, table_of}
 use Rattle.cursors.specs.TableLaws.{ended_in_table, gone_on_in_table}
 use Rattle.pinned_cursors.specs.Batches.{GivesNext, IsNextBatch, ReadsAt, ReadsThenPins}
-use Rattle.pinned_cursors.specs.Tied.{AreTied, IsTied, ReadsRest, left_of, with_pin}
+use Rattle.pinned_cursors.specs.Tied.{AreTied, IsLeftBy, IsTied, ListsRest, ReadsRest, with_pin}
 use Rattle.pinned_cursors.specs.Turns.{OnlyPins, Releases}
 use Rattle.pinned_cursors.proofs.ListLemmas.{each_at}
 use Rattle.pinned_cursors.proofs.TiedLemmas.{tied_set}
@@ -37,34 +47,73 @@ use Rattle.pinned_cursors.proofs.TurnTied.{tied_on}
 
 -- ---- the batch
 
--- the walk is that of the cursor, and its next batch is asked for
-pub record AsksNext (h : HeldCursor) (w : HeldWalk) (namespace : List ℕ) (most : ℕ) (walk : Walk) (asked : BatchAsked) : Type 0 where
-  pub filter : walk.filter.now ≡ w.filter
+-- What a list tells behind some documents, the texts behind theirs tell.
+lists_on : (texts : List (List ℕ)) (p : Projection) (ds rest : List Pairs) (n : ℕ) → ListsRest texts p ds rest → ListsRest (drop n texts) p ds (drop n rest)
+lists_on texts p ds rest n l = record {
+  some = drop n l.some;
+  there = record {
+    found = All-drop (λ d. find_document ds (key_of d) ≡ Some d) n l.some l.there.found;
+    spelled = ap (drop n) l.there.spelled ∙ drop-map id_text_of n l.some;
+  };
+  same = ap (drop n) l.same ∙ drop-map (project p) n l.some;
+}
+
+-- the walk by which a cursor goes on, and its list, as queries take them
+pub record IsWalkOf (w : HeldWalk) (walk : Walk) : Type 0 where
+  pub way : w.way ≡ through walk.filter.now walk.limit walk.from.now
   pub projection : walk.projection.now ≡ w.projection
   pub skip : walk.skip ≡ 0
-  pub limit : walk.limit ≡ w.limit
-  pub from : walk.from.now ≡ w.from
+
+pub record IsListOf (w : HeldWalk) (list : Listed) : Type 0 where
+  pub way : w.way ≡ listed (texts_of list.ids.now)
+  pub projection : list.projection.now ≡ w.projection
+  pub few : length list.ids.now < 2 ^ 64
+
+-- the next batch of the cursor is asked for
+pub record AsksNext (h : HeldCursor) (namespace : List ℕ) (most : ℕ) (asked : BatchAsked) : Type 0 where
   pub kind : asked.kind ≡ batches.Next
   pub namespace_is : asked.namespace.now ≡ namespace
   pub number : asked.number ≡ h.cursor.number
   pub most_is : asked.most ≡ most
 
-module _ {D : Type 0} (history : D → History) (h : HeldCursor) (w : HeldWalk) (is : h.walk ≡ Some w) (namespace : List ℕ) (most : ℕ)
-    (walk : Walk) (asked : BatchAsked) (asks : AsksNext h w namespace most walk asked) where
-  rest_is : (ds : List Pairs) → rest_of walk ds ≡ left_of w ds
-  rest_is ds = λ i. walk_rest (asks.filter i) (asks.projection i) (asks.skip i) (asks.limit i) (asks.from i) ds
+module _ {D : Type 0} (history : D → History) (h : HeldCursor) (w : HeldWalk) (is : h.walk ≡ Some w) (namespace : List ℕ) (most : ℕ) (asked : BatchAsked)
+    (asks : AsksNext h namespace most asked) (old new : State D) where
+  -- what is right of what the walk is still to give
+  reads_of : (result : Result GivenBatch Refusal) → GoesFrom history old new → is_changed new ≡ is_changed old
+      → ((s t : List Collection) → HasState history old s t → HasState history new s t)
+      → (KeepsWord (disk_history history new) → ReadsRest history old w h.cursor.rest
+      → MatchResult result (IsNextBatch history new h w namespace most) (HasCause history old new))
+      → ReadsAt history h namespace most result old new
+  reads_of result on unchanged same right = record {
+    on = on;
+    unchanged = unchanged;
+    same = same;
+    answers = λ k v there r.
+        let one : v ≡ w = some_is v w (sym there ∙ is) in
+        subst (λ (x : HeldWalk). MatchResult result (IsNextBatch history new h x namespace most) (HasCause history old new)) (sym one)
+        (right k (subst (λ (x : HeldWalk). ReadsRest history old x h.cursor.rest) one r));
+  }
+    where
+      some_is : (a b : HeldWalk) → Some a ≡ Some b → a ≡ b
+      some_is a b e = cc
 
-  module _ (old new : State D) where
-    next_so : GoesFrom history old new → (r : ReadsRest history old w h.cursor.rest) (b : GivenBatch) → IsGivenBatch walk asked r.home.documents b
+  -- ---- by its walk
+
+  module _ (walk : Walk) (its : IsWalkOf w walk) (goes : GoesFrom history old new) where
+    left_by : (ds rest : List Pairs) → IsLeftBy w.way w.projection ds rest → rest ≡ rest_of walk ds
+    left_by ds rest left =
+        subst (λ (x : Way). IsLeftBy x w.projection ds rest) its.way left
+        ∙ (λ i. walk_rest walk.filter.now (sym its.projection i) (sym its.skip i) walk.limit walk.from.now ds)
+
+    next_so : (r : ReadsRest history old w h.cursor.rest) (b : GivenBatch) → IsGivenBatch walk asked r.home.documents b
         → IsNextBatch history new h w namespace most b
-    next_so goes r b given =
-        let ds = r.home.documents in
-        let left : rest_of walk ds ≡ h.cursor.rest = rest_is ds ∙ sym r.same in
+    next_so r b given =
+        let left : rest_of walk r.home.documents ≡ h.cursor.rest = sym (left_by r.home.documents h.cursor.rest r.left) in
         record {
           counted = given.counted ∙ (λ i. batch_of (asks.most_is i) (left i));
           says = given.says
               ∙ (λ i. ok_reply (batch_reply (batch_name (asks.kind i)) b.count (left i) (asks.number i) (asks.namespace_is i)));
-          few = subst (λ (xs : List Pairs). length xs ≤ 4294967295) left given.few;
+          few = omega (arith, subst (λ (xs : List Pairs). length xs ≤ 4294967295) left given.few);
           next = by_next b.next given.next;
         }
       where
@@ -72,9 +121,14 @@ module _ {D : Type 0} (history : D → History) (h : HeldCursor) (w : HeldWalk) 
             → MatchOption next (length (rest_of walk r.home.documents) ≤ b.count) (λ text. GoesOn walk r.home.documents b.count text.items)
             → MatchOption next (length h.cursor.rest ≤ b.count)
             (λ text. (b.count < length h.cursor.rest) × ReadsRest history new (onwards b.count text.items w) (drop b.count h.cursor.rest))
-        by_next None none = subst (λ (xs : List Pairs). length xs ≤ b.count) (rest_is r.home.documents ∙ sym r.same) none
+        by_next None none =
+            let left : rest_of walk r.home.documents ≡ h.cursor.rest = sym (left_by r.home.documents h.cursor.rest r.left) in
+            subst (λ (xs : List Pairs). length xs ≤ b.count) left none
         by_next (Some text) on =
-            let left : rest_of walk r.home.documents ≡ h.cursor.rest = rest_is r.home.documents ∙ sym r.same in (
+            let left : rest_of walk r.home.documents ≡ h.cursor.rest = sym (left_by r.home.documents h.cursor.rest r.left) in
+            let behind : drop b.count h.cursor.rest ≡ walk_rest walk.filter.now w.projection 0 (walk.limit - b.count) text.items r.home.documents =
+            ap (drop b.count) (sym left) ∙ sym on.left
+            ∙ (λ i. walk_rest walk.filter.now (its.projection i) 0 (walk.limit - b.count) text.items r.home.documents) in (
               subst (λ (xs : List Pairs). b.count < length xs) left on.more,
               record {
                 collections = r.collections;
@@ -82,37 +136,77 @@ module _ {D : Type 0} (history : D → History) (h : HeldCursor) (w : HeldWalk) 
                 home = r.home;
                 numbered = r.numbered;
                 stored = r.stored;
-                same = ap (drop b.count) (sym left) ∙ sym on.left
-                    ∙ (λ i. walk_rest (asks.filter i) (asks.projection i) 0 (asks.limit i - b.count) text.items r.home.documents);
+                left = subst (λ (x : Way). IsLeftBy (further b.count text.items x) w.projection r.home.documents (drop b.count h.cursor.rest)) (sym its.way)
+                    behind;
               },
             )
 
-    pub reads_next : (result : Result GivenBatch Refusal)
-        → ReadsVersion history w.version (IsAskedIn w.number) (λ now c b. IsGivenBatch walk asked c.documents b) result old new
-        → ReadsAt history h namespace most result old new
-    reads_next result reads = record {
-      on = reads.on;
-      unchanged = reads.unchanged;
-      same = reads.same;
-      answers = λ k v there r.
-          let one : v ≡ w = some_is v w (sym there ∙ is) in
-          subst (λ (x : HeldWalk). MatchResult result (IsNextBatch history new h x namespace most) (HasCause history old new)) (sym one)
-          (right k (subst (λ (x : HeldWalk). ReadsRest history old x h.cursor.rest) one r));
-    }
-      where
-        some_is : (a b : HeldWalk) → Some a ≡ Some b → a ≡ b
-        some_is a b e = cc
+  pub reads_through : (walk : Walk) → IsWalkOf w walk → (result : Result GivenBatch Refusal)
+      → ReadsVersion history w.version (IsAskedIn w.number) (λ now c b. IsGivenBatch walk asked c.documents b) result old new
+      → ReadsAt history h namespace most result old new
+  reads_through walk its result reads = reads_of result reads.on reads.unchanged reads.same right
+    where
+      right : KeepsWord (disk_history history new) → ReadsRest history old w h.cursor.rest
+          → MatchResult result (IsNextBatch history new h w namespace most) (HasCause history old new)
+      right k r = at result (reads.answers k r.collections (has_still history old w.version r.collections r.had) r.home
+          (record { numbered = r.numbered; stored = r.stored }))
+        where
+          at : (q : Result GivenBatch Refusal)
+              → MatchResult q (λ b. IsGivenBatch walk asked r.home.documents b) (HasCause history old new)
+              → MatchResult q (IsNextBatch history new h w namespace most) (HasCause history old new)
+          at (Ok b) given = next_so walk its reads.on r b given
+          at (Err e) cause = cause
 
+  -- ---- by its list
+
+  module _ (list : Listed) where
+    pub reads_listed : IsListOf w list → (result : Result GivenBatch Refusal)
+        → ReadsVersion history w.version (AreListedIn w.number (texts_of list.ids.now)) (λ now chosen b. IsListedBatch asked (given_of list.projection.now chosen) b)
+        result old new
+        → ReadsAt history h namespace most result old new
+    reads_listed its result reads = reads_of result reads.on reads.unchanged reads.same right
+      where
         right : KeepsWord (disk_history history new) → ReadsRest history old w h.cursor.rest
             → MatchResult result (IsNextBatch history new h w namespace most) (HasCause history old new)
-        right k r = at result (reads.answers k r.collections (has_still history old w.version r.collections r.had) r.home
-            (record { numbered = r.numbered; stored = r.stored }))
+        right k r =
+            let l : ListsRest (texts_of list.ids.now) w.projection r.home.documents h.cursor.rest =
+            subst (λ (x : Way). IsLeftBy x w.projection r.home.documents h.cursor.rest) its.way r.left in
+            let chosen : Chosen = record { home = r.home; documents = l.some } in
+            at result l (reads.answers k r.collections (has_still history old w.version r.collections r.had) chosen
+            (record { numbered = r.numbered; stored = r.stored; listed = l.there }))
           where
-            at : (q : Result GivenBatch Refusal)
-                → MatchResult q (λ b. IsGivenBatch walk asked r.home.documents b) (HasCause history old new)
+            at : (q : Result GivenBatch Refusal) (l : ListsRest (texts_of list.ids.now) w.projection r.home.documents h.cursor.rest)
+                → MatchResult q (λ b. IsListedBatch asked (map (project list.projection.now) l.some) b) (HasCause history old new)
                 → MatchResult q (IsNextBatch history new h w namespace most) (HasCause history old new)
-            at (Ok b) given = next_so reads.on r b given
-            at (Err e) cause = cause
+            at (Err e) l cause = cause
+            at (Ok b) l batch =
+                let rest : map (project list.projection.now) l.some ≡ h.cursor.rest = ap (λ p. map (project p) l.some) its.projection ∙ sym l.same in
+                let many : length (texts_of list.ids.now) ≡ length h.cursor.rest =
+                as_many r.home.documents (texts_of list.ids.now) l.some w.projection l.there ∙ ap length (sym l.same) in
+                record {
+                  counted = batch.counted ∙ (λ i. batch_of (asks.most_is i) (rest i));
+                  says = batch.says
+                      ∙ (λ i. ok_reply (batch_reply (batch_name (asks.kind i)) b.count (rest i) (asks.number i) (asks.namespace_is i)));
+                  few = omega (arith, its.few, many, length-map list.ids.now (λ (v : Vec ℕ). v.items));
+                  next = by_next b.next (subst (λ (xs : List Pairs). MatchOption b.next (length xs ≤ b.count) (λ _. b.count < length xs)) rest batch.next);
+                }
+              where
+                by_next : (next : Option (Vec ℕ)) → MatchOption next (length h.cursor.rest ≤ b.count) (λ _. b.count < length h.cursor.rest)
+                    → MatchOption next (length h.cursor.rest ≤ b.count)
+                    (λ text. (b.count < length h.cursor.rest) × ReadsRest history new (onwards b.count text.items w) (drop b.count h.cursor.rest))
+                by_next None none = none
+                by_next (Some text) more = (
+                  more,
+                  record {
+                    collections = r.collections;
+                    had = since_start_stays history old new reads.on w.version r.collections r.had;
+                    home = r.home;
+                    numbered = r.numbered;
+                    stored = r.stored;
+                    left = subst (λ (x : Way). IsLeftBy (further b.count text.items x) w.projection r.home.documents (drop b.count h.cursor.rest)) (sym its.way)
+                        (lists_on (texts_of list.ids.now) w.projection r.home.documents h.cursor.rest b.count l);
+                  },
+                )
 
 -- ---- how many documents
 
@@ -153,7 +247,7 @@ module _ {D : Type 0} (history : D → History) (old read : State D) (held : Hel
       (each_at (IsTied history old) held.list at no_held_cursor there (tied.each running (goes.stays.reads.on.kept k)))
 
   -- as many as a database's definition says
-  same_count : (n : ℕ) → n ≡ batch_of bound here.cursor.rest → length here.cursor.rest ≤ 4294967295 → n ≡ batch_len_of here.cursor most
+  same_count : (n : ℕ) → n ≡ batch_of bound here.cursor.rest → length here.cursor.rest < 2 ^ 64 → n ≡ batch_len_of here.cursor most
   same_count n counted few = by_most most (counted ∙ ap (λ (m : ℕ). batch_of m here.cursor.rest) bound_is)
     where
       by_most : (m : Option ℕ) → n ≡ batch_of (unwrap_or m (2 ^ 64 - 1)) here.cursor.rest

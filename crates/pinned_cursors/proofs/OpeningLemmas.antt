@@ -7,19 +7,20 @@ use Rattle.collections.specs.State.{State}
 use Rattle.collections.specs.Versions.{PinsNow, UnpinsVersion}
 use Rattle.collections.specs.View.{disk_history, is_changed, is_stopped}
 use Rattle.database_model.specs.Cursors.{new_cursor}
+use Rattle.projection.specs.Projection.{Projection}
 use Rattle.cursors.specs.Changes.{opened}
-use Rattle.cursors.specs.Held.{Held, HeldWalk, table_of}
+use Rattle.cursors.specs.Held.{Held, HeldWalk, Way, table_of}
 use Rattle.cursors.specs.TableLaws.{opened_in_table}
-use Rattle.pinned_cursors.specs.Opening.{IsLeftOf, OpensPinned, walk_behind}
+use Rattle.pinned_cursors.specs.Opening.{IsLeftOf, OpensPinned, held_walk}
 use Rattle.pinned_cursors.specs.Tied.{AreTied, ReadsRest}
 use Rattle.pinned_cursors.specs.Turns.{OnlyPins}
-use Rattle.pinned_cursors.specs.declared.opening.WalkSoFar.{WalkSoFar}
 use Rattle.pinned_cursors.proofs.TiedLemmas.{tied_opened, tied_pinned, tied_unpinned}
 use Rattle.pinned_cursors.proofs.TurnLemmas.{no_pins, pins_further, pins_of_stays}
 
-module _ {D E : Type 0} (history : D → History) (connection : ℕ) (namespace : List ℕ) (left : WalkSoFar) (rest : List Pairs) (old : State D) (held : Held) where
+module _ {D E : Type 0} (history : D → History) (connection : ℕ) (namespace : List ℕ) (number : ℕ) (p : Projection) (way : Way) (rest : List Pairs)
+    (old : State D) (held : Held) where
   abbrev Opens : Result (Unit {0}) E → State D → Held → Type 0
-  Opens result new after = OpensPinned history connection namespace left rest result old new held after
+  Opens result new after = OpensPinned history connection namespace number p way rest result old new held after
 
   -- Nothing was pinned.
   pub opens_unpinned : (e : E) (new : State D) → new ≡ old → Opens (Err e) new held
@@ -27,7 +28,7 @@ module _ {D E : Type 0} (history : D → History) (connection : ℕ) (namespace 
     ok = tt;
     err = refl;
     pins = subst (λ (f : State D). OnlyPins history old f) (sym same) (no_pins history old);
-    tied = λ left tied. subst (λ (f : State D). AreTied history f held.list) (sym same) tied;
+    tied = λ here tied. subst (λ (f : State D). AreTied history f held.list) (sym same) tied;
   }
 
   module _ (version : Version) (pinned : State D) (pin : PinsNow {E = E} history (Ok version) old pinned) where
@@ -44,16 +45,16 @@ module _ {D E : Type 0} (history : D → History) (connection : ℕ) (namespace 
     -- The walk gives what is left of the collections that are pinned.
     module _ (rests : is_changed old ≡ false) where
       abbrev goes_on : HeldWalk
-      goes_on = walk_behind version left
+      goes_on = held_walk version number p way
 
-      reads_left : is_stopped old ≡ false → KeepsWord (disk_history history old) → IsLeftOf history old left rest → ReadsRest history pinned goes_on rest
+      reads_left : is_stopped old ≡ false → KeepsWord (disk_history history old) → IsLeftOf history old number p way rest → ReadsRest history pinned goes_on rest
       reads_left running k here = record {
         collections = here.now;
         had = pin.rested here.start here.now running k here.has rests;
         home = here.home;
         numbered = here.numbered;
         stored = here.stored;
-        same = here.same;
+        left = here.left;
       }
 
       pub opens_walk : (after : Held) → after ≡ opened held connection namespace rest (Some goes_on) → Opens (Ok tt) pinned after

@@ -21,7 +21,7 @@ module _ {D : Type 0} (history : D → History) where
   pub reads_on : (old new : State D) (w : HeldWalk) (rest : List Pairs) → ((cs : List Collection) → HasSinceStart history old w.version cs
       → HasSinceStart history new w.version cs) → ReadsRest history old w rest → ReadsRest history new w rest
   reads_on old new w rest keeps r =
-      record { collections = r.collections; had = keeps r.collections r.had; home = r.home; numbered = r.numbered; stored = r.stored; same = r.same }
+      record { collections = r.collections; had = keeps r.collections r.had; home = r.home; numbered = r.numbered; stored = r.stored; left = r.left }
 
   -- Each that is pinned stays so.
   pub each_on : (old new : State D) (pins : List ℕ)

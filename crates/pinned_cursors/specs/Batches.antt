@@ -1,5 +1,5 @@
 -- What reading the next batch of a cursor does that holds no documents.
-use Rattle.std.specs.Prelude.{◌≡◌, ℕ, ◌<◌, ◌≤◌, List, Option, Some, Result, length, drop, codes}
+use Rattle.std.specs.Prelude.{◌≡◌, ℕ, ◌<◌, ◌≤◌, ◌^◌, List, Option, Some, Result, length, drop, codes}
 use Rattle.std.specs.Prelude.{MatchOption, MatchResult, OnErr}
 use Rattle.bson.specs.Tree.{Pairs}
 use Rattle.page.specs.History.{History, KeepsWord}
@@ -25,7 +25,7 @@ pub record IsNextBatch {D : Type 0} (history : D → History) (file : State D) (
   pub counted : b.count ≡ batch_of most h.cursor.rest
   pub says : b.reply ≡ ok_reply (batch_reply (codes "nextBatch") b.count h.cursor.rest
       h.cursor.number namespace)
-  pub few : length h.cursor.rest ≤ 4294967295
+  pub few : length h.cursor.rest < 2 ^ 64
   pub next : MatchOption b.next (length h.cursor.rest ≤ b.count)
       (λ text. (b.count < length h.cursor.rest)
       × ReadsRest history file (onwards b.count text.items w) (drop b.count h.cursor.rest))

@@ -1,5 +1,5 @@
 -- Cursors that hold no documents, and the file in which the versions that they read are pinned.
-use Rattle.std.specs.Prelude.{◌≡◌, ⊤, ℕ, false, All, List, [], ◌∷◌, Option, Some, None}
+use Rattle.std.specs.Prelude.{◌≡◌, ⊤, ℕ, false, All, List, [], ◌∷◌, map, Option, Some, None}
 use Rattle.std.specs.Prelude.{MatchOption}
 use Rattle.std.specs.List.{AllByRecursion}
 use Rattle.bson.specs.Tree.{Pairs}
@@ -11,12 +11,21 @@ use Rattle.collections.specs.State.{State}
 use Rattle.collections.specs.Versions.{HasSinceStart, pins_of}
 use Rattle.collections.specs.View.{disk_history, is_stopped}
 use Rattle.database_model.specs.Lawful.{IsStored}
+use Rattle.projection.specs.Projection.{Projection, project}
 use Rattle.queries.specs.Batches.{walk_rest}
-use Rattle.cursors.specs.Held.{HeldCursor, HeldWalk}
+use Rattle.queries.specs.Listed.{HasListed}
+use Rattle.cursors.specs.Held.{HeldCursor, HeldWalk, Way, through, listed}
 
--- what a walk is still to give of the documents of its collection
-abbrev pub left_of : HeldWalk → List Pairs → List Pairs
-left_of w ds = walk_rest w.filter w.projection 0 w.limit w.from ds
+-- The texts are those of some of the documents, and this is what a projection leaves of them.
+pub record ListsRest (texts : List (List ℕ)) (p : Projection) (ds rest : List Pairs) : Type 0 where
+  pub some : List Pairs
+  pub there : HasListed ds texts some
+  pub same : rest ≡ map (project p) some
+
+-- what is still to be given in this way of the documents of a collection
+abbrev pub IsLeftBy : Way → Projection → List Pairs → List Pairs → Type 0
+IsLeftBy (through rules limit from) p ds rest = rest ≡ walk_rest rules p 0 limit from ds
+IsLeftBy (listed texts) p ds rest = ListsRest texts p ds rest
 
 -- These documents are what the walk is still to give of the collection of its number, as its
 -- version has had it since the turn began.
@@ -27,7 +36,7 @@ pub record ReadsRest {D : Type 0} (history : D → History) (file : State D) (w 
   pub home : Collection
   pub numbered : IsNumbered collections home w.number
   pub stored : All IsStored home.documents
-  pub same : rest ≡ left_of w home.documents
+  pub left : IsLeftBy w.way w.projection home.documents rest
 
 -- what is left of a cursor that holds no documents is what its walk is still to give
 abbrev pub IsTied : {D : Type 0} → (D → History) → State D → HeldCursor → Type 0

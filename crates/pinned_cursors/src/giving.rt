@@ -32,7 +32,7 @@ pub fn give_next<D: Disk>(
         → AreLawfulCursors (cursors_of cursors.new) }
     ensures sendable { IfOk result (λ d. IsSendable d) }
 {
-    if cursors.walk_at(at).is_some() {
+    if !cursors.keeps_at(at) {
         return next_batch(alloc, file, cursors, at, namespace, most);
     }
     let (reply, count) = cursors.batch(at, namespace, most)?;

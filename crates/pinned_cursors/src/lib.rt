@@ -8,4 +8,4 @@ mod reading;
 
 pub use ending::end_all;
 pub use giving::give_next;
-pub use opening::{WalkSoFar, open_pinned};
+pub use opening::{ListLeft, WalkSoFar, open_listed, open_pinned};

@@ -4,14 +4,15 @@ ghost use Rattle.std.specs.Prelude.{◌≡◌, ◌<◌, ◌^◌, false, All, IfO
 ghost use Rattle.collections.specs.View.{is_changed};
 ghost use Rattle.database_model.specs.Lawful.{IsWithin};
 ghost use Rattle.cursors.specs.Changes.{opened};
-ghost use Rattle.cursors.specs.View.{walk_of};
-ghost use Rattle.pinned_cursors.specs.Opening.{OpensPinned, walk_behind};
+ghost use Rattle.cursors.specs.View.{list_of, walk_of};
+ghost use Rattle.pinned_cursors.specs.Opening.{OpensPinned, held_walk, way_behind, way_by};
 
 use bson::NoMemory;
 use collections::Collections;
-use cursors::{Cursors, PinnedWalk, Rest};
+use cursors::{Cursors, PinnedList, PinnedWalk, Rest, TextList};
 use page::Disk;
 use pager::Version;
+use projection::Projection;
 use queries::Walk;
 use replies::ConnId;
 
@@ -27,9 +28,21 @@ pub struct WalkSoFar<'a> {
     pub from: Vec<u8>,
 }
 
+/// What a cursor is opened on: documents of a collection, by a list of their `_id`s.
+#[derive(Drop)]
+pub struct ListLeft<'a> {
+    /// The number of the collection.
+    pub number: u32,
+    /// What is given of each document.
+    pub projection: &'a Projection,
+    /// The key texts of the `_id`s, in the order in which the documents come.
+    pub texts: Vec<Vec<u8>>,
+}
+
 /// The walk by which a cursor goes on in a pinned version.
 fn pinned_walk(version: Version, left: WalkSoFar<'_>, rest: Rest) -> Result<PinnedWalk, NoMemory>
-    ensures walk { IfOk result (λ w. walk_of w ≡ walk_behind version left.entry) }
+    ensures walk { IfOk result (λ w. walk_of w ≡ held_walk version left.entry.number
+        left.entry.walk.now.projection.now (way_behind left.entry)) }
     ensures gives { IfOk result (λ w. w.rest.value ≡ rest.value) }
 {
     let filter = left.walk.filter.copy()?;
@@ -45,8 +58,24 @@ fn pinned_walk(version: Version, left: WalkSoFar<'_>, rest: Rest) -> Result<Pinn
     })
 }
 
-/// Opens a cursor that goes on in a pinned version. An `Err` leaves all as it was.
-fn open_in(
+/// The list by which a cursor goes on in a pinned version.
+fn pinned_list(version: Version, left: ListLeft<'_>, rest: Rest) -> Result<PinnedList, NoMemory>
+    ensures list { IfOk result (λ l. list_of l ≡ held_walk version left.entry.number
+        left.entry.projection.now (way_by left.entry)) }
+    ensures gives { IfOk result (λ l. l.rest.value ≡ rest.value) }
+{
+    let projection = left.projection.copy()?;
+    Ok(PinnedList {
+        version,
+        number: left.number,
+        projection,
+        texts: TextList::new(left.texts),
+        rest,
+    })
+}
+
+/// Opens a cursor that walks on in a pinned version. An `Err` leaves all as it was.
+fn open_walk(
     cursors: &mut Cursors,
     version: Version,
     connection: ConnId,
@@ -57,11 +86,32 @@ fn open_in(
     requires number { cursors.old.next < 2 ^ 63 }
     requires within { All IsWithin rest.value }
     ensures ok { OnOk result (cursors.new ≡ opened cursors.old connection namespace.now rest.value
-        (Some (walk_behind version left.entry))) }
+        (Some (held_walk version left.entry.number left.entry.walk.now.projection.now
+        (way_behind left.entry)))) }
     ensures err { OnErr result (cursors.new ≡ cursors.old) }
 {
     let walk = pinned_walk(version, left, rest)?;
     cursors.open_pinned(connection, namespace, walk)
+}
+
+/// Opens a cursor that gives documents of a pinned version by a list. An `Err` leaves all as it was.
+fn open_list(
+    cursors: &mut Cursors,
+    version: Version,
+    connection: ConnId,
+    namespace: &str,
+    left: ListLeft<'_>,
+    rest: Rest,
+) -> Result<(), NoMemory>
+    requires number { cursors.old.next < 2 ^ 63 }
+    requires within { All IsWithin rest.value }
+    ensures ok { OnOk result (cursors.new ≡ opened cursors.old connection namespace.now rest.value
+        (Some (held_walk version left.entry.number left.entry.projection.now
+        (way_by left.entry)))) }
+    ensures err { OnErr result (cursors.new ≡ cursors.old) }
+{
+    let list = pinned_list(version, left, rest)?;
+    cursors.open_listed(connection, namespace, list)
 }
 
 /// Pins the collections as the turn began with them, and opens a cursor that goes on in them by what a walk has
@@ -77,11 +127,38 @@ pub fn open_pinned<D: Disk>(
     requires number { cursors.old.next < 2 ^ 63 }
     requires within { All IsWithin rest.value }
     requires rests { is_changed file.old ≡ false }
-    ensures { OpensPinned D.history connection namespace.now left.entry rest.value result file.old
+    ensures { OpensPinned D.history connection namespace.now left.entry.number
+        left.entry.walk.now.projection.now (way_behind left.entry) rest.value result file.old
         file.new cursors.old cursors.new }
 {
     let version = file.pin()?;
-    match open_in(cursors, version, connection, namespace, left, rest) {
+    match open_walk(cursors, version, connection, namespace, left, rest) {
+        Ok(()) => Ok(()),
+        Err(fault) => {
+            file.unpin(version);
+            Err(fault)
+        }
+    }
+}
+
+/// The same of a cursor that gives the documents of a list.
+pub fn open_listed<D: Disk>(
+    file: &mut Collections<D>,
+    cursors: &mut Cursors,
+    connection: ConnId,
+    namespace: &str,
+    left: ListLeft<'_>,
+    rest: Rest,
+) -> Result<(), NoMemory>
+    requires number { cursors.old.next < 2 ^ 63 }
+    requires within { All IsWithin rest.value }
+    requires rests { is_changed file.old ≡ false }
+    ensures { OpensPinned D.history connection namespace.now left.entry.number
+        left.entry.projection.now (way_by left.entry) rest.value result file.old file.new
+        cursors.old cursors.new }
+{
+    let version = file.pin()?;
+    match open_list(cursors, version, connection, namespace, left, rest) {
         Ok(()) => Ok(()),
         Err(fault) => {
             file.unpin(version);

@@ -1,7 +1,8 @@
 //! Cursors that hold no documents give their next batches.
 
-ghost use Rattle.std.specs.Prelude.{◌≡◌, ◌≢◌, ◌<◌, ◌≤◌, IfOk, None, length};
+ghost use Rattle.std.specs.Prelude.{◌≡◌, ◌≢◌, ◌<◌, ◌≤◌, ◌^◌, IfOk, None, length};
 ghost use Rattle.cursors.specs.Held.{cursors_of, held_at};
+ghost use Rattle.index.specs.View.{texts_of};
 ghost use Rattle.database_model.specs.Lawful.{AreLawfulCursors};
 ghost use Rattle.pinned_cursors.specs.Batches.{GivesNext, ReadsAt};
 ghost use Rattle.replies.specs.View.{IsSendable};
@@ -9,10 +10,10 @@ ghost use Rattle.replies.specs.View.{IsSendable};
 use crate::ending::end;
 use bson::SpelledDocument;
 use collections::Collections;
-use cursors::{Cursors, PinnedWalk};
+use cursors::{Cursors, PinnedList, PinnedWalk, Source};
 use page::Disk;
 use path::Refusal;
-use queries::{BatchAsked, GivenBatch, Walk, batch_of_version};
+use queries::{BatchAsked, GivenBatch, Listed, Walk, batch_of_listed, batch_of_version};
 use replies::BatchKind;
 use std::alloc::Global;
 
@@ -33,6 +34,18 @@ fn walk_on(pinned: &PinnedWalk) -> Walk<'_>
     }
 }
 
+/// The list by which it goes on.
+fn list_on(pinned: &PinnedList) -> Listed<'_>
+    ensures ids { texts_of result.ids.now ≡ pinned.now.texts }
+    ensures few { length result.ids.now < 2 ^ 64 }
+    ensures projection { result.projection.now ≡ pinned.now.projection }
+{
+    Listed {
+        ids: pinned.texts.left(),
+        projection: &pinned.projection,
+    }
+}
+
 /// The next batch of the cursor at a place, read from its version.
 fn read_at<D: Disk>(
     alloc: Global,
@@ -49,17 +62,23 @@ fn read_at<D: Disk>(
         file.new }
     ensures sendable { IfOk result (λ b. IsSendable b.reply) }
 {
-    let Some(pinned) = cursors.walk_at(at) else {
-        unreachable!("it reads a pinned version");
-    };
-    let walk = walk_on(pinned);
     let asked = BatchAsked {
         kind: BatchKind::Next,
         namespace,
         number: cursors.number_at(at),
         most,
     };
-    batch_of_version(alloc, file, pinned.version, pinned.number, &walk, &asked)
+    match cursors.source_at(at) {
+        Source::Kept(_) => unreachable!("it reads a pinned version"),
+        Source::Pinned(pinned) => {
+            let walk = walk_on(pinned);
+            batch_of_version(alloc, file, pinned.version, pinned.number, &walk, &asked)
+        }
+        Source::Listed(pinned) => {
+            let listed = list_on(pinned);
+            batch_of_listed(alloc, file, pinned.version, pinned.number, &listed, &asked)
+        }
+    }
 }
 
 /// Gives the next documents of the cursor at a place, which holds none: they are read from its version. With its

@@ -22,3 +22,4 @@ pub mod WindowLemmas
 pub mod BatchesLemmas
 pub mod WalkLeftLemmas
 pub mod GivenLemmas
+pub mod ListedLemmas

@@ -6,5 +6,6 @@ pub mod ByIndex
 pub mod Dense
 pub mod Folding
 pub mod IdRange
+pub mod Listed
 pub mod Within
 pub mod Piping

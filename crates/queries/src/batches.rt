@@ -87,7 +87,7 @@ fn is_reached(limit: usize, count: usize) -> bool
 
 /// Puts what a projection leaves of a document into a batch, if it goes into it, and says whether it did;
 /// `StorageFailed` where it is over the limits of those that are stored, as a disk may give some.
-fn offer_within(
+pub(crate) fn offer_within(
     alloc: Global,
     batch: &mut OpenBatch,
     projection: &Projection,

@@ -1,28 +1,34 @@
-use Rattle.std.proofs.Common.{refl, sym}
-use Rattle.cursors.specs.Held.{HeldCursor, HeldWalk, held_at}
-use Rattle.cursors.specs.View.{walk_of}
+use Rattle.std.proofs.Common.{Some, refl, sym, ap, ◌∙◌}
+use Rattle.cursors.specs.Held.{HeldCursor, HeldWalk, held_at, through, listed}
+use Rattle.cursors.specs.View.{list_of, walk_in, walk_of}
+use Rattle.cursors.specs.declared.source.Source.{Source}
 use Rattle.queries.specs.declared.batches.BatchAsked.{BatchAsked}
 use Rattle.replies.specs.declared.batch_spelling.BatchKind.TheVariants as batches
-use Rattle.pinned_cursors.proofs.NextLemmas.{AsksNext, reads_next}
+use Rattle.pinned_cursors.proofs.NextLemmas.{AsksNext, reads_listed, reads_through}
 use Rattle.pinned_cursors.proofs.reading.read_at.Goals as goal
 
-pub returns-clause-reads : goal.returns-clause-reads
-returns-clause-reads g c =
+pub returns-in-Pinned-clause-reads : goal.returns-in-Pinned-clause-reads
+returns-in-Pinned-clause-reads g c =
     let h : HeldCursor = held_at c.args.cursors.now c.args.at in
-    let w : HeldWalk = walk_of c.in-Some.pinned.now in
+    let w : HeldWalk = walk_of c.in-Pinned.pinned in
     let on = c.walk_on-walk.ensures in
-    let asked : BatchAsked =
-    record { kind = batches.Next; namespace = c.args.namespace; number = c.number_at.result; most = c.args.most } in
-    let asks : AsksNext h w c.args.namespace.now c.args.most c.walk_on-walk.result asked = record {
-      filter = on.filter;
-      projection = on.projection;
-      skip = on.skip;
-      limit = on.limit;
-      from = on.from;
-      kind = refl;
-      namespace_is = refl;
-      number = c.number_at.ensures.number;
-      most_is = refl;
-    } in
-    reads_next g.D.Disk.history h w (sym c.in-Some.ensures.walk) c.args.namespace.now c.args.most c.walk_on-walk.result asked asks c.args.file.now
-    c.batch_of_version.new.file c.batch_of_version.result c.batch_of_version.ensures.reads
+    let asked : BatchAsked = record { kind = batches.Next; namespace = c.args.namespace; number = c.number_at.result; most = c.args.most } in
+    let asks : AsksNext h c.args.namespace.now c.args.most asked =
+    record { kind = refl; namespace_is = refl; number = c.number_at.ensures.number; most_is = refl } in
+    reads_through g.D.Disk.history h w (sym c.source_at.ensures.walk ∙ ap walk_in c.in-Pinned.is) c.args.namespace.now c.args.most asked asks c.args.file.now
+    c.batch_of_version.new.file c.walk_on-walk.result
+    (record { way = λ i. through (sym on.filter i) (sym on.limit i) (sym on.from i); projection = on.projection; skip = on.skip })
+    c.batch_of_version.result c.batch_of_version.ensures.reads
+
+pub returns-in-Listed-clause-reads : goal.returns-in-Listed-clause-reads
+returns-in-Listed-clause-reads g c =
+    let h : HeldCursor = held_at c.args.cursors.now c.args.at in
+    let w : HeldWalk = list_of c.in-Listed.pinned in
+    let on = c.list_on-listed.ensures in
+    let asked : BatchAsked = record { kind = batches.Next; namespace = c.args.namespace; number = c.number_at.result; most = c.args.most } in
+    let asks : AsksNext h c.args.namespace.now c.args.most asked =
+    record { kind = refl; namespace_is = refl; number = c.number_at.ensures.number; most_is = refl } in
+    reads_listed g.D.Disk.history h w (sym c.source_at.ensures.walk ∙ ap walk_in c.in-Listed.is) c.args.namespace.now c.args.most asked asks c.args.file.now
+    c.batch_of_listed.new.file c.list_on-listed.result
+    (record { way = ap listed (sym on.ids); projection = on.projection; few = on.few })
+    c.batch_of_listed.result c.batch_of_listed.ensures.reads

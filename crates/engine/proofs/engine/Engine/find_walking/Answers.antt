@@ -13,14 +13,14 @@ use Rattle.path.specs.declared.refusal.Refusal.{Refusal}
 use Rattle.engine.specs.Looking.{Looks, LooksOf}
 use Rattle.engine.specs.TakingOut.{HasHome, IsHome}
 use Rattle.engine.specs.View.{world}
-use Rattle.engine.specs.Walking.{AreFirst}
+use Rattle.engine.specs.Walking.{AreFirst, AreOf}
 use Rattle.engine.proofs.CataloguedLemmas.{IsCatalogueOf, has_home}
 use Rattle.engine.proofs.Finding.{all_suffice, given_within_limits}
 use Rattle.engine.proofs.GivingLemmas.{gives_behind}
 use Rattle.engine.proofs.LookingLemmas.{collections_same, performs_behind, performs_refused, reads_trans, world_same}
 use Rattle.engine.proofs.NamedLemmas.{of_home, of_no_home}
 use Rattle.engine.proofs.OnlyReading.{word_before}
-use Rattle.engine.proofs.WalkingLemmas.{found_plain}
+use Rattle.engine.proofs.WalkingLemmas.{first_of, found_plain}
 use Rattle.engine.proofs.engine.Engine.find_walking.Goals as goal
 
 pub returns-in_err-home-clause-performs : goal.returns-in_err-home-clause-performs
@@ -87,15 +87,35 @@ returns-in-Some-2-clause-performs g c =
     (λ now. AreFirst c.enough.result q.filter (documents_of now c.args.namespace.now))
     r old mid) c.in_ok-found.was looks in
     let within = subst (λ (o : Option (Vec Pairs)). IfSome o (λ v. All IsWithin v.items)) c.in-Some-2.is c.in_ok-found.ensures.within in
-    gives_behind history old mid c.give_found-in-Some-2.new.self looks.reads c.give_found-in-Some-2.ensures.file
-    (ap (λ t. t.value) c.give_found-in-Some-2.ensures.told) c.give_found-in-Some-2.ensures.has_changes c.args.connection c.args.namespace.now
-    (given q found.items) c.args.most (run_find (world old) c.args.connection asked) c.give_found-in-Some-2.result c.requires.short
-    (given_within_limits q found.items within) c.give_found-in-Some-2.ensures.runs
+    gives_behind history old mid c.give_listed-in-Some-2.new.self looks.reads c.give_listed-in-Some-2.ensures.file
+    (ap (λ t. t.value) c.give_listed-in-Some-2.ensures.told) c.give_listed-in-Some-2.ensures.has_changes c.args.connection c.args.namespace.now
+    (given q found.items) c.args.most (run_find (world old) c.args.connection asked) c.give_listed-in-Some-2.result c.requires.short
+    (given_within_limits q found.items within) c.give_listed-in-Some-2.ensures.runs
     (λ k. found_plain (world old) c.args.connection c.args.namespace.now q c.args.most c.requires.unsorted c.enough.result found.items c.enough.ensures
     (subst (AreFirst c.enough.result q.filter (documents_of (world old).collections c.args.namespace.now)) c.in-Some-2.is (told.answers k))
     (omega (arith, found.ok.0, found.ok.1, found.small)))
 
 -- the catalogue has it still
+pub give_listed-in-Some-2-requires-clause-there : goal.give_listed-in-Some-2-requires-clause-there
+give_listed-in-Some-2-requires-clause-there g c = λ k.
+    let history = g.D.Disk.history in
+    let old = c.args.self.now in
+    let mid = c.catalogued.new.self in
+    let new = c.looked_up.new.self in
+    let name = c.args.namespace.now in
+    let q = c.args.query.now in
+    let found = c.in-Some-2.found in
+    let first = c.in_ok-home.ensures.looks in
+    let then = c.in_ok-found.ensures.looks in
+    let is = subst (IsCatalogueOf name (world old).collections) c.in-Some.is (first.answers (word_before history mid.file new.file then.reads.goes k)) in
+    let at = subst (λ (cs : List Collection). HasHome cs name c.in-Some.home) (sym (collections_same history old mid first.reads))
+    (has_home (world old).collections name c.in-Some.home is) in
+    let told = subst (λ (x : Query). AreFirst c.enough.result x.filter at.collection.documents c.in_ok-found.found) c.query.view_is
+    (then.answers k at.collection at.catalogued) in
+    subst (λ (cs : List Collection). AreOf cs name c.in-Some.home found.items) (sym (collections_same history mid new then.reads))
+    (first_of (world mid).collections first.reads.sound.lawful.kept name c.in-Some.home at q.filter c.enough.result found.items
+    (subst (AreFirst c.enough.result q.filter at.collection.documents) c.in-Some-2.is told))
+
 pub give_walked-requires-clause-home : goal.give_walked-requires-clause-home
 give_walked-requires-clause-home g c = λ k.
     let history = g.D.Disk.history in

@@ -11,7 +11,7 @@ use Rattle.statements.proofs.KeptLemmas.{stored_at}
 use Rattle.entries.specs.State.{Collection}
 use Rattle.path.specs.declared.refusal.Refusal.{Refusal}
 use Rattle.path.specs.declared.refusal.Refusal.TheVariants as refusals
-use Rattle.cursors.specs.Held.{Held}
+use Rattle.cursors.specs.Held.{Held, through}
 use Rattle.queries.specs.Batches.{IsGivenBatch, walk_rest}
 use Rattle.queries.specs.declared.batches.BatchAsked.{BatchAsked}
 use Rattle.replies.specs.declared.batch_spelling.BatchKind.TheVariants as kinds
@@ -19,7 +19,7 @@ use Rattle.engine.specs.TakingOut.{HasHome}
 use Rattle.engine.specs.View.{world}
 use Rattle.engine.proofs.LookingLemmas.{collections_same, performs_behind, performs_read, performs_refused, world_same}
 use Rattle.engine.proofs.OnlyReading.{word_before}
-use Rattle.engine.proofs.WalkingLemmas.{at_home, number_is, number_lacks, opens_done, opens_failed, walk_within, walked_opened, walked_refused, walked_whole}
+use Rattle.engine.proofs.WalkingLemmas.{at_home, left_by_walk, number_is, number_lacks, opens_done, opens_failed, walk_within, walked_opened, walked_refused, walked_whole}
 use Rattle.engine.proofs.engine.Engine.give_walked.Goals as goal
 
 pub returns-in_err-batch-clause-performs : goal.returns-in_err-batch-clause-performs
@@ -103,22 +103,33 @@ returns-in_err-open_pinned-clause-performs g c =
     let old = c.args.self.now in
     let mid = c.walked.new.self in
     let name = c.args.namespace.now in
+    let q = c.args.query.now in
     let home = c.args.home.now in
-    let asked : Find = record { namespace = name; query = c.args.query.now; batch_size = Some c.args.most } in
+    let asked : Find = record { namespace = name; query = q; batch_size = Some c.args.most } in
     let planned = run_find (world old) c.args.connection asked in
     let reads = c.in_ok-batch.ensures.looks.reads in
+    let walk = c.whole_walk-walk.result in
     let is = c.whole_walk-walk.ensures in
+    let n = c.in_ok-batch.batch.count in
+    let from = c.in-Some.from.items in
+    let rest = c.rest_from-rest.result.value in
+    let rest_is : rest ≡ walk_rest walk.filter.now walk.projection.now 0 (walk.limit - n) from (documents_of (world mid).collections name) =
+    c.rest_from-rest.ensures
+    ∙ (λ i. walk_rest (sym is.filter i) (sym is.projection i) 0 (sym is.limit i - n) from (documents_of (world mid).collections name)) in
     let e = err_from_is_err_and c.from_residual-in_err-open_pinned.result c.from_residual-in_err-open_pinned.ensures.1 in
     rw e.1
     (performs_behind history old mid _ reads planned planned (Err e.0)
-    (opens_failed history mid reads.sound c.args.connection name _ c.rest_from-rest.result.value
-    (c.rest_from-rest.ensures
-    ∙ (λ i. walk_rest (sym is.filter i) (sym is.projection i) 0 (sym is.limit i - c.in_ok-batch.batch.count) c.in-Some.from.items
-    (documents_of (world mid).collections name)))
-    c.open_pinned.new.file c.open_pinned.new.cursors planned home refl
-    (λ k. subst (λ (cs : List Collection). HasHome cs name home) (sym (collections_same history old mid reads))
+    (opens_failed history mid c.args.connection name home.number walk.projection.now (through walk.filter.now (walk.limit - n) from) rest
+    c.open_pinned.new.file c.open_pinned.new.cursors
+    (λ k. left_by_walk history mid reads.sound name home
+    (subst (λ (cs : List Collection). HasHome cs name home) (sym (collections_same history old mid reads))
     (c.requires.home (word_before history old.file mid.file reads.goes k)))
-    c.in_err-open_pinned.field-0.0 c.in_err-open_pinned.ensures e.0 e.2) (λ k. refl))
+    walk.filter.now walk.projection.now (walk.limit - n) from rest rest_is)
+    reads.sound
+    (subst (λ (ds : List Pairs). All IsWithin ds) (sym c.rest_from-rest.ensures)
+    (walk_within q.filter q.projection 0 (q.limit - n) from (documents_of (world mid).collections name)
+    (stored_at (world mid).collections name reads.sound.lawful.kept).1))
+    planned c.in_err-open_pinned.field-0.0 c.in_err-open_pinned.ensures e.0 e.2) (λ k. refl))
 
 pub returns-clause-performs : goal.returns-clause-performs
 returns-clause-performs g c =
@@ -148,15 +159,23 @@ returns-clause-performs g c =
     c.rest_from-rest.ensures
     ∙ (λ i. walk_rest (sym is.filter i) (sym is.projection i) 0 (sym is.limit i - b.count) c.in-Some.from.items
     (documents_of (world_same history old mid reads i).collections name)) in
+    let n = b.count in
+    let from = c.in-Some.from.items in
+    let rest_is : rest ≡ walk_rest walk.filter.now walk.projection.now 0 (walk.limit - n) from (documents_of (world mid).collections name) =
+    c.rest_from-rest.ensures
+    ∙ (λ i. walk_rest (sym is.filter i) (sym is.projection i) 0 (sym is.limit i - n) from (documents_of (world mid).collections name)) in
     performs_behind history old mid _ reads planned planned (Ok b.reply)
-    (opens_done history mid reads.sound c.args.connection name _ rest
-    (c.rest_from-rest.ensures
-    ∙ (λ i. walk_rest (sym is.filter i) (sym is.projection i) 0 (sym is.limit i - b.count) c.in-Some.from.items
-    (documents_of (world mid).collections name)))
-    c.open_pinned.new.file c.open_pinned.new.cursors planned home refl
-    (λ k. subst (λ (cs : List Collection). HasHome cs name home) (sym (collections_same history old mid reads))
+    (opens_done history mid c.args.connection name home.number walk.projection.now (through walk.filter.now (walk.limit - n) from) rest
+    c.open_pinned.new.file c.open_pinned.new.cursors
+    (λ k. left_by_walk history mid reads.sound name home
+    (subst (λ (cs : List Collection). HasHome cs name home) (sym (collections_same history old mid reads))
     (c.requires.home (word_before history old.file mid.file reads.goes k)))
-    c.in_ok-open_pinned.ensures b.reply
+    walk.filter.now walk.projection.now (walk.limit - n) from rest rest_is)
+    reads.sound
+    (subst (λ (ds : List Pairs). All IsWithin ds) (sym c.rest_from-rest.ensures)
+    (walk_within q.filter q.projection 0 (q.limit - n) from (documents_of (world mid).collections name)
+    (stored_at (world mid).collections name reads.sound.lawful.kept).1))
+    planned c.in_ok-open_pinned.ensures b.reply
     (λ k.
     let f = c.requires.home (word_before history old.file mid.file reads.goes k) in
     let given = at_home w.collections name home f (λ (ds : List Pairs). IsGivenBatch walk batch ds b) (looks.answers k f.collection f.catalogued) in

@@ -3,7 +3,7 @@ use Rattle.std.proofs.lemmas.Result.{IfOk-equal}
 use Rattle.bson.specs.Tree.{Pairs}
 use Rattle.database_model.specs.Lawful.{IsWithin}
 use Rattle.cursors.specs.Changes.{opened}
-use Rattle.pinned_cursors.proofs.opening.open_in.Goals as goal
+use Rattle.pinned_cursors.proofs.opening.open_walk.Goals as goal
 
 pub open_pinned-requires-clause-within : goal.open_pinned-requires-clause-within
 open_pinned-requires-clause-within c = subst (λ (ds : List Pairs). All IsWithin ds) (sym c.in_ok-walk.ensures.gives) c.requires.within

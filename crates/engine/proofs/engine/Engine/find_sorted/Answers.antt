@@ -1,0 +1,96 @@
+use Rattle.std.proofs.Common.{◌≡◌, ◌^◌, ◌-◌, List, Some, Vec, Global, [], length, take, sym, ap, subst, ◌∙◌, arith}
+use Rattle.std.proofs.lemmas.List.{take_all}
+use Rattle.std.proofs.lemmas.Result.{err_from_is_err_and}
+use Rattle.bson.specs.Tree.{Pairs}
+use Rattle.commands.specs.Find.{Find}
+use Rattle.database_model.specs.Find.{given, matching, run_find}
+use Rattle.entries.specs.State.{Collection}
+use Rattle.sort.specs.Sort.{order}
+use Rattle.engine.specs.TakingOut.{HasHome}
+use Rattle.engine.specs.View.{world}
+use Rattle.engine.specs.Walking.{AreOf}
+use Rattle.engine.proofs.CataloguedLemmas.{IsCatalogueOf, has_home}
+use Rattle.engine.proofs.Finding.{all_suffice, given_within_limits}
+use Rattle.engine.proofs.GivingLemmas.{gives_behind}
+use Rattle.engine.proofs.LookingLemmas.{collections_same, performs_refused}
+use Rattle.engine.proofs.NamedLemmas.{of_home, of_no_home}
+use Rattle.engine.proofs.OnlyReading.{word_before}
+use Rattle.engine.proofs.WalkingLemmas.{found_ordered, ordered_of}
+use Rattle.engine.proofs.engine.Engine.find_sorted.Goals as goal
+
+pub returns-in_err-home-clause-performs : goal.returns-in_err-home-clause-performs
+returns-in_err-home-clause-performs g c =
+    let old = c.args.self.now in
+    let asked : Find = record { namespace = c.args.namespace.now; query = c.args.query.now; batch_size = Some c.args.most } in
+    let p = err_from_is_err_and c.from_residual.result c.from_residual.ensures.1 in
+    rw (p.1, p.2)
+    (performs_refused g.D.Disk.history old c.catalogued.new.self (run_find (world old) c.args.connection asked) c.in_err-home.field-0.0
+    c.in_err-home.ensures.looks.reads c.in_err-home.ensures.looks.answers)
+
+-- there is no collection of that name
+pub returns-in_default-clause-performs : goal.returns-in_default-clause-performs
+returns-in_default-clause-performs g c =
+    let history = g.D.Disk.history in
+    let old = c.args.self.now in
+    let mid = c.catalogued.new.self in
+    let q = c.args.query.now in
+    let asked : Find = record { namespace = c.args.namespace.now; query = q; batch_size = Some c.args.most } in
+    let none = c.new-none.result in
+    let looks = of_no_home history c.args.namespace.now old mid
+    (λ ds (found : Vec Pairs Global). found.items ≡ take (2 ^ 64 - 1) (order q.sort (matching q.filter ds)))
+    c.in_ok-home.field-0 c.in_ok-home.ensures.looks c.in_default.is none (c.new-none.ensures.items ∙ sym (take_all (2 ^ 64 - 1) [] (omega arith))) in
+    gives_behind history old mid c.give_found.new.self c.in_ok-home.ensures.looks.reads c.give_found.ensures.file
+    (ap (λ t. t.value) c.give_found.ensures.told) c.give_found.ensures.has_changes c.args.connection c.args.namespace.now (given q none.items) c.args.most
+    (run_find (world old) c.args.connection asked) c.give_found.result c.requires.short
+    (given_within_limits q none.items (λ k d below. absurd (omega (arith, below, ap length c.new-none.ensures.items)))) c.give_found.ensures.runs
+    (λ k. found_ordered (world old) c.args.connection c.args.namespace.now q c.args.most (2 ^ 64 - 1) none.items (all_suffice q)
+    (looks.answers k) (omega (arith, ap length c.new-none.ensures.items)))
+
+pub returns-in_err-found-clause-performs : goal.returns-in_err-found-clause-performs
+returns-in_err-found-clause-performs g c =
+    let history = g.D.Disk.history in
+    let old = c.args.self.now in
+    let q = c.args.query.now in
+    let asked : Find = record { namespace = c.args.namespace.now; query = q; batch_size = Some c.args.most } in
+    let p = err_from_is_err_and c.from_residual-in_err-found.result c.from_residual-in_err-found.ensures.1 in
+    let looks = of_home history c.args.namespace.now old c.catalogued.new.self
+    (λ ds (found : Vec Pairs Global). found.items ≡ take c.enough.result (order q.sort (matching q.filter ds)))
+    c.in_ok-home.field-0 c.in_ok-home.ensures.looks c.ordered.new.self c.in-Some.home c.in-Some.is _ c.in_err-found.ensures.looks in
+    rw (p.1, p.2)
+    (performs_refused history old c.ordered.new.self (run_find (world old) c.args.connection asked) c.in_err-found.field-0.0 looks.reads looks.answers)
+
+pub give_listed-requires-clause-there : goal.give_listed-requires-clause-there
+give_listed-requires-clause-there g c = λ k.
+    let history = g.D.Disk.history in
+    let old = c.args.self.now in
+    let mid = c.catalogued.new.self in
+    let new = c.ordered.new.self in
+    let name = c.args.namespace.now in
+    let q = c.args.query.now in
+    let found = c.in_ok-found.found in
+    let first = c.in_ok-home.ensures.looks in
+    let then = c.in_ok-found.ensures.looks in
+    let is = subst (IsCatalogueOf name (world old).collections) c.in-Some.is (first.answers (word_before history mid.file new.file then.reads.goes k)) in
+    let at = subst (λ (cs : List Collection). HasHome cs name c.in-Some.home) (sym (collections_same history old mid first.reads))
+    (has_home (world old).collections name c.in-Some.home is) in
+    subst (λ (cs : List Collection). AreOf cs name c.in-Some.home found.items) (sym (collections_same history mid new then.reads))
+    (ordered_of (world mid).collections first.reads.sound.lawful.kept name c.in-Some.home at q.filter c.enough.result q.sort found.items
+    (then.answers k at.collection at.catalogued))
+
+pub returns-clause-performs : goal.returns-clause-performs
+returns-clause-performs g c =
+    let history = g.D.Disk.history in
+    let old = c.args.self.now in
+    let mid = c.ordered.new.self in
+    let q = c.args.query.now in
+    let asked : Find = record { namespace = c.args.namespace.now; query = q; batch_size = Some c.args.most } in
+    let found = c.in_ok-found.found in
+    let looks = of_home history c.args.namespace.now old c.catalogued.new.self
+    (λ ds (found : Vec Pairs Global). found.items ≡ take c.enough.result (order q.sort (matching q.filter ds)))
+    c.in_ok-home.field-0 c.in_ok-home.ensures.looks mid c.in-Some.home c.in-Some.is _ c.in_ok-found.ensures.looks in
+    gives_behind history old mid c.give_listed.new.self looks.reads c.give_listed.ensures.file
+    (ap (λ t. t.value) c.give_listed.ensures.told) c.give_listed.ensures.has_changes c.args.connection c.args.namespace.now
+    (given q found.items) c.args.most (run_find (world old) c.args.connection asked) c.give_listed.result c.requires.short
+    (given_within_limits q found.items c.in_ok-found.ensures.within) c.give_listed.ensures.runs
+    (λ k. found_ordered (world old) c.args.connection c.args.namespace.now q c.args.most c.enough.result found.items c.enough.ensures
+    (looks.answers k) (omega (arith, found.ok.0, found.ok.1, found.small)))

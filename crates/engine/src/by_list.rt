@@ -1,0 +1,139 @@
+//! `find` of documents that are looked up or sorted, in a turn that has changed nothing: the first batch is given of those that were
+//! read, and a cursor keeps a list of the `_id`s of the others.
+
+ghost use Rattle.std.specs.Prelude.{◌≡◌, ◌≤◌, ◌≢◌, [], false, All, IfOk, Some, length, map};
+ghost use Rattle.collections.specs.View.{is_changed};
+ghost use Rattle.database_model.specs.Cursors.{batch_of, first_batch};
+ghost use Rattle.database_model.specs.Find.{given, run_find};
+ghost use Rattle.database_model.specs.Lawful.{IsWithin};
+ghost use Rattle.engine.specs.Durable.{disk_history, file_of, has_changes, IsSound};
+ghost use Rattle.engine.specs.Performing.{Performs};
+ghost use Rattle.engine.specs.View.{world};
+ghost use Rattle.engine.specs.Walking.{AreOf};
+ghost use Rattle.page.specs.History.{KeepsWord};
+ghost use Rattle.pinned_cursors.specs.Turns.{Releases};
+ghost use Rattle.projection.specs.Projection.{project};
+ghost use Rattle.replies.specs.View.{projected, IsSendable, Runs};
+
+use crate::engine::Engine;
+use crate::find::{enough, window};
+use bson::SpelledDocument;
+use commands::Query;
+use cursors::Rest;
+use entries::Catalogued;
+use page::Disk;
+use path::Refusal;
+use pinned_cursors::{ListLeft, open_listed};
+use projection::Projection;
+use queries::listed_texts;
+use replies::ConnId;
+
+/// What a projection leaves of documents.
+fn rest_of<'a>(projection: &'a Projection, documents: &'a [SpelledDocument]) -> Rest
+    ensures { result.value ≡ map (project projection.now) documents.now }
+{
+    Rest::of(&(projection, documents))
+}
+
+impl<D: Disk> Engine<D> {
+    /// Finds documents that a query asks for in another order than that of their `_id`s, in a turn that has changed nothing.
+    pub(crate) fn find_sorted(
+        &mut self,
+        connection: ConnId,
+        namespace: &str,
+        query: &Query,
+        most: usize,
+    ) -> Result<SpelledDocument, Refusal>
+        requires short { length namespace.now ≤ 255 }
+        requires sound { IsSound D.history self.old }
+        requires rests { is_changed (file_of self.old) ≡ false }
+        ensures performs { Performs D.history
+            (run_find (world self.old) connection
+            (record { namespace = namespace.now; query = query.now; batch_size = Some most }))
+            result self.old self.new }
+        ensures has_changes { has_changes self.new ≡ has_changes self.old }
+        ensures sendable { IfOk result (λ d. IsSendable d) }
+    {
+        let Some(home) = self.catalogued(namespace)? else {
+            let none = Vec::new(self.alloc);
+            return self.give_found(connection, namespace, query, none, most);
+        };
+        let found = self.ordered(&home, query, enough(query))?;
+        self.give_listed(connection, namespace, &home, query, found, most)
+    }
+
+    /// Gives a first batch of documents that were found in the collection of a name, of which the catalogue has this, as far as they
+    /// are asked for, and opens a cursor that looks the others up.
+    pub(crate) fn give_listed(
+        &mut self,
+        connection: ConnId,
+        namespace: &str,
+        home: &Catalogued,
+        query: &Query,
+        found: Vec<SpelledDocument>,
+        most: usize,
+    ) -> Result<SpelledDocument, Refusal>
+        requires short { length namespace.now ≤ 255 }
+        requires within { All IsWithin found.items }
+        requires sound { IsSound D.history self.old }
+        requires rests { is_changed (file_of self.old) ≡ false }
+        requires there { KeepsWord (disk_history D.history self.old)
+            → AreOf (world self.old).collections namespace.now home.now found.items }
+        ensures file { Releases D.history self.old.file self.new.file self.old.cursors
+            self.new.cursors }
+        ensures told { self.new.told ≡ self.old.told }
+        ensures has_changes { self.new.is_changed ≡ self.old.is_changed }
+        ensures runs { Runs (world self.old)
+            (first_batch (world self.old) connection namespace.now (given query.now found.items)
+            (batch_of most (given query.now found.items)))
+            (world self.new) result }
+        ensures sendable { IfOk result (λ d. IsSendable d) }
+    {
+        let asked = window(found, query.skip, query.limit)?;
+        self.give_by_list(connection, namespace, home, &query.projection, asked, most)
+    }
+
+    /// Gives a first batch of documents of which a projection is given, and opens a cursor that looks the others up.
+    fn give_by_list(
+        &mut self,
+        connection: ConnId,
+        namespace: &str,
+        home: &Catalogued,
+        projection: &Projection,
+        documents: Vec<SpelledDocument>,
+        most: usize,
+    ) -> Result<SpelledDocument, Refusal>
+        requires short { length namespace.now ≤ 255 }
+        requires within { All IsWithin (projected projection.now documents.items) }
+        requires sound { IsSound D.history self.old }
+        requires rests { is_changed (file_of self.old) ≡ false }
+        requires there { KeepsWord (disk_history D.history self.old)
+            → AreOf (world self.old).collections namespace.now home.now documents.items }
+        ensures file { Releases D.history self.old.file self.new.file self.old.cursors
+            self.new.cursors }
+        ensures told { self.new.told ≡ self.old.told }
+        ensures has_changes { self.new.is_changed ≡ self.old.is_changed }
+        ensures runs { let ds = projected projection.now documents.items in
+            Runs (world self.old)
+            (first_batch (world self.old) connection namespace.now ds (batch_of most ds))
+            (world self.new) result }
+        ensures sendable { IfOk result (λ d. IsSendable d) }
+    {
+        let (reply, count) = self
+            .cursors
+            .first_batch(connection, namespace, projection, &documents, most)?;
+        if documents.len() <= count {
+            return Ok(reply);
+        }
+        let behind = &documents[count..];
+        let left = ListLeft {
+            number: home.number,
+            projection,
+            texts: listed_texts(self.alloc, behind)?,
+        };
+        let rest = rest_of(projection, behind);
+        let cursors = &mut self.cursors;
+        open_listed(&mut self.file, cursors, connection, namespace, left, rest)?;
+        Ok(reply)
+    }
+}
