@@ -1,28 +1,50 @@
 -- What becomes of a message is what its plan says.
 use Rattle.std.proofs.Common.{◌≡◌, ℕ, ◌-◌, ◌<◌, ◌≤◌, true, false, List, length, drop, get_or, set}
-use Rattle.std.proofs.Common.{Option, Some, None, Ok, Err, sym, subst, ◌∙◌, inl, inr, arith}
-use Rattle.std.specs.Prelude.{Result, Vec, IfOk, is_some, option_map, slice_range}
+use Rattle.std.proofs.Common.{Option, Some, None, Ok, Err, refl, sym, subst, ◌∙◌, inl, inr, arith}
+use Rattle.std.specs.Prelude.{Result, Vec, IfOk, is_some, option_map, slice_range, if◌then◌else◌}
 use Rattle.std.proofs.lemmas.List.{length-drop, take_all, get_or_default, get_or-set_same}
 use Rattle.driver_messages.specs.Incoming.{next_message}
 use Rattle.driver_messages.specs.declared.message.Form.{Form}
 use Rattle.driver_messages.specs.declared.message.Message.{Message}
 use Rattle.driver_messages.specs.declared.stream_fault.StreamFault.{StreamFault}
-use Rattle.drivers.specs.Framing.{framed}
+use Rattle.bson.specs.Spelling.{frame_of, pairs_bytes, tree_bytes}
+use Rattle.database_model.specs.Refusals.{refusal_reply}
+use Rattle.path.specs.declared.refusal.Refusal.TheVariants as refusals
+use Rattle.drivers.specs.Framing.{framed, IsShort}
 use Rattle.drivers.specs.declared.server_info.ServerInfo.{ServerInfo}
 use Rattle.drivers.specs.declared.step.Step.{Step}
+use Rattle.drivers.specs.declared.step.Step.TheVariants as steps
 use Rattle.bson.specs.Tree.{Pairs}
 use Rattle.op_msg.specs.Request.{document_in}
-use Rattle.front.specs.Replying.{Becomes, Begins, IsFramed, Starts, TakesFrame, TakesReply, closed, has_room}
+use Rattle.front.specs.Replying.{Becomes, Begins, IsFramed, Starts, TakesFrame, TakesReply, closed, has_room, too_large}
 use Rattle.front.specs.Tying.{is_asked}
 use Rattle.front.specs.declared.job.Job.{Job}
 use Rattle.front.specs.declared.socket.Socket.{Socket}
 
--- an answer that has no room is another one
-pub framed_told : {Z E : Type 0} (r : Result (Option (Vec ℕ Z)) E) (form : Form) (number request : ℕ) (step told : Step)
-    → (has_room step ≡ true → told ≡ step) → IfOk r (λ x. option_map (λ v. v.items) x ≡ framed form number request told)
-    → IfOk r (λ x. IsFramed form number request step x)
-framed_told (Ok x) form number request step told same h = record { told = told; same = same; is = h }
-framed_told (Err e) form number request step told same h = h
+-- ---- the frame of an answer
+
+abbrev too_large_len : ℕ
+too_large_len = 87
+
+too_large_is : length (frame_of (pairs_bytes (refusal_reply refusals.BSONObjectTooLarge))) ≡ too_large_len
+unfolding tree_bytes pairs_bytes
+too_large_is = refl
+
+-- the refusal has room
+pub too_large_fits : IsShort too_large
+too_large_fits = omega (arith, too_large_is)
+
+pub framed_short : {Z E : Type 0} (r : Result (Option (Vec ℕ Z)) E) (form : Form) (number request : ℕ) (step : Step) → has_room step ≡ true
+    → IfOk r (λ x. option_map (λ v. v.items) x ≡ framed form number request step) → IfOk r (λ x. IsFramed form number request step x)
+framed_short r form number request step room h =
+    subst (λ (t : Step). IfOk r (λ x. option_map (λ v. v.items) x ≡ framed form number request t)) (λ i. if sym room i then step else too_large) h
+
+pub framed_long : {Z E : Type 0} (r : Result (Option (Vec ℕ Z)) E) (form : Form) (number request : ℕ) (step : Step) (refusal : Pairs)
+    → refusal ≡ refusal_reply refusals.BSONObjectTooLarge → has_room step ≡ false
+    → IfOk r (λ x. option_map (λ v. v.items) x ≡ framed form number request (steps.Reply refusal)) → IfOk r (λ x. IsFramed form number request step x)
+framed_long r form number request step refusal is none h =
+    subst (λ (t : Step). IfOk r (λ x. option_map (λ v. v.items) x ≡ framed form number request t)) (λ i. if sym none i then step else too_large)
+    (subst (λ (d : Pairs). IfOk r (λ x. option_map (λ v. v.items) x ≡ framed form number request (steps.Reply d))) is h)
 
 pub range_behind : (xs ys : List ℕ) (n : ℕ) → ys ≡ slice_range xs n (length xs) → drop n xs ≡ ys
 range_behind xs ys n e = sym (take_all (length xs - n) (drop n xs) (omega (arith, length-drop n xs))) ∙ sym e

@@ -1,6 +1,6 @@
 -- What is asked of the server for a socket's message, and on which connection.
-use Rattle.std.specs.Prelude.{◌≡◌, ◌≤◌, ◌+◌, ◌⊎◌, ℕ, false, List, [], ◌∷◌, length, slice_set}
-use Rattle.std.specs.Prelude.{slice_index_or, Result, Ok, Err, Option, Some, None}
+use Rattle.std.specs.Prelude.{◌≡◌, ◌≤◌, ◌+◌, ◌⊎◌, ℕ, false, List, length, slice_set}
+use Rattle.std.specs.Prelude.{Result, Ok, Err, Option, Some, None}
 use Rattle.bson.specs.Limits.{message_limit}
 use Rattle.bson.specs.Spelling.{frame_of, pairs_bytes}
 use Rattle.bson.specs.Tree.{Pairs}
@@ -96,25 +96,3 @@ pub record EndsOn (old new : List (Option Loan)) (before after : ServerState) : 
 
 abbrev pub EndsOne : List (Option Loan) → List (Option Loan) → ServerState → ServerState → Type 0
 EndsOne old new before after = ((new ≡ old) × (after ≡ before)) ⊎ EndsOn old new before after
-
--- What is done with the socket of a number, by what is to be known of the server for its message.
-pub record AsksOf (sockets : List Socket) (number : ℕ) (old new : List (Option Loan))
-    (before after : ServerState) : Type 0 where
-  pub info : ServerInfo
-  pub asks : (any : Socket) → AsksWanted (Some number)
-      (wanted info (slice_index_or sockets number any)) old new before after
-
--- The sockets of these numbers were served one after the other, each as it stands in this list.
-abbrev pub AreAsked : List Socket → List ℕ → List (Option Loan) → List (Option Loan) → ServerState
-    → ServerState → Type 0
-AreAsked sockets [] old new before after = (new ≡ old) × (after ≡ before)
-AreAsked sockets (n ∷ later) old new before after =
-    (lent : List (Option Loan)) × (between : ServerState)
-    × AsksOf sockets n old lent before between × AreAsked sockets later lent new between after
-
--- What a turn asks: of some sockets, as they were before it, what their messages want, on the
--- connections that are lent, and nothing else on any.
-pub record AsksInTurn (sockets : List Socket) (old new : List (Option Loan))
-    (before after : ServerState) : Type 0 where
-  pub numbers : List ℕ
-  pub asked : AreAsked sockets numbers old new before after

@@ -6,3 +6,4 @@ pub mod Fronting
 pub mod Asking
 pub mod Replying
 pub mod Laws
+pub mod Turning

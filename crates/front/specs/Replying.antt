@@ -1,5 +1,6 @@
 -- What becomes of a socket's message: it is asked next, or its answer is ready, or it has none.
-use Rattle.std.specs.Prelude.{◌≡◌, ◌⊎◌, ◌<◌, ℕ, Bool, true, nat_le, List, length, drop}
+use Rattle.std.specs.Prelude.{◌≡◌, ◌⊎◌, ◌<◌, ℕ, Bool, true, nat_le, if◌then◌else◌, List, length}
+use Rattle.std.specs.Prelude.{drop}
 use Rattle.std.specs.Prelude.{slice_index_or, option_map, Result, Ok, Err, Option, Some, None, Vec}
 use Rattle.bson.specs.Spelling.{frame_of, pairs_bytes}
 use Rattle.bson.specs.Tree.{Pairs}
@@ -14,6 +15,8 @@ use Rattle.drivers.specs.declared.plan.Plan.{Plan}
 use Rattle.drivers.specs.declared.server_info.ServerInfo.{ServerInfo}
 use Rattle.drivers.specs.declared.step.Step.{Step}
 use Rattle.drivers.specs.declared.step.Step.TheVariants as steps
+use Rattle.database_model.specs.Refusals.{refusal_reply}
+use Rattle.path.specs.declared.refusal.Refusal.TheVariants as refusals
 use Rattle.server.specs.Turn.{next_number}
 use Rattle.front.specs.declared.job.Job.{Job}
 use Rattle.front.specs.declared.job.Question.{Question}
@@ -33,13 +36,19 @@ has_room (steps.Reply reply) = nat_le (length (frame_of (pairs_bytes reply))) mo
 has_room (steps.Fail reply) = nat_le (length (frame_of (pairs_bytes reply))) most_bytes
 has_room steps.Silent = true
 
+-- the refusal that says that an answer has no room
+abbrev pub too_large : Step
+too_large = steps.Reply (refusal_reply refusals.BSONObjectTooLarge)
+
+-- what is told: an answer, or, where it has no room in a message, the refusal that says so
+abbrev pub told : Step → Step
+told step = if has_room step then step else too_large
+
 -- These bytes are the frame by which a message of this form and number is answered, if it is, with
--- a number of its own. An answer that has no room in a message is another one.
-pub record IsFramed {Z : Type 0} (form : Form) (number request : ℕ) (step : Step)
-    (bytes : Option (Vec ℕ Z)) : Type 0 where
-  pub told : Step
-  pub same : has_room step ≡ true → told ≡ step
-  pub is : option_map (λ v. v.items) bytes ≡ framed form number request told
+-- a number of its own.
+abbrev pub IsFramed : {Z : Type 0} → Form → ℕ → ℕ → Step → Option (Vec ℕ Z) → Type 0
+IsFramed form number request step bytes =
+    option_map (λ v. v.items) bytes ≡ framed form number request (told step)
 
 -- ---- a socket
 
@@ -55,9 +64,7 @@ pub record IsReady (old : Socket) (form : Form) (request : ℕ) (step : Step)
 -- there is none
 pub record IsSilent (old : Socket) (form : Form) (request : ℕ) (step : Step)
     (new : Socket) : Type 0 where
-  pub told : Step
-  pub same : has_room step ≡ true → told ≡ step
-  pub none : framed form (next_number old.last_reply) request told ≡ None
+  pub none : framed form (next_number old.last_reply) request (told step) ≡ None
   pub rest : new ≡ old
 
 -- Where memory ran out the socket is to be closed.

@@ -275,10 +275,6 @@ fn frame(
         return framed(alloc, form, reply_no, number, step);
     }
     let refusal = Step::Reply(refusal_document(alloc, Refusal::BSONObjectTooLarge)?);
-    if !is_short(&refusal) {
-        drop(refusal);
-        return Ok(None);
-    }
     let made = framed(alloc, form, reply_no, number, &refusal);
     drop(refusal);
     made
