@@ -1,10 +1,10 @@
 -- What is asked is what is wanted.
-use Rattle.std.proofs.Common.{◌≡◌, ℕ, true, false, List, Option, Some, None, Ok, Err, refl, sym, ap, ◌∙◌, inl, inr}
-use Rattle.std.specs.Prelude.{Result, is_none, is_err, OnOk, slice_set}
+use Rattle.std.proofs.Common.{◌≡◌, ℕ, true, false, List, Option, Some, None, refl, sym, ap, subst, ◌∙◌, inl, inr}
+use Rattle.std.specs.Prelude.{is_none, slice_set}
 use Rattle.bson.specs.Tree.{Pairs}
 use Rattle.drivers.specs.Answering.{kill_command}
 use Rattle.server.specs.ServerState.{ServerState}
-use Rattle.front.specs.Asking.{IsNoOther, IsAskedOn, AsksWanted, EndsOne}
+use Rattle.front.specs.Asking.{loan_to_end, IsNoOther, IsAskedOn, AsksWanted, EndsOn, EndsOne}
 use Rattle.front.specs.Lending.{loan_at, is_at_rest}
 use Rattle.front.specs.declared.lending.Loan.{Loan}
 use Rattle.front.specs.declared.open_cursors.OpenCursor.{OpenCursor}
@@ -29,27 +29,24 @@ asked_wanted socket q w old new before after asks (inr h) = inr (record {
 
 -- ---- a cursor is ended
 
-pub when_ok : {A E P : Type 0} (r : Result A E) → is_err r ≡ false → OnOk r P → P
-when_ok (Ok x) e h = h
-when_ok (Err f) e h = absurd cc
-
 resting : (o : Option Loan) → is_none o ≡ true → o ≡ None
 resting None e = refl
 resting (Some loan) e = absurd cc
 
-pub ends_on : (cursor : OpenCursor) (command : Pairs) (id : ℕ) (loan : Loan) (loans after : List (Option Loan)) (before now : ServerState)
-    → is_at_rest loans id ≡ true → command ≡ kill_command cursor.database cursor.collection cursor.id → after ≡ slice_set loans id (Some loan)
-    → loan.socket ≡ None → IsAskedOn before id command now → EndsOne loans after before now
-ends_on cursor command id loan loans after before now rest made lent of asked = inr (record {
-  cursor = cursor;
-  asks = record {
-    command = command;
-    is = ap Some (sym made);
-    id = id;
-    loan = loan;
-    of = of;
-    rest = resting (loan_at loans id) rest;
-    lent = lent;
-    asked = asked;
-  };
-})
+pub ends_on : (cursor : OpenCursor) (command : Pairs) (loan : Loan) (loans after : List (Option Loan)) (before now : ServerState)
+    → is_at_rest loans cursor.owner ≡ true → command ≡ kill_command cursor.database cursor.collection cursor.id → loan ≡ loan_to_end cursor
+    → after ≡ slice_set loans cursor.owner (Some loan) → IsAskedOn before cursor.owner command now → EndsOn cursor loans after before now
+ends_on cursor command loan loans after before now rest made is lent asked = record {
+  rest = resting (loan_at loans cursor.owner) rest;
+  lent = lent ∙ ap (λ (l : Loan). slice_set loans cursor.owner (Some l)) is;
+  asked = subst (λ (c : Pairs). IsAskedOn before cursor.owner c now) made asked;
+}
+
+-- it is the first that is to end
+pub ends_first : (first : Option OpenCursor) (cursor : OpenCursor) (loans after : List (Option Loan)) (before now : ServerState) → Some cursor ≡ first
+    → EndsOn cursor loans after before now → EndsOne first loans after before now
+ends_first first cursor loans after before now is h = subst (λ (x : Option OpenCursor). EndsOne x loans after before now) is h
+
+pub ends_none : (first : Option OpenCursor) (loans after : List (Option Loan)) (before now : ServerState) → None ≡ first → after ≡ loans → now ≡ before
+    → EndsOne first loans after before now
+ends_none first loans after before now is same still = subst (λ (x : Option OpenCursor). EndsOne x loans after before now) is (same, still)

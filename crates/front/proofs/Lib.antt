@@ -8,3 +8,4 @@ pub mod AskingLemmas
 pub mod ReplyingLemmas
 pub mod FrameLaws
 pub mod TurningLemmas
+mod OneSocketLemmas

@@ -88,11 +88,21 @@ abbrev pub AsksWanted : Option ℕ → Option Pairs → List (Option Loan) → L
 AsksWanted socket what old new before after =
     ((new ≡ old) × (after ≡ before)) ⊎ AsksOn socket what old new before after
 
--- The same, of the end of a cursor whose socket has ended.
-pub record EndsOn (old new : List (Option Loan)) (before after : ServerState) : Type 0 where
-  pub cursor : OpenCursor
-  pub asks : AsksOn None (Some (kill_command cursor.database cursor.collection cursor.id)) old new
-      before after
+-- what the owner of a cursor is lent for that is ended
+abbrev pub loan_to_end : OpenCursor → Loan
+loan_to_end cursor = record { socket = None; cursor = Some cursor.id }
 
-abbrev pub EndsOne : List (Option Loan) → List (Option Loan) → ServerState → ServerState → Type 0
-EndsOne old new before after = ((new ≡ old) × (after ≡ before)) ⊎ EndsOn old new before after
+-- The cursor is ended: what says so is asked of its owner, which was at rest and is lent to no
+-- socket.
+pub record EndsOn (cursor : OpenCursor) (old new : List (Option Loan))
+    (before after : ServerState) : Type 0 where
+  pub rest : loan_at old cursor.owner ≡ None
+  pub lent : new ≡ slice_set old cursor.owner (Some (loan_to_end cursor))
+  pub asked : IsAskedOn before cursor.owner
+      (kill_command cursor.database cursor.collection cursor.id) after
+
+-- This cursor is ended, if it is one.
+abbrev pub EndsOne : Option OpenCursor → List (Option Loan) → List (Option Loan) → ServerState
+    → ServerState → Type 0
+EndsOne None old new before after = (new ≡ old) × (after ≡ before)
+EndsOne (Some cursor) old new before after = EndsOn cursor old new before after

@@ -7,3 +7,5 @@ pub mod Asking
 pub mod Replying
 pub mod Laws
 pub mod Turning
+pub mod Cursors
+pub mod OneSocket

@@ -1,6 +1,6 @@
 -- What a turn asks, of which sockets, and why one that waits isn't asked for.
-use Rattle.std.specs.Prelude.{◌≡◌, ◌⊎◌, ◌<◌, ℕ, ◌+◌, ◌/◌, ◌%◌, ◌^◌, pos, true, false, nat_lt, is_none}
-use Rattle.std.specs.Prelude.{if◌then◌else◌, List, [], ◌∷◌, length, slice_index_or, Option, Some}
+use Rattle.std.specs.Prelude.{◌≡◌, ◌⊎◌, ◌<◌, ℕ, ◌+◌, ◌/◌, ◌%◌, ◌^◌, pos, true, false, nat_lt, List}
+use Rattle.std.specs.Prelude.{[], ◌∷◌, length, slice_index_or, is_none, if◌then◌else◌, Option, Some}
 use Rattle.std.specs.List.{Contains, list_any}
 use Rattle.driver_replies.specs.declared.fresh_ids.FreshIds.{FreshIds}
 use Rattle.drivers.specs.declared.server_info.ServerInfo.{ServerInfo}
@@ -13,8 +13,8 @@ use Rattle.front.specs.declared.front.Front.{Front}
 use Rattle.front.specs.declared.lending.Loan.{Loan}
 use Rattle.front.specs.declared.socket.Socket.{Socket}
 
--- ---- what is known of the server for a message, by the milliseconds since 1970 and by where object
--- ids begin that no message before it has
+-- ---- what is known of the server for a message, by the milliseconds since 1970 and by where
+-- object ids begin that no message before it has
 
 abbrev pub below_or_zero : ℕ → ℕ → ℕ
 below_or_zero limit n = if nat_lt n limit then n else 0
@@ -65,7 +65,8 @@ pub record ServesOne (sockets : List Socket) (time number : ℕ) (old new : Desk
 abbrev pub AreServed : List Socket → ℕ → List ℕ → Desk → Desk → Type 0
 AreServed sockets time [] old new = new ≡ old
 AreServed sockets time (n ∷ later) old new =
-    (between : Desk) × ServesOne sockets time n old between × AreServed sockets time later between new
+    (between : Desk) × ServesOne sockets time n old between
+    × AreServed sockets time later between new
 
 -- ---- of which sockets
 

@@ -102,7 +102,7 @@ impl<C: Clock + Drop, D: Disk + Drop> Front<C, D> {
     {
         let info = next_info(&mut self.next_id, number, time);
         let socket = &mut self.sockets[number];
-        serve_socket(
+        let _served = serve_socket(
             &mut self.core,
             &mut self.lending,
             &self.cursors,
@@ -192,7 +192,10 @@ impl<C: Clock + Drop, D: Disk + Drop> Front<C, D> {
         ensures stands { StandsAlone self.new.alone self.new.sockets.items }
     {
         'cursors: for _ in 0..MOST_ENDS {
-            if !end_cursor(&mut self.core, &mut self.lending, &self.cursors) {
+            let Ok(ended) = end_cursor(&mut self.core, &mut self.lending, &self.cursors) else {
+                return;
+            };
+            if !ended {
                 return;
             }
         }
@@ -228,7 +231,7 @@ impl<C: Clock + Drop, D: Disk + Drop> Front<C, D> {
         ensures stands { StandsAlone self.new.alone self.new.sockets.items }
     {
         'replies: for (id, frame) in turn.replies.iter() {
-            take_reply(
+            let _taken = take_reply(
                 &mut self.core,
                 &mut self.lending,
                 &mut self.cursors,
