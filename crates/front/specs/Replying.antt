@@ -1,7 +1,7 @@
 -- What becomes of a socket's message: it is asked next, or its answer is ready, or it has none.
 use Rattle.std.specs.Prelude.{◌≡◌, ◌⊎◌, ◌<◌, ℕ, Bool, true, false, nat_le, if◌then◌else◌, List}
-use Rattle.std.specs.Prelude.{length, drop, slice_index_or, option_map, Result, Ok, Err, Option, Some}
-use Rattle.std.specs.Prelude.{None, Vec}
+use Rattle.std.specs.Prelude.{length, drop, slice_index_or, option_map, Result, Ok, Err, Option}
+use Rattle.std.specs.Prelude.{Some, None, Vec}
 use Rattle.bson.specs.Spelling.{frame_of, pairs_bytes}
 use Rattle.bson.specs.Tree.{Pairs}
 use Rattle.op_msg.specs.Request.{document_in}

@@ -6,12 +6,14 @@ use Rattle.front.proofs.front.Front.ask_one.Goals as goal
 pub returns-then-asks_alone-clause-tied : goal.returns-then-asks_alone-clause-tied
 returns-then-asks_alone-clause-tied g c =
     tied_step c.args.self.now.lending.loans c.serve_socket-served.new.lending.loans c.args.self.now.sockets.items c.args.number _
-    c.index_mut-socket.result.now c.serve_socket-served.new.socket c.requires.tied c.requires.inside c.index_mut-socket.ensures.value c.serve_socket-served.ensures.asks
+    c.index_mut-socket.result.now c.serve_socket-served.new.socket c.requires.tied c.requires.inside c.index_mut-socket.ensures.value
+    c.serve_socket-served.ensures.asks
 
 pub returns-clause-tied : goal.returns-clause-tied
 returns-clause-tied g c =
     tied_step c.args.self.now.lending.loans c.serve_socket-served.new.lending.loans c.args.self.now.sockets.items c.args.number _
-    c.index_mut-socket.result.now c.serve_socket-served.new.socket c.requires.tied c.requires.inside c.index_mut-socket.ensures.value c.serve_socket-served.ensures.asks
+    c.index_mut-socket.result.now c.serve_socket-served.new.socket c.requires.tied c.requires.inside c.index_mut-socket.ensures.value
+    c.serve_socket-served.ensures.asks
 
 pub returns-then-asks_alone-clause-between : goal.returns-then-asks_alone-clause-between
 returns-then-asks_alone-clause-between g c =
