@@ -1,19 +1,21 @@
 -- Which sockets a turn asks for.
-use Rattle.std.proofs.Common.{◌≡◌, ◌≢◌, ◌⊎◌, ℕ, ◌+◌, ◌-◌, ◌*◌, ◌/◌, ◌%◌, ◌<◌, ◌≤◌, true, false, List, [], ◌∷◌, ◌++◌, length, get_or, set}
-use Rattle.std.proofs.Common.{Option, Some, refl, sym, ap, subst, ◌∙◌, inl, inr, arith, div-add-mod'}
-use Rattle.std.specs.Prelude.{is_none}
+use Rattle.std.proofs.Common.{◌≡◌, ◌≢◌, ◌⊎◌, ℕ, zero, suc, ◌+◌, ◌-◌, ◌*◌, ◌/◌, ◌%◌, ◌<◌, ◌≤◌, true, false, List, [], ◌∷◌, ◌++◌, length, get_or, set}
+use Rattle.std.proofs.Common.{Option, Some, Ok, Err, refl, sym, ap, subst, ◌∙◌, inl, inr, arith, div-add-mod'}
+use Rattle.std.specs.Prelude.{is_none, Result, OnErr, OnOk}
 use Rattle.std.specs.List.{Contains, list_any}
 use Rattle.std.proofs.lemmas.Bool.{cases_lt, true≢false}
-use Rattle.std.proofs.lemmas.List.{get_or_default, get_or-set_other, length-set}
-use Rattle.std.proofs.lemmas.List.Elements.{Contains-append_left, Contains-append_right}
+use Rattle.std.proofs.lemmas.List.{get_or_default, get_or-set_other, get_or-set_same, length-set}
+use Rattle.std.proofs.lemmas.List.Elements.{Contains-append_cases, Contains-append_left, Contains-append_right}
 use Rattle.std.proofs.lemmas.Nat.{mul-le, mod_below, mod-mul-add}
 use Rattle.drivers.specs.declared.server_info.ServerInfo.{ServerInfo}
 use Rattle.server.specs.ServerState.{ServerState}
 use Rattle.front.specs.Alone.{is_alone}
 use Rattle.front.specs.Asking.{wanted, AsksWanted}
 use Rattle.front.specs.Serving.{OthersStay, waits}
-use Rattle.front.specs.Turning.{after_ids, info_of, Desk, ServesOne, AreServed, AsksAlone, AsksInTurn}
+use Rattle.front.specs.OneSocket.{RunsOut, Seat, Serves}
+use Rattle.front.specs.Turning.{after_ids, info_of, seat_at, Desk, Does, ServesOne, AreServed, AsksAlone, AsksInTurn, Waits}
 use Rattle.front.specs.declared.lending.Loan.{Loan}
+use Rattle.front.specs.declared.open_cursors.OpenCursor.{OpenCursor}
 use Rattle.front.specs.declared.socket.Socket.{Socket}
 
 pub others_set : (ss : List Socket) (n : ℕ) (new : Socket) → OthersStay ss (Some n) (set ss n new)
@@ -46,41 +48,97 @@ later_stay first i j count ss new any less within stay =
 
 -- ---- one is served
 
-pub serves_one : (ss : List Socket) (time n next later : ℕ) (info : ServerInfo) (s : Socket) (loans after : List (Option Loan)) (before now : ServerState)
+either : {A E P Q : Type 0} (r : Result A E) → OnOk r P → OnErr r Q → P ⊎ Q
+either (Ok x) h k = inl h
+either (Err e) h k = inr k
+
+pub serves_one : {A E : Type 0} (r : Result A E) (ss : List Socket) (time n next later : ℕ) (info : ServerInfo) (s new : Socket)
+    (cursors : List OpenCursor) (loans after : List (Option Loan)) (before now : ServerState)
     → n < length ss → s ≡ get_or ss n s → info ≡ info_of n time next → later ≡ after_ids next
     → AsksWanted (Some n) (wanted info s) loans after before now
-    → ServesOne ss time n (record { loans = loans; server = before; next_id = next }) (record { loans = after; server = now; next_id = later })
-serves_one ss time n next later info s loans after before now inside is known behind asks = record {
+    → OnOk r (Serves info n cursors (record { loans = loans; server = before; socket = s }) (record { loans = after; server = now; socket = new }))
+    → OnErr r (RunsOut info (record { loans = loans; server = before; socket = s }) (record { loans = after; server = now; socket = new }))
+    → ServesOne ss (set ss n new) time n (record { loans = loans; cursors = cursors; server = before; next_id = next })
+    (record { loans = after; cursors = cursors; server = now; next_id = later })
+serves_one r ss time n next later info s new cursors loans after before now inside is known behind asks served out = record {
   behind = behind;
+  cursors = refl;
   asks = λ any.
       subst (λ (i : ServerInfo). AsksWanted (Some n) (wanted i (get_or ss n any)) loans after before now) known
-      (subst (λ (t : Socket). AsksWanted (Some n) (wanted info t) loans after before now) (is ∙ get_or_default ss n s any inside) asks);
+      (subst (λ (t : Socket). AsksWanted (Some n) (wanted info t) loans after before now) (there any) asks);
+  does = λ any.
+      subst (λ (i : ServerInfo). Does i n cursors (seat (get_or ss n any)) (seat_new (get_or (set ss n new) n any))) known
+      (subst (λ (t : Socket). Does info n cursors (seat t) (seat_new (get_or (set ss n new) n any))) (there any)
+      (subst (λ (t : Socket). Does info n cursors (seat s) (seat_new t)) (sym (get_or-set_same ss n new any inside)) (either r served out)));
 }
+  where
+    there : (any : Socket) → s ≡ get_or ss n any
+    there any = is ∙ get_or_default ss n s any inside
+
+    seat : Socket → Seat
+    seat t = record { loans = loans; server = before; socket = t }
+
+    seat_new : Socket → Seat
+    seat_new t = record { loans = after; server = now; socket = t }
 
 -- a socket as it was
-as_was : (ss now : List Socket) (time n : ℕ) (old new : Desk) → ((any : Socket) → get_or now n any ≡ get_or ss n any) → ServesOne now time n old new
-    → ServesOne ss time n old new
-as_was ss now time n old new same h = record {
+as_was : (ss now later : List Socket) (time n : ℕ) (old new : Desk) → ((any : Socket) → get_or now n any ≡ get_or ss n any)
+    → ServesOne now later time n old new → ServesOne ss later time n old new
+as_was ss now later time n old new same h = record {
   behind = h.behind;
+  cursors = h.cursors;
   asks = λ any.
       subst (λ (s : Socket). AsksWanted (Some n) (wanted (info_of n time old.next_id) s) old.loans new.loans old.server new.server) (same any) (h.asks any);
+  does = λ any.
+      subst (λ (s : Socket). Does (info_of n time old.next_id) n old.cursors (seat_at old s) (seat_at new (get_or later n any))) (same any) (h.does any);
+}
+
+-- a socket as it is left
+as_left : (ss now later : List Socket) (time n : ℕ) (old new : Desk) → ((any : Socket) → get_or later n any ≡ get_or now n any)
+    → ServesOne ss now time n old new → ServesOne ss later time n old new
+as_left ss now later time n old new same h = record {
+  behind = h.behind;
+  cursors = h.cursors;
+  asks = h.asks;
+  does = λ any.
+      subst (λ (s : Socket). Does (info_of n time old.next_id) n old.cursors (seat_at old (get_or ss n any)) (seat_at new s)) (sym (same any)) (h.does any);
 }
 
 -- ---- one after the other
 
-served_on : (ss : List Socket) (time : ℕ) (ns ms : List ℕ) (a b c : Desk) → AreServed ss time ns a b → AreServed ss time ms b c
-    → AreServed ss time (ns ++ ms) a c
-served_on ss time [] ms a b c h k = subst (λ (x : Desk). AreServed ss time ms x c) h k
-served_on ss time (n ∷ ns) ms a b c h k = (h.0, h.1, served_on ss time ns ms h.0 b c h.2 k)
+served_on : (ss later : List Socket) (time : ℕ) (ns ms : List ℕ) (a b c : Desk) → AreServed ss later time ns a b → AreServed ss later time ms b c
+    → AreServed ss later time (ns ++ ms) a c
+served_on ss later time [] ms a b c h k = subst (λ (x : Desk). AreServed ss later time ms x c) h k
+served_on ss later time (n ∷ ns) ms a b c h k = (h.0, h.1, served_on ss later time ns ms h.0 b c h.2 k)
+
+-- those that were served are left as they are
+served_left : (ss now later : List Socket) (time : ℕ) (ns : List ℕ) (a b : Desk)
+    → ((n : ℕ) (any : Socket) → Contains ns n → get_or later n any ≡ get_or now n any) → AreServed ss now time ns a b → AreServed ss later time ns a b
+served_left ss now later time [] a b same h = h
+served_left ss now later time (n ∷ ns) a b same h = (
+  h.0,
+  as_left ss now later time n a h.0 (λ any. same n any (0, omega arith, refl)) h.1,
+  served_left ss now later time ns h.0 b (λ m any c. same m any (Contains-append_right (n ∷ []) ns m c)) h.2,
+)
 
 -- a turn that began with the socket of a number has come so far
-pub record HaveServed (before : List Socket) (first count step time : ℕ) (old new : Desk) : Type 0 where
+pub record HaveServed (before now : List Socket) (first count step time : ℕ) (old new : Desk) : Type 0 where
   pub numbers : List ℕ
-  pub served : AreServed before time numbers old new
+  pub served : AreServed before now time numbers old new
+  pub came : (n : ℕ) → Contains numbers n → (s : ℕ) × (s < step) × (n ≡ (first + s) % count)
+  pub only : (n : ℕ) → Contains numbers n → Waits before n
   pub all : (s : ℕ) (any : Socket) → s < step → waits (get_or before ((first + s) % count) any) ≡ true → Contains numbers ((first + s) % count)
+  pub others : (n : ℕ) (any : Socket) → (Contains numbers n → ⊥) → get_or now n any ≡ get_or before n any
 
-pub served_none : (ss : List Socket) (first count time : ℕ) (d : Desk) → HaveServed ss first count 0 time d d
-served_none ss first count time d = record { numbers = []; served = refl; all = λ s any h e. absurd (omega (arith, h)) }
+pub served_none : (ss : List Socket) (first count time : ℕ) (d : Desk) → HaveServed ss ss first count 0 time d d
+served_none ss first count time d = record {
+  numbers = [];
+  served = refl;
+  came = λ n h. absurd (omega (arith, h.1));
+  only = λ n h. absurd (omega (arith, h.1));
+  all = λ s any h e. absurd (omega (arith, h));
+  others = λ n any no. refl;
+}
 
 last_or_before : (s step : ℕ) → s < step + 1 → (s < step) ⊎ (s ≡ step)
 last_or_before s step h = at (cases_lt s step)
@@ -90,17 +148,24 @@ last_or_before s step h = at (cases_lt s step)
     at (inr more) = inr (omega (arith, more, h))
 
 -- one that doesn't wait is passed over
-pub served_past : (ss now : List Socket) (first count step time : ℕ) (old new : Desk) (s : Socket) → HaveServed ss first count step time old new
-    → ((any : Socket) → get_or now ((first + step) % count) any ≡ get_or ss ((first + step) % count) any) → (first + step) % count < length now
-    → s ≡ get_or now ((first + step) % count) s → waits s ≡ false → HaveServed ss first count (step + 1) time old new
-served_past ss now first count step time old new s h same inside is quiet = record {
+pub served_past : (ss now : List Socket) (first count step time : ℕ) (old new : Desk) (s : Socket) → count ≡ length ss → length now ≡ length ss
+    → step < count → s ≡ get_or now ((first + step) % count) s → waits s ≡ false → HaveServed ss now first count step time old new
+    → ((any : Socket) → get_or now ((first + step) % count) any ≡ get_or ss ((first + step) % count) any)
+    → HaveServed ss now first count (step + 1) time old new
+served_past ss now first count step time old new s fits many within is quiet h same = record {
   numbers = h.numbers;
   served = h.served;
+  came = λ n c. let k = h.came n c in (k.0, omega (arith, k.1), k.2);
+  only = h.only;
   all = λ k any less e. at k any e (last_or_before k step less);
+  others = h.others;
 }
   where
     i : ℕ
     i = (first + step) % count
+
+    inside : i < length now
+    inside = omega (arith, mod_below (first + step) count (omega (arith, within)), fits, many)
 
     at : (k : ℕ) (any : Socket) → waits (get_or ss ((first + k) % count) any) ≡ true → (k < step) ⊎ (k ≡ step) → Contains h.numbers ((first + k) % count)
     at k any e (inl less) = h.all k any less e
@@ -109,21 +174,52 @@ served_past ss now first count step time old new s h same inside is quiet = reco
         is ∙ get_or_default now i s any inside ∙ same any ∙ ap (λ (m : ℕ). get_or ss ((first + m) % count) any) (sym last) in
         absurd (true≢false (sym e ∙ sym (ap waits there) ∙ quiet))
 
+last_is : (i n : ℕ) → Contains (i ∷ []) n → n ≡ i
+last_is i n (zero, h, e) = sym e
+last_is i n (suc k, h, e) = absurd (omega (arith, h))
+
 contains_last : (ns : List ℕ) (n : ℕ) → Contains (ns ++ n ∷ []) n
 contains_last ns n = Contains-append_right ns (n ∷ []) n (0, omega arith, refl)
 
+some_same : (x y : ℕ) → Some x ≡ Some y → x ≡ y
+some_same x y e = cc
+
 -- one more is served
-pub served_more : (ss now : List Socket) (first count step time : ℕ) (old mid new : Desk) → HaveServed ss first count step time old mid
+pub served_more : (ss now later : List Socket) (first count step time : ℕ) (old mid new : Desk) (s : Socket) → count ≡ length ss → length now ≡ length ss
+    → step < count → s ≡ get_or now ((first + step) % count) s → waits s ≡ true → HaveServed ss now first count step time old mid
     → ((any : Socket) → get_or now ((first + step) % count) any ≡ get_or ss ((first + step) % count) any)
-    → ServesOne now time ((first + step) % count) mid new → HaveServed ss first count (step + 1) time old new
-served_more ss now first count step time old mid new h same one = record {
+    → OthersStay now (Some ((first + step) % count)) later → ServesOne now later time ((first + step) % count) mid new
+    → HaveServed ss later first count (step + 1) time old new
+served_more ss now later first count step time old mid new s fits many within is wait h same stay one = record {
   numbers = h.numbers ++ i ∷ [];
-  served = served_on ss time h.numbers (i ∷ []) old mid new h.served (new, as_was ss now time i mid new same one, refl);
+  served = served_on ss later time h.numbers (i ∷ []) old mid new (served_left ss now later time h.numbers old mid still h.served)
+      (new, as_was ss now later time i mid new same one, refl);
+  came = λ n c. came n (Contains-append_cases h.numbers (i ∷ []) n c);
+  only = λ n c. which n (Contains-append_cases h.numbers (i ∷ []) n c);
   all = λ k any less e. at k any e (last_or_before k step less);
+  others = λ n any no.
+      stay.others n any (λ e. no (subst (λ (m : ℕ). Contains (h.numbers ++ i ∷ []) m) (sym (some_same n i e)) (contains_last h.numbers i)))
+      ∙ h.others n any (λ c. no (Contains-append_left h.numbers (i ∷ []) n c));
 }
   where
     i : ℕ
     i = (first + step) % count
+
+    inside : i < length now
+    inside = omega (arith, mod_below (first + step) count (omega (arith, within)), fits, many)
+
+    still : (n : ℕ) (any : Socket) → Contains h.numbers n → get_or later n any ≡ get_or now n any
+    still n any c =
+        let k = h.came n c in
+        stay.others n any (λ e. apart first k.0 step count k.1 within (sym (sym k.2 ∙ some_same n i e)))
+
+    came : (n : ℕ) → Contains h.numbers n ⊎ Contains (i ∷ []) n → (k : ℕ) × (k < step + 1) × (n ≡ (first + k) % count)
+    came n (inl before) = let k = h.came n before in (k.0, omega (arith, k.1), k.2)
+    came n (inr c) = (step, omega arith, last_is i n c)
+
+    which : (n : ℕ) → Contains h.numbers n ⊎ Contains (i ∷ []) n → Waits ss n
+    which n (inl before) = h.only n before
+    which n (inr c) = subst (Waits ss) (sym (last_is i n c)) (λ any. ap waits (sym (is ∙ get_or_default now i s any inside ∙ same any)) ∙ wait)
 
     at : (k : ℕ) (any : Socket) → waits (get_or ss ((first + k) % count) any) ≡ true → (k < step) ⊎ (k ≡ step)
         → Contains (h.numbers ++ i ∷ []) ((first + k) % count)
@@ -157,50 +253,61 @@ comes_to first n count within = at (cases_lt n r)
         let there : first + (n - r) ≡ q * count + n = omega (arith, split, h) in
         (n - r, omega (arith, h, within), ap (λ (m : ℕ). m % count) there ∙ mod-mul-add q count n within)
 
-pub turn_whole : (ss after : List Socket) (first count step time : ℕ) (old new : Desk) → count ≡ length ss → count ≤ step
-    → HaveServed ss first count step time old new → AsksInTurn ss after old new
-turn_whole ss after first count step time old new fits whole h = record {
+pub turn_whole : (ss now : List Socket) (first count step time : ℕ) (old new : Desk) → count ≡ length ss → count ≤ step
+    → HaveServed ss now first count step time old new → AsksInTurn ss now old new
+turn_whole ss now first count step time old new fits whole h = record {
   time = time;
   numbers = h.numbers;
   served = h.served;
+  only = λ n c. inl (h.only n c);
   all = λ n any within e.
       let came = comes_to first n count (omega (arith, within, fits)) in
       inl (subst (Contains h.numbers) came.2
       (h.all came.0 any (omega (arith, came.1, whole)) (ap (λ (m : ℕ). waits (get_or ss m any)) came.2 ∙ e)));
+  others = h.others;
 }
 
 -- no connection is at rest
-pub turn_full : (ss after : List Socket) (first count step time : ℕ) (old new : Desk) → HaveServed ss first count step time old new
-    → list_any is_none new.loans ≡ false → AsksInTurn ss after old new
-turn_full ss after first count step time old new h full = record {
+pub turn_full : (ss now : List Socket) (first count step time : ℕ) (old new : Desk) → HaveServed ss now first count step time old new
+    → list_any is_none new.loans ≡ false → AsksInTurn ss now old new
+turn_full ss now first count step time old new h full = record {
   time = time;
   numbers = h.numbers;
   served = h.served;
+  only = λ n c. inl (h.only n c);
   all = λ n any within e. inr (inl full);
+  others = h.others;
 }
 
 -- the last one is a message during which nobody else may ask
-pub turn_last : (ss now after : List Socket) (first count step time : ℕ) (old mid new : Desk) → HaveServed ss first count step time old mid
+pub turn_last : (ss now later : List Socket) (first count step time : ℕ) (old mid new : Desk) (s : Socket) → count ≡ length ss → length now ≡ length ss
+    → step < count → s ≡ get_or now ((first + step) % count) s → waits s ≡ true → HaveServed ss now first count step time old mid
     → ((any : Socket) → get_or now ((first + step) % count) any ≡ get_or ss ((first + step) % count) any)
-    → ServesOne now time ((first + step) % count) mid new → AsksAlone after ((first + step) % count) → AsksInTurn ss after old new
+    → OthersStay now (Some ((first + step) % count)) later → ServesOne now later time ((first + step) % count) mid new
+    → AsksAlone later ((first + step) % count) → AsksInTurn ss later old new
 unfolding served_more
-turn_last ss now after first count step time old mid new h same one alone = record {
+turn_last ss now later first count step time old mid new s fits many less is wait h same stay one alone = record {
   time = time;
   numbers = more.numbers;
   served = more.served;
+  only = λ n c. inl (more.only n c);
   all = λ n any within e. inr (inr ((first + step) % count, contains_last h.numbers ((first + step) % count), inr alone));
+  others = more.others;
 }
   where
-    more : HaveServed ss first count (step + 1) time old new
-    more = served_more ss now first count step time old mid new h same one
+    more : HaveServed ss later first count (step + 1) time old new
+    more = served_more ss now later first count step time old mid new s fits many less is wait h same stay one
 
 -- it goes on with such a one
-pub turn_alone : (ss after : List Socket) (time n : ℕ) (old new : Desk) → ServesOne ss time n old new → AsksAlone ss n → AsksInTurn ss after old new
-turn_alone ss after time n old new one alone = record {
+pub turn_alone : (ss later : List Socket) (time n : ℕ) (old new : Desk) → OthersStay ss (Some n) later → ServesOne ss later time n old new → AsksAlone ss n
+    → AsksInTurn ss later old new
+turn_alone ss later time n old new stay one alone = record {
   time = time;
   numbers = n ∷ [];
   served = (new, one, refl);
+  only = λ m c. inr (subst (AsksAlone ss) (sym (last_is n m c)) alone);
   all = λ m any within e. inr (inr (n, contains_last [] n, inl alone));
+  others = λ m any no. stay.others m any (λ e. no (subst (Contains (n ∷ [])) (sym (some_same m n e)) (contains_last [] n)));
 }
 
 -- nothing has changed before

@@ -8,9 +8,11 @@ use Rattle.server.specs.ServerState.{ServerState}
 use Rattle.server.specs.View.{state}
 use Rattle.front.specs.Alone.{is_alone}
 use Rattle.front.specs.Asking.{wanted, AsksWanted}
+use Rattle.front.specs.OneSocket.{RunsOut, Seat, Serves}
 use Rattle.front.specs.Serving.{waits}
 use Rattle.front.specs.declared.front.Front.{Front}
 use Rattle.front.specs.declared.lending.Loan.{Loan}
+use Rattle.front.specs.declared.open_cursors.OpenCursor.{OpenCursor}
 use Rattle.front.specs.declared.socket.Socket.{Socket}
 
 -- ---- what is known of the server for a message, by the milliseconds since 1970 and by where
@@ -39,36 +41,53 @@ after_ids next_id = (next_id + 262144) % 2 ^ 64
 
 -- ---- what is asked
 
--- What a turn's questions change beside the sockets: which connections are lent, what came to the
--- server, and where the object ids of the next message begin.
+-- What a turn serves sockets with: which connections are lent, which cursors are open, what came to
+-- the server, and where the object ids of the next message begin.
 pub record Desk : Type 0 where
   pub loans : List (Option Loan)
+  pub cursors : List OpenCursor
   pub server : ServerState
   pub next_id : ℕ
 
 abbrev pub desk : {C D : Type 0} → Front C D → Desk
 desk front = record {
   loans = front.lending.loans;
+  cursors = front.cursors.list.items;
   server = state front.core;
   next_id = front.next_id;
 }
 
+abbrev pub seat_at : Desk → Socket → Seat
+seat_at desk socket = record { loans = desk.loans; server = desk.server; socket = socket }
+
+-- A socket is served, or memory runs out for it.
+abbrev pub Does : ServerInfo → ℕ → List OpenCursor → Seat → Seat → Type 0
+Does info number cursors old new = Serves info number cursors old new ⊎ RunsOut info old new
+
 -- The socket of a number is served: what its message wants is asked, if something is, with object
 -- ids of its own; the next one's begin behind them.
-pub record ServesOne (sockets : List Socket) (time number : ℕ) (old new : Desk) : Type 0 where
+pub record ServesOne (before after : List Socket) (time number : ℕ) (old new : Desk) : Type 0 where
   pub behind : new.next_id ≡ after_ids old.next_id
+  pub cursors : new.cursors ≡ old.cursors
   pub asks : (any : Socket) → AsksWanted (Some number)
-      (wanted (info_of number time old.next_id) (slice_index_or sockets number any))
+      (wanted (info_of number time old.next_id) (slice_index_or before number any))
       old.loans new.loans old.server new.server
+  pub does : (any : Socket) → Does (info_of number time old.next_id) number old.cursors
+      (seat_at old (slice_index_or before number any))
+      (seat_at new (slice_index_or after number any))
 
--- The sockets of these numbers were served one after the other, each as it stands in this list.
-abbrev pub AreServed : List Socket → ℕ → List ℕ → Desk → Desk → Type 0
-AreServed sockets time [] old new = new ≡ old
-AreServed sockets time (n ∷ later) old new =
-    (between : Desk) × ServesOne sockets time n old between
-    × AreServed sockets time later between new
+-- The sockets of these numbers were served one after the other: each was as it stands in the first
+-- list, and became what stands in the second.
+abbrev pub AreServed : List Socket → List Socket → ℕ → List ℕ → Desk → Desk → Type 0
+AreServed before after time [] old new = new ≡ old
+AreServed before after time (n ∷ later) old new =
+    (between : Desk) × ServesOne before after time n old between
+    × AreServed before after time later between new
 
 -- ---- of which sockets
+
+abbrev pub Waits : List Socket → ℕ → Type 0
+Waits sockets n = (any : Socket) → waits (slice_index_or sockets n any) ≡ true
 
 -- The message of this socket is one during which nobody else may ask.
 abbrev pub AsksAlone : List Socket → ℕ → Type 0
@@ -83,11 +102,15 @@ IsKeptWaiting numbers before after desk =
     ⊎ ((n : ℕ) × Contains numbers n × (AsksAlone before n ⊎ AsksAlone after n))
 
 -- What a turn asks: of some sockets, as they were before it, what their messages want, on the
--- connections that are lent, and nothing else on any. Whoever waits is one of them, or is kept
--- waiting.
+-- connections that are lent, and nothing else on any. Each of them waits, or goes on with a message
+-- during which nobody else may ask. Whoever waits is one of them, or is kept waiting. All others
+-- are as they were.
 pub record AsksInTurn (before after : List Socket) (old new : Desk) : Type 0 where
   pub time : ℕ
   pub numbers : List ℕ
-  pub served : AreServed before time numbers old new
+  pub served : AreServed before after time numbers old new
+  pub only : (n : ℕ) → Contains numbers n → Waits before n ⊎ AsksAlone before n
   pub all : (n : ℕ) (any : Socket) → n < length before → waits (slice_index_or before n any) ≡ true
       → Contains numbers n ⊎ IsKeptWaiting numbers before after new
+  pub others : (n : ℕ) (any : Socket) → (Contains numbers n → ⊥)
+      → slice_index_or after n any ≡ slice_index_or before n any

@@ -97,8 +97,8 @@ impl<C: Clock + Drop, D: Disk + Drop> Front<C, D> {
         ensures free { result ≡ true → self.new.alone ≡ None }
         ensures others { OthersStay self.old.sockets.items (Some number) self.new.sockets.items }
         ensures alone { result ≡ false → AsksAlone self.new.sockets.items number }
-        ensures serves { ServesOne self.old.sockets.items time number (desk self.old)
-            (desk self.new) }
+        ensures serves { ServesOne self.old.sockets.items self.new.sockets.items time number
+            (desk self.old) (desk self.new) }
     {
         let info = next_info(&mut self.next_id, number, time);
         let socket = &mut self.sockets[number];

@@ -1,6 +1,6 @@
-use Rattle.std.proofs.Common.{rules, ◌∙◌, arith}
+use Rattle.std.proofs.Common.{rules, ◌∙◌, sym, arith}
 use Rattle.front.proofs.AloneLemmas.{between_turn}
-use Rattle.front.proofs.TurningLemmas.{later_stay, served_more, turn_behind, turn_full, turn_last, turn_whole}
+use Rattle.front.proofs.TurningLemmas.{later_stay, served_more, served_past, turn_behind, turn_full, turn_last, turn_whole}
 use Rattle.front.proofs.front.Front.ask_all.Goals as goal
 
 pub returns-then-not-ask_one-clause-between : goal.returns-then-not-ask_one-clause-between
@@ -18,14 +18,29 @@ returns-then-not-has_rest-clause-asks g c =
 pub returns-then-not-ask_one-clause-asks : goal.returns-then-not-ask_one-clause-asks
 returns-then-not-ask_one-clause-asks g c =
     turn_behind _ _ _ _ _ _ (c.ask_alone.ensures.none c.if-ask_alone.false).same (c.ask_alone.ensures.same c.if-ask_alone.false)
-    (turn_last _ c.sockets.self.sockets.items _ _ _ _ _ _ _ _ c.sockets.invariant.asked
-    (λ any. c.sockets.invariant.as_were c.sockets.step any (omega arith) c.sockets-test.true) c.ask_one.ensures.serves
+    (turn_last _ c.sockets.self.sockets.items c.ask_one.new.self.sockets.items _ _ _ _ _ _ _ c.index.result.now c.sockets.invariant.all_of
+    c.sockets.invariant.as_many c.sockets-test.true c.index.ensures (sym c.waits.ensures ∙ c.if-not-waits.false) c.sockets.invariant.asked
+    (λ any. c.sockets.invariant.as_were c.sockets.step any (omega arith) c.sockets-test.true) c.ask_one.ensures.others c.ask_one.ensures.serves
     (c.ask_one.ensures.alone c.if-not-ask_one.true))
 
 pub returns-clause-asks : goal.returns-clause-asks
 returns-clause-asks g c =
     turn_behind _ _ _ _ _ _ (c.ask_alone.ensures.none c.if-ask_alone.false).same (c.ask_alone.ensures.same c.if-ask_alone.false)
     (turn_whole _ _ _ _ _ _ _ _ c.sockets.invariant.all_of (omega (arith, c.sockets-test.false)) c.sockets.invariant.asked)
+
+pub sockets-preserved-then-not-waits : goal.sockets-preserved-then-not-waits
+sockets-preserved-then-not-waits g c = record {
+  sound = c.sockets.invariant.sound;
+  tied = c.sockets.invariant.tied;
+  free = c.sockets.invariant.free;
+  stands = c.sockets.invariant.stands;
+  as_many = c.sockets.invariant.as_many;
+  all_of = c.sockets.invariant.all_of;
+  asked = served_past _ c.sockets.self.sockets.items _ _ _ _ _ _ c.index.result.now c.sockets.invariant.all_of c.sockets.invariant.as_many
+      c.sockets-test.true c.index.ensures (sym c.waits.ensures ∙ c.if-not-waits.true) c.sockets.invariant.asked
+      (λ any. c.sockets.invariant.as_were c.sockets.step any (omega arith) c.sockets-test.true);
+  as_were = λ s any more within. c.sockets.invariant.as_were s any (omega (arith, more)) within;
+}
 
 pub sockets-preserved : goal.sockets-preserved
 sockets-preserved g c = record {
@@ -35,8 +50,9 @@ sockets-preserved g c = record {
   stands = search rules;
   as_many = c.ask_one.ensures.between.as_many ∙ c.sockets.invariant.as_many;
   all_of = c.sockets.invariant.all_of;
-  asked = served_more _ c.sockets.self.sockets.items _ _ _ _ _ _ _ c.sockets.invariant.asked
-      (λ any. c.sockets.invariant.as_were c.sockets.step any (omega arith) c.sockets-test.true) c.ask_one.ensures.serves;
+  asked = served_more _ c.sockets.self.sockets.items c.ask_one.new.self.sockets.items _ _ _ _ _ _ _ c.index.result.now c.sockets.invariant.all_of
+      c.sockets.invariant.as_many c.sockets-test.true c.index.ensures (sym c.waits.ensures ∙ c.if-not-waits.false) c.sockets.invariant.asked
+      (λ any. c.sockets.invariant.as_were c.sockets.step any (omega arith) c.sockets-test.true) c.ask_one.ensures.others c.ask_one.ensures.serves;
   as_were = λ s any more within.
       later_stay _ c.sockets.step s _ c.sockets.self.sockets.items c.ask_one.new.self.sockets.items any more within c.ask_one.ensures.others
       ∙ c.sockets.invariant.as_were s any (omega (arith, more)) within;

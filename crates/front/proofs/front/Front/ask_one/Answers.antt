@@ -23,13 +23,17 @@ returns-then-asks_alone-clause-between g c =
 
 pub returns-then-asks_alone-clause-serves : goal.returns-then-asks_alone-clause-serves
 returns-then-asks_alone-clause-serves g c =
-    serves_one c.args.self.now.sockets.items c.args.time c.args.number _ _ _ c.index_mut-socket.result.now _ _ _ _ c.requires.inside
-    c.index_mut-socket.ensures.value c.next_info-info.ensures.info c.next_info-info.ensures.behind c.serve_socket-served.ensures.wanted
+    serves_one c.serve_socket-served.result c.args.self.now.sockets.items c.args.time c.args.number _ _ _ c.index_mut-socket.result.now
+    c.serve_socket-served.new.socket c.args.self.now.cursors.list.items _ _ _ _ c.requires.inside c.index_mut-socket.ensures.value
+    c.next_info-info.ensures.info c.next_info-info.ensures.behind c.serve_socket-served.ensures.wanted c.serve_socket-served.ensures.serves
+    c.serve_socket-served.ensures.runs_out
 
 pub returns-clause-serves : goal.returns-clause-serves
 returns-clause-serves g c =
-    serves_one c.args.self.now.sockets.items c.args.time c.args.number _ _ _ c.index_mut-socket.result.now _ _ _ _ c.requires.inside
-    c.index_mut-socket.ensures.value c.next_info-info.ensures.info c.next_info-info.ensures.behind c.serve_socket-served.ensures.wanted
+    serves_one c.serve_socket-served.result c.args.self.now.sockets.items c.args.time c.args.number _ _ _ c.index_mut-socket.result.now
+    c.serve_socket-served.new.socket c.args.self.now.cursors.list.items _ _ _ _ c.requires.inside c.index_mut-socket.ensures.value
+    c.next_info-info.ensures.info c.next_info-info.ensures.behind c.serve_socket-served.ensures.wanted c.serve_socket-served.ensures.serves
+    c.serve_socket-served.ensures.runs_out
 
 pub returns-then-asks_alone-clause-others : goal.returns-then-asks_alone-clause-others
 returns-then-asks_alone-clause-others g c = others_set c.args.self.now.sockets.items c.args.number c.serve_socket-served.new.socket
