@@ -1,5 +1,5 @@
 -- What is asked is what is wanted.
-use Rattle.std.proofs.Common.{◌≡◌, ℕ, true, false, List, Option, Some, None, refl, sym, ap, subst, ◌∙◌, inl, inr}
+use Rattle.std.proofs.Common.{◌≡◌, ℕ, true, List, Option, Some, None, refl, ap, subst, ◌∙◌, inl, inr}
 use Rattle.std.specs.Prelude.{is_none, slice_set}
 use Rattle.bson.specs.Tree.{Pairs}
 use Rattle.drivers.specs.Answering.{kill_command}

@@ -1,5 +1,5 @@
 use Rattle.std.proofs.Common.{◌∙◌, sym}
-use Rattle.front.proofs.ReplyingLemmas.{framed_long, framed_short, refusal_fits}
+use Rattle.front.proofs.ReplyingLemmas.{framed_long, refusal_fits}
 use Rattle.front.proofs.socket.frame.Goals as goal
 
 pub framed-made-requires : goal.framed-made-requires
