@@ -110,13 +110,16 @@ AsksUnless true number cursors old new = new ≡ old
 AsksUnless false number cursors old new =
     Asking number cursors (pending old.socket.job) old new
 
+abbrev pub AsksFor : ℕ → List OpenCursor → Seat → Seat → Type 0
+AsksFor number cursors old new = AsksUnless (is_held old) number cursors old new
+
+-- The message at the front is begun, if none is worked on, and then what is wanted is asked.
 pub record Serves (info : ServerInfo) (number : ℕ) (cursors : List OpenCursor)
     (old new : Seat) : Type 0 where
   pub begun : Socket
   pub begins : Begins info old.socket old.socket.is_over old.socket.job
       (next_message old.socket.incoming) begun
-  pub asks : (let seat : Seat = record old { socket = begun } in
-      AsksUnless (is_held seat) number cursors seat new)
+  pub asks : AsksFor number cursors (record old { socket = begun }) new
 
 -- ---- where memory runs out
 
