@@ -11,9 +11,9 @@ use Rattle.drivers.specs.declared.server_info.ServerInfo.{ServerInfo}
 use Rattle.server.specs.ServerState.{ServerState}
 use Rattle.front.specs.Alone.{is_alone}
 use Rattle.front.specs.Asking.{wanted, AsksWanted}
-use Rattle.front.specs.Serving.{OthersStay, waits}
+use Rattle.front.specs.Serving.{OthersStay, fresh, waits}
 use Rattle.front.specs.OneSocket.{RunsOut, Seat, Serves}
-use Rattle.front.specs.Turning.{after_ids, info_of, seat_at, Desk, Does, ServesOne, AreServed, AsksAlone, AsksInTurn, Waits}
+use Rattle.front.specs.Turning.{after_ids, info_of, seat_at, Desk, Does, ServesOne, AreServed, AsksAlone, AsksInTurn, GoesOnWithOne, Waits}
 use Rattle.front.specs.declared.lending.Loan.{Loan}
 use Rattle.front.specs.declared.open_cursors.OpenCursor.{OpenCursor}
 use Rattle.front.specs.declared.socket.Socket.{Socket}
@@ -253,67 +253,128 @@ comes_to first n count within = at (cases_lt n r)
         let there : first + (n - r) ≡ q * count + n = omega (arith, split, h) in
         (n - r, omega (arith, h, within), ap (λ (m : ℕ). m % count) there ∙ mod-mul-add q count n within)
 
-pub turn_whole : (ss now : List Socket) (first count step time : ℕ) (old new : Desk) → count ≡ length ss → count ≤ step
-    → HaveServed ss now first count step time old new → AsksInTurn ss now old new
-turn_whole ss now first count step time old new fits whole h = record {
+-- the first one was come to
+came_first : (ss now : List Socket) (first count step time : ℕ) (old new : Desk) (n : ℕ) → count ≡ length ss → 0 < step
+    → (h : HaveServed ss now first count step time old new) → n ≡ first % length ss → Waits ss n → Contains h.numbers n
+came_first ss now first count step time old new n fits some h is wait =
+    subst (Contains h.numbers) (sym there) (h.all 0 fresh some (ap (λ (m : ℕ). waits (get_or ss m fresh)) (sym there) ∙ wait fresh))
+  where
+    there : n ≡ (first + 0) % count
+    there = is ∙ ap (λ (m : ℕ). first % m) (sym fits) ∙ ap (λ (m : ℕ). m % count) (omega arith)
+
+pub turn_whole : (ss now : List Socket) (given first count step time next : ℕ) (old new : Desk) → first ≡ given % 1024 → next ≡ given → count ≡ length ss
+    → count ≤ step → HaveServed ss now first count step time old new → AsksInTurn ss now given next old new
+turn_whole ss now given first count step time next old new from stays fits whole h = record {
   time = time;
   numbers = h.numbers;
   served = h.served;
   only = λ n c. inl (h.only n c);
-  all = λ n any within e.
-      let came = comes_to first n count (omega (arith, within, fits)) in
-      inl (subst (Contains h.numbers) came.2
-      (h.all came.0 any (omega (arith, came.1, whole)) (ap (λ (m : ℕ). waits (get_or ss m any)) came.2 ∙ e)));
+  all = λ n any within e. inl (all n any within e);
   others = h.others;
+  begins = λ n is within wait. inl (all n fresh within (wait fresh));
+  ends = inl (record { all = all; again = stays });
 }
+  where
+    all : (n : ℕ) (any : Socket) → n < length ss → waits (get_or ss n any) ≡ true → Contains h.numbers n
+    all n any within e =
+        let came = comes_to first n count (omega (arith, within, fits)) in
+        subst (Contains h.numbers) came.2
+        (h.all came.0 any (omega (arith, came.1, whole)) (ap (λ (m : ℕ). waits (get_or ss m any)) came.2 ∙ e))
+
+nothing_yet : (ss now : List Socket) (first count time : ℕ) (old new : Desk) → HaveServed ss now first count 0 time old new → new ≡ old
+nothing_yet ss now first count time old new h = at h.numbers h.served h.came
+  where
+    at : (ns : List ℕ) → AreServed ss now time ns old new → ((n : ℕ) → Contains ns n → (s : ℕ) × (s < 0) × (n ≡ (first + s) % count)) → new ≡ old
+    at [] served came = served
+    at (n ∷ ns) served came = absurd (omega (arith, (came n (0, omega arith, refl)).1))
 
 -- no connection is at rest
-pub turn_full : (ss now : List Socket) (first count step time : ℕ) (old new : Desk) → HaveServed ss now first count step time old new
-    → list_any is_none new.loans ≡ false → AsksInTurn ss now old new
-turn_full ss now first count step time old new h full = record {
+pub turn_full : (ss now : List Socket) (given first count step time next : ℕ) (old new : Desk) (s : Socket) → first ≡ given % 1024
+    → next ≡ (first + step) % count → count ≡ length ss → length now ≡ length ss → step < count → s ≡ get_or now ((first + step) % count) s
+    → waits s ≡ true → HaveServed ss now first count step time old new
+    → ((any : Socket) → get_or now ((first + step) % count) any ≡ get_or ss ((first + step) % count) any) → list_any is_none new.loans ≡ false
+    → AsksInTurn ss now given next old new
+turn_full ss now given first count step time next old new s from goes fits many within is wait h same full = record {
   time = time;
   numbers = h.numbers;
   served = h.served;
   only = λ n c. inl (h.only n c);
-  all = λ n any within e. inr (inl full);
+  all = λ n any inside e. inr (inl full);
   others = h.others;
+  begins = λ n at inside waiting. first_one n (at ∙ ap (λ (m : ℕ). m % length ss) (sym from)) waiting (cases_lt 0 step);
+  ends = inr (inl (record { full = full; waits = subst (Waits ss) (sym goes) waiting; kept = λ c. kept (subst (Contains h.numbers) goes c) }));
 }
+  where
+    i : ℕ
+    i = (first + step) % count
+
+    inside : i < length now
+    inside = omega (arith, mod_below (first + step) count (omega (arith, within)), fits, many)
+
+    waiting : Waits ss i
+    waiting any = ap waits (sym (is ∙ get_or_default now i s any inside ∙ same any)) ∙ wait
+
+    kept : Contains h.numbers i → ⊥
+    kept c = let k = h.came i c in apart first k.0 step count k.1 within k.2
+
+    first_one : (n : ℕ) → n ≡ first % length ss → Waits ss n → (0 < step) ⊎ (step ≤ 0)
+        → Contains h.numbers n ⊎ ((list_any is_none old.loans ≡ false) ⊎ GoesOnWithOne h.numbers ss given next)
+    first_one n at wait (inl some) = inl (came_first ss now first count step time old new n fits some h at wait)
+    first_one n at wait (inr none) =
+        let begun : step ≡ 0 = omega (arith, none) in
+        let same : new ≡ old =
+        nothing_yet ss now first count time old new (subst (λ (k : ℕ). HaveServed ss now first count k time old new) begun h) in
+        inr (inl (ap (λ (d : Desk). list_any is_none d.loans) (sym same) ∙ full))
 
 -- the last one is a message during which nobody else may ask
-pub turn_last : (ss now later : List Socket) (first count step time : ℕ) (old mid new : Desk) (s : Socket) → count ≡ length ss → length now ≡ length ss
-    → step < count → s ≡ get_or now ((first + step) % count) s → waits s ≡ true → HaveServed ss now first count step time old mid
+pub turn_last : (ss now later : List Socket) (given first count step time next : ℕ) (old mid new : Desk) (s : Socket) → first ≡ given % 1024
+    → next ≡ (first + step) % count + 1 → count ≡ length ss → length now ≡ length ss → step < count → s ≡ get_or now ((first + step) % count) s
+    → waits s ≡ true → HaveServed ss now first count step time old mid
     → ((any : Socket) → get_or now ((first + step) % count) any ≡ get_or ss ((first + step) % count) any)
     → OthersStay now (Some ((first + step) % count)) later → ServesOne now later time ((first + step) % count) mid new
-    → AsksAlone later ((first + step) % count) → AsksInTurn ss later old new
+    → AsksAlone later ((first + step) % count) → AsksInTurn ss later given next old new
 unfolding served_more
-turn_last ss now later first count step time old mid new s fits many less is wait h same stay one alone = record {
+turn_last ss now later given first count step time next old mid new s from goes fits many less is wait h same stay one alone = record {
   time = time;
   numbers = more.numbers;
   served = more.served;
   only = λ n c. inl (more.only n c);
-  all = λ n any within e. inr (inr ((first + step) % count, contains_last h.numbers ((first + step) % count), inr alone));
+  all = λ n any within e. inr (inr (i, contains_last h.numbers i, inr alone));
   others = more.others;
+  begins = λ n at inside waiting.
+      inl (came_first ss later first count (step + 1) time old new n fits (omega arith) more (at ∙ ap (λ (m : ℕ). m % length ss) (sym from)) waiting);
+  ends = inr (inr (inl (record { last = i; served = contains_last h.numbers i; alone = alone; behind = goes })));
 }
   where
+    i : ℕ
+    i = (first + step) % count
+
     more : HaveServed ss later first count (step + 1) time old new
     more = served_more ss now later first count step time old mid new s fits many less is wait h same stay one
 
 -- it goes on with such a one
-pub turn_alone : (ss later : List Socket) (time n : ℕ) (old new : Desk) → OthersStay ss (Some n) later → ServesOne ss later time n old new → AsksAlone ss n
-    → AsksInTurn ss later old new
-turn_alone ss later time n old new stay one alone = record {
+pub turn_alone : (ss later : List Socket) (given next time n : ℕ) (old new : Desk) → next ≡ given → OthersStay ss (Some n) later
+    → ServesOne ss later time n old new → AsksAlone ss n → AsksInTurn ss later given next old new
+turn_alone ss later given next time n old new stays stay one alone = record {
   time = time;
   numbers = n ∷ [];
   served = (new, one, refl);
   only = λ m c. inr (subst (AsksAlone ss) (sym (last_is n m c)) alone);
   all = λ m any within e. inr (inr (n, contains_last [] n, inl alone));
   others = λ m any no. stay.others m any (λ e. no (subst (Contains (n ∷ [])) (sym (some_same m n e)) (contains_last [] n)));
+  begins = λ m at inside waiting. inr (inr goes);
+  ends = inr (inr (inr goes));
 }
+  where
+    goes : GoesOnWithOne (n ∷ []) ss given next
+    goes = record { one = n; is = refl; alone = alone; again = stays }
 
 -- nothing has changed before
-pub turn_behind : (ss first after : List Socket) (old mid new : Desk) → first ≡ ss → mid ≡ old → AsksInTurn first after mid new → AsksInTurn ss after old new
-turn_behind ss first after old mid new same still h =
-    subst (λ (d : Desk). AsksInTurn ss after d new) still (subst (λ (x : List Socket). AsksInTurn x after mid new) same h)
+pub turn_behind : (ss given after : List Socket) (first begun next : ℕ) (old mid new : Desk) → given ≡ ss → begun ≡ first → mid ≡ old
+    → AsksInTurn given after begun next mid new → AsksInTurn ss after first next old new
+turn_behind ss given after first begun next old mid new same from still h =
+    subst (λ (d : Desk). AsksInTurn ss after first next d new) still
+    (subst (λ (x : ℕ). AsksInTurn ss after x next mid new) from (subst (λ (x : List Socket). AsksInTurn x after begun next mid new) same h))
 
 -- the socket that was served is one of these
 pub asks_alone_at : (ss : List Socket) (n : ℕ) (s : Socket) → n < length ss → s ≡ get_or ss n s → is_alone s ≡ true → AsksAlone ss n

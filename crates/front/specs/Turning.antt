@@ -101,11 +101,42 @@ IsKeptWaiting numbers before after desk =
     (list_any is_none desk.loans ≡ false)
     ⊎ ((n : ℕ) × Contains numbers n × (AsksAlone before n ⊎ AsksAlone after n))
 
+-- ---- with which one it begins, and the next one
+
+-- Whoever waits is served, and the next turn begins with the same number.
+pub record IsWhole (numbers : List ℕ) (before : List Socket) (first next : ℕ) : Type 0 where
+  pub all : (n : ℕ) (any : Socket) → n < length before → waits (slice_index_or before n any) ≡ true
+      → Contains numbers n
+  pub again : next ≡ first
+
+-- No connection is at rest for one that waits: the next turn begins with that one.
+pub record IsFull (numbers : List ℕ) (before : List Socket) (desk : Desk)
+    (next : ℕ) : Type 0 where
+  pub full : list_any is_none desk.loans ≡ false
+  pub waits : Waits before next
+  pub kept : Contains numbers next → ⊥
+
+-- One that is served has a message during which nobody else may ask: the next turn begins behind
+-- it.
+pub record IsLast (numbers : List ℕ) (after : List Socket) (next : ℕ) : Type 0 where
+  pub last : ℕ
+  pub served : Contains numbers last
+  pub alone : AsksAlone after last
+  pub behind : next ≡ last + 1
+
+-- Such a message goes on, and no other one is served.
+pub record GoesOnWithOne (numbers : List ℕ) (before : List Socket) (first next : ℕ) : Type 0 where
+  pub one : ℕ
+  pub is : numbers ≡ one ∷ []
+  pub alone : AsksAlone before one
+  pub again : next ≡ first
+
 -- What a turn asks: of some sockets, as they were before it, what their messages want, on the
 -- connections that are lent, and nothing else on any. Each of them waits, or goes on with a message
 -- during which nobody else may ask. Whoever waits is one of them, or is kept waiting. All others
--- are as they were.
-pub record AsksInTurn (before after : List Socket) (old new : Desk) : Type 0 where
+-- are as they were. The socket of its first number is served, if it waits and a connection is at
+-- rest, unless such a message goes on.
+pub record AsksInTurn (before after : List Socket) (first next : ℕ) (old new : Desk) : Type 0 where
   pub time : ℕ
   pub numbers : List ℕ
   pub served : AreServed before after time numbers old new
@@ -114,3 +145,8 @@ pub record AsksInTurn (before after : List Socket) (old new : Desk) : Type 0 whe
       → Contains numbers n ⊎ IsKeptWaiting numbers before after new
   pub others : (n : ℕ) (any : Socket) → (Contains numbers n → ⊥)
       → slice_index_or after n any ≡ slice_index_or before n any
+  pub begins : (n : ℕ) → n ≡ first % 1024 % length before → n < length before → Waits before n
+      → Contains numbers n ⊎ ((list_any is_none old.loans ≡ false)
+      ⊎ GoesOnWithOne numbers before first next)
+  pub ends : IsWhole numbers before first next ⊎ (IsFull numbers before new next
+      ⊎ (IsLast numbers after next ⊎ GoesOnWithOne numbers before first next))

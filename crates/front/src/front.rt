@@ -97,6 +97,7 @@ impl<C: Clock + Drop, D: Disk + Drop> Front<C, D> {
         ensures free { result ≡ true → self.new.alone ≡ None }
         ensures others { OthersStay self.old.sockets.items (Some number) self.new.sockets.items }
         ensures alone { result ≡ false → AsksAlone self.new.sockets.items number }
+        ensures first { self.new.first ≡ self.old.first }
         ensures serves { ServesOne self.old.sockets.items self.new.sockets.items time number
             (desk self.old) (desk self.new) }
     {
@@ -131,8 +132,9 @@ impl<C: Clock + Drop, D: Disk + Drop> Front<C, D> {
         ensures none { result ≡ false → IsNobodyAlone self.old.sockets.items self.new.alone
             self.new.sockets.items }
         ensures same { result ≡ false → desk self.new ≡ desk self.old }
+        ensures first { self.new.first ≡ self.old.first }
         ensures asks { result ≡ true → AsksInTurn self.old.sockets.items self.new.sockets.items
-            (desk self.old) (desk self.new) }
+            self.old.first self.new.first (desk self.old) (desk self.new) }
     {
         let Some(number) = self.alone.take() else {
             return false;
@@ -157,8 +159,8 @@ impl<C: Clock + Drop, D: Disk + Drop> Front<C, D> {
         ensures stands { StandsAlone self.new.alone self.new.sockets.items }
         ensures between { NobodyBetween self.old.lending.loans self.old.sockets.items
             self.new.lending.loans self.new.sockets.items }
-        ensures asks { AsksInTurn self.old.sockets.items self.new.sockets.items (desk self.old)
-            (desk self.new) }
+        ensures asks { AsksInTurn self.old.sockets.items self.new.sockets.items self.old.first
+            self.new.first (desk self.old) (desk self.new) }
     {
         let time = self.time();
         if self.ask_alone(time) {

@@ -15,6 +15,7 @@ invariant-sockets g l = record {
   stands : StandsAlone None l.self.sockets.items;
   as_many : length l.self.sockets.items ≡ length l.initial.self.sockets.items;
   all_of : l.count ≡ length l.initial.self.sockets.items;
+  first : l.self.first ≡ l.initial.self.first;
   asked : HaveServed l.initial.self.sockets.items l.self.sockets.items l.first l.count l.step l.time (desk l.initial.self) (desk l.self);
   as_were : (s : ℕ) (any : Socket) → l.step ≤ s → s < l.count
       → get_or l.self.sockets.items ((l.first + s) % l.count) any ≡ get_or l.initial.self.sockets.items ((l.first + s) % l.count) any;
