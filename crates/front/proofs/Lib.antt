@@ -7,3 +7,5 @@ mod AloneLemmas
 pub mod AskingLemmas
 pub mod ReplyingLemmas
 pub mod FrameLaws
+pub mod TurningLemmas
+mod OneSocketLemmas

@@ -53,6 +53,7 @@ GoesOnAlone old socket new = (n : ℕ) (any : Socket) → socket ≡ Some n → 
     → has_begun (slice_index_or new n any) ≡ true → is_alone (slice_index_or old n any) ≡ true
 
 -- Nothing has changed, and no message has begun during which nobody else may ask.
-pub record IsNobodyAlone (before : List Socket) (alone : Option ℕ) (after : List Socket) : Type 0 where
+pub record IsNobodyAlone (before : List Socket) (alone : Option ℕ)
+    (after : List Socket) : Type 0 where
   pub same : after ≡ before
   pub free : alone ≡ None

@@ -1,6 +1,6 @@
 -- What is asked of the server for a socket's message, and on which connection.
-use Rattle.std.specs.Prelude.{◌≡◌, ◌≤◌, ◌+◌, ◌⊎◌, ℕ, false, List, [], ◌∷◌, length, slice_set}
-use Rattle.std.specs.Prelude.{slice_index_or, Result, Ok, Err, Option, Some, None}
+use Rattle.std.specs.Prelude.{◌≡◌, ◌≤◌, ◌+◌, ◌⊎◌, ℕ, false, List, length, slice_set}
+use Rattle.std.specs.Prelude.{Result, Ok, Err, Option, Some, None}
 use Rattle.bson.specs.Limits.{message_limit}
 use Rattle.bson.specs.Spelling.{frame_of, pairs_bytes}
 use Rattle.bson.specs.Tree.{Pairs}
@@ -88,33 +88,21 @@ abbrev pub AsksWanted : Option ℕ → Option Pairs → List (Option Loan) → L
 AsksWanted socket what old new before after =
     ((new ≡ old) × (after ≡ before)) ⊎ AsksOn socket what old new before after
 
--- The same, of the end of a cursor whose socket has ended.
-pub record EndsOn (old new : List (Option Loan)) (before after : ServerState) : Type 0 where
-  pub cursor : OpenCursor
-  pub asks : AsksOn None (Some (kill_command cursor.database cursor.collection cursor.id)) old new
-      before after
+-- what the owner of a cursor is lent for that is ended
+abbrev pub loan_to_end : OpenCursor → Loan
+loan_to_end cursor = record { socket = None; cursor = Some cursor.id }
 
-abbrev pub EndsOne : List (Option Loan) → List (Option Loan) → ServerState → ServerState → Type 0
-EndsOne old new before after = ((new ≡ old) × (after ≡ before)) ⊎ EndsOn old new before after
-
--- What is done with the socket of a number, by what is to be known of the server for its message.
-pub record AsksOf (sockets : List Socket) (number : ℕ) (old new : List (Option Loan))
+-- The cursor is ended: what says so is asked of its owner, which was at rest and is lent to no
+-- socket.
+pub record EndsOn (cursor : OpenCursor) (old new : List (Option Loan))
     (before after : ServerState) : Type 0 where
-  pub info : ServerInfo
-  pub asks : (any : Socket) → AsksWanted (Some number)
-      (wanted info (slice_index_or sockets number any)) old new before after
+  pub rest : loan_at old cursor.owner ≡ None
+  pub lent : new ≡ slice_set old cursor.owner (Some (loan_to_end cursor))
+  pub asked : IsAskedOn before cursor.owner
+      (kill_command cursor.database cursor.collection cursor.id) after
 
--- The sockets of these numbers were served one after the other, each as it stands in this list.
-abbrev pub AreAsked : List Socket → List ℕ → List (Option Loan) → List (Option Loan) → ServerState
+-- This cursor is ended, if it is one.
+abbrev pub EndsOne : Option OpenCursor → List (Option Loan) → List (Option Loan) → ServerState
     → ServerState → Type 0
-AreAsked sockets [] old new before after = (new ≡ old) × (after ≡ before)
-AreAsked sockets (n ∷ later) old new before after =
-    (lent : List (Option Loan)) × (between : ServerState)
-    × AsksOf sockets n old lent before between × AreAsked sockets later lent new between after
-
--- What a turn asks: of some sockets, as they were before it, what their messages want, on the
--- connections that are lent, and nothing else on any.
-pub record AsksInTurn (sockets : List Socket) (old new : List (Option Loan))
-    (before after : ServerState) : Type 0 where
-  pub numbers : List ℕ
-  pub asked : AreAsked sockets numbers old new before after
+EndsOne None old new before after = (new ≡ old) × (after ≡ before)
+EndsOne (Some cursor) old new before after = EndsOn cursor old new before after

@@ -6,3 +6,6 @@ pub mod Fronting
 pub mod Asking
 pub mod Replying
 pub mod Laws
+pub mod Turning
+pub mod Cursors
+pub mod OneSocket

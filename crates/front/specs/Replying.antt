@@ -1,6 +1,7 @@
 -- What becomes of a socket's message: it is asked next, or its answer is ready, or it has none.
-use Rattle.std.specs.Prelude.{◌≡◌, ◌⊎◌, ◌<◌, ℕ, Bool, true, nat_le, List, length, drop}
-use Rattle.std.specs.Prelude.{slice_index_or, option_map, Result, Ok, Err, Option, Some, None, Vec}
+use Rattle.std.specs.Prelude.{◌≡◌, ◌⊎◌, ◌<◌, ℕ, Bool, true, false, nat_le, if◌then◌else◌, List}
+use Rattle.std.specs.Prelude.{length, drop, slice_index_or, option_map, Result, Ok, Err, Option}
+use Rattle.std.specs.Prelude.{Some, None, Vec}
 use Rattle.bson.specs.Spelling.{frame_of, pairs_bytes}
 use Rattle.bson.specs.Tree.{Pairs}
 use Rattle.op_msg.specs.Request.{document_in}
@@ -14,6 +15,8 @@ use Rattle.drivers.specs.declared.plan.Plan.{Plan}
 use Rattle.drivers.specs.declared.server_info.ServerInfo.{ServerInfo}
 use Rattle.drivers.specs.declared.step.Step.{Step}
 use Rattle.drivers.specs.declared.step.Step.TheVariants as steps
+use Rattle.database_model.specs.Refusals.{refusal_reply}
+use Rattle.path.specs.declared.refusal.Refusal.TheVariants as refusals
 use Rattle.server.specs.Turn.{next_number}
 use Rattle.front.specs.declared.job.Job.{Job}
 use Rattle.front.specs.declared.job.Question.{Question}
@@ -33,13 +36,22 @@ has_room (steps.Reply reply) = nat_le (length (frame_of (pairs_bytes reply))) mo
 has_room (steps.Fail reply) = nat_le (length (frame_of (pairs_bytes reply))) most_bytes
 has_room steps.Silent = true
 
+-- the refusal that says that something has no room in a message
+abbrev pub long_reply : Pairs
+long_reply = refusal_reply refusals.BSONObjectTooLarge
+
+abbrev pub too_large : Step
+too_large = steps.Reply long_reply
+
+-- what is told: an answer, or, where it has no room in a message, the refusal that says so
+abbrev pub told : Step → Step
+told step = if has_room step then step else too_large
+
 -- These bytes are the frame by which a message of this form and number is answered, if it is, with
--- a number of its own. An answer that has no room in a message is another one.
-pub record IsFramed {Z : Type 0} (form : Form) (number request : ℕ) (step : Step)
-    (bytes : Option (Vec ℕ Z)) : Type 0 where
-  pub told : Step
-  pub same : has_room step ≡ true → told ≡ step
-  pub is : option_map (λ v. v.items) bytes ≡ framed form number request told
+-- a number of its own.
+abbrev pub IsFramed : {Z : Type 0} → Form → ℕ → ℕ → Step → Option (Vec ℕ Z) → Type 0
+IsFramed form number request step bytes =
+    option_map (λ v. v.items) bytes ≡ framed form number request (told step)
 
 -- ---- a socket
 
@@ -47,24 +59,18 @@ abbrev pub closed : Socket → Socket
 closed socket = record socket { is_over = true }
 
 -- the answer with the next number is ready
-pub record IsReady (old : Socket) (form : Form) (request : ℕ) (step : Step)
-    (new : Socket) : Type 0 where
-  pub frame : IsFramed form (next_number old.last_reply) request step new.answer
+pub record IsReady (old : Socket) (frame : List ℕ) (new : Socket) : Type 0 where
+  pub ready : option_map (λ v. v.items) new.answer ≡ Some frame
   pub rest : new ≡ record old { answer = new.answer; last_reply = next_number old.last_reply }
 
--- there is none
-pub record IsSilent (old : Socket) (form : Form) (request : ℕ) (step : Step)
-    (new : Socket) : Type 0 where
-  pub told : Step
-  pub same : has_room step ≡ true → told ≡ step
-  pub none : framed form (next_number old.last_reply) request told ≡ None
-  pub rest : new ≡ old
+-- it is, or there is none
+abbrev pub HasAnswer : Socket → Option (List ℕ) → Socket → Type 0
+HasAnswer old None new = new ≡ old
+HasAnswer old (Some frame) new = IsReady old frame new
 
--- Where memory ran out the socket is to be closed.
 abbrev pub IsAnswered : Socket → Form → ℕ → Step → Socket → Type 0
 IsAnswered old form request step new =
-    IsReady old form request step new
-    ⊎ (IsSilent old form request step new ⊎ (new ≡ closed old))
+    HasAnswer old (framed form (next_number old.last_reply) request (told step)) new
 
 -- what a step asks the database
 abbrev pub question_by : Step → Option Question
@@ -91,32 +97,45 @@ abbrev pub resting : Socket → Socket
 resting socket = record socket { job = None }
 
 -- The server has replied to the message that is worked on, if one is: what is done then is what its
--- plan says. Where memory ran out the socket is to be closed.
+-- plan says.
 abbrev pub TakesReply : Socket → Option Job → Pairs → Socket → Type 0
 TakesReply old None reply new = new ≡ resting old
 TakesReply old (Some job) reply new =
     Follows (resting old) job.form job.number (answered job.plan reply) new
-    ⊎ (new ≡ closed (resting old))
 
 -- What is done first with a message.
 abbrev pub Starts : ServerInfo → Socket → Message → Socket → Type 0
 Starts info old message new =
     Follows old message.form message.number (plan_of info.ids message, started info message) new
-    ⊎ (new ≡ closed old)
 
--- What is done first with the message at the front, if none is worked on. It may wait for want of
--- memory, and the socket is to be closed for it, or for a fault.
+-- What is done first with the message at the front. For a fault there the socket is to be closed.
 abbrev pub BeginsWith : ServerInfo → Socket → Result (Option (Message × List ℕ)) StreamFault
     → Socket → Type 0
 BeginsWith info old (Ok None) new = new ≡ old
-BeginsWith info old (Ok (Some x)) new =
-    (new ≡ old) ⊎ Starts info (record old { incoming = x.1 }) x.0 new
-BeginsWith info old (Err fault) new = (new ≡ old) ⊎ (new ≡ closed old)
+BeginsWith info old (Ok (Some x)) new = Starts info (record old { incoming = x.1 }) x.0 new
+BeginsWith info old (Err fault) new = new ≡ closed old
 
-abbrev pub Begins : ServerInfo → Socket → Option Job
+-- The same, if none is worked on and the socket isn't to be closed.
+abbrev pub Begins : ServerInfo → Socket → Bool → Option Job
     → Result (Option (Message × List ℕ)) StreamFault → Socket → Type 0
-Begins info old (Some job) next new = new ≡ old
-Begins info old None next new = BeginsWith info old next new
+Begins info old true job next new = new ≡ old
+Begins info old false (Some job) next new = new ≡ old
+Begins info old false None next new = BeginsWith info old next new
+
+-- ---- where memory runs out
+
+-- The socket is to be closed, and its message is worked on no more, if it was.
+abbrev pub IsClosed : Socket → Socket → Type 0
+IsClosed old new = (new ≡ closed old) ⊎ (new ≡ closed (resting old))
+
+-- The message at the front is taken by a later turn; or it was taken, and the socket is to be
+-- closed.
+abbrev pub WaitsOrCloses : Socket → Result (Option (Message × List ℕ)) StreamFault → Socket
+    → Type 0
+WaitsOrCloses old (Ok (Some x)) new =
+    (new ≡ old) ⊎ (new ≡ closed (record old { incoming = x.1 }))
+WaitsOrCloses old (Ok None) new = new ≡ old
+WaitsOrCloses old (Err fault) new = new ≡ old
 
 -- ---- among the sockets
 
@@ -125,14 +144,10 @@ abbrev pub Becomes : List Socket → Option ℕ → (Socket → Socket → Type 
 Becomes old socket goes new = (n : ℕ) (any : Socket) → socket ≡ Some n → n < length old
     → goes (slice_index_or old n any) (slice_index_or new n any)
 
--- A frame came back for it: its message goes on with the frame's document. Where memory runs out
--- for that, the socket is to be closed.
-pub record TakesDocument (frame : List ℕ) (old : List Socket) (socket : Option ℕ)
-    (new : List Socket) : Type 0 where
-  pub reply : Pairs
-  pub is : document_in (drop 21 frame) ≡ Ok reply
-  pub goes : Becomes old socket (λ s t. TakesReply s s.job reply t) new
+-- A frame came back for it: its message goes on with the frame's document.
+abbrev pub TakesDocument : List ℕ → Socket → Socket → Type 0
+TakesDocument frame old new =
+    (reply : Pairs) × (document_in (drop 21 frame) ≡ Ok reply) × TakesReply old old.job reply new
 
 abbrev pub TakesFrame : List ℕ → List Socket → Option ℕ → List Socket → Type 0
-TakesFrame frame old socket new =
-    TakesDocument frame old socket new ⊎ Becomes old socket (λ s t. t ≡ closed s) new
+TakesFrame frame old socket new = Becomes old socket (TakesDocument frame) new

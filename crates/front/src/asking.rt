@@ -1,11 +1,12 @@
 //! Commands for the server, as frames, and its replies.
 
-ghost use Rattle.std.specs.Prelude.{◌≡◌, drop, Ok, IfOk, OnOk, OnErr};
+ghost use Rattle.std.specs.Prelude.{◌≡◌, drop, true, Ok, Err, IfOk, OnOk, OnErr};
 ghost use Rattle.op_msg.specs.Request.{document_in};
 ghost use Rattle.drivers.specs.Answering.{kill_command};
 ghost use Rattle.server.specs.Durable.{IsSound};
 ghost use Rattle.server.specs.View.{state};
 ghost use Rattle.front.specs.Asking.{IsAskedOn};
+ghost use Rattle.front.specs.OneSocket.{is_long};
 
 use crate::open_cursors::OpenCursor;
 use bson::{Array, BuildFault, Document, MESSAGE_LIMIT, NoMemory, Value, decode};
@@ -37,6 +38,7 @@ pub(crate) fn ask<D: Disk>(
     ensures sound { IsSound D.history core.new }
     ensures asked { OnOk result (IsAskedOn (state core.old) id command.now (state core.new)) }
     ensures nothing { OnErr result (state core.new ≡ state core.old) }
+    ensures long { result ≡ Err NotAsked.Long → is_long command.now ≡ true }
 {
     if command.encoded_len() > MOST_BYTES {
         return Err(NotAsked::Long);

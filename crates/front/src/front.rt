@@ -1,21 +1,20 @@
 //! Sockets of drivers before a server.
 
 ghost use Rattle.server.specs.Durable.{IsSound};
-ghost use Rattle.server.specs.View.{state};
-ghost use Rattle.front.specs.Asking.{AsksOf, AsksInTurn};
-ghost use Rattle.std.specs.Prelude.{◌≡◌, ◌+◌, ◌<◌, ◌≤◌, OnOk, true, false, None, Some, length, map, max};
+ghost use Rattle.front.specs.Turning.{desk, AsksAlone, AsksInTurn, ServesOne};
+ghost use Rattle.std.specs.Prelude.{◌≡◌, ◌+◌, ◌<◌, ◌≤◌, ◌^◌, OnOk, true, false, None, Some, length, map, max};
 ghost use Rattle.sockets.specs.Handing.{Hands, Closes};
 ghost use Rattle.front.specs.Tying.{AreTied};
 ghost use Rattle.front.specs.Alone.{IsNobodyAlone, NobodyBetween, StandsAlone};
 ghost use Rattle.front.specs.Fronting.{frame_to, answers_from, closing, closed_from, answered};
 ghost use Rattle.front.specs.Serving.{HaveGrown, OthersStay};
 
+use crate::info::next_info;
 use crate::lending::Lending;
 use crate::open_cursors::OpenCursors;
 use crate::serving::{end_cursor, serve_socket, take_closed, take_reply};
 use crate::socket::Socket;
-use bson::{MESSAGE_LIMIT, NoMemory};
-use drivers::{FreshIds, ServerInfo};
+use bson::NoMemory;
 use engine::ConnId;
 use op_msg::FrameFault;
 use page::Disk;
@@ -29,11 +28,6 @@ use std::rt::Clock;
 const PLACES: usize = 1_024;
 /// The most cursors that a turn ends of sockets that have ended, so that connections are left for messages.
 const MOST_ENDS: u8 = 16;
-/// The most bytes of a document.
-const MOST_DOCUMENT_BYTES: i32 = 65_535;
-
-/// How many object ids a message may need: one for each of its statements, which have 5 bytes at least of its 1,048,576.
-const MOST_IDS: u64 = 262_144;
 /// How many object ids go by in a millisecond, so that a server that is started again begins behind those that it gave.
 const IDS_A_MILLISECOND: u64 = 4_194_304;
 
@@ -77,16 +71,19 @@ impl<C: Clock + Drop, D: Disk + Drop> Front<C, D> {
     }
 
     /// The milliseconds since 1970.
-    fn time(&self) -> i64 {
+    fn time(&self) -> u64
+        ensures { result < 2 ^ 63 }
+    {
         match self.clock.since_1970() {
-            Ok(time) => i64::try_from(time.as_millis()).unwrap_or(0),
+            Ok(time) => milliseconds(time.as_millis()),
             Err(_) => 0,
         }
     }
 
     /// Does what can be done of a socket, where no other one's message is one during which nobody else may ask. Whether others may
     /// still ask in this turn.
-    fn ask_one(&mut self, number: usize, time: i64) -> bool
+    fn ask_one(&mut self, number: usize, time: u64) -> bool
+        requires time { time < 2 ^ 63 }
         requires sound { IsSound D.history self.old.core }
         requires tied { AreTied self.old.lending.loans self.old.sockets.items }
         requires inside { number < length self.old.sockets.items }
@@ -99,12 +96,14 @@ impl<C: Clock + Drop, D: Disk + Drop> Front<C, D> {
             self.new.lending.loans self.new.sockets.items }
         ensures free { result ≡ true → self.new.alone ≡ None }
         ensures others { OthersStay self.old.sockets.items (Some number) self.new.sockets.items }
-        ensures asks { AsksOf self.old.sockets.items number self.old.lending.loans
-            self.new.lending.loans (state self.old.core) (state self.new.core) }
+        ensures alone { result ≡ false → AsksAlone self.new.sockets.items number }
+        ensures first { self.new.first ≡ self.old.first }
+        ensures serves { ServesOne self.old.sockets.items self.new.sockets.items time number
+            (desk self.old) (desk self.new) }
     {
-        let info = info(number, time, fresh_ids(&mut self.next_id, time));
+        let info = next_info(&mut self.next_id, number, time);
         let socket = &mut self.sockets[number];
-        serve_socket(
+        let _served = serve_socket(
             &mut self.core,
             &mut self.lending,
             &self.cursors,
@@ -120,7 +119,8 @@ impl<C: Clock + Drop, D: Disk + Drop> Front<C, D> {
     }
 
     /// Goes on with the message during which nobody else may ask. Whether there is one.
-    fn ask_alone(&mut self, time: i64) -> bool
+    fn ask_alone(&mut self, time: u64) -> bool
+        requires time { time < 2 ^ 63 }
         requires sound { IsSound D.history self.old.core }
         requires tied { AreTied self.old.lending.loans self.old.sockets.items }
         requires stands { StandsAlone self.old.alone self.old.sockets.items }
@@ -131,8 +131,10 @@ impl<C: Clock + Drop, D: Disk + Drop> Front<C, D> {
             self.new.lending.loans self.new.sockets.items }
         ensures none { result ≡ false → IsNobodyAlone self.old.sockets.items self.new.alone
             self.new.sockets.items }
-        ensures asks { AsksInTurn self.old.sockets.items self.old.lending.loans
-            self.new.lending.loans (state self.old.core) (state self.new.core) }
+        ensures same { result ≡ false → desk self.new ≡ desk self.old }
+        ensures first { self.new.first ≡ self.old.first }
+        ensures asks { result ≡ true → AsksInTurn self.old.sockets.items self.new.sockets.items
+            self.old.first self.new.first (desk self.old) (desk self.new) }
     {
         let Some(number) = self.alone.take() else {
             return false;
@@ -157,15 +159,15 @@ impl<C: Clock + Drop, D: Disk + Drop> Front<C, D> {
         ensures stands { StandsAlone self.new.alone self.new.sockets.items }
         ensures between { NobodyBetween self.old.lending.loans self.old.sockets.items
             self.new.lending.loans self.new.sockets.items }
-        ensures asks { AsksInTurn self.old.sockets.items self.old.lending.loans
-            self.new.lending.loans (state self.old.core) (state self.new.core) }
+        ensures asks { AsksInTurn self.old.sockets.items self.new.sockets.items self.old.first
+            self.new.first (desk self.old) (desk self.new) }
     {
         let time = self.time();
         if self.ask_alone(time) {
             return;
         }
         let first = self.first % PLACES;
-        let count = self.sockets.len().min(PLACES);
+        let count = self.sockets.len();
         'sockets: for step in 0..count {
             let number = (first + step) % count;
             if !self.sockets[number].waits() {
@@ -192,7 +194,10 @@ impl<C: Clock + Drop, D: Disk + Drop> Front<C, D> {
         ensures stands { StandsAlone self.new.alone self.new.sockets.items }
     {
         'cursors: for _ in 0..MOST_ENDS {
-            if !end_cursor(&mut self.core, &mut self.lending, &self.cursors) {
+            let Ok(ended) = end_cursor(&mut self.core, &mut self.lending, &self.cursors) else {
+                return;
+            };
+            if !ended {
                 return;
             }
         }
@@ -228,7 +233,7 @@ impl<C: Clock + Drop, D: Disk + Drop> Front<C, D> {
         ensures stands { StandsAlone self.new.alone self.new.sockets.items }
     {
         'replies: for (id, frame) in turn.replies.iter() {
-            take_reply(
+            let _taken = take_reply(
                 &mut self.core,
                 &mut self.lending,
                 &mut self.cursors,
@@ -346,24 +351,14 @@ fn first_id<C: Clock>(clock: &C) -> u64 {
     }
 }
 
-/// The object ids of a message.
-fn fresh_ids(next: &mut u64, time: i64) -> FreshIds {
-    let number = *next;
-    *next = number.wrapping_add(MOST_IDS);
-    FreshIds {
-        seconds: u32::try_from(time / 1000).unwrap_or(0),
-        number,
-    }
-}
-
-/// What is to be known of the server for a message of a socket.
-fn info(number: usize, time: i64, ids: FreshIds) -> ServerInfo {
-    ServerInfo {
-        most_document_bytes: MOST_DOCUMENT_BYTES,
-        most_message_bytes: MESSAGE_LIMIT as i32,
-        connection: i32::try_from(number).unwrap_or(0),
-        time,
-        ids,
+/// Milliseconds as a number of 63 bits; 0 where they are more.
+fn milliseconds(time: u128) -> u64
+    ensures { result < 2 ^ 63 }
+{
+    if time < 9_223_372_036_854_775_808 {
+        time as u64
+    } else {
+        0
     }
 }
 

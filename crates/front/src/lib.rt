@@ -4,6 +4,7 @@
 
 mod asking;
 mod front;
+mod info;
 mod job;
 pub mod laws;
 mod lending;

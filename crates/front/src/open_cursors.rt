@@ -1,6 +1,7 @@
 //! The cursors that drivers have open: which connection owns each, and which socket opened it.
 
-ghost use Rattle.std.specs.Prelude.{◌≡◌, IfSome, true};
+ghost use Rattle.std.specs.Prelude.{◌≡◌, IfSome, true, option_map};
+ghost use Rattle.front.specs.Cursors.{owner_in, counted, counts_from, counts_of, is_to_end, first_to_end};
 ghost use Rattle.front.specs.Lending.{is_at_rest};
 
 use crate::lending::{COUNT, Lending};
@@ -34,21 +35,18 @@ impl OpenCursors {
     }
 
     /// The connection that owns a cursor.
-    pub fn owner_of(&self, id: i64) -> Option<ConnId> {
-        for cursor in self.list.iter() {
-            if cursor.id == id {
-                return Some(cursor.owner);
-            }
-        }
-        None
+    pub fn owner_of(&self, id: i64) -> Option<ConnId>
+        ensures { result ≡ owner_in id self.now.list.items }
+    {
+        owner_in(&self.list, id)
     }
 
     /// How many cursors each connection owns.
-    pub fn counts(&self) -> [usize; COUNT] {
+    pub fn counts(&self) -> [usize; COUNT]
+        ensures { result ≡ counts_of self.now.list.items }
+    {
         let mut counts = [0usize; COUNT];
-        for cursor in self.list.iter() {
-            count_one(&mut counts, cursor.owner);
-        }
+        count_all(&mut counts, &self.list);
         counts
     }
 
@@ -78,21 +76,64 @@ impl OpenCursors {
         }
     }
 
-    /// A cursor of a socket that has ended, owned by a connection that is at rest.
+    /// The first cursor of a socket that has ended, owned by a connection that is at rest.
     pub fn abandoned(&self, lending: &Lending) -> Option<&OpenCursor>
-        ensures { IfSome result (λ c. is_at_rest lending.now.loans c.now.owner ≡ true) }
+        ensures first { option_map (λ c. c.now) result
+            ≡ first_to_end lending.now.loans self.now.list.items }
+        ensures rest { IfSome result (λ c. is_at_rest lending.now.loans c.now.owner ≡ true) }
     {
-        for cursor in self.list.iter() {
-            if cursor.opener.is_none() && lending.is_at_rest(cursor.owner) {
-                return Some(cursor);
-            }
-        }
-        None
+        first_to_end(&self.list, lending)
     }
 }
 
+/// The connection that owns the cursor of a number, among these.
+fn owner_in(list: &[OpenCursor], id: i64) -> Option<ConnId>
+    ensures { result ≡ owner_in id list.now }
+{
+    'cursors: for (number, cursor) in list.iter().enumerate() {
+        let _ = number;
+        if cursor.id == id {
+            return Some(cursor.owner);
+        }
+    }
+    None
+}
+
+/// Whether a cursor is to end now: its socket has ended, and its owner is at rest.
+fn is_to_end(cursor: &OpenCursor, lending: &Lending) -> bool
+    ensures { result ≡ is_to_end lending.now.loans cursor.now }
+{
+    cursor.opener.is_none() && lending.is_at_rest(cursor.owner)
+}
+
+/// The first cursor that is to end now, among these.
+fn first_to_end<'a>(list: &'a [OpenCursor], lending: &Lending) -> Option<&'a OpenCursor>
+    ensures first { option_map (λ c. c.now) result ≡ first_to_end lending.now.loans list.now }
+    ensures rest { IfSome result (λ c. is_at_rest lending.now.loans c.now.owner ≡ true) }
+{
+    'cursors: for (number, cursor) in list.iter().enumerate() {
+        let _ = number;
+        if is_to_end(cursor, lending) {
+            return Some(cursor);
+        }
+    }
+    None
+}
+
 /// A connection has one cursor more.
-fn count_one(counts: &mut [usize; COUNT], owner: ConnId) {
-    let count = &mut counts[usize::from(owner.number())];
-    *count = count.saturating_add(1);
+fn count_one(counts: &mut [usize; COUNT], owner: ConnId)
+    ensures { counts.new ≡ counted counts.old owner }
+{
+    let number = usize::from(owner.number());
+    counts[number] = counts[number].saturating_add(1);
+}
+
+/// Connections have these cursors more.
+fn count_all(counts: &mut [usize; COUNT], list: &[OpenCursor])
+    ensures { counts.new ≡ counts_from counts.old list.now }
+{
+    'cursors: for (number, cursor) in list.iter().enumerate() {
+        let _ = number;
+        count_one(counts, cursor.owner);
+    }
 }

@@ -1,12 +1,15 @@
 //! What a turn does with the sockets.
 
-ghost use Rattle.std.specs.Prelude.{◌≡◌, ◌&&◌, true, false, None, Some, Ok, IfSome, IfOk, is_some, drop, slice_set};
+ghost use Rattle.std.specs.Prelude.{◌≡◌, ◌&&◌, true, false, None, Some, Ok, IfSome, IfOk, OnOk, OnErr, is_some, drop, slice_set};
+ghost use Rattle.std.specs.Prelude.{if◌then◌else◌};
 ghost use Rattle.std.specs.List.{list_any};
 ghost use Rattle.server.specs.Durable.{IsSound};
 ghost use Rattle.server.specs.View.{state};
 ghost use Rattle.op_msg.specs.Request.{document_in};
-ghost use Rattle.front.specs.Asking.{question_in, wanted, AsksWanted, EndsOne};
-ghost use Rattle.front.specs.Replying.{closed, TakesReply, Becomes, TakesFrame};
+ghost use Rattle.front.specs.Asking.{question_in, wanted, loan_to_end, AsksWanted, EndsOne};
+ghost use Rattle.front.specs.Cursors.{first_to_end};
+ghost use Rattle.front.specs.OneSocket.{owner_of, connection_for, loan_of, pending, seat, Asking, Closes, RunsOut, Serves};
+ghost use Rattle.front.specs.Replying.{closed, IsClosed, TakesReply, Becomes, TakesFrame};
 ghost use Rattle.front.specs.Lending.{loan_at, is_at_rest, borrower, Lends};
 ghost use Rattle.front.specs.Serving.{OthersStay};
 ghost use Rattle.front.specs.Tying.{Asks, LendsToNone};
@@ -24,10 +27,12 @@ use drivers::ServerInfo;
 use engine::ConnId;
 use page::Disk;
 use server::Core;
-use std::alloc::Global;
+use std::alloc::{AllocError, Global};
 
 /// The connection that owns the cursor of a question, if one does.
-fn owner_of(cursors: &OpenCursors, question: &Question) -> Option<ConnId> {
+fn owner_of(cursors: &OpenCursors, question: &Question) -> Option<ConnId>
+    ensures { result ≡ owner_of cursors.now.list.items question.now.cursor }
+{
     match question.cursor {
         Some(cursor) => cursors.owner_of(cursor),
         None => None,
@@ -36,7 +41,8 @@ fn owner_of(cursors: &OpenCursors, question: &Question) -> Option<ConnId> {
 
 /// A connection, where it is at rest.
 fn if_at_rest(lending: &Lending, id: ConnId) -> Option<ConnId>
-    ensures { IfSome result (λ id. is_at_rest lending.now.loans id ≡ true) }
+    ensures is { result ≡ (if is_at_rest lending.now.loans id then Some id else None) }
+    ensures rest { IfSome result (λ id. is_at_rest lending.now.loans id ≡ true) }
 {
     if lending.is_at_rest(id) {
         Some(id)
@@ -47,6 +53,7 @@ fn if_at_rest(lending: &Lending, id: ConnId) -> Option<ConnId>
 
 /// The connection that a question can be asked on now: the one at rest that owns its cursor, or the one at rest with the fewest.
 fn connection_for(lending: &Lending, cursors: &OpenCursors, question: &Question) -> Option<ConnId>
+    ensures is { result ≡ connection_for lending.now.loans cursors.now.list.items question.now }
     ensures rest { IfSome result (λ id. is_at_rest lending.now.loans id ≡ true) }
 {
     match owner_of(cursors, question) {
@@ -55,14 +62,25 @@ fn connection_for(lending: &Lending, cursors: &OpenCursors, question: &Question)
     }
 }
 
-/// Asks the question of a socket's message, where it has one and a connection can be lent to it.
+/// What a connection is lent for that is asked a question for a socket.
+fn loan_of(number: usize, question: &Question) -> Loan
+    ensures { result ≡ loan_of number question.now }
+{
+    Loan {
+        socket: Some(number),
+        cursor: question.cursor,
+    }
+}
+
+/// Asks the question of a socket's message, where it has one and a connection can be lent to it. An `Err`: memory ran out for it,
+/// and the socket is closed.
 fn ask_question<D: Disk>(
     core: &mut Core<D>,
     lending: &mut Lending,
     cursors: &OpenCursors,
     number: usize,
     socket: &mut Socket,
-)
+) -> Result<(), NoMemory>
     requires sound { IsSound D.history core.old }
     ensures sound { IsSound D.history core.new }
     ensures lends { Lends (Some number) lending.old.loans lending.new.loans }
@@ -70,27 +88,28 @@ fn ask_question<D: Disk>(
     ensures alone { has_begun socket.new ≡ true → is_alone socket.old ≡ true }
     ensures wanted { AsksWanted (Some number) (question_in socket.old.job) lending.old.loans
         lending.new.loans (state core.old) (state core.new) }
+    ensures asking { OnOk result (Asking number cursors.now.list.items (pending socket.old.job)
+        (seat lending.old core.old socket.old) (seat lending.new core.new socket.new)) }
+    ensures closes { OnErr result (Closes (seat lending.old core.old socket.old)
+        (seat lending.new core.new socket.new)) }
 {
     let Some(question) = socket.question() else {
-        return;
+        return Ok(());
     };
     let Some(id) = connection_for(lending, cursors, question) else {
-        return;
+        return Ok(());
     };
     match ask(core, id, &question.command) {
         Ok(()) => {
-            let cursor = question.cursor;
-            lending.lend(
-                id,
-                Loan {
-                    socket: Some(number),
-                    cursor,
-                },
-            );
+            lending.lend(id, loan_of(number, question));
             socket.wait();
+            Ok(())
         }
         Err(NotAsked::Long) => socket.refuse_long(core.allocator()),
-        Err(NotAsked::Memory) => socket.is_over = true,
+        Err(NotAsked::Memory) => {
+            socket.is_over = true;
+            Err(AllocError)
+        }
     }
 }
 
@@ -102,7 +121,8 @@ fn is_held(lending: &Lending, socket: &Socket) -> bool
 }
 
 /// Does what can be done of a socket: takes a message where it works on none, and asks the server, where a connection can be lent
-/// to it. A message during which nobody else may ask waits until no connection is lent.
+/// to it. A message during which nobody else may ask waits until no connection is lent. An `Err`: memory ran out, and the message
+/// is taken by a later turn, or the socket is closed.
 pub(crate) fn serve_socket<D: Disk>(
     core: &mut Core<D>,
     lending: &mut Lending,
@@ -110,7 +130,7 @@ pub(crate) fn serve_socket<D: Disk>(
     number: usize,
     info: &ServerInfo,
     socket: &mut Socket,
-)
+) -> Result<(), NoMemory>
     requires sound { IsSound D.history core.old }
     ensures sound { IsSound D.history core.new }
     ensures lends { Lends (Some number) lending.old.loans lending.new.loans }
@@ -119,44 +139,54 @@ pub(crate) fn serve_socket<D: Disk>(
         → AreLentTo number lending.new.loans }
     ensures wanted { AsksWanted (Some number) (wanted info.now socket.old) lending.old.loans
         lending.new.loans (state core.old) (state core.new) }
+    ensures serves { OnOk result (Serves info.now number cursors.now.list.items
+        (seat lending.old core.old socket.old) (seat lending.new core.new socket.new)) }
+    ensures runs_out { OnErr result (RunsOut info.now (seat lending.old core.old socket.old)
+        (seat lending.new core.new socket.new)) }
 {
-    socket.begin(core.allocator(), info);
+    socket.begin(core.allocator(), info)?;
     if is_held(lending, socket) {
-        return;
+        return Ok(());
     }
-    ask_question(core, lending, cursors, number, socket);
+    ask_question(core, lending, cursors, number, socket)
 }
 
-/// Ends a cursor of a socket that has ended, where its owner is at rest. Whether there was one.
+/// What the owner of a cursor is lent for that is ended.
+fn loan_to_end(cursor: &OpenCursor) -> Loan
+    ensures { result ≡ loan_to_end cursor.now }
+{
+    Loan {
+        socket: None,
+        cursor: Some(cursor.id),
+    }
+}
+
+/// Ends the first cursor of a socket that has ended and whose owner is at rest. Whether there was one. An `Err` changes nothing.
 pub(crate) fn end_cursor<D: Disk>(
     core: &mut Core<D>,
     lending: &mut Lending,
     cursors: &OpenCursors,
-) -> bool
+) -> Result<bool, NotAsked>
     requires sound { IsSound D.history core.old }
     ensures sound { IsSound D.history core.new }
     ensures lends { Lends None lending.old.loans lending.new.loans }
     ensures none { LendsToNone lending.old.loans lending.new.loans }
-    ensures ends { EndsOne lending.old.loans lending.new.loans (state core.old)
-        (state core.new) }
+    ensures ends { OnOk result (EndsOne (first_to_end lending.old.loans cursors.now.list.items)
+        lending.old.loans lending.new.loans (state core.old) (state core.new)) }
+    ensures whether { IfOk result (λ b. b
+        ≡ is_some (first_to_end lending.old.loans cursors.now.list.items)) }
+    ensures nothing { OnErr result ((lending.new ≡ lending.old)
+        × (state core.new ≡ state core.old)) }
 {
     let Some(cursor) = cursors.abandoned(lending) else {
-        return false;
+        return Ok(false);
     };
     let Ok(command) = end_command(core.allocator(), cursor) else {
-        return false;
+        return Err(NotAsked::Memory);
     };
-    if ask(core, cursor.owner, &command).is_err() {
-        return false;
-    }
-    lending.lend(
-        cursor.owner,
-        Loan {
-            socket: None,
-            cursor: Some(cursor.id),
-        },
-    );
-    true
+    ask(core, cursor.owner, &command)?;
+    lending.lend(cursor.owner, loan_to_end(cursor));
+    Ok(true)
 }
 
 /// Notes the cursor that a reply leaves open, where it is a new one.
@@ -204,19 +234,22 @@ fn read_reply(
     Ok(reply)
 }
 
-/// The message that a connection was lent to goes on with the reply, if its socket is still there.
-fn go_on(alloc: Global, sockets: &mut [Socket], loan: Loan, reply: Document)
+/// The message that a connection was lent to goes on with the reply, if its socket is still there. Where memory runs out for it,
+/// the socket is closed.
+fn go_on(alloc: Global, sockets: &mut [Socket], loan: Loan, reply: Document) -> Result<(), NoMemory>
     ensures others { OthersStay sockets.old loan.socket sockets.new }
     ensures alone { GoesOnAlone sockets.old loan.socket sockets.new }
-    ensures takes { Becomes sockets.old loan.socket (λ s t. TakesReply s s.job reply t)
-        sockets.new }
+    ensures takes { OnOk result (Becomes sockets.old loan.socket
+        (λ s t. TakesReply s s.job reply t) sockets.new) }
+    ensures closes { OnErr result (Becomes sockets.old loan.socket IsClosed sockets.new) }
 {
     let Some(number) = loan.socket else {
-        return;
+        return Ok(());
     };
     if number < sockets.len() {
-        sockets[number].take_reply(alloc, reply);
+        return sockets[number].take_reply(alloc, reply);
     }
+    Ok(())
 }
 
 /// The socket that a connection was lent to is closed, if it is still there.
@@ -242,25 +275,28 @@ pub(crate) fn take_reply<D: Disk>(
     sockets: &mut [Socket],
     owner: ConnId,
     frame: &[u8],
-)
+) -> Result<(), NoMemory>
     requires sound { IsSound D.history core.old }
     ensures sound { IsSound D.history core.new }
     ensures rest { lending.new.loans ≡ slice_set lending.old.loans owner None }
     ensures others { OthersStay sockets.old (borrower (loan_at lending.old.loans owner)) sockets.new }
     ensures alone { GoesOnAlone sockets.old (borrower (loan_at lending.old.loans owner)) sockets.new }
-    ensures takes { TakesFrame frame.now sockets.old (borrower (loan_at lending.old.loans owner))
-        sockets.new }
+    ensures takes { OnOk result (TakesFrame frame.now sockets.old
+        (borrower (loan_at lending.old.loans owner)) sockets.new) }
+    ensures closes { OnErr result (Becomes sockets.old
+        (borrower (loan_at lending.old.loans owner)) IsClosed sockets.new) }
 {
     let alloc = core.allocator();
     let Some(loan) = lending.take_back(owner) else {
-        return;
+        return Ok(());
     };
     match read_reply(alloc, cursors, owner, loan, frame) {
         Ok(reply) => go_on(alloc, sockets, loan, reply),
-        Err(_) => {
+        Err(fault) => {
             core.gone(owner);
             cursors.end_all(owner);
             give_up(sockets, loan);
+            Err(fault)
         }
     }
 }
@@ -278,6 +314,8 @@ pub(crate) fn take_closed<D: Disk>(
     ensures rest { lending.new.loans ≡ slice_set lending.old.loans owner None }
     ensures others { OthersStay sockets.old (borrower (loan_at lending.old.loans owner)) sockets.new }
     ensures alone { GoesOnAlone sockets.old (borrower (loan_at lending.old.loans owner)) sockets.new }
+    ensures closes { Becomes sockets.old (borrower (loan_at lending.old.loans owner))
+        (λ s t. t ≡ closed s) sockets.new }
 {
     core.gone(owner);
     cursors.end_all(owner);

@@ -1,6 +1,6 @@
 //! A socket of a driver.
 
-ghost use Rattle.std.specs.Prelude.{◌≡◌, true, false, None, Some, is_some, IfSome, IfOk, IfErr, OnOk, OnErr};
+ghost use Rattle.std.specs.Prelude.{◌≡◌, true, false, None, Some, is_some, option_map, IfSome, IfOk, IfErr, OnOk, OnErr};
 ghost use Rattle.drivers.specs.Framing.{IsShort};
 ghost use Rattle.drivers.specs.Laws.{asked_by};
 ghost use Rattle.drivers.specs.Starting.{started};
@@ -8,6 +8,8 @@ ghost use Rattle.driver_messages.specs.Incoming.{next_message};
 ghost use Rattle.server.specs.Turn.{next_number};
 ghost use Rattle.front.specs.Asking.{question_in, wanted, IsNoOther};
 ghost use Rattle.front.specs.Replying.{has_room, IsFramed, IsAnswered, question_by, Follows, Starts, TakesReply, Begins};
+ghost use Rattle.front.specs.Replying.{closed, resting, long_reply, IsClosed, WaitsOrCloses};
+ghost use Rattle.front.specs.OneSocket.{pending, waiting};
 ghost use Rattle.front.specs.Serving.{fresh, fed, waits};
 ghost use Rattle.front.specs.Tying.{is_asked};
 ghost use Rattle.front.specs.Alone.{has_begun, is_alone};
@@ -18,7 +20,7 @@ use crate::job::{Job, Question, Stage};
 use bson::{Document, MESSAGE_LIMIT, NoMemory};
 use drivers::{Form, Incoming, Message, Plan, ServerInfo, Step, StreamFault, framed};
 use engine::{Refusal, refusal_document};
-use std::alloc::Global;
+use std::alloc::{AllocError, Global};
 use std::mem;
 
 /// The most bytes of an answer's document.
@@ -67,41 +69,67 @@ impl Socket {
     }
 
     /// Takes the message at the front, if none is worked on, and does what is done first with it. A socket with a fault at its
-    /// front, or for whose message memory ran out, is closed.
-    pub fn begin(&mut self, alloc: Global, info: &ServerInfo)
+    /// front is closed. An `Err`: memory ran out, and the message is taken by a later turn, or the socket is closed.
+    pub fn begin(&mut self, alloc: Global, info: &ServerInfo) -> Result<(), NoMemory>
         ensures asked { is_asked self.old.job ≡ true → is_asked self.new.job ≡ true }
         ensures begun { has_begun self.new ≡ true → has_begun self.old ≡ true }
         ensures wants { IsNoOther (question_in self.new.job) (wanted info.now self.old) }
-        ensures begins { Begins info.now self.old self.old.job (next_message self.old.incoming)
-            self.new }
+        ensures begins { OnOk result (Begins info.now self.old self.old.is_over self.old.job
+            (next_message self.old.incoming) self.new) }
+        ensures waits { OnErr result (WaitsOrCloses self.old (next_message self.old.incoming)
+            self.new) }
     {
         if self.is_over || self.job.is_some() {
-            return;
+            return Ok(());
         }
         match self.incoming.next() {
-            Ok(None) => {}
+            Ok(None) => Ok(()),
             Ok(Some(message)) => self.start(alloc, info, message),
             Err(fault) => match fault {
-                // The message is taken by a later turn.
-                StreamFault::Memory => {}
-                _ => self.is_over = true,
+                StreamFault::Memory => Err(AllocError),
+                _ => {
+                    self.is_over = true;
+                    Ok(())
+                }
             },
         }
     }
 
-    /// Does what is done first with a message.
-    fn start(&mut self, alloc: Global, info: &ServerInfo, message: Message)
+    /// Does what is done first with a message. Where memory runs out for it, the socket is closed.
+    fn start(&mut self, alloc: Global, info: &ServerInfo, message: Message) -> Result<(), NoMemory>
         requires { self.old.job ≡ None }
         ensures begun { has_begun self.new ≡ false }
         ensures wants { IsNoOther (question_in self.new.job)
             (asked_by (started info.now message)) }
-        ensures starts { Starts info.now self.old message self.new }
+        ensures starts { OnOk result (Starts info.now self.old message self.new) }
+        ensures closes { OnErr result (self.new ≡ closed self.old) }
+    {
+        let done = self.try_start(alloc, info, message);
+        if done.is_err() {
+            self.is_over = true;
+        }
+        done
+    }
+
+    /// Does what is done first with a message. An `Err` changes nothing.
+    fn try_start(
+        &mut self,
+        alloc: Global,
+        info: &ServerInfo,
+        message: Message,
+    ) -> Result<(), NoMemory>
+        requires { self.old.job ≡ None }
+        ensures begun { has_begun self.new ≡ false }
+        ensures wants { IsNoOther (question_in self.new.job)
+            (asked_by (started info.now message)) }
+        ensures starts { OnOk result (Starts info.now self.old message self.new) }
+        ensures same { OnErr result (self.new ≡ self.old) }
     {
         let form = message.form;
         let number = message.number;
         match Plan::start(alloc, info, message) {
             Ok((plan, step)) => self.follow(alloc, form, number, plan, step),
-            Err(_) => self.is_over = true,
+            Err(fault) => Err(fault),
         }
     }
 
@@ -112,24 +140,36 @@ impl Socket {
         drop(mem::replace(&mut self.job, Some(job)));
     }
 
-    /// Does what comes next with a message: the database is asked, or an answer is ready, or there is none.
-    fn follow(&mut self, alloc: Global, form: Form, number: u32, plan: Plan, step: Step)
+    /// Does what comes next with a message: the database is asked, or an answer is ready, or there is none. An `Err` changes
+    /// nothing.
+    fn follow(
+        &mut self,
+        alloc: Global,
+        form: Form,
+        number: u32,
+        plan: Plan,
+        step: Step,
+    ) -> Result<(), NoMemory>
         requires { self.old.job ≡ None }
         ensures alone { has_begun self.new ≡ true
             → (asks_alone plan.wait ≡ true) × (is_later plan.wait ≡ true) }
         ensures wants { IsNoOther (question_in self.new.job) (asked_by step) }
-        ensures follows { Follows self.old form number (plan, step) self.new }
+        ensures follows { OnOk result (Follows self.old form number (plan, step) self.new) }
+        ensures same { OnErr result (self.new ≡ self.old) }
     {
         match question_of(step) {
-            Ok(question) => self.work_on(Job {
-                form,
-                number,
-                plan,
-                stage: Stage::Asks(question),
-            }),
+            Ok(question) => {
+                self.work_on(Job {
+                    form,
+                    number,
+                    plan,
+                    stage: Stage::Asks(question),
+                });
+                Ok(())
+            }
             Err(answer) => {
                 drop(plan);
-                self.finish(alloc, form, number, answer);
+                self.finish(alloc, form, number, answer)
             }
         }
     }
@@ -149,6 +189,7 @@ impl Socket {
         ensures stage { IfSome result (λ _. (is_asked self.now.job ≡ false)
             × (is_some self.now.job ≡ true)) }
         ensures question { IfSome result (λ q. question_in self.now.job ≡ Some q.now.command) }
+        ensures pending { pending self.now.job ≡ option_map (λ q. q.now) result }
     {
         let job = self.job.as_ref()?;
         match &job.stage {
@@ -161,19 +202,34 @@ impl Socket {
     pub fn wait(&mut self)
         ensures asked { is_some self.old.job ≡ true → is_asked self.new.job ≡ true }
         ensures alone { is_alone self.new ≡ is_alone self.old }
+        ensures waits { self.new ≡ waiting self.old }
     {
         if let Some(job) = &mut self.job {
             job.stage = Stage::Waits;
         }
     }
 
-    /// The database has answered the message that is worked on.
-    pub fn take_reply(&mut self, alloc: Global, reply: Document)
+    /// The database has answered the message that is worked on. Where memory runs out for it, the socket is closed.
+    pub fn take_reply(&mut self, alloc: Global, reply: Document) -> Result<(), NoMemory>
         ensures alone { has_begun self.new ≡ true → is_alone self.old ≡ true }
-        ensures takes { TakesReply self.old self.old.job reply self.new }
+        ensures takes { OnOk result (TakesReply self.old self.old.job reply self.new) }
+        ensures closes { OnErr result (self.new ≡ closed (resting self.old)) }
+    {
+        let done = self.try_reply(alloc, reply);
+        if done.is_err() {
+            self.is_over = true;
+        }
+        done
+    }
+
+    /// The database has answered the message that is worked on. After an `Err` none is.
+    fn try_reply(&mut self, alloc: Global, reply: Document) -> Result<(), NoMemory>
+        ensures alone { has_begun self.new ≡ true → is_alone self.old ≡ true }
+        ensures takes { OnOk result (TakesReply self.old self.old.job reply self.new) }
+        ensures rests { OnErr result (self.new ≡ resting self.old) }
     {
         let Some(job) = self.job.take() else {
-            return;
+            return Ok(());
         };
         let Job {
             form,
@@ -184,27 +240,34 @@ impl Socket {
         drop(stage);
         match plan.answer(alloc, reply) {
             Ok(step) => self.follow(alloc, form, number, plan, step),
-            Err(_) => {
+            Err(fault) => {
                 drop(plan);
-                self.is_over = true;
+                Err(fault)
             }
         }
     }
 
-    /// The database can't be asked, since the command is too long for a message.
-    pub fn refuse_long(&mut self, alloc: Global)
-        ensures { has_begun self.new ≡ true → is_alone self.old ≡ true }
+    /// The database can't be asked, since the command is too long for a message: that is what it would have replied. Where memory
+    /// runs out for it, the socket is closed.
+    pub fn refuse_long(&mut self, alloc: Global) -> Result<(), NoMemory>
+        ensures alone { has_begun self.new ≡ true → is_alone self.old ≡ true }
+        ensures takes { OnOk result (TakesReply self.old self.old.job long_reply self.new) }
+        ensures closes { OnErr result (IsClosed self.old self.new) }
     {
         match refusal_document(alloc, Refusal::BSONObjectTooLarge) {
             Ok(reply) => self.take_reply(alloc, reply),
-            Err(_) => self.is_over = true,
+            Err(fault) => {
+                self.is_over = true;
+                Err(fault)
+            }
         }
     }
 
-    /// Makes the frame of an answer.
-    fn finish(&mut self, alloc: Global, form: Form, number: u32, step: Step)
+    /// Makes the frame of an answer. An `Err` changes nothing.
+    fn finish(&mut self, alloc: Global, form: Form, number: u32, step: Step) -> Result<(), NoMemory>
         ensures job { self.new.job ≡ self.old.job }
-        ensures answer { IsAnswered self.old form number step self.new }
+        ensures answer { OnOk result (IsAnswered self.old form number step self.new) }
+        ensures same { OnErr result (self.new ≡ self.old) }
     {
         let reply_no = next_number(self.last_reply);
         let made = frame(alloc, form, reply_no, number, &step);
@@ -213,9 +276,10 @@ impl Socket {
             Ok(Some(frame)) => {
                 self.last_reply = reply_no;
                 self.answer = Some(frame);
+                Ok(())
             }
-            Ok(None) => {}
-            Err(_) => self.is_over = true,
+            Ok(None) => Ok(()),
+            Err(fault) => Err(fault),
         }
     }
 }
@@ -275,10 +339,6 @@ fn frame(
         return framed(alloc, form, reply_no, number, step);
     }
     let refusal = Step::Reply(refusal_document(alloc, Refusal::BSONObjectTooLarge)?);
-    if !is_short(&refusal) {
-        drop(refusal);
-        return Ok(None);
-    }
     let made = framed(alloc, form, reply_no, number, &refusal);
     drop(refusal);
     made

@@ -1,13 +1,20 @@
-use Rattle.std.proofs.Common.{ap}
+use Rattle.std.proofs.Common.{◌≡◌, ap, inl}
 use Rattle.front.specs.Lending.{borrower}
-use Rattle.front.proofs.ReplyingLemmas.{takes_closed, takes_document}
+use Rattle.front.specs.Replying.{closed, IsClosed}
+use Rattle.front.proofs.ReplyingLemmas.{becomes_more, becomes_same, on_err, on_ok, takes_document}
 use Rattle.front.proofs.serving.take_reply.Goals as goal
 
 pub returns-in-Ok-clause-takes : goal.returns-in-Ok-clause-takes
 returns-in-Ok-clause-takes g c =
-    takes_document c.args.frame.now c.args.sockets.now c.go_on.new.sockets _ _ c.in-Ok.reply c.in-Ok.ensures (ap borrower c.in-Some.ensures.loan)
+    on_ok c.go_on.result
+    (takes_document c.args.frame.now c.args.sockets.now c.go_on.new.sockets _ _ c.in-Ok.reply c.in-Ok.ensures (ap borrower c.in-Some.ensures.loan))
     c.go_on.ensures.takes
 
-pub returns-in-Err-clause-takes : goal.returns-in-Err-clause-takes
-returns-in-Err-clause-takes g c =
-    takes_closed c.args.frame.now c.args.sockets.now c.give_up.new.sockets _ _ (ap borrower c.in-Some.ensures.loan) c.give_up.ensures.closes
+pub returns-in-Ok-clause-closes : goal.returns-in-Ok-clause-closes
+returns-in-Ok-clause-closes g c =
+    on_err c.go_on.result (becomes_same c.args.sockets.now c.go_on.new.sockets _ _ IsClosed (ap borrower c.in-Some.ensures.loan)) c.go_on.ensures.closes
+
+pub returns-in-Err-clause-closes : goal.returns-in-Err-clause-closes
+returns-in-Err-clause-closes g c =
+    becomes_same c.args.sockets.now c.give_up.new.sockets _ _ IsClosed (ap borrower c.in-Some.ensures.loan)
+    (becomes_more _ _ _ (λ s t. t ≡ closed s) IsClosed (λ s t h. inl h) c.give_up.ensures.closes)

@@ -1,10 +1,10 @@
 use Rattle.std.proofs.Common.{◌≡◌, ◌≤◌, ◌<◌, ◌+◌, ◌%◌, ℕ, None, get_or, length}
 use Rattle.server.specs.Durable.{IsSound}
-use Rattle.server.specs.View.{state}
 use Rattle.front.specs.Alone.{StandsAlone}
-use Rattle.front.specs.Asking.{AsksInTurn}
+use Rattle.front.specs.Turning.{desk}
 use Rattle.front.specs.Tying.{AreTied}
 use Rattle.front.specs.declared.socket.Socket.{Socket}
+use Rattle.front.proofs.TurningLemmas.{HaveServed}
 use Rattle.front.proofs.front.Front.ask_all.Given as goal
 
 abbrev pub invariant-sockets : goal.invariant-sockets
@@ -14,7 +14,9 @@ invariant-sockets g l = record {
   free : l.self.alone ≡ None;
   stands : StandsAlone None l.self.sockets.items;
   as_many : length l.self.sockets.items ≡ length l.initial.self.sockets.items;
-  asked : AsksInTurn l.initial.self.sockets.items l.initial.self.lending.loans l.self.lending.loans (state l.initial.self.core) (state l.self.core);
+  all_of : l.count ≡ length l.initial.self.sockets.items;
+  first : l.self.first ≡ l.initial.self.first;
+  asked : HaveServed l.initial.self.sockets.items l.self.sockets.items l.first l.count l.step l.time (desk l.initial.self) (desk l.self);
   as_were : (s : ℕ) (any : Socket) → l.step ≤ s → s < l.count
       → get_or l.self.sockets.items ((l.first + s) % l.count) any ≡ get_or l.initial.self.sockets.items ((l.first + s) % l.count) any;
 }

@@ -1,4 +1,5 @@
 use Rattle.std.proofs.Common.{◌∙◌, Option, sym, subst}
+use Rattle.std.specs.Prelude.{OnOk}
 use Rattle.drivers.specs.Laws.{asked_by}
 use Rattle.front.specs.Asking.{question_in, IsNoOther}
 use Rattle.drivers.specs.declared.step.Step.{Step}
@@ -23,6 +24,8 @@ returns-in-Ok-clause-follows c =
 
 pub returns-in-Err-clause-follows : goal.returns-in-Err-clause-follows
 returns-in-Err-clause-follows c =
-    subst (λ (q : Option Question). GoesOn c.args.self.now c.args.form c.args.number c.args.plan c.args.step q c.finish.new.self)
+    let r = c.finish.result in
+    subst (λ (q : Option Question). OnOk r (GoesOn c.args.self.now c.args.form c.args.number c.args.plan c.args.step q c.finish.new.self))
     (sym c.in-Err.ensures.none)
-    (subst (λ (s : Step). IsAnswered c.args.self.now c.args.form c.args.number s c.finish.new.self) c.in-Err.ensures.answers c.finish.ensures.answer)
+    (subst (λ (s : Step). OnOk r (IsAnswered c.args.self.now c.args.form c.args.number s c.finish.new.self)) c.in-Err.ensures.answers
+    c.finish.ensures.answer)

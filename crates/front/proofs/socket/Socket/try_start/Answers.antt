@@ -1,4 +1,5 @@
-use Rattle.std.proofs.Common.{◌≡◌, ◌∙◌, false, sym, ap, subst, inl}
+use Rattle.std.proofs.Common.{◌≡◌, ◌∙◌, false, sym, ap, subst}
+use Rattle.std.specs.Prelude.{OnOk}
 use Rattle.std.proofs.lemmas.Bool.{true≢false}
 use Rattle.drivers.specs.AloneLaws.{is_later, starts_first}
 use Rattle.drivers.specs.Laws.{asked_by}
@@ -8,7 +9,7 @@ use Rattle.front.specs.Alone.{has_begun}
 use Rattle.front.specs.Asking.{question_in, IsNoOther}
 use Rattle.front.specs.Replying.{Follows}
 use Rattle.front.proofs.AloneLemmas.{rests}
-use Rattle.front.proofs.socket.Socket.start.Goals as goal
+use Rattle.front.proofs.socket.Socket.try_start.Goals as goal
 
 pub returns-in-Ok-clause-begun : goal.returns-in-Ok-clause-begun
 returns-in-Ok-clause-begun c =
@@ -22,5 +23,5 @@ returns-in-Ok-clause-wants c =
 
 pub returns-in-Ok-clause-starts : goal.returns-in-Ok-clause-starts
 returns-in-Ok-clause-starts c =
-    inl (subst (λ (x : Plan × Step). Follows c.args.self.now c.args.message.form c.args.message.number x c.follow.new.self)
-    (λ i. (c.in-Ok.ensures.0 i, c.in-Ok.ensures.1 i)) c.follow.ensures.follows)
+    subst (λ (x : Plan × Step). OnOk c.follow.result (Follows c.args.self.now c.args.message.form c.args.message.number x c.follow.new.self))
+    (λ i. (c.in-Ok.ensures.0 i, c.in-Ok.ensures.1 i)) c.follow.ensures.follows
