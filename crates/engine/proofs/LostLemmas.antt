@@ -103,13 +103,12 @@ there_behind (x ∷ gone) d ds above there =
 -- each document of a list in order is found by its `_id`
 pub each_found : (ds : List Pairs) → IsRising ds → All (λ d. find_document ds (key_of d) ≡ Some d) ds
 each_found [] up = λ k d below. absurd (omega (arith, below))
-each_found (x ∷ xs) up = λ k d below. stands k d below
+each_found (x ∷ xs) up = stands (each_found xs (rises_tail compare key_of x xs up))
   where
-    stands : (k : ℕ) (d : Pairs) → k < length (x ∷ xs) → find_document (x ∷ xs) (key_of (get_or (x ∷ xs) k d)) ≡ Some (get_or (x ∷ xs) k d)
-    stands zero d below = first_there x xs
-    stands (suc k) d below =
-        found_behind (get_or xs k d) x xs (up 0 (suc k) d (omega arith) below)
-        ∙ each_found xs (rises_tail compare key_of x xs up) k d (omega (arith, below))
+    stands : All (λ d. find_document xs (key_of d) ≡ Some d) xs → (k : ℕ) (d : Pairs) → k < length (x ∷ xs)
+        → find_document (x ∷ xs) (key_of (get_or (x ∷ xs) k d)) ≡ Some (get_or (x ∷ xs) k d)
+    stands later zero d below = first_there x xs
+    stands later (suc k) d below = found_behind (get_or xs k d) x xs (up 0 (suc k) d (omega arith) below) ∙ later k d (omega (arith, below))
 
 place_there : (o : Option ℕ) (ds : List Pairs) → ((i : ℕ) → o ≡ Some i → i < length ds) → IsRising ds → AreThere (taken_at o ds) ds
 place_there None ds within up = tt

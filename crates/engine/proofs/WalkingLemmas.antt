@@ -4,6 +4,7 @@ use Rattle.std.proofs.Common.{◌++◌, length, drop, take, Option, Some, None, 
 use Rattle.std.proofs.Common.{inl, inr, ap, subst, ◌∙◌, arith}
 use Rattle.std.specs.Prelude.{All, Bool, IfNone, IfSome, MatchOption, codes, is_some, map, not, unwrap_or}
 use Rattle.std.specs.Global.{Vec}
+use Rattle.std.proofs.lemmas.List.{length-drop, take_all}
 use Rattle.std.proofs.lemmas.List.Elements.{All-append, All-cons, All-filter, All-take}
 use Rattle.bson.specs.Tree.{Pairs}
 use Rattle.commands.specs.Find.{Find, Query}
@@ -182,6 +183,10 @@ module _ {D : Type 0} (history : D → History) (mid : Engine D) (h : IsSound hi
   left_by_list p texts some rest found spelled is =
       left_of_home p (listed texts) rest (record { some = some; there = record { found = found; spelled = spelled }; same = is })
 
+-- the documents behind the first n, of a slice
+pub behind_of : {X : Type 0} (n : ℕ) (seen xs : List X) → seen ≡ xs → take (length seen - n) (drop n seen) ≡ drop n xs
+behind_of n seen xs is = take_all (length seen - n) (drop n seen) (omega (arith, length-drop n seen)) ∙ ap (drop n) is
+
 -- ---- the cursor on it
 
 module _ {D : Type 0} (history : D → History) (mid : Engine D) (connection : ℕ) (name : List ℕ) (number : ℕ) (p : Projection) (way : Way) (rest : List Pairs)
@@ -204,7 +209,7 @@ module _ {D : Type 0} (history : D → History) (mid : Engine D) (connection : �
   abbrev holds_within : Cursor → Type 0
   holds_within c = All IsWithin c.rest
 
-  module _ {E : Type 0} (h : IsSound history mid) (rest_within : All IsWithin rest) (planned : Result (World × Pairs) Refusal) where
+  module _ (h : IsSound history mid) (rest_within : All IsWithin rest) where
     with_rest_lawful : IsLawful with_rest
     with_rest_lawful = record {
       collections = h.lawful;
@@ -212,21 +217,22 @@ module _ {D : Type 0} (history : D → History) (mid : Engine D) (connection : �
           (All-cons holds_within (new_cursor (world mid).next connection name rest) [] rest_within (λ k d below. absurd (omega (arith, below))));
     }
 
-    pub opens_done : Opens {E = E} (Ok tt) → (reply : Pairs) → (KeepsWord (disk_history history mid) → with_ok planned ≡ Ok (with_rest, reply))
-        → Performs history planned (Ok reply) mid new
-    opens_done opens reply is =
-        let made : world new ≡ with_rest = ap (world_of mid.told.value) opens.ok in
-        performs_pins history mid new planned (Ok reply) h opens.pins (opens.tied left h.tied) refl refl
-        (subst IsLawful (sym made) with_rest_lawful)
-        (λ k. is (subst KeepsWord opens.pins.untouched.disk k)
-        ∙ (λ i. let r : Result (World × Pairs) Refusal = Ok (sym made i, reply) in r)) tt
+    module _ {E : Type 0} (planned : Result (World × Pairs) Refusal) where
+      pub opens_done : Opens {E = E} (Ok tt) → (reply : Pairs) → (KeepsWord (disk_history history mid) → with_ok planned ≡ Ok (with_rest, reply))
+          → Performs history planned (Ok reply) mid new
+      opens_done opens reply is =
+          let made : world new ≡ with_rest = ap (world_of mid.told.value) opens.ok in
+          performs_pins history mid new planned (Ok reply) h opens.pins (opens.tied left h.tied) refl refl
+          (subst IsLawful (sym made) with_rest_lawful)
+          (λ k. is (subst KeepsWord opens.pins.untouched.disk k)
+          ∙ (λ i. let r : Result (World × Pairs) Refusal = Ok (sym made i, reply) in r)) tt
 
-    pub opens_failed : (fault : E) → Opens (Err fault) → (e : Refusal) → e ≡ refusals.OutOfMemory → Performs history planned (Err e) mid new
-    opens_failed fault opens e memory =
-        let same : world new ≡ world mid = ap (λ (t : Held). world_of mid.told.value (table_of t)) opens.err in
-        performs_pins history mid new planned (Err e) h opens.pins (opens.tied left h.tied) refl refl
-        (subst IsLawful (sym same) (lawful_world history mid h))
-        (λ k. (same, inr (inl memory, λ k. inl (inl memory)))) same
+      pub opens_failed : (fault : E) → Opens (Err fault) → (e : Refusal) → e ≡ refusals.OutOfMemory → Performs history planned (Err e) mid new
+      opens_failed fault opens e memory =
+          let same : world new ≡ world mid = ap (λ (t : Held). world_of mid.told.value (table_of t)) opens.err in
+          performs_pins history mid new planned (Err e) h opens.pins (opens.tied left h.tied) refl refl
+          (subst IsLawful (sym same) (lawful_world history mid h))
+          (λ k. (same, inr (inl memory, λ k. inl (inl memory)))) same
 
 -- ---- what was found
 

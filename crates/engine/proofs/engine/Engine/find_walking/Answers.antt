@@ -87,17 +87,17 @@ returns-in-Some-2-clause-performs g c =
     (λ now. AreFirst c.enough.result q.filter (documents_of now c.args.namespace.now))
     r old mid) c.in_ok-found.was looks in
     let within = subst (λ (o : Option (Vec Pairs)). IfSome o (λ v. All IsWithin v.items)) c.in-Some-2.is c.in_ok-found.ensures.within in
-    gives_behind history old mid c.give_listed-in-Some-2.new.self looks.reads c.give_listed-in-Some-2.ensures.file
-    (ap (λ t. t.value) c.give_listed-in-Some-2.ensures.told) c.give_listed-in-Some-2.ensures.has_changes c.args.connection c.args.namespace.now
-    (given q found.items) c.args.most (run_find (world old) c.args.connection asked) c.give_listed-in-Some-2.result c.requires.short
-    (given_within_limits q found.items within) c.give_listed-in-Some-2.ensures.runs
+    gives_behind history old mid c.give_listed.new.self looks.reads c.give_listed.ensures.file
+    (ap (λ t. t.value) c.give_listed.ensures.told) c.give_listed.ensures.has_changes c.args.connection c.args.namespace.now
+    (given q found.items) c.args.most (run_find (world old) c.args.connection asked) c.give_listed.result c.requires.short
+    (given_within_limits q found.items within) c.give_listed.ensures.runs
     (λ k. found_plain (world old) c.args.connection c.args.namespace.now q c.args.most c.requires.unsorted c.enough.result found.items c.enough.ensures
     (subst (AreFirst c.enough.result q.filter (documents_of (world old).collections c.args.namespace.now)) c.in-Some-2.is (told.answers k))
     (omega (arith, found.ok.0, found.ok.1, found.small)))
 
 -- the catalogue has it still
-pub give_listed-in-Some-2-requires-clause-there : goal.give_listed-in-Some-2-requires-clause-there
-give_listed-in-Some-2-requires-clause-there g c = λ k.
+pub give_listed-requires-clause-there : goal.give_listed-requires-clause-there
+give_listed-requires-clause-there g c = λ k.
     let history = g.D.Disk.history in
     let old = c.args.self.now in
     let mid = c.catalogued.new.self in
@@ -110,7 +110,7 @@ give_listed-in-Some-2-requires-clause-there g c = λ k.
     let is = subst (IsCatalogueOf name (world old).collections) c.in-Some.is (first.answers (word_before history mid.file new.file then.reads.goes k)) in
     let at = subst (λ (cs : List Collection). HasHome cs name c.in-Some.home) (sym (collections_same history old mid first.reads))
     (has_home (world old).collections name c.in-Some.home is) in
-    let told = subst (λ (x : Query). AreFirst c.enough.result x.filter at.collection.documents c.in_ok-found.found) c.query.view_is
+    let told = subst (λ (x : Query). AreFirst c.enough.result x.filter at.collection.documents c.in_ok-found.field-0) c.query.view_is
     (then.answers k at.collection at.catalogued) in
     subst (λ (cs : List Collection). AreOf cs name c.in-Some.home found.items) (sym (collections_same history mid new then.reads))
     (first_of (world mid).collections first.reads.sound.lawful.kept name c.in-Some.home at q.filter c.enough.result found.items

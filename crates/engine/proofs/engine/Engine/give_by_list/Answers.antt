@@ -1,4 +1,4 @@
-use Rattle.std.proofs.Common.{◌≡◌, ◌<◌, ◌+◌, List, Some, [], ◌∷◌, ◌++◌, length, map, drop, refl, sym, ap, subst, ◌∙◌, arith}
+use Rattle.std.proofs.Common.{◌≡◌, ◌<◌, ◌+◌, ◌-◌, List, Some, take, [], ◌∷◌, ◌++◌, length, map, drop, refl, sym, ap, subst, ◌∙◌, arith}
 use Rattle.std.specs.Prelude.{All}
 use Rattle.std.proofs.lemmas.List.{drop-map, length-map, map-id}
 use Rattle.std.proofs.lemmas.List.Elements.{All-drop}
@@ -18,7 +18,7 @@ use Rattle.replies.specs.View.{projected}
 use Rattle.engine.specs.View.{world_of, world}
 use Rattle.engine.proofs.KeepingPins.{pins_as_before}
 use Rattle.engine.proofs.Running.{given_none, given_opened, given_whole, table, with_cursor}
-use Rattle.engine.proofs.WalkingLemmas.{left_by_list, opens_releases}
+use Rattle.engine.proofs.WalkingLemmas.{behind_of, left_by_list, opens_releases}
 use Rattle.engine.proofs.engine.Engine.give_by_list.Goals as goal
 
 pub first_batch-requires-clause-within : goal.first_batch-requires-clause-within
@@ -65,8 +65,10 @@ open_listed-requires-clause-within g c =
     let p = c.args.projection.now in
     let gs = projected p c.args.documents.items in
     let n = c.in_ok-reply.count in
+    let others : List Pairs = c.deref-2.result.now in
+    let made : c.rest_of-rest.result.value ≡ map (project p) (take (length others - n) (drop n others)) = c.rest_of-rest.ensures in
     let rest : c.rest_of-rest.result.value ≡ drop n gs =
-    c.rest_of-rest.ensures ∙ ap (λ (ds : List Pairs). map (project p) (drop n ds)) c.deref-2.ensures.value
+    made ∙ ap (map (project p)) (behind_of n others c.args.documents.items c.deref-2.ensures.value)
     ∙ sym (drop-map (project p) n c.args.documents.items) in
     subst (λ (es : List Pairs). All IsWithin es) (sym rest) (All-drop IsWithin n gs c.requires.within)
 
@@ -80,13 +82,15 @@ returns-in_err-open_listed-clause-file g c =
     let n = c.in_ok-reply.count in
     let texts = texts_of c.in_ok-listed_texts.field-0.items in
     let rest = c.rest_of-rest.result.value in
+    let others : List Pairs = c.deref-2.result.now in
+    let spelled : texts ≡ map id_text_of (take (length others - n) (drop n others)) = c.in_ok-listed_texts.ensures in
+    let made : rest ≡ map (project p) (take (length others - n) (drop n others)) = c.rest_of-rest.ensures in
     opens_releases history old c.args.connection name c.args.home.now.number p (listed texts) rest c.open_listed.new.file c.open_listed.new.cursors
     (λ k.
     let h = c.requires.there k in
     left_by_list history old c.requires.sound name c.args.home.now h.at p texts (drop n ds) rest
     (All-drop (λ d. find_document h.at.collection.documents (key_of d) ≡ Some d) n ds h.there)
-    (c.in_ok-listed_texts.ensures ∙ ap (λ (es : List Pairs). map id_text_of (drop n es)) c.deref-2.ensures.value)
-    (c.rest_of-rest.ensures ∙ ap (λ (es : List Pairs). map (project p) (drop n es)) c.deref-2.ensures.value))
+    (spelled ∙ ap (map id_text_of) (behind_of n others ds c.deref-2.ensures.value)) (made ∙ ap (map (project p)) (behind_of n others ds c.deref-2.ensures.value)))
     c.open_listed.result c.open_listed.ensures
 
 pub returns-clause-file : goal.returns-clause-file
@@ -99,13 +103,15 @@ returns-clause-file g c =
     let n = c.in_ok-reply.count in
     let texts = texts_of c.in_ok-listed_texts.field-0.items in
     let rest = c.rest_of-rest.result.value in
+    let others : List Pairs = c.deref-2.result.now in
+    let spelled : texts ≡ map id_text_of (take (length others - n) (drop n others)) = c.in_ok-listed_texts.ensures in
+    let made : rest ≡ map (project p) (take (length others - n) (drop n others)) = c.rest_of-rest.ensures in
     opens_releases history old c.args.connection name c.args.home.now.number p (listed texts) rest c.open_listed.new.file c.open_listed.new.cursors
     (λ k.
     let h = c.requires.there k in
     left_by_list history old c.requires.sound name c.args.home.now h.at p texts (drop n ds) rest
     (All-drop (λ d. find_document h.at.collection.documents (key_of d) ≡ Some d) n ds h.there)
-    (c.in_ok-listed_texts.ensures ∙ ap (λ (es : List Pairs). map id_text_of (drop n es)) c.deref-2.ensures.value)
-    (c.rest_of-rest.ensures ∙ ap (λ (es : List Pairs). map (project p) (drop n es)) c.deref-2.ensures.value))
+    (spelled ∙ ap (map id_text_of) (behind_of n others ds c.deref-2.ensures.value)) (made ∙ ap (map (project p)) (behind_of n others ds c.deref-2.ensures.value)))
     c.open_listed.result c.open_listed.ensures
 
 pub returns-clause-runs : goal.returns-clause-runs
@@ -117,18 +123,20 @@ returns-clause-runs g c =
     let same : projected p (map (λ (d : Pairs). d) seen) ≡ gs = ap (projected p) (map-id seen ∙ c.deref.ensures.value) in
     let n = c.in_ok-reply.count in
     let reply = c.in_ok-reply.reply in
+    let others : List Pairs = c.deref-2.result.now in
+    let made : c.rest_of-rest.result.value ≡ map (project p) (take (length others - n) (drop n others)) = c.rest_of-rest.ensures in
     let rest : c.rest_of-rest.result.value ≡ drop n gs =
-    c.rest_of-rest.ensures ∙ ap (λ (ds : List Pairs). map (project p) (drop n ds)) c.deref-2.ensures.value
+    made ∙ ap (map (project p)) (behind_of n others c.args.documents.items c.deref-2.ensures.value)
     ∙ sym (drop-map (project p) n c.args.documents.items) in
     let over : n < length gs = omega (arith, c.if-len-count.false, c.len.ensures, c.args.documents.ok, length-map c.args.documents.items (project p)) in
-    let made : world_of c.args.self.now.told.value (table_of c.open_listed.new.cursors) ≡ with_cursor w c.args.connection c.args.namespace.now gs n =
+    let world_made : world_of c.args.self.now.told.value (table_of c.open_listed.new.cursors) ≡ with_cursor w c.args.connection c.args.namespace.now gs n =
     ap (world_of c.args.self.now.told.value) c.in_ok-open_listed.ensures.ok
     ∙ ap (λ (es : List Pairs). let x : World =
     record w { cursors = w.cursors ++ new_cursor w.next c.args.connection c.args.namespace.now es ∷ []; next = w.next + 1 } in x) rest in
     given_opened w c.args.connection c.args.namespace.now gs c.args.most n reply (world_of c.args.self.now.told.value (table_of c.open_listed.new.cursors))
     (subst (λ (es : List Pairs). IsFirstBatch
     (table w c.args.connection c.args.namespace.now gs c.args.most) c.args.connection c.args.namespace.now es c.args.most n reply) same
-    c.in_ok-reply.ensures.batch) over made
+    c.in_ok-reply.ensures.batch) over world_made
 
 pub returns-in_err-open_listed-clause-runs : goal.returns-in_err-open_listed-clause-runs
 returns-in_err-open_listed-clause-runs g c =
