@@ -1,6 +1,7 @@
-use Rattle.std.proofs.Common.{rules, ◌∙◌, refl, sym, arith}
+use Rattle.std.proofs.Common.{rules, ℕ, Option, ◌∙◌, refl, sym, subst, arith}
+use Rattle.front.specs.Alone.{StandsAlone}
 use Rattle.front.proofs.AloneLemmas.{between_turn}
-use Rattle.front.proofs.TurningLemmas.{later_stay, served_more, served_past, turn_behind, turn_full, turn_last, turn_whole}
+use Rattle.front.proofs.TurningLemmas.{later_stay, served_more, served_none, served_past, turn_behind, turn_full, turn_last, turn_whole}
 use Rattle.front.proofs.front.Front.ask_all.Goals as goal
 
 pub returns-then-not-ask_one-clause-between : goal.returns-then-not-ask_one-clause-between
@@ -33,6 +34,21 @@ returns-clause-asks g c =
     (c.ask_alone.ensures.same c.if-ask_alone.false)
     (turn_whole _ _ c.ask_alone.new.self.first _ _ _ _ _ _ _ refl c.sockets.invariant.first c.sockets.invariant.all_of
     (omega (arith, c.sockets-test.false)) c.sockets.invariant.asked)
+
+pub sockets-init : goal.sockets-init
+sockets-init g c =
+    let none = c.ask_alone.ensures.none c.if-ask_alone.false in
+    record {
+      sound = c.ask_alone.ensures.sound;
+      tied = c.ask_alone.ensures.tied;
+      free = none.free;
+      stands = subst (λ (a : Option ℕ). StandsAlone a c.ask_alone.new.self.sockets.items) none.free c.ask_alone.ensures.stands;
+      as_many = refl;
+      all_of = search rules;
+      first = refl;
+      asked = served_none _ _ _ _ _;
+      as_were = λ s any more within. refl;
+    }
 
 pub sockets-preserved-then-not-waits : goal.sockets-preserved-then-not-waits
 sockets-preserved-then-not-waits g c = record {
