@@ -1,6 +1,7 @@
 //! What a turn does with the sockets.
 
-ghost use Rattle.std.specs.Prelude.{◌≡◌, ◌&&◌, true, false, None, Some, Ok, IfSome, IfOk, OnOk, OnErr, is_some, drop, slice_set};
+ghost use Rattle.std.specs.Prelude.{◌≡◌, ◌&&◌, true, false, None, Some, Ok};
+ghost use Rattle.std.specs.Prelude.{IfSome, IfOk, OnOk, OnErr, is_some, drop, slice_set};
 ghost use Rattle.std.specs.Prelude.{if◌then◌else◌};
 ghost use Rattle.std.specs.List.{list_any};
 ghost use Rattle.server.specs.Durable.{IsSound};
@@ -8,7 +9,8 @@ ghost use Rattle.server.specs.View.{state};
 ghost use Rattle.op_msg.specs.Request.{document_in};
 ghost use Rattle.front.specs.Asking.{question_in, wanted, loan_to_end, AsksWanted, EndsOne};
 ghost use Rattle.front.specs.Cursors.{first_to_end};
-ghost use Rattle.front.specs.OneSocket.{owner_of, connection_for, loan_of, pending, seat, Asking, Closes, RunsOut, Serves};
+ghost use Rattle.front.specs.OneSocket.{owner_of, connection_for, loan_of, pending, seat};
+ghost use Rattle.front.specs.OneSocket.{Asking, Closes, RunsOut, Serves};
 ghost use Rattle.front.specs.Replying.{closed, IsClosed, TakesReply, Becomes, TakesFrame};
 ghost use Rattle.front.specs.Lending.{loan_at, is_at_rest, borrower, Lends};
 ghost use Rattle.front.specs.Serving.{OthersStay};
@@ -51,7 +53,8 @@ fn if_at_rest(lending: &Lending, id: ConnId) -> Option<ConnId>
     }
 }
 
-/// The connection that a question can be asked on now: the one at rest that owns its cursor, or the one at rest with the fewest.
+/// The connection that a question can be asked on now: the one at rest that owns its cursor, or the one at
+/// rest with the fewest.
 fn connection_for(lending: &Lending, cursors: &OpenCursors, question: &Question) -> Option<ConnId>
     ensures is { result ≡ connection_for lending.now.loans cursors.now.list.items question.now }
     ensures rest { IfSome result (λ id. is_at_rest lending.now.loans id ≡ true) }
@@ -72,8 +75,8 @@ fn loan_of(number: usize, question: &Question) -> Loan
     }
 }
 
-/// Asks the question of a socket's message, where it has one and a connection can be lent to it. An `Err`: memory ran out for it,
-/// and the socket is closed.
+/// Asks the question of a socket's message, where it has one and a connection can be lent to it. An `Err`:
+/// memory ran out for it, and the socket is closed.
 fn ask_question<D: Disk>(
     core: &mut Core<D>,
     lending: &mut Lending,
@@ -120,9 +123,9 @@ fn is_held(lending: &Lending, socket: &Socket) -> bool
     socket.asks_alone() && lending.has_loans()
 }
 
-/// Does what can be done of a socket: takes a message where it works on none, and asks the server, where a connection can be lent
-/// to it. A message during which nobody else may ask waits until no connection is lent. An `Err`: memory ran out, and the message
-/// is taken by a later turn, or the socket is closed.
+/// Does what can be done of a socket: takes a message where it works on none, and asks the server, where a
+/// connection can be lent to it. A message during which nobody else may ask waits until no connection is
+/// lent. An `Err`: memory ran out, and the message is taken by a later turn, or the socket is closed.
 pub(crate) fn serve_socket<D: Disk>(
     core: &mut Core<D>,
     lending: &mut Lending,
@@ -161,7 +164,8 @@ fn loan_to_end(cursor: &OpenCursor) -> Loan
     }
 }
 
-/// Ends the first cursor of a socket that has ended and whose owner is at rest. Whether there was one. An `Err` changes nothing.
+/// Ends the first cursor of a socket that has ended and whose owner is at rest. Whether there was one. An
+/// `Err` changes nothing.
 pub(crate) fn end_cursor<D: Disk>(
     core: &mut Core<D>,
     lending: &mut Lending,
@@ -213,8 +217,8 @@ fn note_cursor(
     })
 }
 
-/// The document of what the server has replied on a connection that was lent, once it is noted which cursor has ended by it and
-/// which was opened.
+/// The document of what the server has replied on a connection that was lent, once it is noted which cursor
+/// has ended by it and which was opened.
 fn read_reply(
     alloc: Global,
     cursors: &mut OpenCursors,
@@ -234,8 +238,8 @@ fn read_reply(
     Ok(reply)
 }
 
-/// The message that a connection was lent to goes on with the reply, if its socket is still there. Where memory runs out for it,
-/// the socket is closed.
+/// The message that a connection was lent to goes on with the reply, if its socket is still there. Where
+/// memory runs out for it, the socket is closed.
 fn go_on(alloc: Global, sockets: &mut [Socket], loan: Loan, reply: Document) -> Result<(), NoMemory>
     ensures others { OthersStay sockets.old loan.socket sockets.new }
     ensures alone { GoesOnAlone sockets.old loan.socket sockets.new }
@@ -266,8 +270,8 @@ fn give_up(sockets: &mut [Socket], loan: Loan)
     }
 }
 
-/// Takes what the server has replied on a connection, which is at rest again. Where memory runs out for it, the connection's
-/// cursors end with it, and the socket is closed.
+/// Takes what the server has replied on a connection, which is at rest again. Where memory runs out for it,
+/// the connection's cursors end with it, and the socket is closed.
 pub(crate) fn take_reply<D: Disk>(
     core: &mut Core<D>,
     lending: &mut Lending,
@@ -301,7 +305,8 @@ pub(crate) fn take_reply<D: Disk>(
     }
 }
 
-/// The server has closed a connection: it begins anew, without cursors, and the socket to which it was lent is closed.
+/// The server has closed a connection: it begins anew, without cursors, and the socket to which it was lent
+/// is closed.
 pub(crate) fn take_closed<D: Disk>(
     core: &mut Core<D>,
     lending: &mut Lending,
