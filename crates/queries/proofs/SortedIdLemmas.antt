@@ -1,0 +1,192 @@
+-- Short documents, and that a sort orders them as the documents that they are of.
+use Rattle.std.proofs.Common.{◌≡◌, ℕ, Bool, true, false, List, [], ◌∷◌, ◌++◌, length, map, Option, Some, None, refl, sym, ap, subst, ◌∙◌, arith}
+use Rattle.std.proofs.Common.{append_assoc, append-nil}
+use Rattle.std.specs.Prelude.{All, codes, if◌then◌else◌, unwrap_or}
+use Rattle.std.specs.List.{AllZip, filter, flat_map}
+use Rattle.std.specs.Str.{bytes_eq}
+use Rattle.std.specs.Ordering.{ordering_then}
+use Rattle.std.specs.declared.cmp.Ordering.{Ordering}
+use Rattle.std.specs.declared.cmp.Ordering.TheVariants.{Less, Equal, Greater}
+use Rattle.std.proofs.lemmas.List.Elements.{AllZip-push, All-head, All-tail, filter-append}
+use Rattle.std.proofs.lemmas.Slice.Eq.{bytes_eq-Decides}
+use Rattle.bson.specs.Lookup.{lookup}
+use Rattle.bson.specs.Tree.{Tree, scalar, null, document, Pairs, no_pairs, pair, append}
+use Rattle.value_order.specs.KeyText.{tree_text}
+use Rattle.value_order.specs.Order.{key_cmp}
+use Rattle.filter.specs.Condition.{Conditions}
+use Rattle.filter.specs.Matches.{matches}
+use Rattle.path.specs.Reach.{Reached, onwards, reach}
+use Rattle.database_model.specs.Find.{matching}
+use Rattle.entries.specs.State.{key_of}
+use Rattle.sort.specs.Sort.{SortField, compare_by, in_direction, insert_in_order, key_among, keys_of, order, put_before, sort_key, sorted}
+use Rattle.queries.specs.Listed.{id_text_of}
+use Rattle.queries.specs.SortedIds.{HasSameFirst, IsPartOf, IsShortOf, KeepsShort}
+use Rattle.queries.specs.declared.sorted_ids.Shortening.{Shortening}
+
+-- ---- what a part of a document has of a name
+
+-- what was found, else the other
+abbrev pub first_found : Option Tree → Option Tree → Option Tree
+first_found None other = other
+first_found (Some t) other = Some t
+
+found_in_both : (ps qs : Pairs) (name : List ℕ) → lookup (append ps qs) name ≡ first_found (lookup ps name) (lookup qs name)
+found_in_both no_pairs qs name = refl
+found_in_both (pair other t ps) qs name = at (bytes_eq name other) (found_in_both ps qs name)
+  where
+    at : (b : Bool) → lookup (append ps qs) name ≡ first_found (lookup ps name) (lookup qs name)
+        → (if b then Some t else lookup (append ps qs) name) ≡ first_found (if b then Some t else lookup ps name) (lookup qs name)
+    at true later = refl
+    at false later = later
+
+pub part_itself : (d : Pairs) → IsPartOf d d
+part_itself d = λ name t e. e
+
+-- what the part has stands there, or the document has none of it
+pub same_there : (part d : Pairs) (name : List ℕ) (t : Tree) → IsPartOf part d → lookup part name ≡ Some t → lookup part name ≡ lookup d name
+same_there part d name t h e = e ∙ sym (h name t e)
+
+-- a part that grew has what the document has of a name of which it had that
+pub still_same : (old new d : Pairs) (name : List ℕ) → IsPartOf old new → IsPartOf new d → lookup old name ≡ lookup d name → lookup new name ≡ lookup d name
+still_same old new d name kept part same = at (lookup d name) refl (lookup new name) refl
+  where
+    at : (o : Option Tree) → lookup d name ≡ o → (p : Option Tree) → lookup new name ≡ p → lookup new name ≡ lookup d name
+    at (Some t) is p there = kept name t (same ∙ is) ∙ sym is
+    at None is None there = there ∙ sym is
+    at None is (Some u) there = absurd (no (sym is ∙ part name u there))
+      where
+        no : None ≡ Some u → ⊥
+        no e = cc
+
+module _ (part d : Pairs) (name : List ℕ) (t : Tree) (h : IsPartOf part d) (new : lookup part name ≡ None) (has : lookup d name ≡ Some t) where
+  abbrev grown : Pairs
+  grown = append part (pair name t no_pairs)
+
+  own : bytes_eq name name ≡ true
+  own = (bytes_eq-Decides name name).1 refl
+
+  pub grown_kept : IsPartOf part grown
+  grown_kept other u e = found_in_both part (pair name t no_pairs) other ∙ ap (λ (o : Option Tree). first_found o (lookup (pair name t no_pairs) other)) e
+
+  pub grown_same : lookup grown name ≡ lookup d name
+  grown_same =
+      found_in_both part (pair name t no_pairs) name
+      ∙ ap (λ (o : Option Tree). first_found o (lookup (pair name t no_pairs) name)) new
+      ∙ ap (λ (b : Bool). if b then Some t else None) own ∙ sym has
+
+  pub grown_part : IsPartOf grown d
+  grown_part other u e = at (lookup part other) refl (bytes_eq other name) refl (sym (found_in_both part (pair name t no_pairs) other) ∙ e)
+    where
+      one : {x y : Tree} → Some x ≡ Some y → x ≡ y
+      one e = cc
+
+      at : (o : Option Tree) → lookup part other ≡ o → (b : Bool) → bytes_eq other name ≡ b
+          → first_found (lookup part other) (if bytes_eq other name then Some t else None) ≡ Some u → lookup d other ≡ Some u
+      at (Some v) is b eq found = h other v is ∙ sym (ap (λ (o : Option Tree). first_found o (if bytes_eq other name then Some t else None)) is) ∙ found
+      at None is true eq found =
+          let same : other ≡ name = (bytes_eq-Decides other name).0 eq in
+          ap (lookup d) same ∙ has
+          ∙ sym (λ i. first_found (is i) (if eq i then Some t else None)) ∙ found
+      at None is false eq found =
+          absurd (no (sym (λ i. first_found (is i) (if eq i then Some t else None)) ∙ found))
+        where
+          no : {X : Type 0} {x : X} → None ≡ Some x → ⊥
+          no e = cc
+
+-- ---- a sort orders them alike
+
+same_reached : (path : List (List ℕ)) (d s : Pairs) → HasSameFirst path d s → reach path (document s) ≡ reach path (document d)
+same_reached [] d s h = absurd h
+same_reached (name ∷ names) d s h = ap (λ (o : Option Tree). onwards (reach names) o (None ∷ [])) h
+
+same_key : (field : SortField) (d s : Pairs) → HasSameFirst field.0 d s → sort_key field s ≡ sort_key field d
+same_key field d s h = ap (λ (rs : List Reached). key_among field.1 (flat_map keys_of rs)) (same_reached field.0 d s h)
+
+pub compares_alike : (sort : List SortField) (d s e t : Pairs) → All (λ field. HasSameFirst field.0 d s) sort → All (λ field. HasSameFirst field.0 e t) sort
+    → compare_by sort s t ≡ compare_by sort d e
+compares_alike [] d s e t h k = refl
+compares_alike (field ∷ fields) d s e t h k =
+    let Same : Pairs → Pairs → SortField → Type 0 = λ d s field. HasSameFirst field.0 d s in
+    let one = same_key field d s (All-head (Same d s) field fields h) in
+    let other = same_key field e t (All-head (Same e t) field fields k) in
+    let later = compares_alike fields d s e t (All-tail (Same d s) field fields h) (All-tail (Same e t) field fields k) in
+    (λ i. ordering_then (in_direction field.1 (key_cmp (one i) (other i))) (later i))
+
+-- elements are ordered as those that they stand beside, where they compare alike
+module _ {X : Type 0} (R : X → X → Type 0) (cmp : X → X → Ordering) (alike : (x s y t : X) → R x s → R y t → cmp s t ≡ cmp x y) where
+  each_inserted : (x s : X) (xs ss : List X) → R x s → AllZip R xs ss → AllZip R (insert_in_order cmp x xs) (insert_in_order cmp s ss)
+  each_inserted x s [] [] one each = (one, tt)
+  each_inserted x s [] (t ∷ ss) one each = absurd each
+  each_inserted x s (y ∷ xs) [] one each = absurd each
+  each_inserted x s (y ∷ xs) (t ∷ ss) one each =
+      subst (λ (o : Ordering). AllZip R (put_before (cmp x y) x y (insert_in_order cmp x xs) xs) (put_before o s t (insert_in_order cmp s ss) ss))
+      (sym (alike x s y t one each.0)) (at (cmp x y) (each_inserted x s xs ss one each.1))
+    where
+      at : (o : Ordering) → AllZip R (insert_in_order cmp x xs) (insert_in_order cmp s ss)
+          → AllZip R (put_before o x y (insert_in_order cmp x xs) xs) (put_before o s t (insert_in_order cmp s ss) ss)
+      at Greater later = (each.0, later)
+      at Less later = (one, each.0, each.1)
+      at Equal later = (one, each.0, each.1)
+
+  pub each_sorted : (xs ss : List X) → AllZip R xs ss → AllZip R (sorted cmp xs) (sorted cmp ss)
+  each_sorted [] [] each = tt
+  each_sorted [] (s ∷ ss) each = absurd each
+  each_sorted (x ∷ xs) [] each = absurd each
+  each_sorted (x ∷ xs) (s ∷ ss) each = each_inserted x s (sorted cmp xs) (sorted cmp ss) each.0 (each_sorted xs ss each.1)
+
+same_text : (sort : List SortField) (d s : Pairs) → IsShortOf sort d s → id_text_of s ≡ id_text_of d
+same_text sort d s h = ap (λ (o : Option Tree). tree_text (unwrap_or o (scalar null))) h.id
+
+same_texts : (sort : List SortField) (ds ss : List Pairs) → AllZip (IsShortOf sort) ds ss → map id_text_of ss ≡ map id_text_of ds
+same_texts sort [] [] each = refl
+same_texts sort [] (s ∷ ss) each = absurd each
+same_texts sort (d ∷ ds) [] each = absurd each
+same_texts sort (d ∷ ds) (s ∷ ss) each = (λ i. same_text sort d s each.0 i ∷ same_texts sort ds ss each.1 i)
+
+-- the `_id`s of short documents in the order of the sort are those of the documents in that order
+pub sorted_alike : (sort : List SortField) (ds ss : List Pairs) → AllZip (IsShortOf sort) ds ss
+    → map id_text_of (order sort ss) ≡ map id_text_of (order sort ds)
+sorted_alike sort ds ss each =
+    same_texts sort (order sort ds) (order sort ss)
+    (each_sorted (IsShortOf sort) (compare_by sort) (λ d s e t h k. compares_alike sort d s e t h.fields k.fields) ds ss each)
+
+-- ---- documents that are lent
+
+pub none_shortened : (start : Shortening) → KeepsShort start [] start
+none_shortened start = record { filter = refl; sort = refl; shorts = []; put = sym (append-nil start.found.items); each = tt }
+
+module _ (start now : Shortening) (all : List Pairs) (d : Pairs) (h : KeepsShort start all now) where
+  more : (xs : List Pairs) → xs ≡ filter (matches now.filter.now) (d ∷ []) → matching start.filter.now all ++ xs ≡ matching start.filter.now (all ++ d ∷ [])
+  more xs is =
+      ap (λ (ys : List Pairs). matching start.filter.now all ++ ys) (is ∙ ap (λ (rs : Conditions). filter (matches rs) (d ∷ [])) h.filter)
+      ∙ sym (filter-append (matches start.filter.now) all (d ∷ []))
+
+  -- the filter doesn't match it
+  pub left_out : [] ≡ filter (matches now.filter.now) (d ∷ []) → KeepsShort start (all ++ d ∷ []) now
+  left_out is = record {
+    filter = h.filter;
+    sort = h.sort;
+    shorts = h.shorts;
+    put = h.put;
+    each = subst (λ (ds : List Pairs). AllZip (IsShortOf start.sort.now) ds h.shorts) (sym (append-nil (matching start.filter.now all)) ∙ more [] is) h.each;
+  }
+
+  pub one_shortened : (short : Pairs) (next : Shortening) → d ∷ [] ≡ filter (matches now.filter.now) (d ∷ []) → IsShortOf now.sort.now d short
+      → next.filter.now ≡ now.filter.now → next.sort.now ≡ now.sort.now → next.found.items ≡ now.found.items ++ short ∷ []
+      → KeepsShort start (all ++ d ∷ []) next
+  one_shortened short next is one same_filter same_sort put = record {
+    filter = same_filter ∙ h.filter;
+    sort = same_sort ∙ h.sort;
+    shorts = h.shorts ++ short ∷ [];
+    put = put ∙ ap (λ (ys : List Pairs). ys ++ short ∷ []) h.put ∙ append_assoc start.found.items h.shorts (short ∷ []);
+    each = subst (λ (ds : List Pairs). AllZip (IsShortOf start.sort.now) ds (h.shorts ++ short ∷ [])) (more (d ∷ []) is)
+        (AllZip-push (IsShortOf start.sort.now) (matching start.filter.now all) h.shorts d short h.each
+        (subst (λ (sort : List SortField). IsShortOf sort d short) h.sort one));
+  }
+
+-- of all documents that were lent
+pub all_shortened : (start now : Shortening) (all : List Pairs) → start.found.items ≡ [] → KeepsShort start all now
+    → map id_text_of (order start.sort.now now.found.items) ≡ map id_text_of (order start.sort.now (matching start.filter.now all))
+all_shortened start now all none h =
+    ap (λ (ss : List Pairs). map id_text_of (order start.sort.now ss)) (h.put ∙ ap (λ (ys : List Pairs). ys ++ h.shorts) none)
+    ∙ sorted_alike start.sort.now (matching start.filter.now all) h.shorts h.each

@@ -1,0 +1,32 @@
+-- Short documents: what a sort looks at of a document, and its `_id`.
+use Rattle.std.specs.Prelude.{◌≡◌, ℕ, List, [], ◌∷◌, ◌++◌, Some, All, codes}
+use Rattle.std.specs.List.{AllZip}
+use Rattle.bson.specs.Lookup.{lookup}
+use Rattle.bson.specs.Tree.{Tree, Pairs}
+use Rattle.database_model.specs.Find.{matching}
+use Rattle.sort.specs.Sort.{SortField}
+use Rattle.queries.specs.declared.sorted_ids.Shortening.{Shortening}
+
+-- What the one document has of a name, so has the other.
+abbrev pub IsPartOf : Pairs → Pairs → Type 0
+IsPartOf part d = (name : List ℕ) (t : Tree) → lookup part name ≡ Some t → lookup d name ≡ Some t
+
+-- The path has a first name, of which the short document has what the document has.
+abbrev pub HasSameFirst : List (List ℕ) → Pairs → Pairs → Type 0
+HasSameFirst [] d short = ⊥
+HasSameFirst (name ∷ names) d short = lookup short name ≡ lookup d name
+
+-- The short document has what the document has of `_id`, and of the first name of each of the
+-- sort's paths.
+pub record IsShortOf (sort : List SortField) (d short : Pairs) : Type 0 where
+  pub id : lookup short (codes "_id") ≡ lookup d (codes "_id")
+  pub fields : All (λ field. HasSameFirst field.0 d short) sort
+
+-- Of each document that the filter matches a short one was kept, in their order.
+pub record KeepsShort (start : Shortening) (documents : List Pairs) (now : Shortening)
+    : Type 0 where
+  pub filter : now.filter.now ≡ start.filter.now
+  pub sort : now.sort.now ≡ start.sort.now
+  pub shorts : List Pairs
+  pub put : now.found.items ≡ start.found.items ++ shorts
+  pub each : AllZip (IsShortOf start.sort.now) (matching start.filter.now documents) shorts

@@ -1,0 +1,148 @@
+//! The `_id`s of documents in the order of a sort. While they are sorted, of each no more is kept than its `_id` and the fields that
+//! the sort looks at.
+
+ghost use Rattle.std.specs.Prelude.{◌≡◌, IfOk, OnOk, codes, map};
+ghost use Rattle.bson.specs.Lawful.{NoZero};
+ghost use Rattle.bson.specs.Lookup.{lookup};
+ghost use Rattle.collections.specs.Reading.{ReadsOf};
+ghost use Rattle.database_model.specs.Find.{matching};
+ghost use Rattle.index.specs.View.{texts_of};
+ghost use Rattle.sort.specs.Sort.{order};
+ghost use Rattle.queries.specs.Asking.{IsAsked};
+ghost use Rattle.queries.specs.Listed.{id_text_of};
+ghost use Rattle.queries.specs.SortedIds.{IsPartOf, IsShortOf, KeepsShort};
+
+use crate::id_range::fold_asked;
+use bson::{BuildFault, Document, NoMemory, RawDoc, Value};
+use collections::{Collections, DocumentFold};
+use entries::Catalogued;
+use filter::Filter;
+use page::Disk;
+use path::Refusal;
+use sort::Sort;
+use std::alloc::{AllocError, Global};
+use value_order::group_text;
+
+/// Adds what a document has of a name to a part of it, unless it is there.
+fn take_over(
+    alloc: Global,
+    document: &RawDoc<'_>,
+    name: &str,
+    part: &mut Document,
+) -> Result<(), NoMemory>
+    requires name { NoZero name.now }
+    requires part { IsPartOf part.old document.now }
+    ensures part { OnOk result (IsPartOf part.new document.now) }
+    ensures kept { OnOk result (IsPartOf part.old part.new) }
+    ensures same { OnOk result (lookup part.new name.now ≡ lookup document.now name.now) }
+{
+    let _bytes = document.bytes();
+    if part.get(name).is_some() {
+        return Ok(());
+    }
+    let Some(found) = document.get(name) else {
+        return Ok(());
+    };
+    match part.push(name, found.value(alloc)?) {
+        Ok(()) => Ok(()),
+        Err(BuildFault::Memory) => Err(AllocError),
+        Err(BuildFault::Name) => unreachable!("it has no zero"),
+        Err(BuildFault::Repeated) => unreachable!("it is new"),
+        Err(BuildFault::Deep) => unreachable!("it nests no deeper than the document"),
+    }
+}
+
+/// Of a document its `_id` and the fields with which the paths of a sort begin, each once.
+fn short_document(
+    alloc: Global,
+    sort: &Sort,
+    document: &RawDoc<'_>,
+) -> Result<Document, NoMemory>
+    ensures { IfOk result (λ short. IsShortOf sort.now document.now short) }
+{
+    let room = Vec::with_capacity(alloc, sort.fields().len() + 1)?;
+    let mut short = Document::from_pairs(room);
+    take_over(alloc, document, "_id", &mut short)?;
+    'fields: for field in sort.fields() {
+        let (part, _) = field.path.split_first();
+        take_over(alloc, document, part.as_str(), &mut short)?;
+    }
+    Ok(short)
+}
+
+/// The short documents of those that are lent and match a filter.
+#[derive(Drop)]
+struct Shortening<'a> {
+    alloc: Global,
+    filter: &'a Filter,
+    sort: &'a Sort,
+    found: Vec<Document>,
+}
+
+impl DocumentFold for Shortening<'_> {
+    ghost makes = { KeepsShort };
+
+    fn is_done(&self) -> bool {
+        false
+    }
+
+    fn take(&mut self, document: &RawDoc<'_>) -> Result<(), Refusal> {
+        if !self.filter.matches_raw(self.alloc, document)? {
+            return Ok(());
+        }
+        let short = short_document(self.alloc, self.sort, document)?;
+        self.found.push(short)?;
+        Ok(())
+    }
+}
+
+/// The key text of a document's `_id`; of null's where it has none, as a disk may give some.
+fn id_text(alloc: Global, document: &Document) -> Result<Vec<u8>, NoMemory>
+    ensures { IfOk result (λ text. text.items ≡ id_text_of document.now) }
+{
+    match document.get("_id") {
+        Some(id) => group_text(alloc, id),
+        None => group_text(alloc, &Value::Null),
+    }
+}
+
+/// The key texts of the `_id`s of documents in the order of a sort.
+fn ordered_ids(
+    alloc: Global,
+    sort: &Sort,
+    documents: Vec<Document>,
+) -> Result<Vec<Vec<u8>>, NoMemory>
+    ensures { IfOk result (λ ids. texts_of ids.items
+        ≡ map id_text_of (order sort.now documents.items)) }
+{
+    let ordered = sort.order(documents)?;
+    let mut texts = Vec::with_capacity(alloc, ordered.len())?;
+    'ordered: for document in &ordered {
+        texts.push(id_text(alloc, document)?)?;
+    }
+    Ok(texts)
+}
+
+/// The key texts of the `_id`s of the documents of a collection in a file that match a filter, in the order of a sort, by a walk
+/// through the collection.
+pub fn sorted_ids_in<D: Disk>(
+    alloc: Global,
+    file: &mut Collections<D>,
+    home: &Catalogued,
+    filter: &Filter,
+    sort: &Sort,
+) -> Result<Vec<Vec<u8>>, Refusal>
+    ensures { ReadsOf D.history (IsAsked home.now)
+        (λ now c ids. texts_of ids.items
+        ≡ map id_text_of (order sort.now (matching filter.now c.documents)))
+        result file.old file.new }
+{
+    let shortening = Shortening {
+        alloc,
+        filter,
+        sort,
+        found: Vec::new(alloc),
+    };
+    let kept = fold_asked(alloc, file, home, filter, shortening)?;
+    Ok(ordered_ids(alloc, sort, kept.found)?)
+}
