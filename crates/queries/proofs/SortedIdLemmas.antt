@@ -1,13 +1,14 @@
 -- Short documents, and that a sort orders them as the documents that they are of.
-use Rattle.std.proofs.Common.{◌≡◌, ℕ, Bool, true, false, List, [], ◌∷◌, ◌++◌, length, map, Option, Some, None, refl, sym, ap, subst, ◌∙◌, arith}
+use Rattle.std.proofs.Common.{◌≡◌, ℕ, Bool, true, false, List, [], ◌∷◌, ◌++◌, length, map, take, get_or, ◌+◌, ◌<◌, ◌≤◌, Option, Some, None, refl, sym, ap, subst, ◌∙◌, arith}
 use Rattle.std.proofs.Common.{append_assoc, append-nil}
-use Rattle.std.specs.Prelude.{All, codes, if◌then◌else◌, unwrap_or}
+use Rattle.std.specs.Prelude.{All, codes, if◌then◌else◌, is_some, option_map, unwrap_or}
 use Rattle.std.specs.List.{AllZip, filter, flat_map}
 use Rattle.std.specs.Str.{bytes_eq}
 use Rattle.std.specs.Ordering.{ordering_then}
 use Rattle.std.specs.declared.cmp.Ordering.{Ordering}
 use Rattle.std.specs.declared.cmp.Ordering.TheVariants.{Less, Equal, Greater}
-use Rattle.std.proofs.lemmas.List.Elements.{AllZip-push, All-head, All-tail, filter-append}
+use Rattle.std.proofs.lemmas.List.Elements.{AllZip-push, All-head, All-map, All-more, All-tail, All-weaker, filter-append}
+use Rattle.std.proofs.lemmas.List.{take_all}
 use Rattle.std.proofs.lemmas.Slice.Eq.{bytes_eq-Decides}
 use Rattle.bson.specs.Lookup.{lookup}
 use Rattle.bson.specs.Tree.{Tree, scalar, null, document, Pairs, no_pairs, pair, append}
@@ -19,6 +20,8 @@ use Rattle.path.specs.Reach.{Reached, onwards, reach}
 use Rattle.database_model.specs.Find.{matching}
 use Rattle.entries.specs.State.{key_of}
 use Rattle.sort.specs.Sort.{SortField, compare_by, in_direction, insert_in_order, key_among, keys_of, order, put_before, sort_key, sorted}
+use Rattle.sort.specs.SortKeys.{field_of}
+use Rattle.sort.specs.declared.sort.Field.{Field}
 use Rattle.queries.specs.Listed.{id_text_of}
 use Rattle.queries.specs.SortedIds.{HasSameFirst, IsPartOf, IsShortOf, KeepsShort}
 use Rattle.queries.specs.declared.sorted_ids.Shortening.{Shortening}
@@ -93,6 +96,47 @@ module _ (part d : Pairs) (name : List ℕ) (t : Tree) (h : IsPartOf part d) (ne
           no : {X : Type 0} {x : X} → None ≡ Some x → ⊥
           no e = cc
 
+-- nothing was found of a name
+pub none_there : {X : Type 0} (view : X → Tree) (found : Option X) (o : Option Tree) → option_map view found ≡ o → is_some found ≡ false → o ≡ None
+none_there view None o is none = sym is
+none_there view (Some x) o is none = absurd cc
+
+-- ---- as far as the sort's fields were met
+
+pub record IsShortSoFar (fields : List Field) (i : ℕ) (d short : Pairs) : Type 0 where
+  pub part : IsPartOf short d
+  pub id : lookup short (codes "_id") ≡ lookup d (codes "_id")
+  pub same : All (λ f. HasSameFirst f.path d short) (take i fields)
+
+pub short_begun : (fields : List Field) (d new : Pairs) → IsPartOf new d → lookup new (codes "_id") ≡ lookup d (codes "_id") → IsShortSoFar fields 0 d new
+short_begun fields d new part same = record { part = part; id = same; same = λ k f below. absurd (omega (arith, below)) }
+
+still_first : (path : List (List ℕ)) (old new d : Pairs) → IsPartOf old new → IsPartOf new d → HasSameFirst path d old → HasSameFirst path d new
+still_first [] old new d kept part h = h
+still_first (name ∷ names) old new d kept part h = still_same old new d name kept part h
+
+pub short_further : (fields : List Field) (i : ℕ) (f : Field) (name : List ℕ) (names : List (List ℕ)) (d old new : Pairs) → i < length fields
+    → f ≡ get_or fields i f → name ∷ names ≡ f.path → IsPartOf old new → IsPartOf new d → lookup new name ≡ lookup d name
+    → IsShortSoFar fields i d old → IsShortSoFar fields (i + 1) d new
+short_further fields i f name names d old new below is path kept part same h =
+    let Same : Pairs → Field → Type 0 = λ s g. HasSameFirst g.path d s in
+    let here : HasSameFirst f.path d new = subst (λ (p : List (List ℕ)). HasSameFirst p d new) path same in
+    record {
+      part = part;
+      id = still_same old new d (codes "_id") kept part h.id;
+      same = All-more (Same new) fields i f below
+          (All-weaker (Same old) (Same new) (λ g. still_first g.path old new d kept part) (take i fields) h.same) (subst (Same new) is here);
+    }
+
+pub short_whole : (fields : List Field) (sort : List SortField) (i : ℕ) (d short : Pairs) → map field_of fields ≡ sort → length fields ≤ i
+    → IsShortSoFar fields i d short → IsShortOf sort d short
+short_whole fields sort i d short is past h = record {
+  id = h.id;
+  fields = subst (All (λ field. HasSameFirst field.0 d short)) is
+      (All-map (λ (field : SortField). HasSameFirst field.0 d short) field_of fields
+      (subst (All (λ (f : Field). HasSameFirst f.path d short)) (take_all i fields past) h.same));
+}
+
 -- ---- a sort orders them alike
 
 same_reached : (path : List (List ℕ)) (d s : Pairs) → HasSameFirst path d s → reach path (document s) ≡ reach path (document d)
@@ -125,8 +169,8 @@ module _ {X : Type 0} (R : X → X → Type 0) (cmp : X → X → Ordering) (ali
       at : (o : Ordering) → AllZip R (insert_in_order cmp x xs) (insert_in_order cmp s ss)
           → AllZip R (put_before o x y (insert_in_order cmp x xs) xs) (put_before o s t (insert_in_order cmp s ss) ss)
       at Greater later = (each.0, later)
-      at Less later = (one, each.0, each.1)
-      at Equal later = (one, each.0, each.1)
+      at Less later = (one, each)
+      at Equal later = (one, each)
 
   pub each_sorted : (xs ss : List X) → AllZip R xs ss → AllZip R (sorted cmp xs) (sorted cmp ss)
   each_sorted [] [] each = tt
