@@ -8,7 +8,7 @@ use Rattle.std.specs.Ordering.{ordering_then}
 use Rattle.std.specs.declared.cmp.Ordering.{Ordering}
 use Rattle.std.specs.declared.cmp.Ordering.TheVariants.{Less, Equal, Greater}
 use Rattle.std.proofs.lemmas.List.Elements.{AllZip-push, All-head, All-map, All-more, All-tail, All-weaker, filter-append}
-use Rattle.std.proofs.lemmas.List.{take_all}
+use Rattle.std.proofs.lemmas.List.{take-map, take_all}
 use Rattle.std.proofs.lemmas.Slice.Eq.{bytes_eq-Decides}
 use Rattle.bson.specs.Lookup.{lookup}
 use Rattle.bson.specs.Tree.{Tree, scalar, null, document, Pairs, no_pairs, pair, append}
@@ -23,6 +23,7 @@ use Rattle.sort.specs.Sort.{SortField, compare_by, in_direction, insert_in_order
 use Rattle.sort.specs.SortKeys.{field_of}
 use Rattle.sort.specs.declared.sort.Field.{Field}
 use Rattle.queries.specs.Listed.{id_text_of}
+use Rattle.queries.specs.Folding.{TellFirst}
 use Rattle.queries.specs.SortedIds.{HasSameFirst, IsPartOf, IsShortOf, KeepsShort}
 use Rattle.queries.specs.declared.sorted_ids.Shortening.{Shortening}
 
@@ -197,7 +198,14 @@ sorted_alike sort ds ss each =
 -- ---- documents that are lent
 
 pub none_shortened : (start : Shortening) → KeepsShort start [] start
-none_shortened start = record { filter = refl; sort = refl; shorts = []; put = sym (append-nil start.found.items); each = tt }
+none_shortened start = record {
+  filter = refl;
+  sort = refl;
+  most = refl;
+  shorts = [];
+  each = tt;
+  first = λ others. ap (λ (ys : List Pairs). take start.most (order start.sort.now (ys ++ others))) (sym (append-nil start.found.items));
+}
 
 module _ (start now : Shortening) (all : List Pairs) (d : Pairs) (h : KeepsShort start all now) where
   more : (xs : List Pairs) → xs ≡ filter (matches now.filter.now) (d ∷ []) → matching start.filter.now all ++ xs ≡ matching start.filter.now (all ++ d ∷ [])
@@ -210,27 +218,52 @@ module _ (start now : Shortening) (all : List Pairs) (d : Pairs) (h : KeepsShort
   left_out is = record {
     filter = h.filter;
     sort = h.sort;
+    most = h.most;
     shorts = h.shorts;
-    put = h.put;
     each = subst (λ (ds : List Pairs). AllZip (IsShortOf start.sort.now) ds h.shorts) (sym (append-nil (matching start.filter.now all)) ∙ more [] is) h.each;
+    first = h.first;
   }
 
-  pub one_shortened : (short : Pairs) (next : Shortening) → d ∷ [] ≡ filter (matches now.filter.now) (d ∷ []) → IsShortOf now.sort.now d short
-      → next.filter.now ≡ now.filter.now → next.sort.now ≡ now.sort.now → next.found.items ≡ now.found.items ++ short ∷ []
-      → KeepsShort start (all ++ d ∷ []) next
-  one_shortened short next is one same_filter same_sort put = record {
+  -- some that came too late were let go, and its short one was put behind the others
+  pub one_shortened : (short : Pairs) (kept : List Pairs) (next : Shortening) → d ∷ [] ≡ filter (matches now.filter.now) (d ∷ [])
+      → IsShortOf now.sort.now d short → TellFirst now.sort.now now.most kept now.found.items → next.filter.now ≡ now.filter.now
+      → next.sort.now ≡ now.sort.now → next.most ≡ now.most → next.found.items ≡ kept ++ short ∷ [] → KeepsShort start (all ++ d ∷ []) next
+  one_shortened short kept next is one tell same_filter same_sort same_most put = record {
     filter = same_filter ∙ h.filter;
     sort = same_sort ∙ h.sort;
+    most = same_most ∙ h.most;
     shorts = h.shorts ++ short ∷ [];
-    put = put ∙ ap (λ (ys : List Pairs). ys ++ short ∷ []) h.put ∙ append_assoc start.found.items h.shorts (short ∷ []);
     each = subst (λ (ds : List Pairs). AllZip (IsShortOf start.sort.now) ds (h.shorts ++ short ∷ [])) (more (d ∷ []) is)
         (AllZip-push (IsShortOf start.sort.now) (matching start.filter.now all) h.shorts d short h.each
         (subst (λ (sort : List SortField). IsShortOf sort d short) h.sort one));
+    first = λ others.
+        let others_too = short ∷ others in
+        ap (λ (ys : List Pairs). front (ys ++ others)) put ∙ ap front (append_assoc kept (short ∷ []) others) ∙ told others_too ∙ h.first others_too
+        ∙ ap front (append_assoc start.found.items h.shorts others_too ∙ ap (λ (ys : List Pairs). start.found.items ++ ys) (sym (append_assoc h.shorts (short ∷ []) others))
+        ∙ sym (append_assoc start.found.items (h.shorts ++ short ∷ []) others));
   }
+    where
+      front : List Pairs → List Pairs
+      front ds = take start.most (order start.sort.now ds)
+
+      told : (others : List Pairs) → front (kept ++ others) ≡ front (now.found.items ++ others)
+      told others =
+          subst (λ (m : ℕ). take m (order start.sort.now (kept ++ others)) ≡ take m (order start.sort.now (now.found.items ++ others))) h.most
+          (subst (λ (sort : List SortField). take now.most (order sort (kept ++ others)) ≡ take now.most (order sort (now.found.items ++ others))) h.sort
+          (tell others))
+
+-- the first `_id`s
+pub first_alike : (sort : List SortField) (most : ℕ) (ds ss : List Pairs) → AllZip (IsShortOf sort) ds ss
+    → map id_text_of (take most (order sort ss)) ≡ map id_text_of (take most (order sort ds))
+first_alike sort most ds ss each =
+    sym (take-map id_text_of most (order sort ss)) ∙ ap (take most) (sorted_alike sort ds ss each) ∙ take-map id_text_of most (order sort ds)
 
 -- of all documents that were lent
 pub all_shortened : (start now : Shortening) (all : List Pairs) → start.found.items ≡ [] → KeepsShort start all now
-    → map id_text_of (order start.sort.now now.found.items) ≡ map id_text_of (order start.sort.now (matching start.filter.now all))
+    → map id_text_of (take start.most (order start.sort.now now.found.items)) ≡ map id_text_of (take start.most (order start.sort.now (matching start.filter.now all)))
 all_shortened start now all none h =
-    ap (λ (ss : List Pairs). map id_text_of (order start.sort.now ss)) (h.put ∙ ap (λ (ys : List Pairs). ys ++ h.shorts) none)
-    ∙ sorted_alike start.sort.now (matching start.filter.now all) h.shorts h.each
+    ap (map id_text_of)
+    (ap (λ (ys : List Pairs). take start.most (order start.sort.now ys)) (sym (append-nil now.found.items)) ∙ h.first []
+    ∙ ap (λ (ys : List Pairs). take start.most (order start.sort.now ys))
+    (append-nil (start.found.items ++ h.shorts) ∙ ap (λ (ys : List Pairs). ys ++ h.shorts) none))
+    ∙ first_alike start.sort.now start.most (matching start.filter.now all) h.shorts h.each

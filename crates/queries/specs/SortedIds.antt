@@ -5,6 +5,7 @@ use Rattle.bson.specs.Lookup.{lookup}
 use Rattle.bson.specs.Tree.{Tree, Pairs}
 use Rattle.database_model.specs.Find.{matching}
 use Rattle.sort.specs.Sort.{SortField}
+use Rattle.queries.specs.Folding.{TellFirst}
 use Rattle.queries.specs.declared.sorted_ids.Shortening.{Shortening}
 
 -- What the one document has of a name, so has the other.
@@ -22,11 +23,13 @@ pub record IsShortOf (sort : List SortField) (d short : Pairs) : Type 0 where
   pub id : lookup short (codes "_id") ≡ lookup d (codes "_id")
   pub fields : All (λ field. HasSameFirst field.0 d short) sort
 
--- Of each document that the filter matches a short one was kept, in their order.
+-- Of each document that the filter matches there is a short one, in their order, and those that
+-- were kept tell the first ones of all these.
 pub record KeepsShort (start : Shortening) (documents : List Pairs) (now : Shortening)
     : Type 0 where
   pub filter : now.filter.now ≡ start.filter.now
   pub sort : now.sort.now ≡ start.sort.now
+  pub most : now.most ≡ start.most
   pub shorts : List Pairs
-  pub put : now.found.items ≡ start.found.items ++ shorts
   pub each : AllZip (IsShortOf start.sort.now) (matching start.filter.now documents) shorts
+  pub first : TellFirst start.sort.now start.most now.found.items (start.found.items ++ shorts)

@@ -1,7 +1,8 @@
 //! The `_id`s of documents in the order of a sort. While they are sorted, of each no more is kept than its `_id` and the fields that
 //! the sort looks at.
 
-ghost use Rattle.std.specs.Prelude.{◌≡◌, IfOk, OnOk, codes, map};
+ghost use Rattle.std.specs.Prelude.{◌≡◌, IfOk, OnOk, map, take};
+ghost use Rattle.std.specs.List.{AllZip};
 ghost use Rattle.bson.specs.Lawful.{NoZero};
 ghost use Rattle.bson.specs.Lookup.{lookup};
 ghost use Rattle.collections.specs.Reading.{ReadsOf};
@@ -12,8 +13,12 @@ ghost use Rattle.queries.specs.Asking.{IsAsked};
 ghost use Rattle.queries.specs.Listed.{id_text_of};
 ghost use Rattle.queries.specs.SortedIds.{IsPartOf, IsShortOf, KeepsShort};
 
+use crate::by_order::first_by_index;
 use crate::id_range::fold_asked;
-use bson::{BuildFault, Document, NoMemory, RawDoc, Value};
+use crate::listed::listed_texts;
+use crate::looking_up::looked_up_in;
+use crate::ordering::{first_ones, let_late_go};
+use bson::{BuildFault, Document, NoMemory, RawDoc, SpelledDocument, Value};
 use collections::{Collections, DocumentFold};
 use entries::Catalogued;
 use filter::Filter;
@@ -70,12 +75,29 @@ fn short_document(
     Ok(short)
 }
 
-/// The short documents of those that are lent and match a filter.
+/// The short documents of these, in their order.
+fn short_documents(
+    alloc: Global,
+    sort: &Sort,
+    documents: &[SpelledDocument],
+) -> Result<Vec<Document>, NoMemory>
+    ensures { IfOk result (λ shorts. AllZip (IsShortOf sort.now) documents.now shorts.items) }
+{
+    let mut shorts = Vec::with_capacity(alloc, documents.len())?;
+    'documents: for document in documents {
+        shorts.push(short_document(alloc, sort, &document.raw())?)?;
+    }
+    Ok(shorts)
+}
+
+/// The short documents of those that are lent and match a filter: the first ones in the order of a sort, up to so many, and some
+/// that come too late.
 #[derive(Drop)]
 struct Shortening<'a> {
     alloc: Global,
     filter: &'a Filter,
     sort: &'a Sort,
+    most: usize,
     found: Vec<Document>,
 }
 
@@ -91,6 +113,7 @@ impl DocumentFold for Shortening<'_> {
             return Ok(());
         }
         let short = short_document(self.alloc, self.sort, document)?;
+        let_late_go(self.alloc, self.sort, &mut self.found, self.most)?;
         self.found.push(short)?;
         Ok(())
     }
@@ -106,25 +129,105 @@ fn id_text(alloc: Global, document: &Document) -> Result<Vec<u8>, NoMemory>
     }
 }
 
-/// The key texts of the `_id`s of documents in the order of a sort.
-fn ordered_ids(
+/// The key texts of the `_id`s of the first documents in the order of a sort, up to so many.
+fn first_ids(
     alloc: Global,
     sort: &Sort,
     documents: Vec<Document>,
+    most: usize,
 ) -> Result<Vec<Vec<u8>>, NoMemory>
     ensures { IfOk result (λ ids. texts_of ids.items
-        ≡ map id_text_of (order sort.now documents.items)) }
+        ≡ map id_text_of (take most (order sort.now documents.items))) }
 {
-    let ordered = sort.order(documents)?;
-    let mut texts = Vec::with_capacity(alloc, ordered.len())?;
-    'ordered: for document in &ordered {
+    let first = first_ones(sort, documents, most)?;
+    let mut texts = Vec::with_capacity(alloc, first.len())?;
+    'first: for document in &first {
         texts.push(id_text(alloc, document)?)?;
     }
     Ok(texts)
 }
 
-/// The key texts of the `_id`s of the documents of a collection in a file that match a filter, in the order of a sort, by a walk
-/// through the collection.
+/// The same of documents that were looked up.
+fn first_ids_of(
+    alloc: Global,
+    sort: &Sort,
+    documents: &[SpelledDocument],
+    most: usize,
+) -> Result<Vec<Vec<u8>>, NoMemory>
+    ensures { IfOk result (λ ids. texts_of ids.items
+        ≡ map id_text_of (take most (order sort.now documents.now))) }
+{
+    let shorts = short_documents(alloc, sort, documents)?;
+    first_ids(alloc, sort, shorts, most)
+}
+
+/// The same of the documents of a collection in a file that match a filter, by a walk through the collection.
+fn walked_ids<D: Disk>(
+    alloc: Global,
+    file: &mut Collections<D>,
+    home: &Catalogued,
+    filter: &Filter,
+    sort: &Sort,
+    most: usize,
+) -> Result<Vec<Vec<u8>>, Refusal>
+    ensures { ReadsOf D.history (IsAsked home.now)
+        (λ now c ids. texts_of ids.items
+        ≡ map id_text_of (take most (order sort.now (matching filter.now c.documents))))
+        result file.old file.new }
+{
+    let shortening = Shortening {
+        alloc,
+        filter,
+        sort,
+        most,
+        found: Vec::new(alloc),
+    };
+    let kept = fold_asked(alloc, file, home, filter, shortening)?;
+    Ok(first_ids(alloc, sort, kept.found, most)?)
+}
+
+/// The same, by look-ups where the `_id`s of all that match are told.
+fn ids_by_sorting<D: Disk>(
+    alloc: Global,
+    file: &mut Collections<D>,
+    home: &Catalogued,
+    filter: &Filter,
+    sort: &Sort,
+    most: usize,
+) -> Result<Vec<Vec<u8>>, Refusal>
+    ensures { ReadsOf D.history (IsAsked home.now)
+        (λ now c ids. texts_of ids.items
+        ≡ map id_text_of (take most (order sort.now (matching filter.now c.documents))))
+        result file.old file.new }
+{
+    match looked_up_in(alloc, file, home, filter, usize::MAX)? {
+        Some(found) => Ok(first_ids_of(alloc, sort, &found, most)?),
+        None => walked_ids(alloc, file, home, filter, sort, most),
+    }
+}
+
+/// The key texts of the `_id`s of the documents of a collection in a file that match a filter, in the order of a sort: the first
+/// ones, up to so many, read in that order where an index is in it.
+pub fn ordered_ids_in<D: Disk>(
+    alloc: Global,
+    file: &mut Collections<D>,
+    home: &Catalogued,
+    filter: &Filter,
+    sort: &Sort,
+    most: usize,
+) -> Result<Vec<Vec<u8>>, Refusal>
+    ensures { ReadsOf D.history (IsAsked home.now)
+        (λ now c ids. texts_of ids.items
+        ≡ map id_text_of (take most (order sort.now (matching filter.now c.documents))))
+        result file.old file.new }
+{
+    match first_by_index(alloc, file, home, filter, sort, most)? {
+        Some(found) => Ok(listed_texts(alloc, &found)?),
+        None => ids_by_sorting(alloc, file, home, filter, sort, most),
+    }
+}
+
+/// The same of all that match.
 pub fn sorted_ids_in<D: Disk>(
     alloc: Global,
     file: &mut Collections<D>,
@@ -137,12 +240,5 @@ pub fn sorted_ids_in<D: Disk>(
         ≡ map id_text_of (order sort.now (matching filter.now c.documents)))
         result file.old file.new }
 {
-    let shortening = Shortening {
-        alloc,
-        filter,
-        sort,
-        found: Vec::new(alloc),
-    };
-    let kept = fold_asked(alloc, file, home, filter, shortening)?;
-    Ok(ordered_ids(alloc, sort, kept.found)?)
+    ordered_ids_in(alloc, file, home, filter, sort, usize::MAX)
 }
