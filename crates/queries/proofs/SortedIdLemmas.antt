@@ -1,5 +1,5 @@
 -- Short documents, and that a sort orders them as the documents that they are of.
-use Rattle.std.proofs.Common.{◌≡◌, ℕ, Bool, true, false, List, [], ◌∷◌, ◌++◌, length, map, take, get_or, ◌+◌, ◌<◌, ◌≤◌, Option, Some, None, refl, sym, ap, subst, ◌∙◌, arith}
+use Rattle.std.proofs.Common.{◌≡◌, ℕ, Bool, true, false, List, [], ◌∷◌, ◌++◌, length, map, take, get_or, ◌+◌, ◌<◌, ◌≤◌, Option, Some, None, Result, Ok, Err, Vec, Global, ◌-◌, ◌^◌, refl, sym, ap, subst, ◌∙◌, arith}
 use Rattle.std.proofs.Common.{append_assoc, append-nil}
 use Rattle.std.specs.Prelude.{All, codes, if◌then◌else◌, is_some, option_map, unwrap_or}
 use Rattle.std.specs.List.{AllZip, filter, flat_map}
@@ -8,13 +8,19 @@ use Rattle.std.specs.Ordering.{ordering_then}
 use Rattle.std.specs.declared.cmp.Ordering.{Ordering}
 use Rattle.std.specs.declared.cmp.Ordering.TheVariants.{Less, Equal, Greater}
 use Rattle.std.proofs.lemmas.List.Elements.{AllZip-push, All-head, All-map, All-more, All-tail, All-weaker, filter-append}
-use Rattle.std.proofs.lemmas.List.{take-map, take_all}
+use Rattle.std.proofs.lemmas.List.{length-map, take-map, take_all}
 use Rattle.std.proofs.lemmas.Slice.Eq.{bytes_eq-Decides}
 use Rattle.bson.specs.Lookup.{lookup}
 use Rattle.bson.specs.Tree.{Tree, scalar, null, document, Pairs, no_pairs, pair, append}
 use Rattle.value_order.specs.KeyText.{tree_text}
 use Rattle.value_order.specs.Order.{key_cmp}
+use Rattle.page.specs.History.{History}
+use Rattle.collections.specs.Reading.{ReadsOf}
+use Rattle.collections.specs.State.{State}
+use Rattle.entries.specs.declared.catalogue_reading.Catalogued.{Catalogued}
 use Rattle.filter.specs.Condition.{Conditions}
+use Rattle.index.specs.View.{texts_of}
+use Rattle.path.specs.declared.refusal.Refusal.{Refusal}
 use Rattle.filter.specs.Matches.{matches}
 use Rattle.path.specs.Reach.{Reached, onwards, reach}
 use Rattle.database_model.specs.Find.{matching}
@@ -23,9 +29,12 @@ use Rattle.sort.specs.Sort.{SortField, compare_by, in_direction, insert_in_order
 use Rattle.sort.specs.SortKeys.{field_of}
 use Rattle.sort.specs.declared.sort.Field.{Field}
 use Rattle.queries.specs.Listed.{id_text_of}
+use Rattle.queries.specs.Asking.{IsAsked}
 use Rattle.queries.specs.Folding.{TellFirst}
 use Rattle.queries.specs.SortedIds.{HasSameFirst, IsPartOf, IsShortOf, KeepsShort}
 use Rattle.queries.specs.declared.sorted_ids.Shortening.{Shortening}
+use Rattle.queries.proofs.OrderingLemmas.{take_whole}
+use Rattle.queries.proofs.ReadingLemmas.{reads_made, reads_refused}
 
 -- ---- what a part of a document has of a name
 
@@ -267,3 +276,25 @@ all_shortened start now all none h =
     ∙ ap (λ (ys : List Pairs). take start.most (order start.sort.now ys))
     (append-nil (start.found.items ++ h.shorts) ∙ ap (λ (ys : List Pairs). ys ++ h.shorts) none))
     ∙ first_alike start.sort.now start.most (matching start.filter.now all) h.shorts h.each
+
+-- ---- of all, where no number is one past which none comes
+
+module _ {D : Type 0} (history : D → History) (home : Catalogued) (rules : Conditions) (sort : List SortField) (old new : State D) where
+  abbrev All_or : (List Pairs → List Pairs) → Result (Vec (Vec ℕ Global) Global) Refusal → Type 0
+  All_or some r = ReadsOf history (IsAsked home)
+      (λ now of (ids : Vec (Vec ℕ Global) Global). texts_of ids.items ≡ map id_text_of (some (order sort (matching rules of.documents)))) r old new
+
+  pub all_ordered : (r : Result (Vec (Vec ℕ Global) Global) Refusal) → All_or (take (2 ^ 64 - 1)) r → All_or (λ ds. ds) r
+  all_ordered (Ok ids) reads =
+      reads_made history (IsAsked home)
+      (λ now of (ids : Vec (Vec ℕ Global) Global). texts_of ids.items ≡ map id_text_of (take (2 ^ 64 - 1) (order sort (matching rules of.documents))))
+      (λ now of (ids : Vec (Vec ℕ Global) Global). texts_of ids.items ≡ map id_text_of (order sort (matching rules of.documents))) old new ids ids reads
+      (λ now of asked is.
+      let all = order sort (matching rules of.documents) in
+      let many : length ids.items ≡ length (take (2 ^ 64 - 1) all) =
+      sym (length-map ids.items (λ (v : Vec ℕ Global). v.items)) ∙ ap length is ∙ length-map (take (2 ^ 64 - 1) all) id_text_of in
+      is ∙ ap (map id_text_of) (take_whole (2 ^ 64 - 1) all (omega (arith, many, ids.ok.0, ids.ok.1, ids.small))))
+  all_ordered (Err e) reads =
+      reads_refused history (IsAsked home)
+      (λ now of (ids : Vec (Vec ℕ Global) Global). texts_of ids.items ≡ map id_text_of (take (2 ^ 64 - 1) (order sort (matching rules of.documents))))
+      (λ now of (ids : Vec (Vec ℕ Global) Global). texts_of ids.items ≡ map id_text_of (order sort (matching rules of.documents))) old new e reads
