@@ -1,6 +1,6 @@
 -- Short documents, and that a sort orders them as the documents that they are of.
-use Rattle.std.proofs.Common.{◌≡◌, ℕ, Bool, true, false, List, [], ◌∷◌, ◌++◌, length, map, take, get_or, ◌+◌, ◌<◌, ◌≤◌, Option, Some, None, Result, Ok, Err, Vec, Global, ◌-◌, ◌^◌, refl, sym, ap, subst, ◌∙◌, arith}
-use Rattle.std.proofs.Common.{append_assoc, append-nil}
+use Rattle.std.proofs.Common.{◌≡◌, ℕ, ◌+◌, ◌-◌, ◌^◌, ◌<◌, ◌≤◌, Bool, true, false, List, [], ◌∷◌, ◌++◌, length, map, take, get_or, Option, Some, None, Result}
+use Rattle.std.proofs.Common.{Ok, Err, Vec, Global, refl, sym, ap, subst, ◌∙◌, arith, append_assoc, append-nil}
 use Rattle.std.specs.Prelude.{All, codes, if◌then◌else◌, is_some, option_map, unwrap_or}
 use Rattle.std.specs.List.{AllZip, filter, flat_map}
 use Rattle.std.specs.Str.{bytes_eq}
@@ -24,7 +24,6 @@ use Rattle.path.specs.declared.refusal.Refusal.{Refusal}
 use Rattle.filter.specs.Matches.{matches}
 use Rattle.path.specs.Reach.{Reached, onwards, reach}
 use Rattle.database_model.specs.Find.{matching}
-use Rattle.entries.specs.State.{key_of}
 use Rattle.sort.specs.Sort.{SortField, compare_by, in_direction, insert_in_order, key_among, keys_of, order, put_before, sort_key, sorted}
 use Rattle.sort.specs.SortKeys.{field_of}
 use Rattle.sort.specs.declared.sort.Field.{Field}
@@ -71,40 +70,44 @@ still_same old new d name kept part same = at (lookup d name) refl (lookup new n
         no : None ≡ Some u → ⊥
         no e = cc
 
-module _ (part d : Pairs) (name : List ℕ) (t : Tree) (h : IsPartOf part d) (new : lookup part name ≡ None) (has : lookup d name ≡ Some t) where
+-- The document has grown by what another has of a name.
+pub record Grows (name : List ℕ) (d old new : Pairs) : Type 0 where
+  pub part : IsPartOf new d
+  pub kept : IsPartOf old new
+  pub same : lookup new name ≡ lookup d name
+
+module _ (old d : Pairs) (name : List ℕ) (t : Tree) where
   abbrev grown : Pairs
-  grown = append part (pair name t no_pairs)
+  grown = append old (pair name t no_pairs)
 
-  own : bytes_eq name name ≡ true
-  own = (bytes_eq-Decides name name).1 refl
+  -- what was found before, else the value under its name
+  found_then : (other : List ℕ) → lookup grown other ≡ first_found (lookup old other) (if bytes_eq other name then Some t else None)
+  found_then other = found_in_both old (pair name t no_pairs) other
 
-  pub grown_kept : IsPartOf part grown
-  grown_kept other u e = found_in_both part (pair name t no_pairs) other ∙ ap (λ (o : Option Tree). first_found o (lookup (pair name t no_pairs) other)) e
-
-  pub grown_same : lookup grown name ≡ lookup d name
-  grown_same =
-      found_in_both part (pair name t no_pairs) name
-      ∙ ap (λ (o : Option Tree). first_found o (lookup (pair name t no_pairs) name)) new
-      ∙ ap (λ (b : Bool). if b then Some t else None) own ∙ sym has
-
-  pub grown_part : IsPartOf grown d
-  grown_part other u e = at (lookup part other) refl (bytes_eq other name) refl (sym (found_in_both part (pair name t no_pairs) other) ∙ e)
+  grown_part : IsPartOf old d → lookup d name ≡ Some t → IsPartOf grown d
+  grown_part h has other u e = at (lookup old other) refl (bytes_eq other name) refl (sym (found_then other) ∙ e)
     where
-      one : {x y : Tree} → Some x ≡ Some y → x ≡ y
-      one e = cc
-
-      at : (o : Option Tree) → lookup part other ≡ o → (b : Bool) → bytes_eq other name ≡ b
-          → first_found (lookup part other) (if bytes_eq other name then Some t else None) ≡ Some u → lookup d other ≡ Some u
+      at : (o : Option Tree) → lookup old other ≡ o → (b : Bool) → bytes_eq other name ≡ b
+          → first_found (lookup old other) (if bytes_eq other name then Some t else None) ≡ Some u → lookup d other ≡ Some u
       at (Some v) is b eq found = h other v is ∙ sym (ap (λ (o : Option Tree). first_found o (if bytes_eq other name then Some t else None)) is) ∙ found
       at None is true eq found =
           let same : other ≡ name = (bytes_eq-Decides other name).0 eq in
-          ap (lookup d) same ∙ has
-          ∙ sym (λ i. first_found (is i) (if eq i then Some t else None)) ∙ found
-      at None is false eq found =
-          absurd (no (sym (λ i. first_found (is i) (if eq i then Some t else None)) ∙ found))
+          ap (lookup d) same ∙ has ∙ sym (λ i. first_found (is i) (if eq i then Some t else None)) ∙ found
+      at None is false eq found = absurd (no (sym (λ i. first_found (is i) (if eq i then Some t else None)) ∙ found))
         where
-          no : {X : Type 0} {x : X} → None ≡ Some x → ⊥
+          no : None ≡ Some u → ⊥
           no e = cc
+
+  pub grows : IsPartOf old d → lookup old name ≡ None → lookup d name ≡ Some t → Grows name d old grown
+  grows h new has = record {
+    part = grown_part h has;
+    kept = λ other u e. found_then other ∙ ap (λ (o : Option Tree). first_found o (if bytes_eq other name then Some t else None)) e;
+    same =
+        found_then name ∙ (λ i. first_found (new i) (if own i then Some t else None)) ∙ sym has;
+  }
+    where
+      own : bytes_eq name name ≡ true
+      own = (bytes_eq-Decides name name).1 refl
 
 -- nothing was found of a name
 pub none_there : {X : Type 0} (view : X → Tree) (found : Option X) (o : Option Tree) → option_map view found ≡ o → is_some found ≡ false → o ≡ None
@@ -248,7 +251,8 @@ module _ (start now : Shortening) (all : List Pairs) (d : Pairs) (h : KeepsShort
     first = λ others.
         let others_too = short ∷ others in
         ap (λ (ys : List Pairs). front (ys ++ others)) put ∙ ap front (append_assoc kept (short ∷ []) others) ∙ told others_too ∙ h.first others_too
-        ∙ ap front (append_assoc start.found.items h.shorts others_too ∙ ap (λ (ys : List Pairs). start.found.items ++ ys) (sym (append_assoc h.shorts (short ∷ []) others))
+        ∙ ap front (append_assoc start.found.items h.shorts others_too
+        ∙ ap (λ (ys : List Pairs). start.found.items ++ ys) (sym (append_assoc h.shorts (short ∷ []) others))
         ∙ sym (append_assoc start.found.items (h.shorts ++ short ∷ []) others));
   }
     where
@@ -269,7 +273,8 @@ first_alike sort most ds ss each =
 
 -- of all documents that were lent
 pub all_shortened : (start now : Shortening) (all : List Pairs) → start.found.items ≡ [] → KeepsShort start all now
-    → map id_text_of (take start.most (order start.sort.now now.found.items)) ≡ map id_text_of (take start.most (order start.sort.now (matching start.filter.now all)))
+    → map id_text_of (take start.most (order start.sort.now now.found.items))
+    ≡ map id_text_of (take start.most (order start.sort.now (matching start.filter.now all)))
 all_shortened start now all none h =
     ap (map id_text_of)
     (ap (λ (ys : List Pairs). take start.most (order start.sort.now ys)) (sym (append-nil now.found.items)) ∙ h.first []

@@ -58,11 +58,7 @@ fn take_over(
 }
 
 /// Of a document its `_id` and the fields with which the paths of a sort begin, each once.
-fn short_document(
-    alloc: Global,
-    sort: &Sort,
-    document: &RawDoc<'_>,
-) -> Result<Document, NoMemory>
+fn short_document(alloc: Global, sort: &Sort, document: &RawDoc<'_>) -> Result<Document, NoMemory>
     ensures { IfOk result (λ short. IsShortOf sort.now document.now short) }
 {
     let room = Vec::with_capacity(alloc, sort.fields().len() + 1)?;

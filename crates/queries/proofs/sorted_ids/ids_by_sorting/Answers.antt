@@ -35,7 +35,8 @@ returns-in_ok-first_ids_of-in-Some g c =
     let is : found.items ≡ take (2 ^ 64 - 1) all =
     subst (λ (o : Option (Vec Pairs Global)). IfSome o (λ v. v.items ≡ take (2 ^ 64 - 1) all)) c.in-Some.is told in
     let whole : found.items ≡ all = is ∙ take_whole (2 ^ 64 - 1) all (omega (arith, ap length is, found.ok.0, found.ok.1, found.small)) in
-    c.in_ok-first_ids_of-in-Some.ensures ∙ ap (λ (ds : List Pairs). map id_text_of (take c.args.most (order c.args.sort.now ds))) (c.deref.ensures.value ∙ whole))
+    c.in_ok-first_ids_of-in-Some.ensures
+    ∙ ap (λ (ds : List Pairs). map id_text_of (take c.args.most (order c.args.sort.now ds))) (c.deref.ensures.value ∙ whole))
 
 pub returns-in-None : goal.returns-in-None
 returns-in-None g c =

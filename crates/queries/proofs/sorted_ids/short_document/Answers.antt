@@ -1,4 +1,4 @@
-use Rattle.std.proofs.Common.{◌≡◌, ◌∷◌, ℕ, List, ap, ◌∙◌}
+use Rattle.std.proofs.Common.{◌∷◌, ℕ, List, ap, ◌∙◌}
 use Rattle.queries.proofs.SortedIdLemmas.{short_further, short_whole}
 use Rattle.queries.proofs.sorted_ids.short_document.Goals as goal
 

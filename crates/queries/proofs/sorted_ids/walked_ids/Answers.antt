@@ -20,7 +20,8 @@ returns-in_err-kept g c =
     let e = err_from_is_err_and c.from_residual.result c.from_residual.ensures.1 in
     rw (e.1, e.2)
     (asked_refused g.D.Disk.history (IsAsked c.args.home.now)
-    (λ now of (ids : Vec (Vec ℕ Global) Global). texts_of ids.items ≡ map id_text_of (take c.args.most (order c.args.sort.now (matching c.args.filter.now of.documents))))
+    (λ now of (ids : Vec (Vec ℕ Global) Global). texts_of ids.items
+    ≡ map id_text_of (take c.args.most (order c.args.sort.now (matching c.args.filter.now of.documents))))
     c.args.file.now c.fold_asked.new.file (λ now of done. IsWalked (matches c.args.filter.now) KeepsShort start of.documents done) c.in_err-kept.field-0.0
     c.in_err-kept.ensures.reads)
 
@@ -30,7 +31,8 @@ returns g c =
     let done : Shortening = c.in_ok-kept.kept in
     let ids = c.in_ok-first_ids.field-0 in
     asked_on g.D.Disk.history (IsAsked c.args.home.now)
-    (λ now of (ids : Vec (Vec ℕ Global) Global). texts_of ids.items ≡ map id_text_of (take c.args.most (order c.args.sort.now (matching c.args.filter.now of.documents))))
+    (λ now of (ids : Vec (Vec ℕ Global) Global). texts_of ids.items
+    ≡ map id_text_of (take c.args.most (order c.args.sort.now (matching c.args.filter.now of.documents))))
     c.args.file.now c.fold_asked.new.file (λ now of done. IsWalked (matches c.args.filter.now) KeepsShort start of.documents done) done (Ok ids)
     c.in_ok-kept.ensures.reads
     (λ now of asked walked.
