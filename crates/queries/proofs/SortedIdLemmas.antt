@@ -17,6 +17,7 @@ use Rattle.value_order.specs.Order.{key_cmp}
 use Rattle.page.specs.History.{History}
 use Rattle.collections.specs.Reading.{ReadsOf}
 use Rattle.collections.specs.State.{State}
+use Rattle.entries.specs.State.{Collection}
 use Rattle.entries.specs.declared.catalogue_reading.Catalogued.{Catalogued}
 use Rattle.filter.specs.Condition.{Conditions}
 use Rattle.index.specs.View.{texts_of}
@@ -50,13 +51,6 @@ found_in_both (pair other t ps) qs name = at (bytes_eq name other) (found_in_bot
         → (if b then Some t else lookup (append ps qs) name) ≡ first_found (if b then Some t else lookup ps name) (lookup qs name)
     at true later = refl
     at false later = later
-
-pub part_itself : (d : Pairs) → IsPartOf d d
-part_itself d = λ name t e. e
-
--- what the part has stands there, or the document has none of it
-pub same_there : (part d : Pairs) (name : List ℕ) (t : Tree) → IsPartOf part d → lookup part name ≡ Some t → lookup part name ≡ lookup d name
-same_there part d name t h e = e ∙ sym (h name t e)
 
 -- a part that grew has what the document has of a name of which it had that
 pub still_same : (old new d : Pairs) (name : List ℕ) → IsPartOf old new → IsPartOf new d → lookup old name ≡ lookup d name → lookup new name ≡ lookup d name
@@ -120,9 +114,6 @@ pub record IsShortSoFar (fields : List Field) (i : ℕ) (d short : Pairs) : Type
   pub part : IsPartOf short d
   pub id : lookup short (codes "_id") ≡ lookup d (codes "_id")
   pub same : All (λ f. HasSameFirst f.path d short) (take i fields)
-
-pub short_begun : (fields : List Field) (d new : Pairs) → IsPartOf new d → lookup new (codes "_id") ≡ lookup d (codes "_id") → IsShortSoFar fields 0 d new
-short_begun fields d new part same = record { part = part; id = same; same = λ k f below. absurd (omega (arith, below)) }
 
 still_first : (path : List (List ℕ)) (old new d : Pairs) → IsPartOf old new → IsPartOf new d → HasSameFirst path d old → HasSameFirst path d new
 still_first [] old new d kept part h = h
@@ -209,32 +200,11 @@ sorted_alike sort ds ss each =
 
 -- ---- documents that are lent
 
-pub none_shortened : (start : Shortening) → KeepsShort start [] start
-none_shortened start = record {
-  filter = refl;
-  sort = refl;
-  most = refl;
-  shorts = [];
-  each = tt;
-  first = λ others. ap (λ (ys : List Pairs). take start.most (order start.sort.now (ys ++ others))) (sym (append-nil start.found.items));
-}
-
 module _ (start now : Shortening) (all : List Pairs) (d : Pairs) (h : KeepsShort start all now) where
-  more : (xs : List Pairs) → xs ≡ filter (matches now.filter.now) (d ∷ []) → matching start.filter.now all ++ xs ≡ matching start.filter.now (all ++ d ∷ [])
-  more xs is =
-      ap (λ (ys : List Pairs). matching start.filter.now all ++ ys) (is ∙ ap (λ (rs : Conditions). filter (matches rs) (d ∷ [])) h.filter)
+  one_more : d ∷ [] ≡ filter (matches now.filter.now) (d ∷ []) → matching start.filter.now all ++ d ∷ [] ≡ matching start.filter.now (all ++ d ∷ [])
+  one_more is =
+      ap (λ (ds : List Pairs). matching start.filter.now all ++ ds) (is ∙ ap (λ (rs : Conditions). filter (matches rs) (d ∷ [])) h.filter)
       ∙ sym (filter-append (matches start.filter.now) all (d ∷ []))
-
-  -- the filter doesn't match it
-  pub left_out : [] ≡ filter (matches now.filter.now) (d ∷ []) → KeepsShort start (all ++ d ∷ []) now
-  left_out is = record {
-    filter = h.filter;
-    sort = h.sort;
-    most = h.most;
-    shorts = h.shorts;
-    each = subst (λ (ds : List Pairs). AllZip (IsShortOf start.sort.now) ds h.shorts) (sym (append-nil (matching start.filter.now all)) ∙ more [] is) h.each;
-    first = h.first;
-  }
 
   -- some that came too late were let go, and its short one was put behind the others
   pub one_shortened : (short : Pairs) (kept : List Pairs) (next : Shortening) → d ∷ [] ≡ filter (matches now.filter.now) (d ∷ [])
@@ -245,7 +215,7 @@ module _ (start now : Shortening) (all : List Pairs) (d : Pairs) (h : KeepsShort
     sort = same_sort ∙ h.sort;
     most = same_most ∙ h.most;
     shorts = h.shorts ++ short ∷ [];
-    each = subst (λ (ds : List Pairs). AllZip (IsShortOf start.sort.now) ds (h.shorts ++ short ∷ [])) (more (d ∷ []) is)
+    each = subst (λ (ds : List Pairs). AllZip (IsShortOf start.sort.now) ds (h.shorts ++ short ∷ [])) (one_more is)
         (AllZip-push (IsShortOf start.sort.now) (matching start.filter.now all) h.shorts d short h.each
         (subst (λ (sort : List SortField). IsShortOf sort d short) h.sort one));
     first = λ others.
@@ -282,24 +252,21 @@ all_shortened start now all none h =
     (append-nil (start.found.items ++ h.shorts) ∙ ap (λ (ys : List Pairs). ys ++ h.shorts) none))
     ∙ first_alike start.sort.now start.most (matching start.filter.now all) h.shorts h.each
 
--- ---- of all, where no number is one past which none comes
+-- ---- all of them
 
 module _ {D : Type 0} (history : D → History) (home : Catalogued) (rules : Conditions) (sort : List SortField) (old new : State D) where
-  abbrev All_or : (List Pairs → List Pairs) → Result (Vec (Vec ℕ Global) Global) Refusal → Type 0
-  All_or some r = ReadsOf history (IsAsked home)
-      (λ now of (ids : Vec (Vec ℕ Global) Global). texts_of ids.items ≡ map id_text_of (some (order sort (matching rules of.documents)))) r old new
+  -- the texts are those of so many in the order
+  abbrev AreOf : (List Pairs → List Pairs) → List Collection → Collection → Vec (Vec ℕ Global) Global → Type 0
+  AreOf some now c ids = texts_of ids.items ≡ map id_text_of (some (order sort (matching rules c.documents)))
 
-  pub all_ordered : (r : Result (Vec (Vec ℕ Global) Global) Refusal) → All_or (take (2 ^ 64 - 1)) r → All_or (λ ds. ds) r
+  -- as many as a vector may have are all
+  pub all_ordered : (r : Result (Vec (Vec ℕ Global) Global) Refusal) → ReadsOf history (IsAsked home) (AreOf (take (2 ^ 64 - 1))) r old new
+      → ReadsOf history (IsAsked home) (AreOf (λ ds. ds)) r old new
   all_ordered (Ok ids) reads =
-      reads_made history (IsAsked home)
-      (λ now of (ids : Vec (Vec ℕ Global) Global). texts_of ids.items ≡ map id_text_of (take (2 ^ 64 - 1) (order sort (matching rules of.documents))))
-      (λ now of (ids : Vec (Vec ℕ Global) Global). texts_of ids.items ≡ map id_text_of (order sort (matching rules of.documents))) old new ids ids reads
-      (λ now of asked is.
-      let all = order sort (matching rules of.documents) in
+      reads_made history (IsAsked home) (AreOf (take (2 ^ 64 - 1))) (AreOf (λ ds. ds)) old new ids ids reads
+      (λ now c asked is.
+      let all = order sort (matching rules c.documents) in
       let many : length ids.items ≡ length (take (2 ^ 64 - 1) all) =
       sym (length-map ids.items (λ (v : Vec ℕ Global). v.items)) ∙ ap length is ∙ length-map (take (2 ^ 64 - 1) all) id_text_of in
       is ∙ ap (map id_text_of) (take_whole (2 ^ 64 - 1) all (omega (arith, many, ids.ok.0, ids.ok.1, ids.small))))
-  all_ordered (Err e) reads =
-      reads_refused history (IsAsked home)
-      (λ now of (ids : Vec (Vec ℕ Global) Global). texts_of ids.items ≡ map id_text_of (take (2 ^ 64 - 1) (order sort (matching rules of.documents))))
-      (λ now of (ids : Vec (Vec ℕ Global) Global). texts_of ids.items ≡ map id_text_of (order sort (matching rules of.documents))) old new e reads
+  all_ordered (Err e) reads = reads_refused history (IsAsked home) (AreOf (take (2 ^ 64 - 1))) (AreOf (λ ds. ds)) old new e reads
