@@ -48,7 +48,7 @@ use Rattle.pinned_cursors.proofs.TurnTied.{tied_on}
 -- ---- the batch
 
 -- What a list tells behind some documents, the texts behind theirs tell.
-lists_on : (texts : List (List ℕ)) (p : Projection) (ds rest : List Pairs) (n : ℕ) → ListsRest texts p ds rest → ListsRest (drop n texts) p ds (drop n rest)
+pub lists_on : (texts : List (List ℕ)) (p : Projection) (ds rest : List Pairs) (n : ℕ) → ListsRest texts p ds rest → ListsRest (drop n texts) p ds (drop n rest)
 lists_on texts p ds rest n l = record {
   some = drop n l.some;
   there = record {

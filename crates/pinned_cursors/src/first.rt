@@ -105,16 +105,16 @@ pub fn give_first<D: Disk>(
         return Err(Refusal::StorageFailed);
     }
     let version = file.pin()?;
-    match give_pinned(alloc, file, cursors, version, asked, left, rest) {
-        Ok(given) => {
-            if !given.is_open {
-                file.unpin(version);
-            }
-            Ok(given.reply)
-        }
+    let given = match give_pinned(alloc, file, cursors, version, asked, left, rest) {
+        Ok(given) => given,
         Err(refusal) => {
             file.unpin(version);
-            Err(refusal)
+            return Err(refusal);
         }
+    };
+    if given.is_open {
+        return Ok(given.reply);
     }
+    file.unpin(version);
+    Ok(given.reply)
 }
