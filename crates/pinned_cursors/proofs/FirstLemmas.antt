@@ -1,7 +1,7 @@
 -- A first batch of the documents of a list is read from the version that is pinned, and a cursor is opened on the others.
 use Rattle.std.proofs.Common.{◌≡◌, inl, inr, ℕ, ◌<◌, ◌≤◌, Bool, true, false, List, length, drop, take}
 use Rattle.std.proofs.Common.{Option, Some, None, Result, Ok, Err, refl, sym, ap, subst, ◌∙◌, arith}
-use Rattle.std.specs.Prelude.{◌⊎◌, ◌^◌, codes, MatchOption, MatchResult}
+use Rattle.std.specs.Prelude.{◌⊎◌, ◌^◌, not, is_some, codes, unwrap_or, IfNone, IfSome, MatchOption, MatchResult}
 use Rattle.std.specs.Global.{Vec}
 use Rattle.std.proofs.lemmas.Bool.Decides.{nat_tests}
 use Rattle.bson.specs.Tree.{Pairs}
@@ -47,6 +47,29 @@ use Rattle.pinned_cursors.proofs.TurnLemmas.{no_pins, pins_of_stays}
 number_unsaid : (n : ℕ) (ds : List Pairs) (a b : ℕ) → length ds ≤ n → number_after n ds a ≡ number_after n ds b
 number_unsaid n ds a b all = grind (arith, nat_tests, all)
 
+-- ---- options
+
+module _ {A : Type 0} where
+  pub none_so : (o : Option A) (b : Bool) → is_some o ≡ not b → b ≡ true → o ≡ None
+  none_so None b is t = refl
+  none_so (Some x) b is t = absurd (no (is ∙ ap not t))
+    where
+      no : true ≡ false → ⊥
+      no e = cc
+
+  pub some_so : (o : Option A) (b : Bool) → is_some o ≡ not b → b ≡ false → (x : A) × (o ≡ Some x)
+  some_so None b is f = absurd (no (is ∙ ap not f))
+    where
+      no : false ≡ true → ⊥
+      no e = cc
+  some_so (Some x) b is f = (x, refl)
+
+  pub if_none : (o : Option A) (P : Type 0) → o ≡ None → IfNone o P → P
+  if_none o P is h = subst (λ (x : Option A). IfNone x P) is h
+
+  pub if_some : (o : Option A) (x : A) (P : A → Type 0) → o ≡ Some x → IfSome o P → P x
+  if_some o x P is h = subst (λ (x : Option A). IfSome x P) is h
+
 -- ---- in the version that is pinned
 
 module _ {D : Type 0} (history : D → History) (version : Version) (number : ℕ) (p : Projection) (texts : List (List ℕ)) (documents : List Pairs)
@@ -55,7 +78,7 @@ module _ {D : Type 0} (history : D → History) (version : Version) (number : �
   its = held_walk version number p (listed texts)
 
   -- the reading of the batch
-  abbrev ReadsListed : BatchAsked → Result GivenBatch Refusal → Type 0
+  abbrev pub ReadsListed : BatchAsked → Result GivenBatch Refusal → Type 0
   ReadsListed asked result = ReadsVersion history version (AreListedIn number texts) (λ now chosen b. IsListedBatch asked (given_of p chosen) b) result old new
 
   listed_there : (asked : BatchAsked) (result : Result GivenBatch Refusal) → ReadsListed asked result → KeepsWord (disk_history history new)
@@ -179,6 +202,15 @@ module _ {D : Type 0} (history : D → History) (version : Version) (number : �
 -- ---- the pin around it
 
 module _ {D : Type 0} (history : D → History) where
+  nothing_read : (file : State D) → ReadsThenPins history file file
+  nothing_read file = record {
+    read = file;
+    on = goes_from_itself history file;
+    unchanged = refl;
+    same = λ start now has. has;
+    pins = no_pins history file;
+  }
+
   -- Cursors, and a pin beside them, stay tied where commands read.
   pub beside_on : (old new : State D) (version : Version) (list : List HeldCursor) → GoesFrom history old new
       → TiedBeside history old version list → TiedBeside history new version list
@@ -205,31 +237,22 @@ module _ {D : Type 0} (history : D → History) where
     cause_around e (inr (inl (is, failed))) = inr (inl (is, failed_around failed))
     cause_around e (inr (inr (is, full))) = inr (inr (is, full_around full))
 
-module _ {D E : Type 0} (history : D → History) (connection : ℕ) (namespace : List ℕ) (number : ℕ) (p : Projection) (way : Way) (documents : List Pairs)
+module _ {D : Type 0} (history : D → History) (connection : ℕ) (namespace : List ℕ) (number : ℕ) (p : Projection) (way : Way) (documents : List Pairs)
     (most : ℕ) (old : State D) (held : Held) where
   abbrev Firsts : Result Pairs Refusal → State D → Held → Type 0
   Firsts result new after = GivesFirst history connection namespace number p way documents most result old new held after
-
-  nothing_read : (file : State D) → ReadsThenPins history file file
-  nothing_read file = record {
-    read = file;
-    on = goes_from_itself history file;
-    unchanged = refl;
-    same = λ start now has. has;
-    pins = no_pins history file;
-  }
 
   pub first_none : (e : Refusal) → HasCause history old old e → (new : State D) → new ≡ old → Firsts (Err e) new held
   first_none e cause new same = subst (λ (file : State D). Firsts (Err e) file held) (sym same) (record {
     pinned = old;
     first = no_pins history old;
-    goes = nothing_read old;
+    goes = nothing_read history old;
     err = refl;
     answers = λ k left. inl cause;
     tied = λ left tied. tied;
   })
 
-  module _ (running : is_stopped old ≡ false) (rests : is_changed old ≡ false) (version : Version) (pinned read : State D)
+  module _ {E : Type 0} (running : is_stopped old ≡ false) (rests : is_changed old ≡ false) (version : Version) (pinned read : State D)
       (pin : PinsNow {E = E} history (Ok version) old pinned) where
     abbrev its_walk : HeldWalk
     its_walk = held_walk version number p way
