@@ -1,14 +1,15 @@
 -- Short documents, and that a sort orders them as the documents that they are of.
 use Rattle.std.proofs.Common.{◌≡◌, ℕ, ◌+◌, ◌-◌, ◌^◌, ◌<◌, ◌≤◌, Bool, true, false, List, [], ◌∷◌, ◌++◌, length, map, take, get_or, Option, Some, None, Result}
-use Rattle.std.proofs.Common.{Ok, Err, Vec, Global, refl, sym, ap, subst, ◌∙◌, arith, append_assoc, append-nil}
-use Rattle.std.specs.Prelude.{All, codes, if◌then◌else◌, is_some, option_map, unwrap_or}
+use Rattle.std.proofs.Common.{inl, inr, Ok, Err, Vec, Global, refl, sym, ap, subst, ◌∙◌, arith, append_assoc, append-nil}
+use Rattle.std.specs.Prelude.{◌⊎◌, All, Contains, codes, if◌then◌else◌, is_some, option_map, unwrap_or}
 use Rattle.std.specs.List.{AllZip, filter, flat_map}
 use Rattle.std.specs.Str.{bytes_eq}
 use Rattle.std.specs.Ordering.{ordering_then}
 use Rattle.std.specs.declared.cmp.Ordering.{Ordering}
 use Rattle.std.specs.declared.cmp.Ordering.TheVariants.{Less, Equal, Greater}
-use Rattle.std.proofs.lemmas.List.Elements.{AllZip-push, All-head, All-map, All-more, All-tail, All-weaker, filter-append}
-use Rattle.std.proofs.lemmas.List.{length-map, take-map, take_all}
+use Rattle.std.proofs.lemmas.List.Elements.{AllZip-push, All-head, All-map, All-more, All-tail, All-weaker, Contains-append_left, Contains-push, filter-append}
+use Rattle.std.proofs.lemmas.List.{length-map, map-append, take-map, take_all, take_more}
+use Rattle.std.proofs.lemmas.Grind.{flat_map-append}
 use Rattle.std.proofs.lemmas.Slice.Eq.{bytes_eq-Decides}
 use Rattle.bson.specs.Lookup.{lookup}
 use Rattle.bson.specs.Tree.{Tree, scalar, null, document, Pairs, no_pairs, pair, append}
@@ -31,7 +32,7 @@ use Rattle.sort.specs.declared.sort.Field.{Field}
 use Rattle.queries.specs.Listed.{id_text_of}
 use Rattle.queries.specs.Asking.{IsAsked}
 use Rattle.queries.specs.Folding.{TellFirst}
-use Rattle.queries.specs.SortedIds.{HasSameFirst, IsPartOf, IsShortOf, KeepsShort}
+use Rattle.queries.specs.SortedIds.{HasNoOther, HasSameFirst, IsPartOf, IsShortOf, KeepsShort, looked_at}
 use Rattle.queries.specs.declared.sorted_ids.Shortening.{Shortening}
 use Rattle.queries.proofs.OrderingLemmas.{take_whole}
 use Rattle.queries.proofs.ReadingLemmas.{reads_made, reads_refused}
@@ -64,13 +65,14 @@ still_same old new d name kept part same = at (lookup d name) refl (lookup new n
         no : None ≡ Some u → ⊥
         no e = cc
 
--- The document has grown by what another has of a name.
+-- A part of a document has grown by what this has of a name.
 pub record Grows (name : List ℕ) (d old new : Pairs) : Type 0 where
   pub part : IsPartOf new d
   pub kept : IsPartOf old new
   pub same : lookup new name ≡ lookup d name
+  pub only : HasNoOther name old new
 
-module _ (old d : Pairs) (name : List ℕ) (t : Tree) where
+module _ (old : Pairs) (name : List ℕ) (t : Tree) where
   abbrev grown : Pairs
   grown = append old (pair name t no_pairs)
 
@@ -78,30 +80,41 @@ module _ (old d : Pairs) (name : List ℕ) (t : Tree) where
   found_then : (other : List ℕ) → lookup grown other ≡ first_found (lookup old other) (if bytes_eq other name then Some t else None)
   found_then other = found_in_both old (pair name t no_pairs) other
 
-  grown_part : IsPartOf old d → lookup d name ≡ Some t → IsPartOf grown d
-  grown_part h has other u e = at (lookup old other) refl (bytes_eq other name) refl (sym (found_then other) ∙ e)
+  -- what is found was there, or is the value
+  old_or_new : (other : List ℕ) (u : Tree) → lookup grown other ≡ Some u → (lookup old other ≡ Some u) ⊎ ((other ≡ name) × (t ≡ u))
+  old_or_new other u e = at (lookup old other) refl (bytes_eq other name) refl (sym (found_then other) ∙ e)
     where
       at : (o : Option Tree) → lookup old other ≡ o → (b : Bool) → bytes_eq other name ≡ b
-          → first_found (lookup old other) (if bytes_eq other name then Some t else None) ≡ Some u → lookup d other ≡ Some u
-      at (Some v) is b eq found = h other v is ∙ sym (ap (λ (o : Option Tree). first_found o (if bytes_eq other name then Some t else None)) is) ∙ found
+          → first_found (lookup old other) (if bytes_eq other name then Some t else None) ≡ Some u → (lookup old other ≡ Some u) ⊎ ((other ≡ name) × (t ≡ u))
+      at (Some v) is b eq found = inl (is ∙ sym (ap (λ (o : Option Tree). first_found o (if bytes_eq other name then Some t else None)) is) ∙ found)
       at None is true eq found =
-          let same : other ≡ name = (bytes_eq-Decides other name).0 eq in
-          ap (lookup d) same ∙ has ∙ sym (λ i. first_found (is i) (if eq i then Some t else None)) ∙ found
+          inr ((bytes_eq-Decides other name).0 eq, one (sym (λ i. first_found (is i) (if eq i then Some t else None)) ∙ found))
+        where
+          one : Some t ≡ Some u → t ≡ u
+          one e = cc
       at None is false eq found = absurd (no (sym (λ i. first_found (is i) (if eq i then Some t else None)) ∙ found))
         where
           no : None ≡ Some u → ⊥
           no e = cc
 
-  pub grows : IsPartOf old d → lookup old name ≡ None → lookup d name ≡ Some t → Grows name d old grown
-  grows h new has = record {
-    part = grown_part h has;
+  pub grows : (d : Pairs) → IsPartOf old d → lookup old name ≡ None → lookup d name ≡ Some t → Grows name d old grown
+  grows d h new has = record {
+    part = λ other u e. there other u (old_or_new other u e);
     kept = λ other u e. found_then other ∙ ap (λ (o : Option Tree). first_found o (if bytes_eq other name then Some t else None)) e;
-    same =
-        found_then name ∙ (λ i. first_found (new i) (if own i then Some t else None)) ∙ sym has;
+    same = found_then name ∙ (λ i. first_found (new i) (if own i then Some t else None)) ∙ sym has;
+    only = λ other u e. named other u (old_or_new other u e);
   }
     where
       own : bytes_eq name name ≡ true
       own = (bytes_eq-Decides name name).1 refl
+
+      there : (other : List ℕ) (u : Tree) → (lookup old other ≡ Some u) ⊎ ((other ≡ name) × (t ≡ u)) → lookup d other ≡ Some u
+      there other u (inl before) = h other u before
+      there other u (inr (same, is)) = ap (lookup d) same ∙ has ∙ ap Some is
+
+      named : (other : List ℕ) (u : Tree) → (lookup old other ≡ Some u) ⊎ ((other ≡ name) × (t ≡ u)) → (lookup old other ≡ Some u) ⊎ (other ≡ name)
+      named other u (inl before) = inl before
+      named other u (inr (same, is)) = inr same
 
 -- nothing was found of a name
 pub none_there : {X : Type 0} (view : X → Tree) (found : Option X) (o : Option Tree) → option_map view found ≡ o → is_some found ≡ false → o ≡ None
@@ -110,19 +123,48 @@ none_there view (Some x) o is none = absurd cc
 
 -- ---- as far as the sort's fields were met
 
+-- the names that were met
+abbrev pub met : List Field → ℕ → List (List ℕ)
+met fields i = looked_at (map field_of (take i fields))
+
 pub record IsShortSoFar (fields : List Field) (i : ℕ) (d short : Pairs) : Type 0 where
   pub part : IsPartOf short d
   pub id : lookup short (codes "_id") ≡ lookup d (codes "_id")
   pub same : All (λ f. HasSameFirst f.path d short) (take i fields)
+  pub only : (name : List ℕ) (t : Tree) → lookup short name ≡ Some t → Contains (met fields i) name
+
+pub short_begun : (fields : List Field) (d old new : Pairs) → old ≡ no_pairs → IsPartOf new d → lookup new (codes "_id") ≡ lookup d (codes "_id")
+    → HasNoOther (codes "_id") old new → IsShortSoFar fields 0 d new
+short_begun fields d old new empty part same only = record {
+  part = part;
+  id = same;
+  same = λ k f below. absurd (omega (arith, below));
+  only = λ name t e. at name t (only name t e);
+}
+  where
+    at : (name : List ℕ) (t : Tree) → (lookup old name ≡ Some t) ⊎ (name ≡ codes "_id") → Contains (met fields 0) name
+    at name t (inl before) = absurd (no (sym (ap (λ (ps : Pairs). lookup ps name) empty) ∙ before))
+      where
+        no : None ≡ Some t → ⊥
+        no e = cc
+    at name t (inr is) = (0, omega arith, sym is)
+
+met_more : (fields : List Field) (i : ℕ) (f : Field) (name : List ℕ) (names : List (List ℕ)) → i < length fields → f ≡ get_or fields i f
+    → name ∷ names ≡ f.path → met fields (i + 1) ≡ met fields i ++ name ∷ []
+met_more fields i f name names below is path =
+    ap (λ (fs : List Field). looked_at (map field_of fs)) (take_more fields i f below ∙ ap (λ (g : Field). take i fields ++ g ∷ []) (sym is))
+    ∙ ap looked_at (map-append field_of (take i fields) (f ∷ []))
+    ∙ ap (λ (ns : List (List ℕ)). codes "_id" ∷ ns) (flat_map-append (λ (field : SortField). take 1 field.0) (map field_of (take i fields)) (field_of f ∷ []))
+    ∙ ap (λ (p : List (List ℕ)). met fields i ++ (take 1 p ++ [])) (sym path)
 
 still_first : (path : List (List ℕ)) (old new d : Pairs) → IsPartOf old new → IsPartOf new d → HasSameFirst path d old → HasSameFirst path d new
 still_first [] old new d kept part h = h
 still_first (name ∷ names) old new d kept part h = still_same old new d name kept part h
 
 pub short_further : (fields : List Field) (i : ℕ) (f : Field) (name : List ℕ) (names : List (List ℕ)) (d old new : Pairs) → i < length fields
-    → f ≡ get_or fields i f → name ∷ names ≡ f.path → IsPartOf old new → IsPartOf new d → lookup new name ≡ lookup d name
+    → f ≡ get_or fields i f → name ∷ names ≡ f.path → IsPartOf old new → IsPartOf new d → lookup new name ≡ lookup d name → HasNoOther name old new
     → IsShortSoFar fields i d old → IsShortSoFar fields (i + 1) d new
-short_further fields i f name names d old new below is path kept part same h =
+short_further fields i f name names d old new below is path kept part same only h =
     let Same : Pairs → Field → Type 0 = λ s g. HasSameFirst g.path d s in
     let here : HasSameFirst f.path d new = subst (λ (p : List (List ℕ)). HasSameFirst p d new) path same in
     record {
@@ -130,7 +172,12 @@ short_further fields i f name names d old new below is path kept part same h =
       id = still_same old new d (codes "_id") kept part h.id;
       same = All-more (Same new) fields i f below
           (All-weaker (Same old) (Same new) (λ g. still_first g.path old new d kept part) (take i fields) h.same) (subst (Same new) is here);
+      only = λ other t e. subst (λ (ns : List (List ℕ)). Contains ns other) (sym (met_more fields i f name names below is path)) (at other t (only other t e));
     }
+  where
+    at : (other : List ℕ) (t : Tree) → (lookup old other ≡ Some t) ⊎ (other ≡ name) → Contains (met fields i ++ name ∷ []) other
+    at other t (inl before) = Contains-append_left (met fields i) (name ∷ []) other (h.only other t before)
+    at other t (inr eq) = subst (Contains (met fields i ++ name ∷ [])) (sym eq) (Contains-push (met fields i) name)
 
 pub short_whole : (fields : List Field) (sort : List SortField) (i : ℕ) (d short : Pairs) → map field_of fields ≡ sort → length fields ≤ i
     → IsShortSoFar fields i d short → IsShortOf sort d short
@@ -139,6 +186,7 @@ short_whole fields sort i d short is past h = record {
   fields = subst (All (λ field. HasSameFirst field.0 d short)) is
       (All-map (λ (field : SortField). HasSameFirst field.0 d short) field_of fields
       (subst (All (λ (f : Field). HasSameFirst f.path d short)) (take_all i fields past) h.same));
+  only = λ name t e. subst (λ (fields : List SortField). Contains (looked_at fields) name) (ap (map field_of) (take_all i fields past) ∙ is) (h.only name t e);
 }
 
 -- ---- a sort orders them alike

@@ -11,7 +11,7 @@ ghost use Rattle.index.specs.View.{texts_of};
 ghost use Rattle.sort.specs.Sort.{order};
 ghost use Rattle.queries.specs.Asking.{IsAsked};
 ghost use Rattle.queries.specs.Listed.{id_text_of};
-ghost use Rattle.queries.specs.SortedIds.{IsPartOf, IsShortOf, KeepsShort};
+ghost use Rattle.queries.specs.SortedIds.{HasNoOther, IsPartOf, IsShortOf, KeepsShort};
 
 use crate::by_order::first_by_index;
 use crate::id_range::fold_asked;
@@ -40,6 +40,7 @@ fn take_over(
     ensures part { OnOk result (IsPartOf part.new document.now) }
     ensures kept { OnOk result (IsPartOf part.old part.new) }
     ensures same { OnOk result (lookup part.new name.now ≡ lookup document.now name.now) }
+    ensures only { OnOk result (HasNoOther name.now part.old part.new) }
 {
     let _bytes = document.bytes();
     if part.get(name).is_some() {

@@ -4,7 +4,7 @@ use Rattle.bson.specs.Lookup.{lookup}
 use Rattle.bson.specs.View.{tree}
 use Rattle.bson.specs.declared.fault.BuildFault.{BuildFault}
 use Rattle.replies.proofs.Replying.{lacks}
-use Rattle.queries.specs.SortedIds.{IsPartOf}
+use Rattle.queries.specs.SortedIds.{HasNoOther, IsPartOf}
 use Rattle.queries.proofs.SortedIdLemmas.{grows, none_there}
 use Rattle.queries.proofs.sorted_ids.take_over.Goals as goal
 
@@ -24,7 +24,7 @@ returns-in-Ok-clause-part c =
     let t = tree c.in_ok-value.field-0 in
     let none = none_there (λ v. tree v.now) c.get.result (lookup part name) c.get.ensures (sym c.is_some.ensures ∙ c.if-is_some.false) in
     let has : lookup d name ≡ Some t = sym c.get-2.ensures ∙ c.in-Some.is ∙ ap Some (sym c.in_ok-value.ensures) in
-    let more = grows part d name t c.requires.part none has in
+    let more = grows part name t d c.requires.part none has in
     subst (λ ps. IsPartOf ps d) (sym c.in-Ok.ensures.ok) more.part
 
 pub returns-in-Ok-clause-kept : goal.returns-in-Ok-clause-kept
@@ -35,7 +35,7 @@ returns-in-Ok-clause-kept c =
     let t = tree c.in_ok-value.field-0 in
     let none = none_there (λ v. tree v.now) c.get.result (lookup part name) c.get.ensures (sym c.is_some.ensures ∙ c.if-is_some.false) in
     let has : lookup d name ≡ Some t = sym c.get-2.ensures ∙ c.in-Some.is ∙ ap Some (sym c.in_ok-value.ensures) in
-    let more = grows part d name t c.requires.part none has in
+    let more = grows part name t d c.requires.part none has in
     subst (IsPartOf part) (sym c.in-Ok.ensures.ok) more.kept
 
 pub returns-in-Ok-clause-same : goal.returns-in-Ok-clause-same
@@ -46,5 +46,16 @@ returns-in-Ok-clause-same c =
     let t = tree c.in_ok-value.field-0 in
     let none = none_there (λ v. tree v.now) c.get.result (lookup part name) c.get.ensures (sym c.is_some.ensures ∙ c.if-is_some.false) in
     let has : lookup d name ≡ Some t = sym c.get-2.ensures ∙ c.in-Some.is ∙ ap Some (sym c.in_ok-value.ensures) in
-    let more = grows part d name t c.requires.part none has in
+    let more = grows part name t d c.requires.part none has in
     subst (λ ps. lookup ps name ≡ lookup d name) (sym c.in-Ok.ensures.ok) more.same
+
+pub returns-in-Ok-clause-only : goal.returns-in-Ok-clause-only
+returns-in-Ok-clause-only c =
+    let part = c.args.part.now in
+    let name = c.args.name.now in
+    let d = c.args.document.now in
+    let t = tree c.in_ok-value.field-0 in
+    let none = none_there (λ v. tree v.now) c.get.result (lookup part name) c.get.ensures (sym c.is_some.ensures ∙ c.if-is_some.false) in
+    let has : lookup d name ≡ Some t = sym c.get-2.ensures ∙ c.in-Some.is ∙ ap Some (sym c.in_ok-value.ensures) in
+    let more = grows part name t d c.requires.part none has in
+    subst (HasNoOther name part) (sym c.in-Ok.ensures.ok) more.only
