@@ -20,7 +20,7 @@ use projection::Projection;
 use replies::ConnId;
 
 /// What stands from a place on.
-fn behind<T>(documents: Vec<T>, place: usize) -> Result<Vec<T>, NoMemory>
+fn behind<T: Drop>(documents: Vec<T>, place: usize) -> Result<Vec<T>, NoMemory>
     ensures { IfOk result (λ v. v.items ≡ drop place documents.items) }
 {
     if place == 0 {
@@ -32,7 +32,7 @@ fn behind<T>(documents: Vec<T>, place: usize) -> Result<Vec<T>, NoMemory>
 }
 
 /// What is left without those that are skipped and past the limit; a limit of 0 is none.
-pub(crate) fn window<T>(documents: Vec<T>, skip: usize, limit: usize) -> Result<Vec<T>, NoMemory>
+pub(crate) fn window<T: Drop>(documents: Vec<T>, skip: usize, limit: usize) -> Result<Vec<T>, NoMemory>
     ensures { IfOk result (λ v. v.items ≡ window skip limit documents.items) }
 {
     let mut rest = behind(documents, skip)?;
