@@ -2,7 +2,8 @@
 
 ghost use Rattle.std.specs.Prelude.{◌≡◌, ◌≤◌, false, All, IfOk, length};
 ghost use Rattle.collections.specs.View.{is_changed};
-ghost use Rattle.database_model.specs.Lawful.{IsWithin};
+ghost use Rattle.cursors.specs.Held.{cursors_of};
+ghost use Rattle.database_model.specs.Lawful.{AreLawfulCursors, IsWithin};
 ghost use Rattle.pinned_cursors.specs.First.{GivesFirst, GivesPinned};
 ghost use Rattle.pinned_cursors.specs.Opening.{held_walk, way_by};
 ghost use Rattle.replies.specs.View.{IsSendable};
@@ -49,6 +50,8 @@ fn give_pinned<D: Disk>(
     ensures gives { GivesPinned D.history asked.now.connection asked.now.namespace.now
         (held_walk version left.entry.number left.entry.projection.now (way_by left.entry))
         rest.value asked.now.most result file.old file.new cursors.old cursors.new }
+    ensures lawful { AreLawfulCursors (cursors_of cursors.old)
+        → AreLawfulCursors (cursors_of cursors.new) }
     ensures sendable { IfOk result (λ g. IsSendable g.reply) }
 {
     let number = cursors.next_number(asked.connection);
@@ -99,6 +102,8 @@ pub fn give_first<D: Disk>(
     ensures gives { GivesFirst D.history asked.now.connection asked.now.namespace.now
         left.entry.number left.entry.projection.now (way_by left.entry) rest.value
         asked.now.most result file.old file.new cursors.old cursors.new }
+    ensures lawful { AreLawfulCursors (cursors_of cursors.old)
+        → AreLawfulCursors (cursors_of cursors.new) }
     ensures sendable { IfOk result (λ d. IsSendable d) }
 {
     if file.is_stopped() {
