@@ -50,6 +50,8 @@ fn give_pinned<D: Disk>(
     ensures gives { GivesPinned D.history asked.now.connection asked.now.namespace.now
         (held_walk version left.entry.number left.entry.projection.now (way_by left.entry))
         rest.value asked.now.most result file.old file.new cursors.old cursors.new }
+    ensures lawful { AreLawfulCursors (cursors_of cursors.old)
+        → AreLawfulCursors (cursors_of cursors.new) }
     ensures sendable { IfOk result (λ g. IsSendable g.reply) }
 {
     let number = cursors.next_number(asked.connection);

@@ -1,16 +1,20 @@
 use Rattle.std.proofs.Common.{◌≡◌, ℕ, ◌<◌, ◌^◌, true, false, Option, Some, Ok, Err, List, drop, ap, refl, sym, subst, ◌∙◌}
-use Rattle.std.specs.Prelude.{unwrap_or}
+use Rattle.std.specs.Prelude.{All, unwrap_or}
+use Rattle.std.proofs.lemmas.List.Elements.{All-drop}
 use Rattle.std.proofs.lemmas.List.{drop-map}
 use Rattle.std.proofs.lemmas.Result.{err_from_is_err_and}
 use Rattle.std.specs.Global.{Vec}
 use Rattle.cursors.specs.Changes.{opened}
-use Rattle.cursors.specs.Held.{cursors_of, listed}
+use Rattle.cursors.specs.Held.{Held, cursors_of, listed}
+use Rattle.bson.specs.Tree.{Pairs}
 use Rattle.database_model.specs.Cursors.{is_refused}
+use Rattle.database_model.specs.Lawful.{AreLawfulCursors, IsWithin}
 use Rattle.index.specs.View.{texts_of}
 use Rattle.queries.specs.declared.batches.BatchAsked.{BatchAsked}
 use Rattle.replies.specs.declared.batch_spelling.BatchKind.TheVariants as batches
 use Rattle.pinned_cursors.specs.Opening.{held_walk}
 use Rattle.pinned_cursors.proofs.FirstLemmas.{ReadsListed, none_so, some_so, if_none, if_some, pinned_unread, pinned_whole, pinned_many, pinned_open}
+use Rattle.pinned_cursors.proofs.LawfulLemmas.{lawful_opened}
 use Rattle.pinned_cursors.proofs.first.give_pinned.Goals as goal
 
 pub returns-in_err-given-clause-gives : goal.returns-in_err-given-clause-gives
@@ -83,3 +87,10 @@ returns-clause-gives g c =
     (c.in_ok-open_list.ensures.ok
     ∙ (λ i. opened c.args.cursors.now c.args.asked.now.connection c.args.asked.now.namespace.now (c.give.ensures i)
     (Some (held_walk c.args.version (behind.number i) (behind.projection i) (listed (texts i))))))
+
+pub returns-clause-lawful : goal.returns-clause-lawful
+returns-clause-lawful g c = λ h.
+    subst (λ (held : Held). AreLawfulCursors (cursors_of held)) (sym c.in_ok-open_list.ensures.ok)
+    (lawful_opened c.args.cursors.now c.args.asked.now.connection c.args.asked.now.namespace.now c.give.new.self.value _
+    (subst (λ (ds : List Pairs). All IsWithin ds) (sym c.give.ensures)
+    (All-drop IsWithin c.in_ok-given.given.count c.args.rest.value c.requires.within)) h)
