@@ -1,7 +1,9 @@
 -- A find that sorts gives a first batch of the documents that a list tells, and a cursor goes on by the others.
-use Rattle.std.proofs.Common.{◌≡◌, ◌⊎◌, inl, inr, ℕ, ◌<◌, ◌≤◌, Bool, true, false, List, length, map, Some, Result, Ok, Err, refl, sym, ap, subst, ◌∙◌, arith}
+use Rattle.std.proofs.Common.{◌≡◌, ◌⊎◌, inl, inr, ℕ, ◌<◌, ◌≤◌, ◌^◌, ◌-◌, take, Bool, true, false, List, length, map, Some, Result, Ok, Err, refl, sym, ap, subst, ◌∙◌, arith}
 use Rattle.std.specs.Prelude.{All, MatchResult, OnErr, nat_le}
+use Rattle.std.specs.Global.{Vec}
 use Rattle.std.proofs.lemmas.Bool.Decides.{nat_tests}
+use Rattle.std.proofs.lemmas.List.{length-map}
 use Rattle.bson.specs.Tree.{Pairs}
 use Rattle.commands.specs.Find.{Find, Query}
 use Rattle.page.specs.History.{History, KeepsWord}
@@ -12,17 +14,20 @@ use Rattle.collections.specs.Calls.{HasCause}
 use Rattle.collections.specs.State.{State}
 use Rattle.cursors.specs.Held.{Held, cursors_of, listed, table_of}
 use Rattle.database_model.specs.Cursors.{batch_of, first_batch}
-use Rattle.database_model.specs.Find.{query_result, run_find, selection}
+use Rattle.database_model.specs.Find.{Suffices, matching, query_result, run_find, selection, window}
 use Rattle.database_model.specs.Lawful.{AreLawfulCursors}
 use Rattle.database_model.specs.World.{World, documents_of}
 use Rattle.entries.specs.State.{key_of}
 use Rattle.entries.specs.StateReads.{find_document}
 use Rattle.entries.specs.declared.catalogue_reading.Catalogued.{Catalogued}
+use Rattle.index.specs.View.{texts_of}
 use Rattle.pinned_cursors.specs.First.{GivesFirst, IsFirstGiven}
 use Rattle.pinned_cursors.specs.Opening.{IsLeftOf}
+use Rattle.queries.specs.Listed.{id_text_of}
 use Rattle.queries.proofs.ReadingLemmas.{of_file}
 use Rattle.replies.specs.FirstBatch.{IsFirstBatch, IsNoBatch}
 use Rattle.replies.specs.View.{with_ok}
+use Rattle.sort.specs.Sort.{order}
 use Rattle.statements.proofs.Numbers.{found_kept}
 use Rattle.engine.specs.Durable.{IsSound, disk_history}
 use Rattle.engine.specs.Performing.{DoesPlanned, Performs}
@@ -30,12 +35,23 @@ use Rattle.engine.specs.View.{world, world_of}
 use Rattle.engine.specs.Walking.{AreIdsAsked}
 use Rattle.engine.specs.declared.engine.Engine.{Engine}
 use Rattle.engine.proofs.Continuing.{continues_further, continues_of, continues_still}
-use Rattle.engine.proofs.Finding.{chosen_kept}
+use Rattle.engine.proofs.Finding.{chosen_kept, window-map}
 use Rattle.engine.proofs.LostLemmas.{each_found}
 use Rattle.engine.proofs.NamedLemmas.{documents_found}
 use Rattle.engine.proofs.Running.{given_none, given_opened, given_whole, run_find-is}
 use Rattle.engine.proofs.Sound.{performs_tied}
 use Rattle.engine.proofs.WalkingLemmas.{left_by_list}
+
+-- A window of the texts of those that were found is that of what the query asks for.
+pub ids_asked : (q : Query) (enough : ℕ) (ds : List Pairs) (ids asked : List (Vec ℕ)) → Suffices q enough
+    → texts_of ids ≡ map id_text_of (take enough (order q.sort (matching q.filter ds))) → length ids < 2 ^ 64 - 1 → asked ≡ window q.skip q.limit ids
+    → texts_of asked ≡ map id_text_of (selection q ds)
+ids_asked q enough ds ids asked suffices told few is =
+    let xs = order q.sort (matching q.filter ds) in
+    let as_many : length (take enough xs) ≡ length ids =
+    sym (length-map (take enough xs) id_text_of) ∙ ap length (sym told) ∙ length-map ids (λ (v : Vec ℕ). v.items) in
+    ap texts_of is ∙ window-map (λ (v : Vec ℕ). v.items) q.skip q.limit ids ∙ ap (window q.skip q.limit) told
+    ∙ sym (window-map id_text_of q.skip q.limit (take enough xs)) ∙ ap (map id_text_of) (suffices xs (omega (arith, as_many, few)))
 
 module _ {D : Type 0} (history : D → History) (old : Engine D) (h : IsSound history old) (connection : ℕ) (name : List ℕ) (q : Query) (most : ℕ)
     (home : Catalogued) (texts : List (List ℕ)) where

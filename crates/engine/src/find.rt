@@ -32,7 +32,11 @@ fn behind<T: Drop>(documents: Vec<T>, place: usize) -> Result<Vec<T>, NoMemory>
 }
 
 /// What is left without those that are skipped and past the limit; a limit of 0 is none.
-pub(crate) fn window<T: Drop>(documents: Vec<T>, skip: usize, limit: usize) -> Result<Vec<T>, NoMemory>
+pub(crate) fn window<T: Drop>(
+    documents: Vec<T>,
+    skip: usize,
+    limit: usize,
+) -> Result<Vec<T>, NoMemory>
     ensures { IfOk result (λ v. v.items ≡ window skip limit documents.items) }
 {
     let mut rest = behind(documents, skip)?;
