@@ -1,7 +1,7 @@
 -- A first batch of the documents of a list is read from the version that is pinned, and a cursor is opened on the others.
 use Rattle.std.proofs.Common.{◌≡◌, inl, inr, ℕ, ◌<◌, ◌≤◌, Bool, true, false, List, length, drop, take}
 use Rattle.std.proofs.Common.{Option, Some, None, Result, Ok, Err, refl, sym, ap, subst, ◌∙◌, arith}
-use Rattle.std.specs.Prelude.{◌⊎◌, ◌^◌, not, is_some, codes, unwrap_or, IfNone, IfSome, MatchOption, MatchResult}
+use Rattle.std.specs.Prelude.{◌⊎◌, ◌^◌, not, is_some, codes, IfNone, IfSome, MatchOption, MatchResult}
 use Rattle.std.specs.Global.{Vec}
 use Rattle.std.proofs.lemmas.Bool.Decides.{nat_tests}
 use Rattle.bson.specs.Tree.{Pairs}
@@ -11,9 +11,7 @@ use Rattle.btree.specs.Store.{HasNoPage}
 use Rattle.pager.specs.declared.version.Version.{Version}
 use Rattle.path.specs.declared.refusal.Refusal.{Refusal}
 use Rattle.path.specs.declared.refusal.Refusal.TheVariants as refusals
-use Rattle.entries.specs.State.{Collection}
 use Rattle.collections.specs.Calls.{GoesFrom, HasCause, HasFailed}
-use Rattle.collections.specs.Standing.{HasState}
 use Rattle.collections.specs.State.{State}
 use Rattle.collections.specs.Versions.{PinsNow, ReadsVersion, UnpinsVersion}
 use Rattle.collections.specs.View.{disk_history, is_changed, is_stopped, pages_of}
@@ -22,7 +20,7 @@ use Rattle.collections.proofs.StandingLemmas.{stopped_same}
 use Rattle.collections.proofs.VersionLemmas.{has_still, pins_stay, since_start_stays}
 use Rattle.database_model.specs.Cursors.{batch_of, batch_reply, cursor_reply, is_refused, new_cursor, number_after}
 use Rattle.database_model.specs.Refusals.{ok_reply}
-use Rattle.replies.specs.FirstBatch.{IsFirstBatch, IsNoBatch}
+use Rattle.replies.specs.FirstBatch.{IsNoBatch}
 use Rattle.replies.specs.View.{batch_name}
 use Rattle.replies.specs.declared.batch_spelling.BatchKind.TheVariants as batches
 use Rattle.projection.specs.Projection.{Projection}
@@ -33,7 +31,7 @@ use Rattle.cursors.specs.Changes.{opened}
 use Rattle.cursors.specs.Held.{Held, HeldCursor, HeldWalk, Way, listed, cursors_of, table_of}
 use Rattle.cursors.specs.TableLaws.{opened_in_table}
 use Rattle.pinned_cursors.specs.Batches.{ReadsThenPins}
-use Rattle.pinned_cursors.specs.First.{GivesFirst, GivesPinned, IsFirstGiven, KeepsPin}
+use Rattle.pinned_cursors.specs.First.{GivesFirst, GivesPinned, KeepsPin}
 use Rattle.pinned_cursors.specs.Opening.{IsLeftOf, held_walk}
 use Rattle.pinned_cursors.specs.Tied.{AreTied, ListsRest, ReadsRest, TiedBeside, pins_by}
 use Rattle.pinned_cursors.specs.Turns.{OnlyPins}

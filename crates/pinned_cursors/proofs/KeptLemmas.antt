@@ -1,5 +1,5 @@
 -- A cursor that keeps its documents gives the next ones.
-use Rattle.std.proofs.Common.{◌≡◌, inl, ℕ, ◌<◌, Bool, true, false, List, [], length, Option, Some, None, Result, Ok, Err, refl, sym, ap, subst, ◌∙◌}
+use Rattle.std.proofs.Common.{◌≡◌, inl, ℕ, ◌<◌, Bool, true, false, List, [], length, Option, Some, None, Ok, Err, refl, sym, ap, subst, ◌∙◌}
 use Rattle.std.specs.Prelude.{nat_le, if◌then◌else◌, codes, is_some, not}
 use Rattle.bson.specs.Tree.{Pairs}
 use Rattle.page.specs.History.{History}
