@@ -15,7 +15,6 @@ use Rattle.collections.specs.Calls.{GoesFrom, HasCause, HasFailed}
 use Rattle.collections.specs.State.{State}
 use Rattle.collections.specs.Versions.{PinsNow, ReadsVersion, UnpinsVersion}
 use Rattle.collections.specs.View.{disk_history, is_changed, is_stopped, pages_of}
-use Rattle.collections.proofs.LawLemmas.{goes_from_itself}
 use Rattle.collections.proofs.StandingLemmas.{stopped_same}
 use Rattle.collections.proofs.VersionLemmas.{has_still, pins_stay, since_start_stays}
 use Rattle.database_model.specs.Cursors.{batch_of, batch_reply, cursor_reply, is_refused, new_cursor, number_after}
@@ -39,7 +38,7 @@ use Rattle.pinned_cursors.specs.declared.first.FirstGiven.{FirstGiven}
 use Rattle.pinned_cursors.proofs.NextLemmas.{lists_on}
 use Rattle.pinned_cursors.proofs.OpeningLemmas.{reads_left}
 use Rattle.pinned_cursors.proofs.TiedLemmas.{each_on, tied_opened, tied_pinned, tied_unpinned}
-use Rattle.pinned_cursors.proofs.TurnLemmas.{no_pins, pins_of_stays}
+use Rattle.pinned_cursors.proofs.TurnLemmas.{no_pins, nothing_read, pins_of_stays}
 
 -- The number of a cursor isn't said where all documents were given.
 number_unsaid : (n : ℕ) (ds : List Pairs) (a b : ℕ) → length ds ≤ n → number_after n ds a ≡ number_after n ds b
@@ -200,15 +199,6 @@ module _ {D : Type 0} (history : D → History) (version : Version) (number : �
 -- ---- the pin around it
 
 module _ {D : Type 0} (history : D → History) where
-  nothing_read : (file : State D) → ReadsThenPins history file file
-  nothing_read file = record {
-    read = file;
-    on = goes_from_itself history file;
-    unchanged = refl;
-    same = λ start now has. has;
-    pins = no_pins history file;
-  }
-
   -- Cursors, and a pin beside them, stay tied where commands read.
   pub beside_on : (old new : State D) (version : Version) (list : List HeldCursor) → GoesFrom history old new
       → TiedBeside history old version list → TiedBeside history new version list

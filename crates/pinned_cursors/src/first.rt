@@ -79,7 +79,14 @@ fn give_pinned<D: Disk>(
     let behind = left.behind(count)?;
     let mut rest = rest;
     rest.give(count);
-    open_list(cursors, version, asked.connection, asked.namespace, behind, rest)?;
+    open_list(
+        cursors,
+        version,
+        asked.connection,
+        asked.namespace,
+        behind,
+        rest,
+    )?;
     Ok(FirstGiven {
         reply,
         is_open: true,
