@@ -257,7 +257,8 @@ module _ {D : Type 0} (history : D → History) (connection : ℕ) (namespace : 
 
       there_left : KeepsWord (disk_history history read) → (KeepsWord (disk_history history old) → IsLeftOf history old number p way documents)
           → ReadsRest history pinned its_walk documents
-      there_left k left = reads_left {E = E} history connection namespace number p way documents old held version pinned pin rests running (word k) (left (word k))
+      there_left k left =
+          reads_left {E = E} history connection namespace number p way documents old held version pinned pin rests running (word k) (left (word k))
 
       beside : AreTied history old held.list → TiedBeside history read version held.list
       beside tied = beside_on history pinned read version held.list gives.on (tied_pinned history old pinned version held.list pin tied)

@@ -160,8 +160,8 @@ module _ {D : Type 0} (history : D → History) (h : HeldCursor) (w : HeldWalk) 
 
   module _ (list : Listed) where
     pub reads_listed : IsListOf w list → (result : Result GivenBatch Refusal)
-        → ReadsVersion history w.version (AreListedIn w.number (texts_of list.ids.now)) (λ now chosen b. IsListedBatch asked (given_of list.projection.now chosen) b)
-        result old new
+        → ReadsVersion history w.version (AreListedIn w.number (texts_of list.ids.now))
+        (λ now chosen b. IsListedBatch asked (given_of list.projection.now chosen) b) result old new
         → ReadsAt history h namespace most result old new
     reads_listed its result reads = reads_of result reads.on reads.unchanged reads.same right
       where
