@@ -1,7 +1,7 @@
 -- A first batch of the documents of a list is read from the version that is pinned, and a cursor is opened on the others.
 use Rattle.std.proofs.Common.{◌≡◌, inl, inr, ℕ, ◌<◌, ◌≤◌, Bool, true, false, List, length, drop, take}
 use Rattle.std.proofs.Common.{Option, Some, None, Result, Ok, Err, refl, sym, ap, subst, ◌∙◌, arith}
-use Rattle.std.specs.Prelude.{◌⊎◌, ◌^◌, not, is_some, codes, unwrap_or, IfNone, IfSome, MatchOption, MatchResult}
+use Rattle.std.specs.Prelude.{◌⊎◌, ◌^◌, not, is_some, codes, IfNone, IfSome, MatchOption, MatchResult}
 use Rattle.std.specs.Global.{Vec}
 use Rattle.std.proofs.lemmas.Bool.Decides.{nat_tests}
 use Rattle.bson.specs.Tree.{Pairs}
@@ -11,18 +11,15 @@ use Rattle.btree.specs.Store.{HasNoPage}
 use Rattle.pager.specs.declared.version.Version.{Version}
 use Rattle.path.specs.declared.refusal.Refusal.{Refusal}
 use Rattle.path.specs.declared.refusal.Refusal.TheVariants as refusals
-use Rattle.entries.specs.State.{Collection}
 use Rattle.collections.specs.Calls.{GoesFrom, HasCause, HasFailed}
-use Rattle.collections.specs.Standing.{HasState}
 use Rattle.collections.specs.State.{State}
 use Rattle.collections.specs.Versions.{PinsNow, ReadsVersion, UnpinsVersion}
 use Rattle.collections.specs.View.{disk_history, is_changed, is_stopped, pages_of}
-use Rattle.collections.proofs.LawLemmas.{goes_from_itself}
 use Rattle.collections.proofs.StandingLemmas.{stopped_same}
 use Rattle.collections.proofs.VersionLemmas.{has_still, pins_stay, since_start_stays}
 use Rattle.database_model.specs.Cursors.{batch_of, batch_reply, cursor_reply, is_refused, new_cursor, number_after}
 use Rattle.database_model.specs.Refusals.{ok_reply}
-use Rattle.replies.specs.FirstBatch.{IsFirstBatch, IsNoBatch}
+use Rattle.replies.specs.FirstBatch.{IsNoBatch}
 use Rattle.replies.specs.View.{batch_name}
 use Rattle.replies.specs.declared.batch_spelling.BatchKind.TheVariants as batches
 use Rattle.projection.specs.Projection.{Projection}
@@ -33,7 +30,7 @@ use Rattle.cursors.specs.Changes.{opened}
 use Rattle.cursors.specs.Held.{Held, HeldCursor, HeldWalk, Way, listed, cursors_of, table_of}
 use Rattle.cursors.specs.TableLaws.{opened_in_table}
 use Rattle.pinned_cursors.specs.Batches.{ReadsThenPins}
-use Rattle.pinned_cursors.specs.First.{GivesFirst, GivesPinned, IsFirstGiven, KeepsPin}
+use Rattle.pinned_cursors.specs.First.{GivesFirst, GivesPinned, KeepsPin}
 use Rattle.pinned_cursors.specs.Opening.{IsLeftOf, held_walk}
 use Rattle.pinned_cursors.specs.Tied.{AreTied, ListsRest, ReadsRest, TiedBeside, pins_by}
 use Rattle.pinned_cursors.specs.Turns.{OnlyPins}
@@ -41,7 +38,7 @@ use Rattle.pinned_cursors.specs.declared.first.FirstGiven.{FirstGiven}
 use Rattle.pinned_cursors.proofs.NextLemmas.{lists_on}
 use Rattle.pinned_cursors.proofs.OpeningLemmas.{reads_left}
 use Rattle.pinned_cursors.proofs.TiedLemmas.{each_on, tied_opened, tied_pinned, tied_unpinned}
-use Rattle.pinned_cursors.proofs.TurnLemmas.{no_pins, pins_of_stays}
+use Rattle.pinned_cursors.proofs.TurnLemmas.{no_pins, nothing_read, pins_of_stays}
 
 -- The number of a cursor isn't said where all documents were given.
 number_unsaid : (n : ℕ) (ds : List Pairs) (a b : ℕ) → length ds ≤ n → number_after n ds a ≡ number_after n ds b
@@ -202,15 +199,6 @@ module _ {D : Type 0} (history : D → History) (version : Version) (number : �
 -- ---- the pin around it
 
 module _ {D : Type 0} (history : D → History) where
-  nothing_read : (file : State D) → ReadsThenPins history file file
-  nothing_read file = record {
-    read = file;
-    on = goes_from_itself history file;
-    unchanged = refl;
-    same = λ start now has. has;
-    pins = no_pins history file;
-  }
-
   -- Cursors, and a pin beside them, stay tied where commands read.
   pub beside_on : (old new : State D) (version : Version) (list : List HeldCursor) → GoesFrom history old new
       → TiedBeside history old version list → TiedBeside history new version list
@@ -269,7 +257,8 @@ module _ {D : Type 0} (history : D → History) (connection : ℕ) (namespace : 
 
       there_left : KeepsWord (disk_history history read) → (KeepsWord (disk_history history old) → IsLeftOf history old number p way documents)
           → ReadsRest history pinned its_walk documents
-      there_left k left = reads_left {E = E} history connection namespace number p way documents old held version pinned pin rests running (word k) (left (word k))
+      there_left k left =
+          reads_left {E = E} history connection namespace number p way documents old held version pinned pin rests running (word k) (left (word k))
 
       beside : AreTied history old held.list → TiedBeside history read version held.list
       beside tied = beside_on history pinned read version held.list gives.on (tied_pinned history old pinned version held.list pin tied)

@@ -1,5 +1,5 @@
 -- Cursors whose documents are within the limits, where one gives some of its own or ends.
-use Rattle.std.proofs.Common.{◌≡◌, ℕ, zero, suc, ◌<◌, List, [], ◌∷◌, length, drop, Option, sym, ap, subst, ◌∙◌, arith}
+use Rattle.std.proofs.Common.{ℕ, zero, suc, ◌<◌, List, [], ◌∷◌, length, Option, sym, subst, arith}
 use Rattle.std.specs.Prelude.{All, remove}
 use Rattle.std.proofs.lemmas.List.{length-map, map-set}
 use Rattle.std.proofs.lemmas.List.Elements.{All-cons, All-drop, All-head, All-push, All-set, All-tail}

@@ -1,5 +1,5 @@
 -- Cursors stay tied to their file: where it goes on, where one comes or goes on, and where one ends.
-use Rattle.std.proofs.Common.{◌≡◌, ℕ, ◌+◌, ◌<◌, ◌≤◌, false, List, [], ◌∷◌, ◌++◌, length, Option, Some, None, refl, sym, ap, subst, ◌∙◌, arith}
+use Rattle.std.proofs.Common.{◌≡◌, ℕ, ◌<◌, ◌≤◌, false, List, [], ◌∷◌, ◌++◌, length, Option, Some, None, refl, sym, ap, subst, ◌∙◌, arith}
 use Rattle.std.specs.Prelude.{Ok, slice_index_or, slice_set, remove}
 use Rattle.std.specs.List.{AllByRecursion}
 use Rattle.bson.specs.Tree.{Pairs}
