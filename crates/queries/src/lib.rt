@@ -33,5 +33,5 @@ pub use ordering::ordered_in;
 pub use piping::piped_in;
 pub use scanning::BATCH;
 pub use selects::Selects;
-pub use sorted_ids::{ordered_ids_in, sorted_ids_in};
+pub use sorted_ids::ordered_ids_in;
 pub use within::are_within;

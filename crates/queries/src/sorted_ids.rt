@@ -223,19 +223,3 @@ pub fn ordered_ids_in<D: Disk>(
         None => ids_by_sorting(alloc, file, home, filter, sort, most),
     }
 }
-
-/// The same of all that match.
-pub fn sorted_ids_in<D: Disk>(
-    alloc: Global,
-    file: &mut Collections<D>,
-    home: &Catalogued,
-    filter: &Filter,
-    sort: &Sort,
-) -> Result<Vec<Vec<u8>>, Refusal>
-    ensures { ReadsOf D.history (IsAsked home.now)
-        (λ now c ids. texts_of ids.items
-        ≡ map id_text_of (order sort.now (matching filter.now c.documents)))
-        result file.old file.new }
-{
-    ordered_ids_in(alloc, file, home, filter, sort, usize::MAX)
-}
