@@ -44,7 +44,7 @@ impl Rest {
     }
 
     /// So many of them were given.
-    pub(crate) fn give(&mut self, count: usize)
+    pub fn give(&mut self, count: usize)
         ensures { self.new.value ≡ drop count self.old.value }
     {
         self.set(&count);

@@ -19,6 +19,7 @@ pub mod ExplainingLemmas
 pub mod ResultLemmas
 pub mod OpeningLemmas
 pub mod LookingLemmas
+pub mod FirstLemmas
 pub mod WalkingLemmas
 pub mod MoreLemmas
 pub mod KeepingPins

@@ -4,12 +4,14 @@
 ghost use Rattle.std.specs.Prelude.{◌≡◌, ◌≤◌, ◌≢◌, [], false, All, IfOk, Some, length, map};
 ghost use Rattle.collections.specs.View.{is_changed};
 ghost use Rattle.database_model.specs.Cursors.{batch_of, first_batch};
-ghost use Rattle.database_model.specs.Find.{given, run_find};
+ghost use Rattle.database_model.specs.Find.{given, query_result, run_find};
 ghost use Rattle.database_model.specs.Lawful.{IsWithin};
+ghost use Rattle.database_model.specs.World.{documents_of};
 ghost use Rattle.engine.specs.Durable.{disk_history, file_of, has_changes, IsSound};
 ghost use Rattle.engine.specs.Performing.{Performs};
 ghost use Rattle.engine.specs.View.{world};
-ghost use Rattle.engine.specs.Walking.{AreOf};
+ghost use Rattle.engine.specs.Walking.{AreIdsAsked, AreOf};
+ghost use Rattle.index.specs.View.{texts_of};
 ghost use Rattle.page.specs.History.{KeepsWord};
 ghost use Rattle.pinned_cursors.specs.Turns.{Releases};
 ghost use Rattle.projection.specs.Projection.{project};
@@ -21,18 +23,30 @@ use bson::SpelledDocument;
 use commands::Query;
 use cursors::Rest;
 use entries::Catalogued;
+use opening::Told;
 use page::Disk;
 use path::Refusal;
-use pinned_cursors::{ListLeft, open_listed};
+use pinned_cursors::{FirstAsked, ListLeft, give_first, open_listed};
 use projection::Projection;
 use queries::listed_texts;
 use replies::ConnId;
+
+/// So many documents that a sort gives are kept while they are sorted; of more the `_id`s and what the sort looks at alone.
+const FEW: usize = 1_024;
 
 /// What a projection leaves of documents.
 fn rest_of<'a>(projection: &'a Projection, documents: &'a [SpelledDocument]) -> Rest
     ensures { result.value ≡ map (project projection.now) documents.now }
 {
     Rest::of(&(projection, documents))
+}
+
+/// What a query gives of the documents of the collection of a name.
+fn all_asked<'a>(told: &'a Told, namespace: &'a str, query: &'a Query) -> Rest
+    ensures { result.value
+        ≡ query_result query.now (documents_of told.now.value.now namespace.now) }
+{
+    Rest::of(&(told, namespace, query))
 }
 
 impl<D: Disk> Engine<D> {
@@ -58,8 +72,53 @@ impl<D: Disk> Engine<D> {
             let none = Vec::new(self.alloc);
             return self.give_found(connection, namespace, query, none, most);
         };
-        let found = self.ordered(&home, query, enough(query))?;
-        self.give_listed(connection, namespace, &home, query, found, most)
+        let needed = enough(query);
+        if needed <= FEW {
+            let found = self.ordered(&home, query, needed)?;
+            return self.give_listed(connection, namespace, &home, query, found, most);
+        }
+        let ids = self.ordered_ids(&home, query, needed)?;
+        let asked = window(ids, query.skip, query.limit)?;
+        self.give_ids(connection, namespace, &home, query, asked, most)
+    }
+
+    /// Gives a first batch of the documents that a query asks for, of which these are the `_id`s in its order, and opens a cursor on
+    /// the others: each is looked up when it is given.
+    fn give_ids(
+        &mut self,
+        connection: ConnId,
+        namespace: &str,
+        home: &Catalogued,
+        query: &Query,
+        texts: Vec<Vec<u8>>,
+        most: usize,
+    ) -> Result<SpelledDocument, Refusal>
+        requires short { length namespace.now ≤ 255 }
+        requires sound { IsSound D.history self.old }
+        requires rests { is_changed (file_of self.old) ≡ false }
+        requires there { KeepsWord (disk_history D.history self.old)
+            → AreIdsAsked (world self.old).collections namespace.now home.now query.now
+            (texts_of texts.items) }
+        ensures performs { Performs D.history
+            (run_find (world self.old) connection
+            (record { namespace = namespace.now; query = query.now; batch_size = Some most }))
+            result self.old self.new }
+        ensures has_changes { has_changes self.new ≡ has_changes self.old }
+        ensures sendable { IfOk result (λ d. IsSendable d) }
+    {
+        let left = ListLeft {
+            number: home.number,
+            projection: &query.projection,
+            texts,
+        };
+        let rest = all_asked(&self.told, namespace, query);
+        let asked = FirstAsked {
+            connection,
+            namespace,
+            most,
+        };
+        let cursors = &mut self.cursors;
+        give_first(self.alloc, &mut self.file, cursors, &asked, left, rest)
     }
 
     /// Gives a first batch of documents that were found in the collection of a name, of which the catalogue has this, as far as they

@@ -19,8 +19,8 @@ use path::Refusal;
 use projection::Projection;
 use replies::ConnId;
 
-/// The documents from a place on.
-fn behind(documents: Vec<SpelledDocument>, place: usize) -> Result<Vec<SpelledDocument>, NoMemory>
+/// What stands from a place on.
+fn behind<T: Drop>(documents: Vec<T>, place: usize) -> Result<Vec<T>, NoMemory>
     ensures { IfOk result (λ v. v.items ≡ drop place documents.items) }
 {
     if place == 0 {
@@ -31,12 +31,12 @@ fn behind(documents: Vec<SpelledDocument>, place: usize) -> Result<Vec<SpelledDo
     documents.split_off(place)
 }
 
-/// What is left of documents without those that are skipped and past the limit; a limit of 0 is none.
-pub(crate) fn window(
-    documents: Vec<SpelledDocument>,
+/// What is left without those that are skipped and past the limit; a limit of 0 is none.
+pub(crate) fn window<T: Drop>(
+    documents: Vec<T>,
     skip: usize,
     limit: usize,
-) -> Result<Vec<SpelledDocument>, NoMemory>
+) -> Result<Vec<T>, NoMemory>
     ensures { IfOk result (λ v. v.items ≡ window skip limit documents.items) }
 {
     let mut rest = behind(documents, skip)?;

@@ -1,6 +1,6 @@
 //! What commands look up in the file.
 
-ghost use Rattle.std.specs.Prelude.{◌≡◌, ◌<◌, ◌≤◌, ◌^◌, All, IfOk, IfSome, length, take};
+ghost use Rattle.std.specs.Prelude.{◌≡◌, ◌<◌, ◌≤◌, ◌^◌, All, IfOk, IfSome, length, map, take};
 ghost use Rattle.std.specs.List.{filter};
 ghost use Rattle.std.specs.Option.{option_map};
 ghost use Rattle.collections.specs.Reading.{IsWithinLimits, catalogued_in, catalogued_of};
@@ -13,7 +13,9 @@ ghost use Rattle.database_model.specs.Lawful.{IsWithin};
 ghost use Rattle.engine.specs.Looking.{Looks, LooksOf};
 ghost use Rattle.engine.specs.TakingOut.{IsHome};
 ghost use Rattle.engine.specs.Walking.{AreFirst};
+ghost use Rattle.index.specs.View.{texts_of};
 ghost use Rattle.queries.specs.Batches.{IsGivenBatch};
+ghost use Rattle.queries.specs.Listed.{id_text_of};
 ghost use Rattle.replies.specs.View.{IsSendable};
 ghost use Rattle.database_model.specs.World.{documents_of};
 
@@ -25,7 +27,8 @@ use filter::Filter;
 use page::Disk;
 use path::Refusal;
 use queries::{
-    BatchAsked, GivenBatch, Selects, Walk, batch_of_turn, looked_up_in, ordered_in, selected_in,
+    BatchAsked, GivenBatch, Selects, Walk, batch_of_turn, looked_up_in, ordered_ids_in, ordered_in,
+    selected_in,
 };
 use replies::SharedDocument;
 
@@ -84,6 +87,30 @@ impl<D: Disk> Engine<D> {
         ensures unchanged { is_changed (file_of self.new) ≡ is_changed (file_of self.old) }
     {
         ordered_in(
+            self.alloc,
+            &mut self.file,
+            home,
+            &query.filter,
+            &query.sort,
+            most,
+        )
+    }
+
+    /// The key texts of the `_id`s of the same documents, in the same order.
+    pub(crate) fn ordered_ids(
+        &mut self,
+        home: &Catalogued,
+        query: &Query,
+        most: usize,
+    ) -> Result<Vec<Vec<u8>>, Refusal>
+        requires { IsSound D.history self.old }
+        ensures looks { LooksOf D.history (λ now c. IsHome now c home.now)
+            (λ now c ids. texts_of ids.items ≡ map id_text_of
+            (take most (order query.now.sort (matching query.now.filter c.documents))))
+            result self.old self.new }
+        ensures unchanged { is_changed (file_of self.new) ≡ is_changed (file_of self.old) }
+    {
+        ordered_ids_in(
             self.alloc,
             &mut self.file,
             home,

@@ -1,12 +1,11 @@
 -- A cursor that keeps its documents gives the next ones.
-use Rattle.std.proofs.Common.{◌≡◌, inl, ℕ, ◌<◌, Bool, true, false, List, [], length, Option, Some, None, Result, Ok, Err, refl, sym, ap, subst, ◌∙◌}
+use Rattle.std.proofs.Common.{◌≡◌, inl, ℕ, ◌<◌, Bool, true, false, List, [], length, Option, Some, None, Ok, Err, refl, sym, ap, subst, ◌∙◌}
 use Rattle.std.specs.Prelude.{nat_le, if◌then◌else◌, codes, is_some, not}
 use Rattle.bson.specs.Tree.{Pairs}
 use Rattle.page.specs.History.{History}
 use Rattle.path.specs.declared.refusal.Refusal.{Refusal}
 use Rattle.path.specs.declared.refusal.Refusal.TheVariants as refusals
 use Rattle.collections.specs.State.{State}
-use Rattle.collections.proofs.LawLemmas.{goes_from_itself}
 use Rattle.database_model.specs.Cursors.{advanced, batch_reply, cursor_at}
 use Rattle.database_model.specs.GetMore.{batch_len_of}
 use Rattle.database_model.specs.Lawful.{AreLawfulCursors}
@@ -15,11 +14,11 @@ use Rattle.database_model.specs.World.{Cursor, CursorTable}
 use Rattle.cursors.specs.Changes.{advanced_kept, after, gone_on, without}
 use Rattle.cursors.specs.Held.{Held, HeldWalk, cursors_of, held_at, table_of}
 use Rattle.cursors.specs.TableLaws.{cursor_in_table}
-use Rattle.pinned_cursors.specs.Batches.{GivesNext, ReadsThenPins}
+use Rattle.pinned_cursors.specs.Batches.{GivesNext}
 use Rattle.pinned_cursors.specs.Tied.{AreTied, with_pin}
 use Rattle.pinned_cursors.proofs.LawfulLemmas.{lawful_gone_on, lawful_without}
 use Rattle.pinned_cursors.proofs.TiedLemmas.{tied_removed, tied_set}
-use Rattle.pinned_cursors.proofs.TurnLemmas.{no_pins}
+use Rattle.pinned_cursors.proofs.TurnLemmas.{nothing_read}
 
 -- a cursor that keeps its documents has no walk
 pub no_walk : (walk : Option HeldWalk) (keeps : Bool) → keeps ≡ not (is_some walk) → keeps ≡ true → walk ≡ None
@@ -30,17 +29,8 @@ no_walk (Some w) keeps is true_is = absurd (no (sym true_is ∙ is))
     no e = cc
 
 module _ {D : Type 0} (history : D → History) (file : State D) (held : Held) (at : ℕ) (namespace : List ℕ) (most : Option ℕ) where
-  nothing_read : ReadsThenPins history file file
-  nothing_read = record {
-    read = file;
-    on = goes_from_itself history file;
-    unchanged = refl;
-    same = λ start now has. has;
-    pins = no_pins history file;
-  }
-
   pub kept_refused : (e : Refusal) → e ≡ refusals.OutOfMemory → GivesNext history at namespace most (Err e) file file held held
-  kept_refused e is = record { goes = nothing_read; err = refl; answers = λ k tied. inl is; tied = λ tied. tied }
+  kept_refused e is = record { goes = nothing_read history file; err = refl; answers = λ k tied. inl is; tied = λ tied. tied }
 
   module _ (none : (held_at held at).walk ≡ None) (there : at < length held.list) (count : ℕ) where
     abbrev its : Cursor
@@ -71,7 +61,7 @@ module _ {D : Type 0} (history : D → History) (file : State D) (held : Held) (
           → table_of new ≡ record (table_of held) { list = advanced (cursors_of held) at count }
           → GivesNext history at namespace most (Ok reply) file file held new
       kept_given reply counted says table = record {
-        goes = nothing_read;
+        goes = nothing_read history file;
         err = tt;
         answers = λ k tied. record {
           says = says ∙ ap (λ (n : ℕ). ok_reply (batch_reply (codes "nextBatch") n (cursor_at cs at).rest (cursor_at cs at).number namespace)) counted

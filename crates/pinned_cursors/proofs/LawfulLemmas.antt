@@ -1,14 +1,15 @@
 -- Cursors whose documents are within the limits, where one gives some of its own or ends.
-use Rattle.std.proofs.Common.{◌≡◌, ℕ, zero, suc, ◌<◌, List, [], ◌∷◌, length, drop, Option, sym, ap, subst, ◌∙◌, arith}
+use Rattle.std.proofs.Common.{ℕ, zero, suc, ◌<◌, List, [], ◌∷◌, length, Option, sym, subst, arith}
 use Rattle.std.specs.Prelude.{All, remove}
 use Rattle.std.proofs.lemmas.List.{length-map, map-set}
-use Rattle.std.proofs.lemmas.List.Elements.{All-cons, All-drop, All-head, All-set, All-tail}
-use Rattle.database_model.specs.Cursors.{no_cursor}
+use Rattle.std.proofs.lemmas.List.Elements.{All-cons, All-drop, All-head, All-push, All-set, All-tail}
+use Rattle.bson.specs.Tree.{Pairs}
+use Rattle.database_model.specs.Cursors.{new_cursor, no_cursor}
 use Rattle.database_model.specs.Lawful.{AreLawfulCursors, IsWithin}
 use Rattle.database_model.specs.World.{Cursor, CursorTable}
-use Rattle.cursors.specs.Changes.{after, gone_on, without}
+use Rattle.cursors.specs.Changes.{after, gone_on, opened, without}
 use Rattle.cursors.specs.Held.{Held, HeldCursor, HeldWalk, cursors_of, held_at}
-use Rattle.cursors.specs.TableLaws.{cursor_in_table, removed_in_table}
+use Rattle.cursors.specs.TableLaws.{cursor_in_table, opened_in_table, removed_in_table}
 
 All-removed : {X : Type 0} (P : X → Type 0) (xs : List X) (i : ℕ) → All P xs → All P (remove xs i)
 All-removed P [] zero h = h
@@ -18,6 +19,13 @@ All-removed P (x ∷ xs) (suc i) h = All-cons P x (remove xs i) (All-head P x xs
 
 abbrev holds_within : Cursor → Type 0
 holds_within c = All IsWithin c.rest
+
+-- one that is opened on such documents
+pub lawful_opened : (held : Held) (connection : ℕ) (namespace : List ℕ) (rest : List Pairs) (walk : Option HeldWalk) → All IsWithin rest
+    → AreLawfulCursors (cursors_of held) → AreLawfulCursors (cursors_of (opened held connection namespace rest walk))
+lawful_opened held connection namespace rest walk within h =
+    subst (λ (t : CursorTable). AreLawfulCursors t.list) (sym (opened_in_table held connection namespace rest walk))
+    (All-push holds_within (cursors_of held) (new_cursor held.next connection namespace rest) h within)
 
 module _ (held : Held) (at : ℕ) where
   pub lawful_without : AreLawfulCursors (cursors_of held) → AreLawfulCursors (cursors_of (without held at))

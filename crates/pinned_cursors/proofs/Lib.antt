@@ -7,3 +7,4 @@ pub mod OpeningLemmas
 pub mod NextLemmas
 pub mod LawfulLemmas
 pub mod KeptLemmas
+pub mod FirstLemmas

@@ -14,7 +14,6 @@ use Rattle.collections.specs.Standing.{HasState}
 use Rattle.collections.specs.State.{State}
 use Rattle.collections.specs.Versions.{ReadsVersion}
 use Rattle.collections.specs.View.{disk_history, is_changed, is_stopped}
-use Rattle.collections.proofs.LawLemmas.{goes_from_itself}
 use Rattle.collections.proofs.VersionLemmas.{has_still, since_start_stays}
 use Rattle.database_model.specs.Cursors.{advanced, batch_len, batch_of, batch_reply, item_size}
 use Rattle.database_model.specs.GetMore.{batch_len_of}
@@ -42,13 +41,13 @@ use Rattle.pinned_cursors.specs.Tied.{AreTied, IsLeftBy, IsTied, ListsRest, Read
 use Rattle.pinned_cursors.specs.Turns.{OnlyPins, Releases}
 use Rattle.pinned_cursors.proofs.ListLemmas.{each_at}
 use Rattle.pinned_cursors.proofs.TiedLemmas.{tied_set}
-use Rattle.pinned_cursors.proofs.TurnLemmas.{no_pins}
+use Rattle.pinned_cursors.proofs.TurnLemmas.{no_pins, nothing_read}
 use Rattle.pinned_cursors.proofs.TurnTied.{tied_on}
 
 -- ---- the batch
 
 -- What a list tells behind some documents, the texts behind theirs tell.
-lists_on : (texts : List (List ℕ)) (p : Projection) (ds rest : List Pairs) (n : ℕ) → ListsRest texts p ds rest → ListsRest (drop n texts) p ds (drop n rest)
+pub lists_on : (texts : List (List ℕ)) (p : Projection) (ds rest : List Pairs) (n : ℕ) → ListsRest texts p ds rest → ListsRest (drop n texts) p ds (drop n rest)
 lists_on texts p ds rest n l = record {
   some = drop n l.some;
   there = record {
@@ -161,8 +160,8 @@ module _ {D : Type 0} (history : D → History) (h : HeldCursor) (w : HeldWalk) 
 
   module _ (list : Listed) where
     pub reads_listed : IsListOf w list → (result : Result GivenBatch Refusal)
-        → ReadsVersion history w.version (AreListedIn w.number (texts_of list.ids.now)) (λ now chosen b. IsListedBatch asked (given_of list.projection.now chosen) b)
-        result old new
+        → ReadsVersion history w.version (AreListedIn w.number (texts_of list.ids.now))
+        (λ now chosen b. IsListedBatch asked (given_of list.projection.now chosen) b) result old new
         → ReadsAt history h namespace most result old new
     reads_listed its result reads = reads_of result reads.on reads.unchanged reads.same right
       where
@@ -338,13 +337,7 @@ module _ {D : Type 0} (history : D → History) (old read : State D) (held : Hel
 pub gives_stopped : {D : Type 0} (history : D → History) (file : State D) (held : Held) (at : ℕ) (namespace : List ℕ) (most : Option ℕ)
     → is_stopped file ≡ true → GivesNext history at namespace most (Err refusals.StorageFailed) file file held held
 gives_stopped history file held at namespace most stopped = record {
-  goes = record {
-    read = file;
-    on = goes_from_itself history file;
-    unchanged = refl;
-    same = λ start now has. has;
-    pins = no_pins history file;
-  };
+  goes = nothing_read history file;
   err = refl;
   answers = λ k tied. inr (inl (refl, inl stopped));
   tied = λ tied. tied;

@@ -47,7 +47,8 @@ module _ {D E : Type 0} (history : D → History) (connection : ℕ) (namespace 
       abbrev goes_on : HeldWalk
       goes_on = held_walk version number p way
 
-      reads_left : is_stopped old ≡ false → KeepsWord (disk_history history old) → IsLeftOf history old number p way rest → ReadsRest history pinned goes_on rest
+      pub reads_left : is_stopped old ≡ false → KeepsWord (disk_history history old) → IsLeftOf history old number p way rest
+          → ReadsRest history pinned goes_on rest
       reads_left running k here = record {
         collections = here.now;
         had = pin.rested here.start here.now running k here.has rests;

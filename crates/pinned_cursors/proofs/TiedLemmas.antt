@@ -1,5 +1,5 @@
 -- Cursors stay tied to their file: where it goes on, where one comes or goes on, and where one ends.
-use Rattle.std.proofs.Common.{◌≡◌, ℕ, ◌+◌, ◌<◌, ◌≤◌, false, List, [], ◌∷◌, ◌++◌, length, Option, Some, None, refl, sym, ap, subst, ◌∙◌, arith}
+use Rattle.std.proofs.Common.{◌≡◌, ℕ, ◌<◌, ◌≤◌, false, List, [], ◌∷◌, ◌++◌, length, Option, Some, None, refl, sym, ap, subst, ◌∙◌, arith}
 use Rattle.std.specs.Prelude.{Ok, slice_index_or, slice_set, remove}
 use Rattle.std.specs.List.{AllByRecursion}
 use Rattle.bson.specs.Tree.{Pairs}
@@ -13,7 +13,7 @@ use Rattle.collections.specs.State.{State}
 use Rattle.collections.specs.Versions.{HasSinceStart, PinsNow, UnpinsVersion, pins_of}
 use Rattle.collections.specs.View.{disk_history, is_stopped}
 use Rattle.cursors.specs.Held.{HeldCursor, HeldWalk, no_held_cursor}
-use Rattle.pinned_cursors.specs.Tied.{AreTied, IsTied, ReadsRest, pins_by, with_pin}
+use Rattle.pinned_cursors.specs.Tied.{AreTied, IsTied, ReadsRest, TiedBeside, pins_by, with_pin}
 use Rattle.pinned_cursors.proofs.ListLemmas.{each_added, each_removed, each_set, pins_added, pins_removed, pins_set, with_more}
 
 module _ {D : Type 0} (history : D → History) where
@@ -44,13 +44,8 @@ module _ {D : Type 0} (history : D → History) where
 
   -- ---- one pin beside those of the cursors
 
-  -- They are tied, but for one pin of a version more.
-  pub record TiedBeside (file : State D) (version : Version) (list : List HeldCursor) : Type 0 where
-    pub each : is_stopped file ≡ false → KeepsWord (disk_history history file) → AllByRecursion (IsTied history file) list
-    pub pins : (n : ℕ) → times n (pins_of file) ≡ times n (version.generation ∷ pins_by list)
-
   module _ (old new : State D) (version : Version) (list : List HeldCursor) where
-    pub tied_pinned : {E : Type 0} (pin : PinsNow {E = E} history (Ok version) old new) → AreTied history old list → TiedBeside new version list
+    pub tied_pinned : {E : Type 0} (pin : PinsNow {E = E} history (Ok version) old new) → AreTied history old list → TiedBeside history new version list
     tied_pinned pin tied = record {
       each = λ running k.
           each_on old new (pins_by list)
@@ -60,7 +55,7 @@ module _ {D : Type 0} (history : D → History) where
       pins = λ n. omega (arith, pin.once n, tied.pins n);
     }
 
-    pub tied_unpinned : UnpinsVersion history version old new → TiedBeside old version list → AreTied history new list
+    pub tied_unpinned : UnpinsVersion history version old new → TiedBeside history old version list → AreTied history new list
     tied_unpinned unpin tied =
         let g = version.generation in
         let pinned : IsPinned version old.pager = omega (arith, tied.pins g, one_time g g (pins_by list) refl) in
@@ -78,7 +73,7 @@ module _ {D : Type 0} (history : D → History) where
 
   module _ (file : State D) (list : List HeldCursor) where
     -- The cursor that reads the version has its pin.
-    pub tied_opened : (h : HeldCursor) (w : HeldWalk) → h.walk ≡ Some w → TiedBeside file w.version list
+    pub tied_opened : (h : HeldCursor) (w : HeldWalk) → h.walk ≡ Some w → TiedBeside history file w.version list
         → (is_stopped file ≡ false → KeepsWord (disk_history history file) → ReadsRest history file w h.cursor.rest) → AreTied history file (list ++ h ∷ [])
     tied_opened h w is tied reads = record {
       each = λ running k.
@@ -117,7 +112,7 @@ module _ {D : Type 0} (history : D → History) where
       }
 
       -- One goes whose pin is still to be ended.
-      pub tied_left : (w : HeldWalk) → here.walk ≡ Some w → AreTied history file list → TiedBeside file w.version (remove list at)
+      pub tied_left : (w : HeldWalk) → here.walk ≡ Some w → AreTied history file list → TiedBeside history file w.version (remove list at)
       tied_left w is tied = record {
         each = λ running k. each_removed (IsTied history file) list at (tied.each running k);
         pins = λ n. tied.pins n ∙ pins_removed n list at there

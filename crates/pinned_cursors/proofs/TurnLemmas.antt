@@ -3,6 +3,8 @@ use Rattle.std.proofs.Common.{refl, ◌∙◌}
 use Rattle.page.specs.History.{History}
 use Rattle.collections.specs.State.{State}
 use Rattle.collections.specs.Versions.{StaysInTurn}
+use Rattle.collections.proofs.LawLemmas.{goes_from_itself}
+use Rattle.pinned_cursors.specs.Batches.{ReadsThenPins}
 use Rattle.pinned_cursors.specs.Turns.{OnlyPins}
 
 module _ {D : Type 0} (history : D → History) where
@@ -12,6 +14,15 @@ module _ {D : Type 0} (history : D → History) where
     takes = refl;
     unchanged = refl;
     state = λ start now has. has;
+  }
+
+  pub nothing_read : (file : State D) → ReadsThenPins history file file
+  nothing_read file = record {
+    read = file;
+    on = goes_from_itself history file;
+    unchanged = refl;
+    same = λ start now has. has;
+    pins = no_pins file;
   }
 
   pub pins_of_stays : (old new : State D) → StaysInTurn history old new → OnlyPins history old new

@@ -4,7 +4,6 @@ use Rattle.std.specs.List.{AllByRecursion}
 use Rattle.page.specs.History.{History, KeepsWord}
 use Rattle.btree.specs.Keys.{times}
 use Rattle.roots.specs.declared.store.CommitFault.{CommitFault}
-use Rattle.roots.specs.declared.store.CommitFault.TheVariants as faults
 use Rattle.collections.specs.Calls.{GoesFrom}
 use Rattle.collections.specs.Committing.{Commits}
 use Rattle.collections.specs.State.{State}

@@ -1,6 +1,6 @@
 -- What reading the next batch of a cursor does that holds no documents.
-use Rattle.std.specs.Prelude.{◌≡◌, ℕ, ◌<◌, ◌≤◌, ◌^◌, List, Option, Some, Result, length, drop, codes}
-use Rattle.std.specs.Prelude.{MatchOption, MatchResult, OnErr}
+use Rattle.std.specs.Prelude.{◌≡◌, ℕ, ◌<◌, ◌≤◌, ◌^◌, List, Option, Some, Result, length, drop}
+use Rattle.std.specs.Prelude.{codes, MatchOption, MatchResult, OnErr}
 use Rattle.bson.specs.Tree.{Pairs}
 use Rattle.page.specs.History.{History, KeepsWord}
 use Rattle.path.specs.declared.refusal.Refusal.{Refusal}

@@ -20,7 +20,8 @@ use Rattle.pinned_cursors.specs.declared.opening.WalkSoFar.{WalkSoFar}
 
 -- how a cursor goes on behind a batch of a walk
 abbrev pub way_behind : WalkSoFar → Way
-way_behind left = through left.walk.now.filter.now (left.walk.now.limit - left.count) left.from.items
+way_behind left =
+    through left.walk.now.filter.now (left.walk.now.limit - left.count) left.from.items
 
 -- how it goes on by a list
 abbrev pub way_by : ListLeft → Way

@@ -7,6 +7,7 @@ use Rattle.page.specs.History.{History, KeepsWord}
 use Rattle.btree.specs.Keys.{times}
 use Rattle.entries.specs.State.{Collection}
 use Rattle.collections.specs.Reading.{IsNumbered}
+use Rattle.pager.specs.declared.version.Version.{Version}
 use Rattle.collections.specs.State.{State}
 use Rattle.collections.specs.Versions.{HasSinceStart, pins_of}
 use Rattle.collections.specs.View.{disk_history, is_stopped}
@@ -62,3 +63,11 @@ pub record AreTied {D : Type 0} (history : D → History) (file : State D)
   pub each : is_stopped file ≡ false → KeepsWord (disk_history history file)
       → AllByRecursion (IsTied history file) list
   pub pins : (n : ℕ) → times n (pins_of file) ≡ times n (pins_by list)
+
+-- The same, but for one pin of a version more, which no cursor has.
+pub record TiedBeside {D : Type 0} (history : D → History) (file : State D) (version : Version)
+    (list : List HeldCursor) : Type 0 where
+  pub each : is_stopped file ≡ false → KeepsWord (disk_history history file) →
+      AllByRecursion (IsTied history file) list
+  pub pins : (n : ℕ) → times n (pins_of file)
+      ≡ times n (version.generation ∷ pins_by list)

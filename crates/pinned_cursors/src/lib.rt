@@ -2,10 +2,12 @@
 #![tactic(auto)]
 
 mod ending;
+mod first;
 mod giving;
 mod opening;
 mod reading;
 
 pub use ending::end_all;
+pub use first::{FirstAsked, give_first};
 pub use giving::give_next;
 pub use opening::{ListLeft, WalkSoFar, open_listed, open_pinned};

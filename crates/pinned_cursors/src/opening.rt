@@ -39,6 +39,25 @@ pub struct ListLeft<'a> {
     pub texts: Vec<Vec<u8>>,
 }
 
+impl<'a> ListLeft<'a> {
+    ghost use Rattle.std.specs.Prelude.{drop};
+
+    /// The documents behind the first ones.
+    pub(crate) fn behind(self, count: usize) -> Result<ListLeft<'a>, NoMemory>
+        ensures number { IfOk result (λ l. l.number ≡ self.entry.number) }
+        ensures projection { IfOk result (λ l. l.projection.now ≡ self.entry.projection.now) }
+        ensures texts { IfOk result (λ l. l.texts.items ≡ drop count self.entry.texts.items) }
+    {
+        let mut texts = self.texts;
+        let count = count.min(texts.len());
+        Ok(ListLeft {
+            number: self.number,
+            projection: self.projection,
+            texts: texts.split_off(count)?,
+        })
+    }
+}
+
 /// The walk by which a cursor goes on in a pinned version.
 fn pinned_walk(version: Version, left: WalkSoFar<'_>, rest: Rest) -> Result<PinnedWalk, NoMemory>
     ensures walk { IfOk result (λ w. walk_of w ≡ held_walk version left.entry.number
@@ -95,7 +114,7 @@ fn open_walk(
 }
 
 /// Opens a cursor that gives documents of a pinned version by a list. An `Err` leaves all as it was.
-fn open_list(
+pub(crate) fn open_list(
     cursors: &mut Cursors,
     version: Version,
     connection: ConnId,

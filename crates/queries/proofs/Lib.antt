@@ -23,3 +23,4 @@ pub mod BatchesLemmas
 pub mod WalkLeftLemmas
 pub mod GivenLemmas
 pub mod ListedLemmas
+pub mod SortedIdLemmas

@@ -7,5 +7,6 @@ pub mod Dense
 pub mod Folding
 pub mod IdRange
 pub mod Listed
+pub mod SortedIds
 pub mod Within
 pub mod Piping

@@ -20,6 +20,7 @@ mod ordering;
 mod piping;
 mod scanning;
 mod selects;
+mod sorted_ids;
 mod telling;
 mod within;
 
@@ -32,4 +33,5 @@ pub use ordering::ordered_in;
 pub use piping::piped_in;
 pub use scanning::BATCH;
 pub use selects::Selects;
+pub use sorted_ids::ordered_ids_in;
 pub use within::are_within;

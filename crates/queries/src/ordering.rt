@@ -31,7 +31,11 @@ use std::mem;
 const ROOM: usize = 1024;
 
 /// The first documents in the order of a sort, up to so many. Those that tie keep their order.
-fn first_ones(sort: &Sort, documents: Vec<Document>, most: usize) -> Result<Vec<Document>, NoMemory>
+pub(crate) fn first_ones(
+    sort: &Sort,
+    documents: Vec<Document>,
+    most: usize,
+) -> Result<Vec<Document>, NoMemory>
     ensures first { IfOk result (λ v. v.items ≡ take most (order sort.now documents.items)) }
     ensures within { All IsWithin documents.items → IfOk result (λ v. All IsWithin v.items) }
 {
@@ -90,7 +94,7 @@ fn room_for(most: usize) -> usize {
 }
 
 /// Lets those go that come too late, where there are too many.
-fn let_late_go(
+pub(crate) fn let_late_go(
     alloc: Global,
     sort: &Sort,
     documents: &mut Vec<Document>,

@@ -1,7 +1,6 @@
-use Rattle.std.proofs.Common.{Some, refl, sym, ap, ◌∙◌}
+use Rattle.std.proofs.Common.{refl, sym, ap, ◌∙◌}
 use Rattle.cursors.specs.Held.{HeldCursor, HeldWalk, held_at, through, listed}
 use Rattle.cursors.specs.View.{list_of, walk_in, walk_of}
-use Rattle.cursors.specs.declared.source.Source.{Source}
 use Rattle.queries.specs.declared.batches.BatchAsked.{BatchAsked}
 use Rattle.replies.specs.declared.batch_spelling.BatchKind.TheVariants as batches
 use Rattle.pinned_cursors.proofs.NextLemmas.{AsksNext, reads_listed, reads_through}

@@ -32,7 +32,7 @@ failed fault = Err fault
 pub say_full-requires : goal.say_full-requires
 say_full-requires g c =
     let same : frames_in c.deref_mut-in-Err-Full.result.now ≡ refused_frames OutOfMemory c.args.connections.now.items =
-    ap frames_in (search rules) ∙ c.requires.refusals in
+    ap frames_in c.deref_mut-in-Err-Full.ensures.value ∙ c.requires.refusals in
     subst HaveRoom (sym same) (refused_room c.args.connections.now.items)
 
 pub returns-then-not-serve_connections-clause-settles : goal.returns-then-not-serve_connections-clause-settles
@@ -43,7 +43,7 @@ returns-then-not-serve_connections-clause-settles g c =
     let e2 = c.undo_turn.new.self in
     let serve = c.serve_connections.ensures in
     let serves = serve.serves in
-    let taken : c.deref_mut.result.now ≡ c.args.connections.now.items = search rules in
+    let taken : c.deref_mut.result.now ≡ c.args.connections.now.items = c.deref_mut.ensures.value in
     let after = undo_follows history e1 e2
     (on_same (disk_history history e1) (disk_history history e2) c.undo_turn.ensures.disk) c.undo_turn.ensures.takes c.undo_turn.ensures.generation in
     let before : turn_start e1 ≡ (world e0).collections = serve.turn_start ∙ c.requires.idle in
@@ -92,10 +92,10 @@ returns-in-Ok-clause-settles g c =
     let e2 = c.commit_turn.new.self in
     let serve = c.serve_connections.ensures in
     let serves = serve.serves in
-    let taken : c.deref_mut.result.now ≡ c.args.connections.now.items = search rules in
+    let taken : c.deref_mut.result.now ≡ c.args.connections.now.items = c.deref_mut.ensures.value in
     let after = (commit_follows history e1 e2 c.commit_turn.result c.commit_turn.ensures).0 in
     let same = ap (λ (ls : List Connection). frames_of (calls ls) serves.replies) taken in
-    let none : c.new-replies.result.items ≡ [] = search rules in
+    let none : c.new-replies.result.items ≡ [] = c.new-replies.ensures.items in
     let given : List (ℕ × Vec ℕ Global) → List (ℕ × List ℕ) = λ vs. frames_in vs ++ frames_of (calls c.deref_mut.result.now) serves.replies in
     record {
       replies = serves.replies;
@@ -114,7 +114,7 @@ returns-in-Err-Memory-clause-settles g c =
     let e2 = c.commit_turn.new.self in
     let serve = c.serve_connections.ensures in
     let serves = serve.serves in
-    let taken : c.deref_mut.result.now ≡ c.args.connections.now.items = search rules in
+    let taken : c.deref_mut.result.now ≡ c.args.connections.now.items = c.deref_mut.ensures.value in
     let after = (commit_follows history e1 e2 c.commit_turn.result c.commit_turn.ensures).0 in
     let before : turn_start e1 ≡ (world e0).collections = serve.turn_start ∙ c.requires.idle in
     record {
@@ -138,12 +138,12 @@ returns-in-Err-Full-clause-settles g c =
     let e2 = c.commit_turn.new.self in
     let serve = c.serve_connections.ensures in
     let serves = serve.serves in
-    let taken : c.deref_mut.result.now ≡ c.args.connections.now.items = search rules in
+    let taken : c.deref_mut.result.now ≡ c.args.connections.now.items = c.deref_mut.ensures.value in
     let after = (commit_follows history e1 e2 c.commit_turn.result c.commit_turn.ensures).0 in
     let before : turn_start e1 ≡ (world e0).collections = serve.turn_start ∙ c.requires.idle in
     let connections = c.args.connections.now.items in
     let new = c.say_full.new.frames in
-    let same : frames_in c.deref_mut-in-Err-Full.result.now ≡ refused_frames OutOfMemory connections = ap frames_in (search rules) ∙ c.requires.refusals in
+    let same : frames_in c.deref_mut-in-Err-Full.result.now ≡ refused_frames OutOfMemory connections = ap frames_in c.deref_mut-in-Err-Full.ensures.value ∙ c.requires.refusals in
     let given : frames_in new ≡ refused_frames Full connections = c.say_full.ensures ∙ ap respelled_frames same ∙ refused_respelled connections in
     let first = c.deref_mut-in-Err-Full.result.now in
     let counts : length new ≡ length first = sym (length-map new (λ f. (f.0, f.1.items))) ∙ ap length c.say_full.ensures
@@ -178,7 +178,7 @@ returns-in-Err-Device-clause-breaks g c _ k =
     let e2 = c.commit_turn.new.self in
     let serve = c.serve_connections.ensures in
     let serves = serve.serves in
-    let taken : c.deref_mut.result.now ≡ c.args.connections.now.items = search rules in
+    let taken : c.deref_mut.result.now ≡ c.args.connections.now.items = c.deref_mut.ensures.value in
     let after = (commit_follows history e1 e2 c.commit_turn.result c.commit_turn.ensures).0 in
     let ran = runs_over history e0 e1 e2 serve.goes after c.deref_mut.result.now c.args.connections.now.items taken serves.replies
     (serves.runs (c.commit_turn.ensures.on.kept k)) in
@@ -215,7 +215,7 @@ returns-in-Ok-clause-running g c =
 pub returns-in-Ok-clause-quiet : goal.returns-in-Ok-clause-quiet
 returns-in-Ok-clause-quiet g c k nothing =
     let serve = c.serve_connections.ensures in
-    let taken : c.deref_mut.result.now ≡ c.args.connections.now.items = search rules in
+    let taken : c.deref_mut.result.now ≡ c.args.connections.now.items = c.deref_mut.ensures.value in
     let same = serve.quiet (c.commit_turn.ensures.on.kept k)
     (subst (λ (ls : List Connection). ChangeNothing OfAnyCause (world c.args.engine.now) (calls ls)) (sym taken) nothing) in
     continues_further g.D.Disk.history c.args.engine.now c.serve_connections.new.engine c.commit_turn.new.self serve.goes
@@ -248,7 +248,7 @@ returns-in-Err-Memory-clause-running g c =
 pub returns-in-Err-Memory-clause-quiet : goal.returns-in-Err-Memory-clause-quiet
 returns-in-Err-Memory-clause-quiet g c k nothing =
     let serve = c.serve_connections.ensures in
-    let taken : c.deref_mut.result.now ≡ c.args.connections.now.items = search rules in
+    let taken : c.deref_mut.result.now ≡ c.args.connections.now.items = c.deref_mut.ensures.value in
     let same = serve.quiet (c.commit_turn.ensures.on.kept k)
     (subst (λ (ls : List Connection). ChangeNothing OfAnyCause (world c.args.engine.now) (calls ls)) (sym taken) nothing) in
     continues_further g.D.Disk.history c.args.engine.now c.serve_connections.new.engine c.commit_turn.new.self serve.goes
@@ -281,7 +281,7 @@ returns-in-Err-Full-clause-running g c =
 pub returns-in-Err-Full-clause-quiet : goal.returns-in-Err-Full-clause-quiet
 returns-in-Err-Full-clause-quiet g c k nothing =
     let serve = c.serve_connections.ensures in
-    let taken : c.deref_mut.result.now ≡ c.args.connections.now.items = search rules in
+    let taken : c.deref_mut.result.now ≡ c.args.connections.now.items = c.deref_mut.ensures.value in
     let same = serve.quiet (c.commit_turn.ensures.on.kept k)
     (subst (λ (ls : List Connection). ChangeNothing OfAnyCause (world c.args.engine.now) (calls ls)) (sym taken) nothing) in
     continues_further g.D.Disk.history c.args.engine.now c.serve_connections.new.engine c.commit_turn.new.self serve.goes
@@ -310,7 +310,7 @@ returns-in-Err-Device-clause-any_moment g c =
 pub returns-in-Err-Device-clause-quiet : goal.returns-in-Err-Device-clause-quiet
 returns-in-Err-Device-clause-quiet g c k nothing =
     let serve = c.serve_connections.ensures in
-    let taken : c.deref_mut.result.now ≡ c.args.connections.now.items = search rules in
+    let taken : c.deref_mut.result.now ≡ c.args.connections.now.items = c.deref_mut.ensures.value in
     let same = serve.quiet (c.commit_turn.ensures.on.kept k)
     (subst (λ (ls : List Connection). ChangeNothing OfAnyCause (world c.args.engine.now) (calls ls)) (sym taken) nothing) in
     continues_further g.D.Disk.history c.args.engine.now c.serve_connections.new.engine c.commit_turn.new.self serve.goes
@@ -398,29 +398,137 @@ returns-in-Err-Device-clause-moment g c =
 
 pub returns-then-not-serve_connections-clause-void : goal.returns-then-not-serve_connections-clause-void
 returns-then-not-serve_connections-clause-void g c none =
-    let taken : c.deref_mut.result.now ≡ c.args.connections.now.items = search rules in
+    let taken : c.deref_mut.result.now ≡ c.args.connections.now.items = c.deref_mut.ensures.value in
     c.undo_turn.ensures.disk ∙ ap (λ (e : Engine g.row.D.Denot). disk_history g.D.Disk.history e) (c.serve_connections.ensures.idle (ap calls taken ∙ none))
 
 pub returns-in-Ok-clause-void : goal.returns-in-Ok-clause-void
 returns-in-Ok-clause-void g c none =
-    let taken : c.deref_mut.result.now ≡ c.args.connections.now.items = search rules in
+    let taken : c.deref_mut.result.now ≡ c.args.connections.now.items = c.deref_mut.ensures.value in
     idle_commit g.D.Disk.history c.args.engine.now c.serve_connections.new.engine c.commit_turn.new.self c.commit_turn.result c.requires.rests
     (c.serve_connections.ensures.idle (ap calls taken ∙ none)) c.commit_turn.ensures
 
 pub returns-in-Err-Memory-clause-void : goal.returns-in-Err-Memory-clause-void
 returns-in-Err-Memory-clause-void g c none =
-    let taken : c.deref_mut.result.now ≡ c.args.connections.now.items = search rules in
+    let taken : c.deref_mut.result.now ≡ c.args.connections.now.items = c.deref_mut.ensures.value in
     idle_commit g.D.Disk.history c.args.engine.now c.serve_connections.new.engine c.commit_turn.new.self c.commit_turn.result c.requires.rests
     (c.serve_connections.ensures.idle (ap calls taken ∙ none)) c.commit_turn.ensures
 
 pub returns-in-Err-Full-clause-void : goal.returns-in-Err-Full-clause-void
 returns-in-Err-Full-clause-void g c none =
-    let taken : c.deref_mut.result.now ≡ c.args.connections.now.items = search rules in
+    let taken : c.deref_mut.result.now ≡ c.args.connections.now.items = c.deref_mut.ensures.value in
     idle_commit g.D.Disk.history c.args.engine.now c.serve_connections.new.engine c.commit_turn.new.self c.commit_turn.result c.requires.rests
     (c.serve_connections.ensures.idle (ap calls taken ∙ none)) c.commit_turn.ensures
 
 pub returns-in-Err-Device-clause-void : goal.returns-in-Err-Device-clause-void
 returns-in-Err-Device-clause-void g c none =
-    let taken : c.deref_mut.result.now ≡ c.args.connections.now.items = search rules in
+    let taken : c.deref_mut.result.now ≡ c.args.connections.now.items = c.deref_mut.ensures.value in
     idle_commit g.D.Disk.history c.args.engine.now c.serve_connections.new.engine c.commit_turn.new.self c.commit_turn.result c.requires.rests
     (c.serve_connections.ensures.idle (ap calls taken ∙ none)) c.commit_turn.ensures
+
+pub returns-then-not-serve_connections-clause-sound : goal.returns-then-not-serve_connections-clause-sound
+returns-then-not-serve_connections-clause-sound g c = c.undo_turn.ensures.sound
+
+pub returns-then-not-serve_connections-clause-idle : goal.returns-then-not-serve_connections-clause-idle
+returns-then-not-serve_connections-clause-idle g c = c.undo_turn.ensures.turn_start
+
+pub returns-then-not-serve_connections-clause-rests : goal.returns-then-not-serve_connections-clause-rests
+returns-then-not-serve_connections-clause-rests g c = c.undo_turn.ensures.rests
+
+pub returns-then-not-serve_connections-clause-rested : goal.returns-then-not-serve_connections-clause-rested
+returns-then-not-serve_connections-clause-rested g c = c.undo_turn.ensures.rested
+
+pub returns-then-not-serve_connections-clause-running : goal.returns-then-not-serve_connections-clause-running
+returns-then-not-serve_connections-clause-running g c = c.undo_turn.ensures.running ∙ c.serve_connections.ensures.running
+
+pub returns-in-Ok-clause-sound : goal.returns-in-Ok-clause-sound
+returns-in-Ok-clause-sound g c = c.commit_turn.ensures.sound
+
+pub returns-in-Ok-clause-idle : goal.returns-in-Ok-clause-idle
+returns-in-Ok-clause-idle g c = c.commit_turn.ensures.ended
+
+pub returns-in-Err-Memory-clause-sound : goal.returns-in-Err-Memory-clause-sound
+returns-in-Err-Memory-clause-sound g c = c.commit_turn.ensures.sound
+
+pub returns-in-Err-Memory-clause-idle : goal.returns-in-Err-Memory-clause-idle
+returns-in-Err-Memory-clause-idle g c = c.commit_turn.ensures.ended
+
+pub returns-in-Err-Full-clause-sound : goal.returns-in-Err-Full-clause-sound
+returns-in-Err-Full-clause-sound g c = c.commit_turn.ensures.sound
+
+pub returns-in-Err-Full-clause-idle : goal.returns-in-Err-Full-clause-idle
+returns-in-Err-Full-clause-idle g c = c.commit_turn.ensures.ended
+
+pub returns-in-Err-Device-clause-sound : goal.returns-in-Err-Device-clause-sound
+returns-in-Err-Device-clause-sound g c = c.commit_turn.ensures.sound
+
+pub returns-in-Err-Device-clause-idle : goal.returns-in-Err-Device-clause-idle
+returns-in-Err-Device-clause-idle g c = c.commit_turn.ensures.ended
+
+pub returns-then-not-serve_connections-clause-breaks : goal.returns-then-not-serve_connections-clause-breaks
+returns-then-not-serve_connections-clause-breaks g c = λ none. absurd cc
+
+pub returns-then-not-serve_connections-clause-stops : goal.returns-then-not-serve_connections-clause-stops
+returns-then-not-serve_connections-clause-stops g c = λ none. absurd cc
+
+pub returns-then-not-serve_connections-clause-device : goal.returns-then-not-serve_connections-clause-device
+returns-then-not-serve_connections-clause-device g c = λ none. absurd cc
+
+pub returns-in-Ok-clause-breaks : goal.returns-in-Ok-clause-breaks
+returns-in-Ok-clause-breaks g c = λ none. absurd cc
+
+pub returns-in-Ok-clause-stops : goal.returns-in-Ok-clause-stops
+returns-in-Ok-clause-stops g c = λ none. absurd cc
+
+pub returns-in-Ok-clause-device : goal.returns-in-Ok-clause-device
+returns-in-Ok-clause-device g c = λ none. absurd cc
+
+pub returns-in-Err-Memory-clause-breaks : goal.returns-in-Err-Memory-clause-breaks
+returns-in-Err-Memory-clause-breaks g c = λ none. absurd cc
+
+pub returns-in-Err-Memory-clause-stops : goal.returns-in-Err-Memory-clause-stops
+returns-in-Err-Memory-clause-stops g c = λ none. absurd cc
+
+pub returns-in-Err-Memory-clause-device : goal.returns-in-Err-Memory-clause-device
+returns-in-Err-Memory-clause-device g c = λ none. absurd cc
+
+pub returns-in-Err-Full-clause-breaks : goal.returns-in-Err-Full-clause-breaks
+returns-in-Err-Full-clause-breaks g c = λ none. absurd cc
+
+pub returns-in-Err-Full-clause-stops : goal.returns-in-Err-Full-clause-stops
+returns-in-Err-Full-clause-stops g c = λ none. absurd cc
+
+pub returns-in-Err-Full-clause-device : goal.returns-in-Err-Full-clause-device
+returns-in-Err-Full-clause-device g c = λ none. absurd cc
+
+pub returns-in-Err-Device-clause-settles : goal.returns-in-Err-Device-clause-settles
+returns-in-Err-Device-clause-settles g c = tt
+
+pub returns-in-Err-Device-clause-commits : goal.returns-in-Err-Device-clause-commits
+returns-in-Err-Device-clause-commits g c = tt
+
+pub returns-in-Err-Device-clause-running : goal.returns-in-Err-Device-clause-running
+returns-in-Err-Device-clause-running g c = tt
+
+pub returns-in-Ok-clause-rests : goal.returns-in-Ok-clause-rests
+returns-in-Ok-clause-rests g c = c.commit_turn.ensures.rests
+
+pub returns-in-Ok-clause-rested : goal.returns-in-Ok-clause-rested
+returns-in-Ok-clause-rested g c = c.commit_turn.ensures.rested
+
+pub returns-in-Err-Memory-clause-rests : goal.returns-in-Err-Memory-clause-rests
+returns-in-Err-Memory-clause-rests g c = c.commit_turn.ensures.rests
+
+pub returns-in-Err-Memory-clause-rested : goal.returns-in-Err-Memory-clause-rested
+returns-in-Err-Memory-clause-rested g c = c.commit_turn.ensures.rested
+
+pub returns-in-Err-Full-clause-rests : goal.returns-in-Err-Full-clause-rests
+returns-in-Err-Full-clause-rests g c = c.commit_turn.ensures.rests
+
+pub returns-in-Err-Full-clause-rested : goal.returns-in-Err-Full-clause-rested
+returns-in-Err-Full-clause-rested g c = c.commit_turn.ensures.rested
+
+pub returns-in-Err-Device-clause-rests : goal.returns-in-Err-Device-clause-rests
+returns-in-Err-Device-clause-rests g c = c.commit_turn.ensures.rests
+
+pub returns-in-Err-Device-clause-rested : goal.returns-in-Err-Device-clause-rested
+returns-in-Err-Device-clause-rested g c = c.commit_turn.ensures.rested

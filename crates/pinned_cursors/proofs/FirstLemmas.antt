@@ -1,0 +1,324 @@
+-- A first batch of the documents of a list is read from the version that is pinned, and a cursor is opened on the others.
+use Rattle.std.proofs.Common.{◌≡◌, inl, inr, ℕ, ◌<◌, ◌≤◌, Bool, true, false, List, length, drop, take}
+use Rattle.std.proofs.Common.{Option, Some, None, Result, Ok, Err, refl, sym, ap, subst, ◌∙◌, arith}
+use Rattle.std.specs.Prelude.{◌⊎◌, ◌^◌, not, is_some, codes, IfNone, IfSome, MatchOption, MatchResult}
+use Rattle.std.specs.Global.{Vec}
+use Rattle.std.proofs.lemmas.Bool.Decides.{nat_tests}
+use Rattle.bson.specs.Tree.{Pairs}
+use Rattle.page.specs.History.{History, KeepsWord}
+use Rattle.btree.specs.Keys.{times}
+use Rattle.btree.specs.Store.{HasNoPage}
+use Rattle.pager.specs.declared.version.Version.{Version}
+use Rattle.path.specs.declared.refusal.Refusal.{Refusal}
+use Rattle.path.specs.declared.refusal.Refusal.TheVariants as refusals
+use Rattle.collections.specs.Calls.{GoesFrom, HasCause, HasFailed}
+use Rattle.collections.specs.State.{State}
+use Rattle.collections.specs.Versions.{PinsNow, ReadsVersion, UnpinsVersion}
+use Rattle.collections.specs.View.{disk_history, is_changed, is_stopped, pages_of}
+use Rattle.collections.proofs.StandingLemmas.{stopped_same}
+use Rattle.collections.proofs.VersionLemmas.{has_still, pins_stay, since_start_stays}
+use Rattle.database_model.specs.Cursors.{batch_of, batch_reply, cursor_reply, is_refused, new_cursor, number_after}
+use Rattle.database_model.specs.Refusals.{ok_reply}
+use Rattle.replies.specs.FirstBatch.{IsNoBatch}
+use Rattle.replies.specs.View.{batch_name}
+use Rattle.replies.specs.declared.batch_spelling.BatchKind.TheVariants as batches
+use Rattle.projection.specs.Projection.{Projection}
+use Rattle.queries.specs.Listed.{AreListedIn, Chosen, IsListedBatch, given_of}
+use Rattle.queries.specs.declared.batches.BatchAsked.{BatchAsked}
+use Rattle.queries.specs.declared.batches.GivenBatch.{GivenBatch}
+use Rattle.cursors.specs.Changes.{opened}
+use Rattle.cursors.specs.Held.{Held, HeldCursor, HeldWalk, Way, listed, cursors_of, table_of}
+use Rattle.cursors.specs.TableLaws.{opened_in_table}
+use Rattle.pinned_cursors.specs.Batches.{ReadsThenPins}
+use Rattle.pinned_cursors.specs.First.{GivesFirst, GivesPinned, KeepsPin}
+use Rattle.pinned_cursors.specs.Opening.{IsLeftOf, held_walk}
+use Rattle.pinned_cursors.specs.Tied.{AreTied, ListsRest, ReadsRest, TiedBeside, pins_by}
+use Rattle.pinned_cursors.specs.Turns.{OnlyPins}
+use Rattle.pinned_cursors.specs.declared.first.FirstGiven.{FirstGiven}
+use Rattle.pinned_cursors.proofs.NextLemmas.{lists_on}
+use Rattle.pinned_cursors.proofs.OpeningLemmas.{reads_left}
+use Rattle.pinned_cursors.proofs.TiedLemmas.{each_on, tied_opened, tied_pinned, tied_unpinned}
+use Rattle.pinned_cursors.proofs.TurnLemmas.{no_pins, nothing_read, pins_of_stays}
+
+-- The number of a cursor isn't said where all documents were given.
+number_unsaid : (n : ℕ) (ds : List Pairs) (a b : ℕ) → length ds ≤ n → number_after n ds a ≡ number_after n ds b
+number_unsaid n ds a b all = grind (arith, nat_tests, all)
+
+-- ---- options
+
+module _ {A : Type 0} where
+  pub none_so : (o : Option A) (b : Bool) → is_some o ≡ not b → b ≡ true → o ≡ None
+  none_so None b is t = refl
+  none_so (Some x) b is t = absurd (no (is ∙ ap not t))
+    where
+      no : true ≡ false → ⊥
+      no e = cc
+
+  pub some_so : (o : Option A) (b : Bool) → is_some o ≡ not b → b ≡ false → (x : A) × (o ≡ Some x)
+  some_so None b is f = absurd (no (is ∙ ap not f))
+    where
+      no : false ≡ true → ⊥
+      no e = cc
+  some_so (Some x) b is f = (x, refl)
+
+  pub if_none : (o : Option A) (P : Type 0) → o ≡ None → IfNone o P → P
+  if_none o P is h = subst (λ (x : Option A). IfNone x P) is h
+
+  pub if_some : (o : Option A) (x : A) (P : A → Type 0) → o ≡ Some x → IfSome o P → P x
+  if_some o x P is h = subst (λ (x : Option A). IfSome x P) is h
+
+-- ---- in the version that is pinned
+
+module _ {D : Type 0} (history : D → History) (version : Version) (number : ℕ) (p : Projection) (texts : List (List ℕ)) (documents : List Pairs)
+    (old new : State D) where
+  abbrev its : HeldWalk
+  its = held_walk version number p (listed texts)
+
+  -- the reading of the batch
+  abbrev pub ReadsListed : BatchAsked → Result GivenBatch Refusal → Type 0
+  ReadsListed asked result = ReadsVersion history version (AreListedIn number texts) (λ now chosen b. IsListedBatch asked (given_of p chosen) b) result old new
+
+  listed_there : (asked : BatchAsked) (result : Result GivenBatch Refusal) → ReadsListed asked result → KeepsWord (disk_history history new)
+      → ReadsRest history old its documents → MatchResult result (IsListedBatch asked documents) (HasCause history old new)
+  listed_there asked result reads k r =
+      let l : ListsRest texts p r.home.documents documents = r.left in
+      let chosen : Chosen = record { home = r.home; documents = l.some } in
+      subst (λ (ds : List Pairs). MatchResult result (IsListedBatch asked ds) (HasCause history old new)) (sym l.same)
+      (reads.answers k r.collections (has_still history old version r.collections r.had) chosen
+      (record { numbered = r.numbered; stored = r.stored; listed = l.there }))
+
+  behind_left : (n : ℕ) → GoesFrom history old new → ReadsRest history old its documents
+      → ReadsRest history new (held_walk version number p (listed (drop n texts))) (drop n documents)
+  behind_left n goes r = record {
+    collections = r.collections;
+    had = since_start_stays history old new goes version r.collections r.had;
+    home = r.home;
+    numbered = r.numbered;
+    stored = r.stored;
+    left = lists_on texts p r.home.documents documents n r.left;
+  }
+
+  module _ (connection : ℕ) (namespace : List ℕ) (most : ℕ) (held : Held) (asked : BatchAsked) (kind : asked.kind ≡ batches.First)
+      (named : asked.namespace.now ≡ namespace) (most_is : asked.most ≡ most) where
+    abbrev Gives : Result FirstGiven Refusal → Held → Type 0
+    Gives result after = GivesPinned history connection namespace its documents most result old new held after
+
+    -- nothing was given
+    gives_none : (q : Result GivenBatch Refusal) → ReadsListed asked q → (e : Refusal) (after : Held) → after ≡ held
+        → (KeepsWord (disk_history history new) → ReadsRest history old its documents
+        → HasCause history old new e ⊎ IsNoBatch (table_of held) connection documents most e)
+        → Gives (Err e) after
+    gives_none q reads e after same cause = record {
+      on = reads.on;
+      unchanged = reads.unchanged;
+      same = reads.same;
+      err = same;
+      answers = cause;
+      pin = tt;
+    }
+
+    pub pinned_unread : (e : Refusal) → ReadsListed asked (Err e) → Gives (Err e) held
+    pinned_unread e reads = gives_none (Err e) reads e held refl (λ k r. inl (listed_there asked (Err e) reads k r))
+
+    module _ (b : GivenBatch) (reads : ReadsListed asked (Ok b)) where
+      there : KeepsWord (disk_history history new) → ReadsRest history old its documents → IsListedBatch asked documents b
+      there k r = listed_there asked (Ok b) reads k r
+
+      counted : IsListedBatch asked documents b → b.count ≡ batch_of most documents
+      counted batch = batch.counted ∙ ap (λ (m : ℕ). batch_of m documents) most_is
+
+      says : IsListedBatch asked documents b → (at : ℕ) → number_after b.count documents asked.number ≡ number_after b.count documents at
+          → b.reply ≡ ok_reply (batch_reply (codes "firstBatch") b.count documents at namespace)
+      says batch at same = batch.says
+          ∙ (λ i. ok_reply (batch_reply (batch_name (kind i)) b.count documents asked.number (named i)))
+          ∙ ap (λ (m : ℕ). ok_reply (cursor_reply (codes "firstBatch") (take b.count documents) m namespace)) same
+
+      -- memory ran out
+      pub pinned_out : (e : Refusal) → e ≡ refusals.OutOfMemory → (after : Held) → after ≡ held → Gives (Err e) after
+      pinned_out e is after same = gives_none (Ok b) reads e after same (λ k r. inl (inl is))
+
+      pub pinned_whole : b.next ≡ None → Gives (Ok (record { reply = b.reply; is_open = false })) held
+      pinned_whole none = record {
+        on = reads.on;
+        unchanged = reads.unchanged;
+        same = reads.same;
+        err = tt;
+        answers = λ k r. let batch = there k r in
+            let all : length documents ≤ b.count =
+            subst (λ (o : Option (Vec ℕ)). MatchOption o (length documents ≤ b.count) (λ _. b.count < length documents)) none batch.next in
+            record {
+              n = b.count;
+              batch = record {
+                count = counted batch;
+                says = says batch held.next (number_unsaid b.count documents asked.number held.next all);
+                free = λ more. absurd (omega (arith, all, more));
+                below = λ more. absurd (omega (arith, all, more));
+              };
+              whole = λ fits. refl;
+              opened = λ more. absurd (omega (arith, all, more));
+            };
+        pin = λ reads. refl;
+      }
+
+      module _ (text : Vec ℕ) (some : b.next ≡ Some text) where
+        more : IsListedBatch asked documents b → b.count < length documents
+        more batch = subst (λ (o : Option (Vec ℕ)). MatchOption o (length documents ≤ b.count) (λ _. b.count < length documents)) some batch.next
+
+        pub pinned_many : is_refused connection (cursors_of held) held.next ≡ true → Gives (Err refusals.TooMany) held
+        pinned_many refused = gives_none (Ok b) reads refusals.TooMany held refl
+            (λ k r. let batch = there k r in
+            inr (inr (refl, subst (λ (n : ℕ). n < length documents) (counted batch) (more batch), refused)))
+
+        pub pinned_open : asked.number ≡ held.next → held.next < 2 ^ 63 → is_refused connection (cursors_of held) held.next ≡ false → (after : Held)
+            → after ≡ opened held connection namespace (drop b.count documents) (Some (held_walk version number p (listed (drop b.count texts))))
+            → Gives (Ok (record { reply = b.reply; is_open = true })) after
+        pinned_open number_is below free after same =
+            let on : HeldWalk = held_walk version number p (listed (drop b.count texts)) in
+            let h : HeldCursor = record { cursor = new_cursor held.next connection namespace (drop b.count documents); walk = Some on } in
+            record {
+              on = reads.on;
+              unchanged = reads.unchanged;
+              same = reads.same;
+              err = tt;
+              answers = λ k r. let batch = there k r in
+                  record {
+                    n = b.count;
+                    batch = record {
+                      count = counted batch;
+                      says = says batch held.next (ap (number_after b.count documents) number_is);
+                      free = λ _. free;
+                      below = λ _. below;
+                    };
+                    whole = λ all. absurd (omega (arith, all, more batch));
+                    opened = λ _. ap table_of same ∙ opened_in_table held connection namespace (drop b.count documents) (Some on);
+                  };
+              pin = λ rest tied. subst (λ (x : Held). AreTied history new x.list) (sym same)
+                  (tied_opened history new held.list h on refl tied (λ running k. behind_left b.count reads.on (rest running k)));
+            }
+
+-- ---- the pin around it
+
+module _ {D : Type 0} (history : D → History) where
+  -- Cursors, and a pin beside them, stay tied where commands read.
+  pub beside_on : (old new : State D) (version : Version) (list : List HeldCursor) → GoesFrom history old new
+      → TiedBeside history old version list → TiedBeside history new version list
+  beside_on old new version list goes tied = record {
+    each = λ running k.
+        each_on history old new (pins_by list) (λ v cs had some. since_start_stays history old new goes v cs had) list (λ n. omega arith)
+        (tied.each (sym (stopped_same history old.pager new.pager goes.stays) ∙ running) (goes.stays.reads.on.kept k));
+    pins = λ n. ap (times n) (pins_stay history old new goes) ∙ tied.pins n;
+  }
+
+  -- What came between two moments came between others, but for whose pins nothing went on.
+  module _ (a b c d : State D) (before : OnlyPins history a b) (behind : OnlyPins history c d) where
+    failed_around : HasFailed history b c → HasFailed history a d
+    failed_around (inl stopped) = inl (sym before.untouched.stopped ∙ stopped)
+    failed_around (inr failed) = inr (subst (λ (h : History). h.failures < (disk_history history d).failures) before.untouched.disk
+        (subst (λ (h : History). (disk_history history b).failures < h.failures) (sym behind.untouched.disk) failed))
+
+    full_around : HasNoPage (pages_of history b) (pages_of history c) → HasNoPage (pages_of history a) (pages_of history d)
+    full_around (inl more) = inl (omega (arith, more, before.takes, behind.takes))
+    full_around (inr most) = inr (behind.takes ∙ most)
+
+    pub cause_around : (e : Refusal) → HasCause history b c e → HasCause history a d e
+    cause_around e (inl memory) = inl memory
+    cause_around e (inr (inl (is, failed))) = inr (inl (is, failed_around failed))
+    cause_around e (inr (inr (is, full))) = inr (inr (is, full_around full))
+
+module _ {D : Type 0} (history : D → History) (connection : ℕ) (namespace : List ℕ) (number : ℕ) (p : Projection) (way : Way) (documents : List Pairs)
+    (most : ℕ) (old : State D) (held : Held) where
+  abbrev Firsts : Result Pairs Refusal → State D → Held → Type 0
+  Firsts result new after = GivesFirst history connection namespace number p way documents most result old new held after
+
+  pub first_none : (e : Refusal) → HasCause history old old e → (new : State D) → new ≡ old → Firsts (Err e) new held
+  first_none e cause new same = subst (λ (file : State D). Firsts (Err e) file held) (sym same) (record {
+    pinned = old;
+    first = no_pins history old;
+    goes = nothing_read history old;
+    err = refl;
+    answers = λ k left. inl cause;
+    tied = λ left tied. tied;
+  })
+
+  module _ {E : Type 0} (running : is_stopped old ≡ false) (rests : is_changed old ≡ false) (version : Version) (pinned read : State D)
+      (pin : PinsNow {E = E} history (Ok version) old pinned) where
+    abbrev its_walk : HeldWalk
+    its_walk = held_walk version number p way
+
+    abbrev Pinned : Result FirstGiven Refusal → Held → Type 0
+    Pinned result after = GivesPinned history connection namespace its_walk documents most result pinned read held after
+
+    only : OnlyPins history old pinned
+    only = pins_of_stays history old pinned pin.stays
+
+    module _ (result : Result FirstGiven Refusal) (after : Held) (gives : Pinned result after) where
+      word : KeepsWord (disk_history history read) → KeepsWord (disk_history history old)
+      word k = subst KeepsWord only.untouched.disk (gives.on.stays.reads.on.kept k)
+
+      there_left : KeepsWord (disk_history history read) → (KeepsWord (disk_history history old) → IsLeftOf history old number p way documents)
+          → ReadsRest history pinned its_walk documents
+      there_left k left =
+          reads_left {E = E} history connection namespace number p way documents old held version pinned pin rests running (word k) (left (word k))
+
+      beside : AreTied history old held.list → TiedBeside history read version held.list
+      beside tied = beside_on history pinned read version held.list gives.on (tied_pinned history old pinned version held.list pin tied)
+
+      then_pins : (new : State D) → OnlyPins history read new → ReadsThenPins history pinned new
+      then_pins new pins = record { read = read; on = gives.on; unchanged = gives.unchanged; same = gives.same; pins = pins }
+
+    -- It was refused, and the pin ended.
+    pub first_refused : (e : Refusal) (after : Held) → Pinned (Err e) after → (new : State D) → UnpinsVersion history version read new
+        → Firsts (Err e) new after
+    first_refused e after gives new unpin =
+        let ends : OnlyPins history read new = pins_of_stays history read new unpin.stays in
+        record {
+          pinned = pinned;
+          first = only;
+          goes = then_pins (Err e) after gives new ends;
+          err = gives.err;
+          answers = λ k left.
+              let k_read : KeepsWord (disk_history history read) = subst KeepsWord ends.untouched.disk k in
+              either e new ends (gives.answers k_read (there_left (Err e) after gives k_read (λ _. left)));
+          tied = λ left tied. subst (λ (x : Held). AreTied history new x.list) (sym gives.err)
+              (tied_unpinned history read new version held.list unpin (beside (Err e) after gives tied));
+        }
+      where
+        either : (e : Refusal) (new : State D) → OnlyPins history read new
+            → HasCause history pinned read e ⊎ IsNoBatch (table_of held) connection documents most e
+            → HasCause history old new e ⊎ IsNoBatch (table_of held) connection documents most e
+        either e new ends (inl cause) = inl (cause_around history old pinned read new only ends e cause)
+        either e new ends (inr none) = inr none
+
+    module _ (g : FirstGiven) (after : Held) (gives : Pinned (Ok g) after) where
+      -- A cursor has the pin.
+      pub first_open : g.is_open ≡ true → Firsts (Ok g.reply) read after
+      first_open is = record {
+        pinned = pinned;
+        first = only;
+        goes = then_pins (Ok g) after gives read (no_pins history read);
+        err = tt;
+        answers = λ k left. gives.answers k (there_left (Ok g) after gives k (λ _. left));
+        tied = λ left tied.
+            subst (λ (b : Bool). KeepsPin history version held after b read) is
+            (gives.pin (λ running k. there_left (Ok g) after gives k left))
+            (beside (Ok g) after gives tied);
+      }
+
+      -- All was given, and the pin ended.
+      pub first_whole : g.is_open ≡ false → (new : State D) → UnpinsVersion history version read new → Firsts (Ok g.reply) new after
+      first_whole is new unpin =
+          let ends : OnlyPins history read new = pins_of_stays history read new unpin.stays in
+          record {
+            pinned = pinned;
+            first = only;
+            goes = then_pins (Ok g) after gives new ends;
+            err = tt;
+            answers = λ k left.
+                let k_read : KeepsWord (disk_history history read) = subst KeepsWord ends.untouched.disk k in
+                gives.answers k_read (there_left (Ok g) after gives k_read (λ _. left));
+            tied = λ left tied.
+                let same : after ≡ held = subst (λ (b : Bool). KeepsPin history version held after b read) is
+                (gives.pin (λ running k. there_left (Ok g) after gives k left)) in
+                subst (λ (x : Held). AreTied history new x.list) (sym same)
+                (tied_unpinned history read new version held.list unpin (beside (Ok g) after gives tied));
+          }
