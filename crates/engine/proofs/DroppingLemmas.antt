@@ -115,14 +115,14 @@ module _ {D : Type 0} (history : D → History) (old : Engine D) (h : IsSound hi
 
   pub batch_unread : (e : Refusal) → Reading (Err e) → Steps (Err e)
   batch_unread e read = record {
-    reads = reads_file history old file h read.on read.same;
+    reads = reads_file history old file h read.on read.unchanged read.same;
     answers = λ k x is. read.answers k old.told.value.start (world old).collections h.file x.rest is.walks;
   }
 
   module _ (batch : Vec Pairs) (read : Reading (Ok batch)) where
     pub batch_not_removed : (e : Refusal) → (All (IsIndexable home.indexes.items) batch.items → e ≡ refusals.OutOfMemory) → Steps (Err e)
     batch_not_removed e refused = record {
-      reads = reads_file history old file h read.on read.same;
+      reads = reads_file history old file h read.on read.unchanged read.same;
       answers = λ k x is.
           let next = read.answers k old.told.value.start (world old).collections h.file x.rest is.walks in
           let state = lawful_now history old h (word_before history old.file file read.on k) running in
@@ -131,7 +131,7 @@ module _ {D : Type 0} (history : D → History) (old : Engine D) (h : IsSound hi
 
     pub batch_removed : (more : Bool) → TakesOut before after home.number home.indexes.items batch.items → (more ≡ false → batch.items ≡ []) → Steps (Ok more)
     batch_removed more takes empty = record {
-      reads = reads_file history old file h read.on read.same;
+      reads = reads_file history old file h read.on read.unchanged read.same;
       answers = λ k x is.
           let cs = (world old).collections in
           let next = read.answers k old.told.value.start cs h.file x.rest is.walks in

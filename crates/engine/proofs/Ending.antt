@@ -12,14 +12,13 @@ use Rattle.collections.specs.Holding as images
 use Rattle.collections.specs.Marks.{IsUntouched, Undoes}
 use Rattle.collections.specs.Standing.{HasState}
 use Rattle.collections.specs.State.{State}
-use Rattle.collections.specs.Versions.{CommitsVersions, KeepsSinceStart, pins_of}
 use Rattle.collections.specs.View as views
 use Rattle.collections.proofs.LawLemmas as laws
-use Rattle.cursors.specs.Changes.{all_at_rest}
-use Rattle.cursors.specs.Held.{Held, HeldCursor, cursors_of, table_of}
+use Rattle.cursors.specs.Changes.{all_at_rest, rested}
+use Rattle.cursors.specs.Held.{Held, cursors_of, table_of}
 use Rattle.pinned_cursors.specs.Tied.{AreTied}
 use Rattle.pinned_cursors.specs.Turns.{OnlyPins}
-use Rattle.pinned_cursors.proofs.TurnTied.{tied_committed, tied_rested, tied_still}
+use Rattle.pinned_cursors.proofs.TurnTied.{tied_rested}
 use Rattle.database_model.specs.World.{World, Cursor, CursorTable, at_rest, are_untouched, after_commit, after_undo}
 use Rattle.entries.specs.State.{Collection}
 use Rattle.engine.proofs.ResultLemmas.{fault_of, not_both}
@@ -40,23 +39,18 @@ no_page_then : (a b c : Store) → HasNoPage a b → c.full_takes ≡ b.full_tak
 no_page_then a b c (inl more) same = inl (omega (arith, more, same))
 no_page_then a b c (inr most) same = inr (same ∙ most)
 
--- The turn was taken back, and then pins went.
-pub undone_of_pins : {D : Type 0} (history : D → History) (a b c : State D) → Undoes history a b → OnlyPins history b c → Undoes history a c
-undone_of_pins history a b c undoes pins = record {
+-- Pins went, and then the turn was taken back.
+pub undone_of_pins : {D : Type 0} (history : D → History) (a b c : State D) → OnlyPins history a b → Undoes history b c → Undoes history a c
+undone_of_pins history a b c pins undoes = record {
   untouched = record {
-    disk = pins.untouched.disk ∙ undoes.untouched.disk;
-    stopped = pins.untouched.stopped ∙ undoes.untouched.stopped;
-    version = pins.untouched.version ∙ undoes.untouched.version;
+    disk = undoes.untouched.disk ∙ pins.untouched.disk;
+    stopped = undoes.untouched.stopped ∙ pins.untouched.stopped;
+    version = undoes.untouched.version ∙ pins.untouched.version;
   };
-  takes = pins.takes ∙ undoes.takes;
-  rests = pins.unchanged ∙ undoes.rests;
-  state = λ start now has. pins.state start start (undoes.state start now has);
+  takes = undoes.takes ∙ pins.takes;
+  rests = undoes.rests;
+  state = λ start now has. undoes.state start now (pins.state start now has);
 }
-
-pub tied_undone : {D : Type 0} (history : D → History) (old new : State D) (list : List HeldCursor) → Undoes history old new
-    → KeepsSinceStart history old new → pins_of new ≡ pins_of old → AreTied history old list → AreTied history new list
-tied_undone history old new list undoes versions pins =
-    tied_still history old new list (λ running. sym undoes.untouched.stopped ∙ running) (subst KeepsWord undoes.untouched.disk) (λ running. versions) pins
 
 abbrev failed : CommitFault → Result (Unit {0}) CommitFault
 failed fault = Err fault
@@ -87,7 +81,11 @@ module _ {D : Type 0} (history : D → History) (old new : Engine D) (h : IsSoun
         before = h.before;
         quiet = h.quiet;
         file = h.file;
-        tied = subst (λ (hs : Held). AreTied history old.file hs.list) (sym held) (tied_rested history old.file old.cursors.list h.tied);
+        unchanged = h.unchanged;
+        tied = subst (λ (hs : Held). AreTied old.is_changed history old.file hs.list) (sym held)
+            (subst (λ (b : Bool). AreTied b history old.file (map rested old.cursors.list)) (sym rests)
+            (tied_rested history old.file old.cursors.list
+            (subst (λ (b : Bool). AreTied b history old.file old.cursors.list) rests h.tied)));
       };
       on = goes_nowhere (disk_history history old);
       done = ap (world_of old.told.value) made;
@@ -111,16 +109,15 @@ module _ {D : Type 0} (history : D → History) (old new : Engine D) (h : IsSoun
       rested = subst (λ (t : CursorTable). are_untouched t.list ≡ true) (sym made) (rested_untouched (cursors_of old.cursors));
     }
 
-  -- what the turn changed was committed, or cut off
-  pub tied_through : (r : Result (Unit {0}) CommitFault) (mid : State D) → files.Commits history r old.file mid → CommitsVersions history r old.file mid
-      → pins_of mid ≡ pins_of old.file → (views.is_stopped mid ≡ false → views.is_stopped old.file ≡ false) → AreTied history mid old.cursors.list
-  tied_through r mid commits versions pins ran = tied_committed history old.file mid old.cursors.list r commits versions pins ran h.tied
-
-  pub tied_at_rest : (mid : State D) → AreTied history mid old.cursors.list → new.file ≡ mid → new.cursors ≡ all_at_rest old.cursors
-      → AreTied history new.file new.cursors.list
+  pub tied_at_rest : (mid : State D) → AreTied false history mid (map rested old.cursors.list) → new.file ≡ mid → new.cursors ≡ all_at_rest old.cursors
+      → AreTied false history new.file new.cursors.list
   tied_at_rest mid tied file cursors =
-      subst (λ (f : State D). AreTied history f new.cursors.list) (sym file)
-      (subst (λ (held : Held). AreTied history mid held.list) (sym cursors) (tied_rested history mid old.cursors.list tied))
+      subst (λ (f : State D). AreTied false history f new.cursors.list) (sym file)
+      (subst (λ (held : Held). AreTied false history mid held.list) (sym cursors) tied)
+
+  -- What was committed, or cut off, or taken back, has changed nothing any more.
+  at_rest_again : has_changes new ≡ false → AreTied false history new.file new.cursors.list → AreTied (has_changes new) history new.file new.cursors.list
+  at_rest_again rests = subst (λ (b : Bool). AreTied b history new.file new.cursors.list) (sym rests)
 
   -- the file runs where it found no room
   pub ran_before : (mid : State D) → files.FindsNoRoom history old.file mid → views.is_stopped mid ≡ false → views.is_stopped old.file ≡ false
@@ -151,7 +148,7 @@ module _ {D : Type 0} (history : D → History) (old new : Engine D) (h : IsSoun
   module _ (rests : has_changes new ≡ false) (back : world new ≡ after_undo (turn_start old) (world old)) (ended : turn_start new ≡ (world new).collections)
       (untouched : IsUntouched history old.file new.file)
       (state : (start now : List Collection) → HasState history old.file start now → HasState history new.file start start)
-      (tied : AreTied history new.file new.cursors.list) where
+      (unchanged : views.is_changed new.file ≡ false) (tied : AreTied false history new.file new.cursors.list) where
     now_state : (world new).collections ≡ turn_start old
     now_state = ap (λ (w : World). w.collections) back
 
@@ -167,7 +164,8 @@ module _ {D : Type 0} (history : D → History) (old new : Engine D) (h : IsSoun
       quiet = λ e. ended;
       file = subst (λ (cs : List Collection). HasState history new.file cs (world new).collections) (sym first_state)
           (subst (HasState history new.file (turn_start old)) (sym now_state) (state (turn_start old) (world old).collections h.file));
-      tied = tied;
+      unchanged = λ running e. unchanged;
+      tied = at_rest_again rests tied;
     }
 
     pub rested_again : are_untouched (world new).cursors ≡ true
@@ -210,7 +208,7 @@ module _ {D : Type 0} (history : D → History) (old new : Engine D) (h : IsSoun
 
   -- the collections are as they stand
   module _ (moved : has_changes old ≡ true) (rests : has_changes new ≡ false) (forth : world new ≡ after_commit (world old))
-      (ended : turn_start new ≡ (world new).collections) (tied : AreTied history new.file new.cursors.list) where
+      (ended : turn_start new ≡ (world new).collections) (tied : AreTied false history new.file new.cursors.list) where
     now_there : (world new).collections ≡ (world old).collections
     now_there = ap (λ (w : World). w.collections) forth
 
@@ -226,15 +224,17 @@ module _ {D : Type 0} (history : D → History) (old new : Engine D) (h : IsSoun
         → LeavesOnly (disk_history history old) (disk_history history new) (λ image. Holds image (turn_start old) ⊎ Holds image (world old).collections)
     at_any_moment r saved run k image left = held image ((saved.moves run (turn_start old) (world old).collections h.file).any_moment k image left)
 
-    sound_now : HasState history new.file (world old).collections (world old).collections → IsSound history new
-    sound_now file = record {
+    sound_now : HasState history new.file (world old).collections (world old).collections
+        → (IsRunning new → views.is_changed new.file ≡ false) → IsSound history new
+    sound_now file unchanged = record {
       lawful = subst IsLawfulState (sym now_there) h.lawful;
       cursors = subst (λ (w : World). AreLawfulCursors w.cursors) (sym forth) (rested_lawful (world old).cursors h.cursors);
       before = subst IsLawfulState (sym there) h.lawful;
       quiet = λ e. ended;
       file = subst (λ (cs : List Collection). HasState history new.file cs (world new).collections) (sym there)
           (subst (HasState history new.file (world old).collections) (sym now_there) file);
-      tied = tied;
+      unchanged = λ running e. unchanged running;
+      tied = at_rest_again rests tied;
     }
 
     rested_now : are_untouched (world new).cursors ≡ true
@@ -244,7 +244,7 @@ module _ {D : Type 0} (history : D → History) (old new : Engine D) (h : IsSoun
     committed_now saved =
         let moves = saved.moves saved.running.0 (turn_start old) (world old).collections h.file in
         record {
-          sound = sound_now moves.begun;
+          sound = sound_now moves.begun (λ running. saved.rests);
           on = saved.on;
           done = forth;
           stops = λ e. absurd cc;
@@ -269,7 +269,7 @@ module _ {D : Type 0} (history : D → History) (old new : Engine D) (h : IsSoun
     cut_now saved =
         let off = saved.stops refl in
         record {
-          sound = sound_now (λ run. not_both (is_stopped new) off run);
+          sound = sound_now (λ run. not_both (is_stopped new) off run) (λ run. not_both (is_stopped new) off run);
           on = saved.on;
           done = tt;
           stops = λ e. (forth, off);

@@ -61,7 +61,7 @@ module _ {D : Type 0} (history : D → History) (old : Engine D) (sound : IsSoun
     pub check_uncounted : (fault : OpenFault) → CountsPages history (Err fault) old.file mid
         → ChecksFile history (Err (reading_fault fault)) old (record old { file = mid })
     check_uncounted fault counted = record {
-      only = reads_file history old mid sound counted.on counted.same;
+      only = reads_file history old mid sound counted.on counted.unchanged counted.same;
       answers = λ k. count_cause fault (counted.answers k (turn_start old) (world old).collections sound.file);
     }
 
@@ -73,7 +73,7 @@ module _ {D : Type 0} (history : D → History) (old : Engine D) (sound : IsSoun
       after = record old { file = new }
 
       first : OnlyReads history old between
-      first = reads_file history old mid sound counted.on counted.same
+      first = reads_file history old mid sound counted.on counted.unchanged counted.same
 
       -- what the tree has while the entries are read
       turn_there : KeepsWord (disk_history history between) → IsTurnOf history mid (turn_start old) (world old).collections
@@ -88,7 +88,7 @@ module _ {D : Type 0} (history : D → History) (old : Engine D) (sound : IsSoun
 
       only_reads : (r : Result Loading OpenFault) (last : List Collection) → LoadsFile history r last mid new → OnlyReads history old after
       only_reads r last loads =
-          reads_on history old between after first (reads_file history between new first.sound loads.judges.read.on loads.judges.read.same)
+          reads_on history old between after first (reads_file history between new first.sound loads.judges.read.on loads.judges.read.unchanged loads.judges.read.same)
 
       word_mid : (r : Result Loading OpenFault) (last : List Collection) → LoadsFile history r last mid new → KeepsWord (disk_history history after)
           → KeepsWord (disk_history history between)

@@ -31,6 +31,17 @@ pub chosen_kept : (P : Pairs → Type 0) (q : Query) (ds : List Pairs) → All P
 chosen_kept P q ds h =
     window_kept P q.skip q.limit (order q.sort (matching q.filter ds)) (sorted_kept P _ (matching q.filter ds) (All-filter (matches q.filter) P ds h))
 
+-- Of no documents none are given.
+pub given_of_none : (q : Query) → given q [] ≡ []
+given_of_none q = ap (map (project q.projection)) (at q.limit)
+  where
+    none : {X : Type 0} (skip : ℕ) → (let xs : List X = [] in drop skip xs) ≡ []
+    none skip = drop_all skip [] (omega arith)
+
+    at : (limit : ℕ) → (let ds : List Pairs = [] in limited limit (drop q.skip ds)) ≡ []
+    at zero = none q.skip
+    at (suc n) = ap (take (suc n)) (none q.skip)
+
 -- ---- what is given is within the limits
 
 pub stored_within : (ps : Pairs) → IsStored ps → IsWithin ps

@@ -134,5 +134,6 @@ module _ {D : Type 0} (history : D → History) (old : Engine D) (h : IsSound hi
         let now = old.told.value.now in
         performs_tied history old new planned r h goes
         (pins.state start now (gives.goes.same start now (first.state start now h.file)))
-        (gives.tied (λ k. left_of_list (there k)) h.tied) refl refl (record { collections = h.lawful; cursors = lawful h.cursors })
+        (pins.unchanged ∙ gives.goes.unchanged ∙ first.unchanged)
+        (gives.tied (λ k. left_of_list (there k)) old.is_changed h.unchanged h.tied) refl refl (record { collections = h.lawful; cursors = lawful h.cursors })
         (λ k. does r gives.err (gives.answers k (left_of_list (there (goes.reads.on.kept k))))) (same_world r gives.err)

@@ -37,7 +37,7 @@ module _ (w new : World) (connection : ℕ) (name : List ℕ) (ds : List Pairs) 
 
 -- Read first, and then given: it was planned of what was read.
 module _ {D : Type 0} (history : D → History) (old mid new : Engine D) (reads : OnlyReads history old mid)
-    (file : Releases history mid.file new.file mid.cursors new.cursors) (told : new.told.value ≡ mid.told.value)
+    (file : Releases mid.is_changed history mid.file new.file mid.cursors new.cursors) (told : new.told.value ≡ mid.told.value)
     (changes : new.is_changed ≡ mid.is_changed) where
   pub gives_behind : (connection : ℕ) (name : List ℕ) (ds : List Pairs) (most : ℕ) (planned : Result (World × Pairs) Refusal) (r : Result Pairs Refusal)
       → length name ≤ 255 → All IsWithin ds

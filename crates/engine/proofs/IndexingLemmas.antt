@@ -100,7 +100,7 @@ module _ {D : Type 0} (history : D → History) (old : Engine D) (h : IsSound hi
 
   pub batch_unread : (e : Refusal) → Reading (Err e) → Steps (Err e)
   batch_unread e read = record {
-    reads = reads_file history old file h read.on read.same;
+    reads = reads_file history old file h read.on read.unchanged read.same;
     answers = λ k x is. inr (read.answers k old.told.value.start (world old).collections h.file x.rest is.walks);
   }
 
@@ -112,7 +112,7 @@ module _ {D : Type 0} (history : D → History) (old : Engine D) (h : IsSound hi
 
     pub batch_refused : (e : Refusal) → RefusesOne made batch.items e → Steps (Err e)
     batch_refused e refuses = record {
-      reads = reads_file history old file h read.on read.same;
+      reads = reads_file history old file h read.on read.unchanged read.same;
       answers = λ k x is.
           let next = read.answers k old.told.value.start (world old).collections h.file x.rest is.walks in
           elim (refuses x.collection x.index x.done (drop (length batch.items) x.rest) is.kept (split x is next.0.first) is.has) [
@@ -123,7 +123,7 @@ module _ {D : Type 0} (history : D → History) (old : Engine D) (h : IsSound hi
 
     pub batch_taken : (more : Bool) → TakesEach made after batch.items → (more ≡ false → batch.items ≡ []) → Steps (Ok more)
     batch_taken more takes empty = record {
-      reads = reads_file history old file h read.on read.same;
+      reads = reads_file history old file h read.on read.unchanged read.same;
       answers = λ k x is.
           let next = read.answers k old.told.value.start (world old).collections h.file x.rest is.walks in
           let n = length batch.items in

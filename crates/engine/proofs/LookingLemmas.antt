@@ -9,7 +9,9 @@ use Rattle.entries.specs.State.{Collection}
 use Rattle.collections.specs.Calls.{GoesFrom, HasCause, Reads}
 use Rattle.collections.specs.Reading.{ReadsOf}
 use Rattle.collections.specs.Standing.{HasState}
-use Rattle.collections.specs.View.{disk_history}
+use Rattle.std.specs.Prelude.{Bool}
+use Rattle.collections.specs.View.{disk_history, is_changed}
+use Rattle.collections.proofs.StandingLemmas.{stopped_same}
 use Rattle.engine.specs.Continuing.{Continues}
 use Rattle.engine.specs.Durable.{file_of, has_changes, IsSound}
 use Rattle.opening.specs.Known.{Known}
@@ -33,17 +35,20 @@ use Rattle.engine.proofs.OnlyReading.{write_cause_from}
 
 module _ {D : Type 0} (history : D → History) (old new : Engine D) (h : IsSound history old) (told : new.told.value ≡ old.told.value)
     (cursors : new.cursors ≡ old.cursors) (changes : has_changes new ≡ has_changes old) where
-  pub reads_so : GoesFrom history (file_of old) (file_of new)
+  pub reads_so : GoesFrom history (file_of old) (file_of new) → is_changed (file_of new) ≡ is_changed (file_of old)
       → ((start now : List Collection) → HasState history (file_of old) start now → HasState history (file_of new) start now) → OnlyReads history old new
-  reads_so goes same = record {
+  reads_so goes unchanged same = record {
     sound = record {
       lawful = subst (λ (t : Known). IsLawfulState t.now) (sym told) h.lawful;
       cursors = subst (λ (held : Held). AreLawfulCursors (cursors_of held)) (sym cursors) h.cursors;
       before = subst (λ (t : Known). IsLawfulState t.start) (sym told) h.before;
       quiet = λ rests. ap (λ (t : Known). t.start) told ∙ h.quiet (sym changes ∙ rests) ∙ sym (ap (λ (t : Known). t.now) told);
       file = subst (λ (t : Known). HasState history (file_of new) t.start t.now) (sym told) (same (turn_start old) (world old).collections h.file);
-      tied = subst (λ (held : Held). AreTied history (file_of new) held.list) (sym cursors)
-          (tied_on history (file_of old) (file_of new) old.cursors.list goes h.tied);
+      unchanged = λ running rests. unchanged
+          ∙ h.unchanged (sym (stopped_same history (file_of old).pager (file_of new).pager goes.stays) ∙ running) (sym changes ∙ rests);
+      tied = subst (λ (b : Bool). AreTied b history (file_of new) new.cursors.list) (sym changes)
+          (subst (λ (held : Held). AreTied (has_changes old) history (file_of new) held.list) (sym cursors)
+          (tied_on history (file_of old) (file_of new) old.cursors.list (has_changes old) goes h.tied));
     };
     goes = goes;
     told = told;
@@ -54,20 +59,20 @@ module _ {D : Type 0} (history : D → History) (old new : Engine D) (h : IsSoun
   pub looks_so : {X : Type 0} (Q : List Collection → X → Type 0) (r : Result X Refusal) → Reads history Q r (file_of old) (file_of new)
       → Looks history Q r old new
   looks_so Q r reads = record {
-    reads = reads_so reads.on reads.same;
+    reads = reads_so reads.on reads.unchanged reads.same;
     answers = λ k. reads.answers k (turn_start old) (world old).collections h.file;
   }
 
   pub looks_so_of : {A X : Type 0} (Is : List Collection → A → Type 0) (Q : List Collection → A → X → Type 0) (r : Result X Refusal)
       → ReadsOf history Is Q r (file_of old) (file_of new) → LooksOf history Is Q r old new
   looks_so_of Is Q r reads = record {
-    reads = reads_so reads.on reads.same;
+    reads = reads_so reads.on reads.unchanged reads.same;
     answers = λ k asked is. reads.answers k (turn_start old) (world old).collections h.file asked is;
   }
 
 -- nothing was done
 pub reads_nothing : {D : Type 0} (history : D → History) (old : Engine D) → IsSound history old → OnlyReads history old old
-reads_nothing history old h = reads_so history old old h refl refl refl (goes_itself history (file_of old)) (λ start now has. has)
+reads_nothing history old h = reads_so history old old h refl refl refl (goes_itself history (file_of old)) refl (λ start now has. has)
 
 -- ---- one after the other
 

@@ -29,16 +29,17 @@ module _ {D : Type 0} (history : D → History) where
 
   -- the file was
   pub reads_file : (old : Engine D) (file : State D) → IsSound history old → GoesFrom history old.file file
-      → ((start now : List Collection) → HasState history old.file start now → HasState history file start now)
+      → views.is_changed file ≡ views.is_changed old.file → ((start now : List Collection) → HasState history old.file start now → HasState history file start now)
       → OnlyReads history old (record old { file = file })
-  reads_file old file h goes same = record {
+  reads_file old file h goes unchanged same = record {
     sound = record {
       lawful = h.lawful;
       cursors = h.cursors;
       before = h.before;
       quiet = h.quiet;
       file = same old.told.value.start old.told.value.now h.file;
-      tied = tied_on history old.file file old.cursors.list goes h.tied;
+      unchanged = λ running rests. unchanged ∙ h.unchanged (sym (stopped_same history old.file.pager file.pager goes.stays) ∙ running) rests;
+      tied = tied_on history old.file file old.cursors.list old.is_changed goes h.tied;
     };
     goes = goes;
     told = refl;

@@ -24,7 +24,8 @@ opened_so history disk engine o fresh rests = record {
     before = subst IsLawfulState (sym o.idle) o.lawful;
     quiet = λ e. o.idle;
     file = subst (λ (cs : List Collection). HasState (trusted_history history) engine.file cs (world engine).collections) (sym o.idle) o.file;
-    tied = subst (λ (held : Held). AreTied (trusted_history history) engine.file held.list) (sym fresh)
+    unchanged = λ running e. o.rests;
+    tied = subst (λ (held : Held). AreTied engine.is_changed (trusted_history history) engine.file held.list) (sym fresh)
         (record { each = λ running k. tt; pins = λ n. ap (times n) o.pins });
   };
   running = o.running;

@@ -1,11 +1,12 @@
 -- What commands, and the ends of turns and connections, keep of an engine.
-use Rattle.std.proofs.Common.{◌≡◌, ◌⊎◌, inl, inr, ℕ, false, List, Result, Ok, Err, refl, ap, subst, sym, ◌∙◌}
+use Rattle.std.proofs.Common.{◌≡◌, ◌⊎◌, inl, inr, ℕ, Bool, false, List, Result, Ok, Err, refl, ap, subst, sym, ◌∙◌}
 use Rattle.std.specs.Prelude.{◌==◌, not, All, OnErr}
 use Rattle.std.proofs.lemmas.List.Elements.{All-filter}
 use Rattle.bson.specs.Tree.{Pairs}
 use Rattle.page.specs.History.{History, KeepsWord}
 use Rattle.collections.specs.Standing.{HasState}
 use Rattle.collections.specs.State.{State}
+use Rattle.collections.specs.View as views
 use Rattle.database_model.specs.World.{World, Cursor, forget, after_undo}
 use Rattle.entries.specs.State.{Collection}
 use Rattle.database_model.specs.Lawful.{IsWithin, IsLawfulState, IsLawful}
@@ -13,7 +14,7 @@ use Rattle.commands.specs.Command.{Command, IsBounded}
 use Rattle.database_model.specs.Step.{run, answered, RefusedBeside}
 use Rattle.replies.specs.View.{with_ok, Runs}
 use Rattle.engine.specs.View.{world, turn_start}
-use Rattle.engine.specs.Durable.{IsSound, disk_history, file_of, has_changes}
+use Rattle.engine.specs.Durable.{IsRunning, IsSound, disk_history, file_of, has_changes}
 use Rattle.engine.specs.Writing.{FileCause}
 use Rattle.engine.specs.declared.engine.Engine.{Engine}
 use Rattle.opening.specs.declared.told.Told.{Told}
@@ -30,14 +31,16 @@ use Rattle.engine.proofs.LawfulSteps.{Good, good_run}
 
 -- the file has the collections as the turn began, and a tree of those of now
 pub keeps_sound : {D : Type 0} (history : D → History) (old new : Engine D) → IsSound history old
-    → HasState history new.file (turn_start old) (world new).collections → AreTied history new.file new.cursors.list → turn_start new ≡ turn_start old
-    → IsLawful (world new) → (has_changes new ≡ false → turn_start new ≡ (world new).collections) → IsSound history new
-keeps_sound history old new h file tied same lawful quiet = record {
+    → HasState history new.file (turn_start old) (world new).collections → AreTied (has_changes new) history new.file new.cursors.list
+    → turn_start new ≡ turn_start old → IsLawful (world new) → (has_changes new ≡ false → turn_start new ≡ (world new).collections)
+    → (IsRunning new → has_changes new ≡ false → views.is_changed new.file ≡ false) → IsSound history new
+keeps_sound history old new h file tied same lawful quiet unchanged = record {
   lawful = lawful.collections;
   cursors = lawful.cursors;
   before = subst IsLawfulState (sym same) h.before;
   quiet = quiet;
   file = subst (λ (cs : List Collection). HasState history new.file cs (world new).collections) (sym same) file;
+  unchanged = unchanged;
   tied = tied;
 }
 
@@ -108,13 +111,16 @@ module _ {D : Type 0} (history : D → History) (old new : Engine D) (planned : 
 
   -- the turn goes on with the same collections, and the cursors stay tied to its file
   pub performs_tied : (r : Result Pairs Refusal) → IsSound history old → Continues history old new
-      → HasState history new.file (turn_start old) (world old).collections → AreTied history new.file new.cursors.list → new.told.value ≡ old.told.value
+      → HasState history new.file (turn_start old) (world old).collections → views.is_changed new.file ≡ views.is_changed old.file
+      → AreTied (has_changes old) history new.file new.cursors.list → new.told.value ≡ old.told.value
       → has_changes new ≡ has_changes old → IsLawful (world new) → (KeepsWord (disk_history history new) → DoesPlanned history planned r old new)
       → OnErr r (world new ≡ world old) → Performs history planned r old new
-  performs_tied r h goes state tied told changes lawful does left = record {
-    sound = keeps_sound history old new h (subst (λ (k : Known). HasState history new.file (turn_start old) k.now) (sym told) state) tied
+  performs_tied r h goes state unchanged tied told changes lawful does left = record {
+    sound = keeps_sound history old new h (subst (λ (k : Known). HasState history new.file (turn_start old) k.now) (sym told) state)
+        (subst (λ (b : Bool). AreTied b history new.file new.cursors.list) (sym changes) tied)
         (ap (λ (k : Known). k.start) told) lawful
-        (λ rests. ap (λ (k : Known). k.start) told ∙ h.quiet (sym changes ∙ rests) ∙ sym (ap (λ (k : Known). k.now) told));
+        (λ rests. ap (λ (k : Known). k.start) told ∙ h.quiet (sym changes ∙ rests) ∙ sym (ap (λ (k : Known). k.now) told))
+        (λ running rests. unchanged ∙ h.unchanged (sym goes.running ∙ running) (sym changes ∙ rests));
     goes = goes;
     start = ap (λ (k : Known). k.start) told;
     does = does;
@@ -127,14 +133,14 @@ module _ {D : Type 0} (history : D → History) (old new : Engine D) (planned : 
       either (Err e) = changes
 
   -- pins came or went
-  pub performs_pins : (r : Result Pairs Refusal) → IsSound history old → OnlyPins history old.file new.file → AreTied history new.file new.cursors.list
+  pub performs_pins : (r : Result Pairs Refusal) → IsSound history old → OnlyPins history old.file new.file → AreTied (has_changes old) history new.file new.cursors.list
       → new.told.value ≡ old.told.value → has_changes new ≡ has_changes old → IsLawful (world new)
       → (KeepsWord (disk_history history new) → DoesPlanned history planned r old new) → OnErr r (world new ≡ world old) → Performs history planned r old new
   performs_pins r h pins tied =
       performs_tied r h (continues_still history old new pins.untouched.disk pins.untouched.stopped pins.untouched.version pins.takes)
-      (pins.state (turn_start old) (world old).collections h.file) tied
+      (pins.state (turn_start old) (world old).collections h.file) pins.unchanged tied
 
-  pub performs_in_memory : (r : Result Pairs Refusal) → IsSound history old → Releases history old.file new.file old.cursors new.cursors
+  pub performs_in_memory : (r : Result Pairs Refusal) → IsSound history old → Releases (has_changes old) history old.file new.file old.cursors new.cursors
       → new.told.value ≡ old.told.value → has_changes new ≡ has_changes old → IsLawful (world new) → Runs (world old) planned (world new) r
       → Performs history planned r old new
   performs_in_memory r h file told changes lawful runs =
@@ -146,7 +152,7 @@ module _ {D : Type 0} (history : D → History) (old new : Engine D) (planned : 
 
 -- the same of a command that was read
 pub performs_told : {D : Type 0} (history : D → History) (old new : Engine D) (connection : ℕ) (c : Command) (r : Result Pairs Refusal) → IsSound history old
-    → IsBounded c → Releases history old.file new.file old.cursors new.cursors → new.told ≡ old.told → has_changes new ≡ has_changes old
+    → IsBounded c → Releases (has_changes old) history old.file new.file old.cursors new.cursors → new.told ≡ old.told → has_changes new ≡ has_changes old
     → Runs (world old) (run (world old) connection c) (world new) r → Performs history (run (world old) connection c) r old new
 performs_told history old new connection c r h b file told changes runs =
     performs_in_memory history old new (run (world old) connection c) r h file (ap (λ (t : Told). t.value) told) changes

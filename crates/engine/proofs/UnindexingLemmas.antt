@@ -84,14 +84,14 @@ module _ {D : Type 0} (history : D → History) (old : Engine D) (h : IsSound hi
 
   pub batch_unread : (e : Refusal) → Reading (Err e) → Steps (Err e)
   batch_unread e read = record {
-    reads = reads_file history old file h read.on read.same;
+    reads = reads_file history old file h read.on read.unchanged read.same;
     answers = λ k rest is. read.answers k old.told.value.start (world old).collections h.file rest is.walks;
   }
 
   module _ (batch : Vec Pairs) (read : Reading (Ok batch)) where
     pub batch_stays : (e : Refusal) → (All (HasKeysIn i) batch.items → e ≡ refusals.OutOfMemory) → Steps (Err e)
     batch_stays e refused = record {
-      reads = reads_file history old file h read.on read.same;
+      reads = reads_file history old file h read.on read.unchanged read.same;
       answers = λ k rest is.
           let next = read.answers k old.told.value.start (world old).collections h.file rest is.walks in
           inl (refused (subst (All (HasKeysIn i)) (sym next.0.first) (All-take (HasKeysIn i) (length batch.items) rest is.keyed)));
@@ -99,7 +99,7 @@ module _ {D : Type 0} (history : D → History) (old : Engine D) (h : IsSound hi
 
     pub batch_unindexed : (more : Bool) → HasRemovedEntries before after number i batch.items → (more ≡ false → batch.items ≡ []) → Steps (Ok more)
     batch_unindexed more removed empty = record {
-      reads = reads_file history old file h read.on read.same;
+      reads = reads_file history old file h read.on read.unchanged read.same;
       answers = λ k rest is.
           let next = read.answers k old.told.value.start (world old).collections h.file rest is.walks in
           let n = length batch.items in

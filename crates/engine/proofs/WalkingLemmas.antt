@@ -18,7 +18,7 @@ use Rattle.entries.specs.State.{Collection, key_of}
 use Rattle.entries.specs.StateReads.{find_document}
 use Rattle.entries.specs.declared.catalogue_reading.Catalogued.{Catalogued}
 use Rattle.cursors.specs.Held.{Held, Way, through, listed, table_of}
-use Rattle.pinned_cursors.specs.Opening.{IsLeftOf, OpensPinned}
+use Rattle.pinned_cursors.specs.Opening.{IsLeftOf, OpensPinned, Tells}
 use Rattle.pinned_cursors.specs.Tied.{IsLeftBy}
 use Rattle.pinned_cursors.specs.Turns.{Releases}
 use Rattle.path.specs.declared.refusal.Refusal.{Refusal}
@@ -197,8 +197,9 @@ module _ {D : Type 0} (history : D → History) (mid : Engine D) (connection : �
   abbrev Opens : {E : Type 0} → Result (Unit {0}) E → Type 0
   Opens r = OpensPinned history connection name number p way rest r mid.file file mid.cursors held
 
-  pub opens_releases : {E : Type 0} (r : Result (Unit {0}) E) → Opens r → Releases history mid.file file mid.cursors held
-  opens_releases r opens = record { pins = opens.pins; tied = opens.tied left }
+  pub opens_releases : {E : Type 0} (r : Result (Unit {0}) E) → Tells mid.is_changed mid.file → Opens r
+      → Releases mid.is_changed history mid.file file mid.cursors held
+  opens_releases r tells opens = record { pins = opens.pins; tied = opens.tied left mid.is_changed tells }
 
   abbrev with_rest : World
   with_rest = record (world mid) {
@@ -222,7 +223,7 @@ module _ {D : Type 0} (history : D → History) (mid : Engine D) (connection : �
           → Performs history planned (Ok reply) mid new
       opens_done opens reply is =
           let made : world new ≡ with_rest = ap (world_of mid.told.value) opens.ok in
-          performs_pins history mid new planned (Ok reply) h opens.pins (opens.tied left h.tied) refl refl
+          performs_pins history mid new planned (Ok reply) h opens.pins (opens.tied left mid.is_changed h.unchanged h.tied) refl refl
           (subst IsLawful (sym made) with_rest_lawful)
           (λ k. is (subst KeepsWord opens.pins.untouched.disk k)
           ∙ (λ i. let r : Result (World × Pairs) Refusal = Ok (sym made i, reply) in r)) tt
@@ -230,7 +231,7 @@ module _ {D : Type 0} (history : D → History) (mid : Engine D) (connection : �
       pub opens_failed : (fault : E) → Opens (Err fault) → (e : Refusal) → e ≡ refusals.OutOfMemory → Performs history planned (Err e) mid new
       opens_failed fault opens e memory =
           let same : world new ≡ world mid = ap (λ (t : Held). world_of mid.told.value (table_of t)) opens.err in
-          performs_pins history mid new planned (Err e) h opens.pins (opens.tied left h.tied) refl refl
+          performs_pins history mid new planned (Err e) h opens.pins (opens.tied left mid.is_changed h.unchanged h.tied) refl refl
           (subst IsLawful (sym same) (lawful_world history mid h))
           (λ k. (same, inr (inl memory, λ k. inl (inl memory)))) same
 

@@ -1,5 +1,5 @@
 -- Edits are put into the file of an engine.
-use Rattle.std.proofs.Common.{◌≡◌, inl, inr, true, List, Ok, Err, refl, sym, ap, subst}
+use Rattle.std.proofs.Common.{◌≡◌, inl, inr, true, List, Ok, Err, refl, sym, ap, subst, ◌∙◌}
 use Rattle.page.specs.History.{History, KeepsWord}
 use Rattle.btree.specs.Keys.{Edit}
 use Rattle.path.specs.declared.refusal.Refusal.{Refusal}
@@ -13,7 +13,7 @@ use Rattle.collections.specs.State.{State}
 use Rattle.collections.proofs.LawLemmas as laws
 use Rattle.engine.specs.Durable.{disk_history, is_stopped, IsRunning, IsSound}
 use Rattle.opening.specs.Known.{Known}
-use Rattle.pinned_cursors.proofs.TurnTied.{tied_on}
+use Rattle.pinned_cursors.proofs.TurnTied.{tied_changed, tied_on}
 use Rattle.database_model.specs.Lawful.{IsLawfulState}
 use Rattle.engine.specs.View.{world}
 use Rattle.engine.specs.Writing.{Writes}
@@ -48,7 +48,8 @@ module _ {D : Type 0} (history : D → History) (old : Engine D) (h : IsSound hi
         before = subst (λ (k : Known). IsLawfulState k.start) (sym is) h.before;
         quiet = λ rests. absurd cc;
         file = subst (λ (k : Known). HasState history file k.start k.now) (sym is) has;
-        tied = tied_on history old.file file old.cursors.list applies.on h.tied;
+        unchanged = λ running rests. absurd cc;
+        tied = tied_on history old.file file old.cursors.list true applies.on (tied_changed history old.file old.cursors.list old.is_changed h.tied);
       };
       goes = applies.on;
       start = ap (λ (k : Known). k.start) is;
@@ -73,7 +74,8 @@ module _ {D : Type 0} (history : D → History) (old : Engine D) (h : IsSound hi
         before = h.before;
         quiet = h.quiet;
         file = has;
-        tied = tied_on history old.file file old.cursors.list applies.on h.tied;
+        unchanged = λ on rests. applies.unchanged ∙ h.unchanged running rests;
+        tied = tied_on history old.file file old.cursors.list old.is_changed applies.on h.tied;
       };
       goes = applies.on;
       start = refl;

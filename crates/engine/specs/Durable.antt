@@ -38,11 +38,14 @@ full_takes_of history engine = (views.pages_of history (file_of engine)).full_ta
 
 -- Until it stops, its file has the collections as they were at the beginning of the turn, and a
 -- tree of those of now; and what is left of a cursor that holds no documents is what its walk is
--- still to give of the version that is pinned for it.
+-- still to give of the version that is pinned for it. Where its commands have changed nothing, its
+-- file's tree is the committed one.
 pub record IsSound {D : Type 0} (history : D → History) (engine : Engine D) : Type 0 where
   pub lawful : IsLawfulState (world engine).collections
   pub cursors : AreLawfulCursors (world engine).cursors
   pub before : IsLawfulState (turn_start engine)
   pub quiet : has_changes engine ≡ false → turn_start engine ≡ (world engine).collections
   pub file : HasState history (file_of engine) (turn_start engine) (world engine).collections
-  pub tied : AreTied history (file_of engine) engine.cursors.list
+  pub unchanged : IsRunning engine → has_changes engine ≡ false
+      → views.is_changed (file_of engine) ≡ false
+  pub tied : AreTied (has_changes engine) history (file_of engine) engine.cursors.list

@@ -79,8 +79,8 @@ impl<D: Disk> Engine<D> {
     ) -> Result<SpelledDocument, Refusal>
         requires short { length namespace.now ≤ 255 }
         requires within { All IsWithin given.items }
-        ensures file { Releases D.history self.old.file self.new.file self.old.cursors
-            self.new.cursors }
+        ensures file { Releases self.old.is_changed D.history self.old.file self.new.file
+            self.old.cursors self.new.cursors }
         ensures told { self.new.told ≡ self.old.told }
         ensures has_changes { self.new.is_changed ≡ self.old.is_changed }
         ensures runs { Runs (world self.old)

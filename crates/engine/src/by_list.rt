@@ -1,8 +1,7 @@
-//! `find` of documents that are looked up or sorted, in a turn that has changed nothing: the first batch is given of those that were
+//! `find` of documents that are looked up or sorted: the first batch is given of those that were
 //! read, and a cursor keeps a list of the `_id`s of the others.
 
 ghost use Rattle.std.specs.Prelude.{◌≡◌, ◌≤◌, ◌≢◌, [], false, All, IfOk, Some, length, map};
-ghost use Rattle.collections.specs.View.{is_changed};
 ghost use Rattle.database_model.specs.Cursors.{batch_of, first_batch};
 ghost use Rattle.database_model.specs.Find.{given, query_result, run_find};
 ghost use Rattle.database_model.specs.Lawful.{IsWithin};
@@ -15,6 +14,7 @@ ghost use Rattle.index.specs.View.{texts_of};
 ghost use Rattle.page.specs.History.{KeepsWord};
 ghost use Rattle.pinned_cursors.specs.Turns.{Releases};
 ghost use Rattle.projection.specs.Projection.{project};
+ghost use Rattle.pinned_cursors.specs.Opening.{that_keep};
 ghost use Rattle.replies.specs.View.{projected, IsSendable, Runs};
 
 use crate::engine::Engine;
@@ -50,7 +50,7 @@ fn all_asked<'a>(told: &'a Told, namespace: &'a str, query: &'a Query) -> Rest
 }
 
 impl<D: Disk> Engine<D> {
-    /// Finds documents that a query asks for in another order than that of their `_id`s, in a turn that has changed nothing.
+    /// Finds documents that a query asks for in another order than that of their `_id`s.
     pub(crate) fn find_sorted(
         &mut self,
         connection: ConnId,
@@ -60,17 +60,16 @@ impl<D: Disk> Engine<D> {
     ) -> Result<SpelledDocument, Refusal>
         requires short { length namespace.now ≤ 255 }
         requires sound { IsSound D.history self.old }
-        requires rests { is_changed (file_of self.old) ≡ false }
         ensures performs { Performs D.history
             (run_find (world self.old) connection
             (record { namespace = namespace.now; query = query.now; batch_size = Some most }))
             result self.old self.new }
         ensures has_changes { has_changes self.new ≡ has_changes self.old }
+        ensures keep { that_keep self.new.cursors ≡ that_keep self.old.cursors }
         ensures sendable { IfOk result (λ d. IsSendable d) }
     {
         let Some(home) = self.catalogued(namespace)? else {
-            let none = Vec::new(self.alloc);
-            return self.give_found(connection, namespace, query, none, most);
+            return self.give_none(connection, namespace, query, most);
         };
         let needed = enough(query);
         if needed <= FEW {
@@ -95,7 +94,6 @@ impl<D: Disk> Engine<D> {
     ) -> Result<SpelledDocument, Refusal>
         requires short { length namespace.now ≤ 255 }
         requires sound { IsSound D.history self.old }
-        requires rests { is_changed (file_of self.old) ≡ false }
         requires there { KeepsWord (disk_history D.history self.old)
             → AreIdsAsked (world self.old).collections namespace.now home.now query.now
             (texts_of texts.items) }
@@ -104,6 +102,7 @@ impl<D: Disk> Engine<D> {
             (record { namespace = namespace.now; query = query.now; batch_size = Some most }))
             result self.old self.new }
         ensures has_changes { has_changes self.new ≡ has_changes self.old }
+        ensures keep { that_keep self.new.cursors ≡ that_keep self.old.cursors }
         ensures sendable { IfOk result (λ d. IsSendable d) }
     {
         let left = ListLeft {
@@ -135,13 +134,13 @@ impl<D: Disk> Engine<D> {
         requires short { length namespace.now ≤ 255 }
         requires within { All IsWithin found.items }
         requires sound { IsSound D.history self.old }
-        requires rests { is_changed (file_of self.old) ≡ false }
         requires there { KeepsWord (disk_history D.history self.old)
             → AreOf (world self.old).collections namespace.now home.now found.items }
-        ensures file { Releases D.history self.old.file self.new.file self.old.cursors
-            self.new.cursors }
+        ensures file { Releases self.old.is_changed D.history self.old.file self.new.file
+            self.old.cursors self.new.cursors }
         ensures told { self.new.told ≡ self.old.told }
         ensures has_changes { self.new.is_changed ≡ self.old.is_changed }
+        ensures keep { that_keep self.new.cursors ≡ that_keep self.old.cursors }
         ensures runs { Runs (world self.old)
             (first_batch (world self.old) connection namespace.now (given query.now found.items)
             (batch_of most (given query.now found.items)))
@@ -165,13 +164,13 @@ impl<D: Disk> Engine<D> {
         requires short { length namespace.now ≤ 255 }
         requires within { All IsWithin (projected projection.now documents.items) }
         requires sound { IsSound D.history self.old }
-        requires rests { is_changed (file_of self.old) ≡ false }
         requires there { KeepsWord (disk_history D.history self.old)
             → AreOf (world self.old).collections namespace.now home.now documents.items }
-        ensures file { Releases D.history self.old.file self.new.file self.old.cursors
-            self.new.cursors }
+        ensures file { Releases self.old.is_changed D.history self.old.file self.new.file
+            self.old.cursors self.new.cursors }
         ensures told { self.new.told ≡ self.old.told }
         ensures has_changes { self.new.is_changed ≡ self.old.is_changed }
+        ensures keep { that_keep self.new.cursors ≡ that_keep self.old.cursors }
         ensures runs { let ds = projected projection.now documents.items in
             Runs (world self.old)
             (first_batch (world self.old) connection namespace.now ds (batch_of most ds))

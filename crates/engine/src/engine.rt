@@ -1,6 +1,6 @@
 //! Commands, turn by turn, over a file.
 
-ghost use Rattle.std.specs.Prelude.{◌≡◌, ◌⊎◌, Ok, true, false, IfOk, IfErr};
+ghost use Rattle.std.specs.Prelude.{◌≡◌, ◌⊎◌, Bool, Ok, true, false, IfOk, IfErr};
 ghost use Rattle.page.specs.History.{KeepsWord};
 ghost use Rattle.roots.specs.Store.{limit_in};
 ghost use Rattle.collections.specs.Marks.{Undoes};
@@ -254,16 +254,16 @@ impl<D: Disk> Engine<D> {
     /// The turn's changes are taken back. It takes no memory.
     fn take_back(&mut self)
         ensures file { Undoes D.history self.old.file self.new.file }
-        ensures tied { AreTied D.history self.old.file self.old.cursors.list
-            → AreTied D.history self.new.file self.new.cursors.list }
+        ensures tied { (changed : Bool) → AreTied changed D.history self.old.file self.old.cursors.list
+            → AreTied false D.history self.new.file self.new.cursors.list }
         ensures world { world self.new ≡ after_undo (turn_start self.old) (world self.old) }
         ensures turn_start { turn_start self.new ≡ (world self.new).collections }
         ensures rests { has_changes self.new ≡ false }
     {
+        end_all(&mut self.file, &mut self.cursors, &Ends::Touched);
         self.file.undo();
         self.told.take_back();
         self.is_changed = false;
-        end_all(&mut self.file, &mut self.cursors, &Ends::Touched);
     }
 
     /// Ends the turn, and takes back what its commands changed. It takes no memory.

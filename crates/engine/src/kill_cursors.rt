@@ -137,8 +137,8 @@ impl<D: Disk> Engine<D> {
         ids: &[i64],
     ) -> Result<Document, Refusal>
         requires { length ids.now ≤ 1000 }
-        ensures file { Releases D.history self.old.file self.new.file self.old.cursors
-            self.new.cursors }
+        ensures file { Releases self.old.is_changed D.history self.old.file self.new.file
+            self.old.cursors self.new.cursors }
         ensures runs { Runs (world self.old)
             (run_kill_cursors (world self.old) connection
             (record { namespace = namespace.now; cursors = ids.now }))

@@ -6,8 +6,7 @@ ghost use Rattle.std.specs.Option.{option_map};
 ghost use Rattle.collections.specs.Reading.{IsWithinLimits, catalogued_in, catalogued_of};
 ghost use Rattle.sort.specs.Sort.{order};
 ghost use Rattle.entries.specs.State.{find_collection};
-ghost use Rattle.collections.specs.View.{is_changed};
-ghost use Rattle.engine.specs.Durable.{IsSound, file_of};
+ghost use Rattle.engine.specs.Durable.{IsSound};
 ghost use Rattle.database_model.specs.Find.{matching};
 ghost use Rattle.database_model.specs.Lawful.{IsWithin};
 ghost use Rattle.engine.specs.Looking.{Looks, LooksOf};
@@ -17,7 +16,6 @@ ghost use Rattle.index.specs.View.{texts_of};
 ghost use Rattle.queries.specs.Batches.{IsGivenBatch};
 ghost use Rattle.queries.specs.Listed.{id_text_of};
 ghost use Rattle.replies.specs.View.{IsSendable};
-ghost use Rattle.database_model.specs.World.{documents_of};
 
 use crate::engine::Engine;
 use bson::SpelledDocument;
@@ -40,7 +38,6 @@ impl<D: Disk> Engine<D> {
             ≡ option_map catalogued_in (find_collection now namespace.now))
             result self.old self.new }
         ensures limits { IfOk result (λ found. IfSome found IsWithinLimits) }
-        ensures unchanged { is_changed (file_of self.new) ≡ is_changed (file_of self.old) }
     {
         self.file.catalogued(namespace)
     }
@@ -84,7 +81,6 @@ impl<D: Disk> Engine<D> {
             ≡ take most (order query.now.sort (matching query.now.filter c.documents)))
             result self.old self.new }
         ensures within { IfOk result (λ found. All IsWithin found.items) }
-        ensures unchanged { is_changed (file_of self.new) ≡ is_changed (file_of self.old) }
     {
         ordered_in(
             self.alloc,
@@ -108,7 +104,6 @@ impl<D: Disk> Engine<D> {
             (λ now c ids. texts_of ids.items ≡ map id_text_of
             (take most (order query.now.sort (matching query.now.filter c.documents))))
             result self.old self.new }
-        ensures unchanged { is_changed (file_of self.new) ≡ is_changed (file_of self.old) }
     {
         ordered_ids_in(
             self.alloc,
@@ -118,26 +113,6 @@ impl<D: Disk> Engine<D> {
             &query.sort,
             most,
         )
-    }
-
-    /// The same of the collection of a name. A missing one reads as empty.
-    pub(crate) fn found(
-        &mut self,
-        namespace: &str,
-        query: &Query,
-        most: usize,
-    ) -> Result<Vec<SpelledDocument>, Refusal>
-        requires { IsSound D.history self.old }
-        ensures looks { Looks D.history
-            (λ now found. found.items ≡ take most
-            (order query.now.sort (matching query.now.filter (documents_of now namespace.now))))
-            result self.old self.new }
-        ensures within { IfOk result (λ found. All IsWithin found.items) }
-    {
-        let Some(home) = self.catalogued(namespace)? else {
-            return Ok(Vec::new(self.alloc));
-        };
-        self.ordered(&home, query, most)
     }
 
     /// The first documents that match a filter, in ascending order of `_id`, up to so many. `None`: only a walk through the
@@ -153,7 +128,6 @@ impl<D: Disk> Engine<D> {
             (λ now c found. AreFirst most filter.now c.documents found)
             result self.old self.new }
         ensures within { IfOk result (λ found. IfSome found (λ v. All IsWithin v.items)) }
-        ensures unchanged { is_changed (file_of self.new) ≡ is_changed (file_of self.old) }
     {
         looked_up_in(self.alloc, &mut self.file, home, filter, most)
     }
@@ -172,7 +146,6 @@ impl<D: Disk> Engine<D> {
             (λ now c b. IsGivenBatch walk.now asked.now c.documents b)
             result self.old self.new }
         ensures sendable { IfOk result (λ b. IsSendable b.reply) }
-        ensures unchanged { is_changed (file_of self.new) ≡ is_changed (file_of self.old) }
     {
         batch_of_turn(self.alloc, &mut self.file, home, walk, asked)
     }

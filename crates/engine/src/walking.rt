@@ -1,7 +1,6 @@
 //! `find` in the order of its walk: a batch is spelled while the collection is walked through, and a cursor goes on from there.
 
 ghost use Rattle.std.specs.Prelude.{◌≡◌, ◌-◌, ◌≤◌, [], false, IfOk, Some, length};
-ghost use Rattle.collections.specs.View.{is_changed};
 ghost use Rattle.database_model.specs.Find.{run_find};
 ghost use Rattle.database_model.specs.World.{documents_of};
 ghost use Rattle.engine.specs.Durable.{disk_history, file_of, has_changes, IsSound};
@@ -11,6 +10,7 @@ ghost use Rattle.engine.specs.View.{world};
 ghost use Rattle.engine.specs.Walking.{IsWholeWalk};
 ghost use Rattle.page.specs.History.{KeepsWord};
 ghost use Rattle.queries.specs.Batches.{walk_rest};
+ghost use Rattle.pinned_cursors.specs.Opening.{that_keep};
 ghost use Rattle.replies.specs.View.{IsSendable};
 
 use crate::engine::Engine;
@@ -55,7 +55,7 @@ fn rest_from<'a>(
 }
 
 impl<D: Disk> Engine<D> {
-    /// Finds documents that a query asks for in the order of their `_id`s, in a turn that has changed nothing. Where others are
+    /// Finds documents that a query asks for in the order of their `_id`s. Where others are
     /// left behind the first batch, the collections are pinned as they are, and the cursor reads on there.
     pub(crate) fn find_walking(
         &mut self,
@@ -67,17 +67,16 @@ impl<D: Disk> Engine<D> {
         requires short { length namespace.now ≤ 255 }
         requires sound { IsSound D.history self.old }
         requires unsorted { query.now.sort ≡ [] }
-        requires rests { is_changed (file_of self.old) ≡ false }
         ensures performs { Performs D.history
             (run_find (world self.old) connection
             (record { namespace = namespace.now; query = query.now; batch_size = Some most }))
             result self.old self.new }
         ensures has_changes { has_changes self.new ≡ has_changes self.old }
+        ensures keep { that_keep self.new.cursors ≡ that_keep self.old.cursors }
         ensures sendable { IfOk result (λ d. IsSendable d) }
     {
         let Some(home) = self.catalogued(namespace)? else {
-            let none = Vec::new(self.alloc);
-            return self.give_found(connection, namespace, query, none, most);
+            return self.give_none(connection, namespace, query, most);
         };
         match self.looked_up(&home, &query.filter, enough(query))? {
             Some(found) => self.give_listed(connection, namespace, &home, query, found, most),
@@ -98,7 +97,6 @@ impl<D: Disk> Engine<D> {
         requires short { length namespace.now ≤ 255 }
         requires sound { IsSound D.history self.old }
         requires unsorted { query.now.sort ≡ [] }
-        requires rests { is_changed (file_of self.old) ≡ false }
         requires home { KeepsWord (disk_history D.history self.old)
             → HasHome (world self.old).collections namespace.now home.now }
         ensures performs { Performs D.history
@@ -106,6 +104,7 @@ impl<D: Disk> Engine<D> {
             (record { namespace = namespace.now; query = query.now; batch_size = Some most }))
             result self.old self.new }
         ensures has_changes { has_changes self.new ≡ has_changes self.old }
+        ensures keep { that_keep self.new.cursors ≡ that_keep self.old.cursors }
         ensures sendable { IfOk result (λ d. IsSendable d) }
     {
         let walk = whole_walk(query);

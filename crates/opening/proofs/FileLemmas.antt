@@ -48,6 +48,7 @@ module _ {D : Type 0} (history : D → History) (disk : D) (c : State D) (opened
     lawful = loaded_lawful held (record { lawful = (stored_is_lawful image).0; stored = stored });
     idle = refl;
     running = opened.running;
+    rests = opened.rests;
     pins = opened.pins;
     on = opened.on;
     trusted = λ cs h.

@@ -15,7 +15,7 @@ use Rattle.collections.specs.State.{State}
 use Rattle.collections.specs.Standing.{HasState}
 use Rattle.collections.specs.Trusting.{inner_history, is_trusted}
 use Rattle.collections.specs.Versions.{pins_of}
-use Rattle.collections.specs.View.{disk_history, is_stopped}
+use Rattle.collections.specs.View.{disk_history, is_changed, is_stopped}
 use Rattle.trusted_disk.specs.Trusting.{trusted_history}
 use Rattle.trusted_disk.specs.declared.disk.TrustedDisk.{TrustedDisk}
 use Rattle.opening.specs.Holding.{Holds}
@@ -93,6 +93,7 @@ pub record IsFileOpened {D : Type 0} (history : D → History) (disk : D)
   pub lawful : IsLawfulState known.now
   pub idle : known.start ≡ known.now
   pub running : is_stopped kept ≡ false
+  pub rests : is_changed kept ≡ false
   pub pins : pins_of kept ≡ []
   pub on : GoesOn (history disk) (inner_history history kept)
   pub trusted : (cs : List Collection) → Holds (reads (now (history disk))) cs

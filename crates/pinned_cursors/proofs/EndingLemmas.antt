@@ -1,5 +1,5 @@
 -- Cursors end one after the other, and their pins with them.
-use Rattle.std.proofs.Common.{◌≡◌, ℕ, ◌<◌, length, Some, None, refl, sym, ap, subst, ◌∙◌, arith}
+use Rattle.std.proofs.Common.{◌≡◌, ℕ, ◌<◌, Bool, length, Some, None, refl, sym, ap, subst, ◌∙◌, arith}
 use Rattle.std.specs.Prelude.{Option, option_map}
 use Rattle.std.proofs.lemmas.List.Quantifiers.{position-Some}
 use Rattle.page.specs.History.{History}
@@ -23,36 +23,38 @@ same_some : {X : Type 0} (x y : X) → Some x ≡ Some y → x ≡ y
 same_some x y e = cc
 
 module _ {D : Type 0} (history : D → History) where
-  pub releases_none : (file : State D) (held : Held) → Releases history file file held held
-  releases_none file held = record { pins = no_pins history file; tied = λ tied. tied }
+  pub releases_none : (changed : Bool) (file : State D) (held : Held) → Releases changed history file file held held
+  releases_none changed file held = record { pins = no_pins history file; tied = λ tied. tied }
 
-  pub releases_further : (old mid new : State D) (a b c : Held) → Releases history old mid a b → Releases history mid new b c → Releases history old new a c
-  releases_further old mid new a b c first then = record {
+  pub releases_further : (changed : Bool) (old mid new : State D) (a b c : Held) → Releases changed history old mid a b
+      → Releases changed history mid new b c → Releases changed history old new a c
+  releases_further changed old mid new a b c first then = record {
     pins = pins_further history old mid new first.pins then.pins;
     tied = λ tied. then.tied (first.tied tied);
   }
 
   -- The cursor at a place ended, and the pin that it had.
-  pub releases_one : (old new : State D) (held after : Held) (at : ℕ) (pinned : Option Version) → at < length held.list
-      → pinned ≡ pinned_by (held_at held at) → after ≡ without held at → EndsPin history pinned old new → Releases history old new held after
-  releases_one old new held after at pinned there is ended ends =
-      subst (λ (h : Held). Releases history old new held h) (sym ended) (by_walk (held_at held at).walk refl)
+  pub releases_one : (changed : Bool) (old new : State D) (held after : Held) (at : ℕ) (pinned : Option Version) → at < length held.list
+      → pinned ≡ pinned_by (held_at held at) → after ≡ without held at → EndsPin history pinned old new → Releases changed history old new held after
+  releases_one changed old new held after at pinned there is ended ends =
+      subst (λ (h : Held). Releases changed history old new held h) (sym ended) (by_walk (held_at held at).walk refl)
     where
-      by_walk : (walk : Option HeldWalk) → (held_at held at).walk ≡ walk → Releases history old new held (without held at)
+      by_walk : (walk : Option HeldWalk) → (held_at held at).walk ≡ walk → Releases changed history old new held (without held at)
       by_walk None none =
           let no : pinned ≡ None = is ∙ ap (option_map (λ (w : HeldWalk). w.version)) none in
           let same : new ≡ old = subst (λ (p : Option Version). EndsPin history p old new) no ends in
           record {
             pins = subst (λ (f : State D). OnlyPins history old f) (sym same) (no_pins history old);
-            tied = λ tied. subst (λ (f : State D). AreTied history f (without held at).list) (sym same)
-                (tied_removed history old held.list at there none tied);
+            tied = λ tied. subst (λ (f : State D). AreTied changed history f (without held at).list) (sym same)
+                (tied_removed history changed old held.list at there none tied);
           }
       by_walk (Some w) some =
           let one : pinned ≡ Some w.version = is ∙ ap (option_map (λ (v : HeldWalk). v.version)) some in
           let unpins : UnpinsVersion history w.version old new = subst (λ (p : Option Version). EndsPin history p old new) one ends in
           record {
             pins = pins_of_stays history old new unpins.stays;
-            tied = λ tied. tied_unpinned history old new w.version (without held at).list unpins (tied_left history old held.list at there w some tied);
+            tied = λ tied.
+                tied_unpinned history changed old new w.version (without held at).list unpins (tied_left history changed old held.list at there w some tied);
           }
 
   -- ---- one after the other
@@ -61,10 +63,10 @@ module _ {D : Type 0} (history : D → History) where
     -- Some have ended, and what is left to end gives the same in the end.
     pub record HasEnded (file : State D) (held : Held) : Type 0 where
       pub others_are : others ends held ≡ others ends first
-      pub releases : Releases history start file first held
+      pub releases : (changed : Bool) → Releases changed history start file first held
 
     pub ended_none : HasEnded start first
-    ended_none = record { others_are = refl; releases = releases_none start first }
+    ended_none = record { others_are = refl; releases = λ changed. releases_none changed start first }
 
     module _ (held after : Held) where
       -- the first of them is at this place, and its pin was given back
@@ -91,18 +93,18 @@ module _ {D : Type 0} (history : D → History) where
           let it = first_at pinned (first_ended ends held) refl given in
           record {
             others_are = ap (others ends) goes ∙ others_left ends held ∙ so_far.others_are;
-            releases = releases_further start file new first held after so_far.releases
-                (releases_one file new held after it.0 pinned it.2 it.3 (goes ∙ ap (left held) it.1) unpins);
+            releases = λ changed. releases_further changed start file new first held after (so_far.releases changed)
+                (releases_one changed file new held after it.0 pinned it.2 it.3 (goes ∙ ap (left held) it.1) unpins);
           }
 
       -- None was left that is to end.
       pub ended_last : (file : State D) → HasEnded file held → None ≡ given_back held (first_ended ends held) → after ≡ left held (first_ended ends held)
-          → (after ≡ others ends first) × Releases history start file first after
+          → (after ≡ others ends first) × ((changed : Bool) → Releases changed history start file first after)
       ended_last file so_far given goes =
           let none : first_ended ends held ≡ None = at_none (first_ended ends held) given in
           let same : after ≡ held = goes ∙ ap (left held) none in (
             same ∙ sym (none_left ends held none) ∙ so_far.others_are,
-            subst (λ (h : Held). Releases history start file first h) (sym same) so_far.releases,
+            λ changed. subst (λ (h : Held). Releases changed history start file first h) (sym same) (so_far.releases changed),
           )
         where
           at_none : (place : Option ℕ) → None ≡ given_back held place → place ≡ None

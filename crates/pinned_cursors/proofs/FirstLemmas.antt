@@ -16,7 +16,7 @@ use Rattle.collections.specs.State.{State}
 use Rattle.collections.specs.Versions.{PinsNow, ReadsVersion, UnpinsVersion}
 use Rattle.collections.specs.View.{disk_history, is_changed, is_stopped, pages_of}
 use Rattle.collections.proofs.StandingLemmas.{stopped_same}
-use Rattle.collections.proofs.VersionLemmas.{has_still, pins_stay, since_start_stays}
+use Rattle.collections.proofs.VersionLemmas.{pins_stay}
 use Rattle.database_model.specs.Cursors.{batch_of, batch_reply, cursor_reply, is_refused, new_cursor, number_after}
 use Rattle.database_model.specs.Refusals.{ok_reply}
 use Rattle.replies.specs.FirstBatch.{IsNoBatch}
@@ -31,13 +31,13 @@ use Rattle.cursors.specs.Held.{Held, HeldCursor, HeldWalk, Way, listed, cursors_
 use Rattle.cursors.specs.TableLaws.{opened_in_table}
 use Rattle.pinned_cursors.specs.Batches.{ReadsThenPins}
 use Rattle.pinned_cursors.specs.First.{GivesFirst, GivesPinned, KeepsPin}
-use Rattle.pinned_cursors.specs.Opening.{IsLeftOf, held_walk}
+use Rattle.pinned_cursors.specs.Opening.{IsLeftOf, Tells, held_walk, that_keep}
 use Rattle.pinned_cursors.specs.Tied.{AreTied, ListsRest, ReadsRest, TiedBeside, pins_by}
 use Rattle.pinned_cursors.specs.Turns.{OnlyPins}
 use Rattle.pinned_cursors.specs.declared.first.FirstGiven.{FirstGiven}
 use Rattle.pinned_cursors.proofs.NextLemmas.{lists_on}
-use Rattle.pinned_cursors.proofs.OpeningLemmas.{reads_left}
-use Rattle.pinned_cursors.proofs.TiedLemmas.{each_on, tied_opened, tied_pinned, tied_unpinned}
+use Rattle.pinned_cursors.proofs.OpeningLemmas.{opened_keeps, reads_left}
+use Rattle.pinned_cursors.proofs.TiedLemmas.{each_on, keeps_on, tied_opened, tied_pinned, tied_unpinned}
 use Rattle.pinned_cursors.proofs.TurnLemmas.{no_pins, nothing_read, pins_of_stays}
 
 -- The number of a cursor isn't said where all documents were given.
@@ -79,19 +79,19 @@ module _ {D : Type 0} (history : D → History) (version : Version) (number : �
   ReadsListed asked result = ReadsVersion history version (AreListedIn number texts) (λ now chosen b. IsListedBatch asked (given_of p chosen) b) result old new
 
   listed_there : (asked : BatchAsked) (result : Result GivenBatch Refusal) → ReadsListed asked result → KeepsWord (disk_history history new)
-      → ReadsRest history old its documents → MatchResult result (IsListedBatch asked documents) (HasCause history old new)
+      → ReadsRest true history old its documents → MatchResult result (IsListedBatch asked documents) (HasCause history old new)
   listed_there asked result reads k r =
       let l : ListsRest texts p r.home.documents documents = r.left in
       let chosen : Chosen = record { home = r.home; documents = l.some } in
       subst (λ (ds : List Pairs). MatchResult result (IsListedBatch asked ds) (HasCause history old new)) (sym l.same)
-      (reads.answers k r.collections (has_still history old version r.collections r.had) chosen
+      (reads.answers k r.collections r.had chosen
       (record { numbered = r.numbered; stored = r.stored; listed = l.there }))
 
-  behind_left : (n : ℕ) → GoesFrom history old new → ReadsRest history old its documents
-      → ReadsRest history new (held_walk version number p (listed (drop n texts))) (drop n documents)
-  behind_left n goes r = record {
+  behind_left : (passing : Bool) (n : ℕ) → GoesFrom history old new → ReadsRest passing history old its documents
+      → ReadsRest passing history new (held_walk version number p (listed (drop n texts))) (drop n documents)
+  behind_left passing n goes r = record {
     collections = r.collections;
-    had = since_start_stays history old new goes version r.collections r.had;
+    had = keeps_on history old new goes passing version r.collections r.had;
     home = r.home;
     numbered = r.numbered;
     stored = r.stored;
@@ -105,7 +105,7 @@ module _ {D : Type 0} (history : D → History) (version : Version) (number : �
 
     -- nothing was given
     gives_none : (q : Result GivenBatch Refusal) → ReadsListed asked q → (e : Refusal) (after : Held) → after ≡ held
-        → (KeepsWord (disk_history history new) → ReadsRest history old its documents
+        → (KeepsWord (disk_history history new) → ReadsRest true history old its documents
         → HasCause history old new e ⊎ IsNoBatch (table_of held) connection documents most e)
         → Gives (Err e) after
     gives_none q reads e after same cause = record {
@@ -113,6 +113,7 @@ module _ {D : Type 0} (history : D → History) (version : Version) (number : �
       unchanged = reads.unchanged;
       same = reads.same;
       err = same;
+      keep = ap that_keep same;
       answers = cause;
       pin = tt;
     }
@@ -121,7 +122,7 @@ module _ {D : Type 0} (history : D → History) (version : Version) (number : �
     pinned_unread e reads = gives_none (Err e) reads e held refl (λ k r. inl (listed_there asked (Err e) reads k r))
 
     module _ (b : GivenBatch) (reads : ReadsListed asked (Ok b)) where
-      there : KeepsWord (disk_history history new) → ReadsRest history old its documents → IsListedBatch asked documents b
+      there : KeepsWord (disk_history history new) → ReadsRest true history old its documents → IsListedBatch asked documents b
       there k r = listed_there asked (Ok b) reads k r
 
       counted : IsListedBatch asked documents b → b.count ≡ batch_of most documents
@@ -143,6 +144,7 @@ module _ {D : Type 0} (history : D → History) (version : Version) (number : �
         unchanged = reads.unchanged;
         same = reads.same;
         err = tt;
+        keep = refl;
         answers = λ k r. let batch = there k r in
             let all : length documents ≤ b.count =
             subst (λ (o : Option (Vec ℕ)). MatchOption o (length documents ≤ b.count) (λ _. b.count < length documents)) none batch.next in
@@ -157,7 +159,7 @@ module _ {D : Type 0} (history : D → History) (version : Version) (number : �
               whole = λ fits. refl;
               opened = λ more. absurd (omega (arith, all, more));
             };
-        pin = λ reads. refl;
+        pin = λ changed reads. refl;
       }
 
       module _ (text : Vec ℕ) (some : b.next ≡ Some text) where
@@ -180,6 +182,7 @@ module _ {D : Type 0} (history : D → History) (version : Version) (number : �
               unchanged = reads.unchanged;
               same = reads.same;
               err = tt;
+              keep = ap that_keep same ∙ opened_keeps held connection namespace (drop b.count documents) on;
               answers = λ k r. let batch = there k r in
                   record {
                     n = b.count;
@@ -192,19 +195,19 @@ module _ {D : Type 0} (history : D → History) (version : Version) (number : �
                     whole = λ all. absurd (omega (arith, all, more batch));
                     opened = λ _. ap table_of same ∙ opened_in_table held connection namespace (drop b.count documents) (Some on);
                   };
-              pin = λ rest tied. subst (λ (x : Held). AreTied history new x.list) (sym same)
-                  (tied_opened history new held.list h on refl tied (λ running k. behind_left b.count reads.on (rest running k)));
+              pin = λ changed rest tied. subst (λ (x : Held). AreTied changed history new x.list) (sym same)
+                  (tied_opened history changed new held.list h on refl tied (λ running k. behind_left changed b.count reads.on (rest running k)));
             }
 
 -- ---- the pin around it
 
 module _ {D : Type 0} (history : D → History) where
   -- Cursors, and a pin beside them, stay tied where commands read.
-  pub beside_on : (old new : State D) (version : Version) (list : List HeldCursor) → GoesFrom history old new
-      → TiedBeside history old version list → TiedBeside history new version list
-  beside_on old new version list goes tied = record {
+  pub beside_on : (changed : Bool) (old new : State D) (version : Version) (list : List HeldCursor) → GoesFrom history old new
+      → TiedBeside changed history old version list → TiedBeside changed history new version list
+  beside_on changed old new version list goes tied = record {
     each = λ running k.
-        each_on history old new (pins_by list) (λ v cs had some. since_start_stays history old new goes v cs had) list (λ n. omega arith)
+        each_on history changed old new (pins_by list) (λ p v cs had some. keeps_on history old new goes p v cs had) list (λ n. omega arith)
         (tied.each (sym (stopped_same history old.pager new.pager goes.stays) ∙ running) (goes.stays.reads.on.kept k));
     pins = λ n. ap (times n) (pins_stay history old new goes) ∙ tied.pins n;
   }
@@ -236,11 +239,12 @@ module _ {D : Type 0} (history : D → History) (connection : ℕ) (namespace : 
     first = no_pins history old;
     goes = nothing_read history old;
     err = refl;
+    keep = refl;
     answers = λ k left. inl cause;
-    tied = λ left tied. tied;
+    tied = λ left changed tells tied. tied;
   })
 
-  module _ {E : Type 0} (running : is_stopped old ≡ false) (rests : is_changed old ≡ false) (version : Version) (pinned read : State D)
+  module _ {E : Type 0} (running : is_stopped old ≡ false) (version : Version) (pinned read : State D)
       (pin : PinsNow {E = E} history (Ok version) old pinned) where
     abbrev its_walk : HeldWalk
     its_walk = held_walk version number p way
@@ -255,13 +259,19 @@ module _ {D : Type 0} (history : D → History) (connection : ℕ) (namespace : 
       word : KeepsWord (disk_history history read) → KeepsWord (disk_history history old)
       word k = subst KeepsWord only.untouched.disk (gives.on.stays.reads.on.kept k)
 
-      there_left : KeepsWord (disk_history history read) → (KeepsWord (disk_history history old) → IsLeftOf history old number p way documents)
-          → ReadsRest history pinned its_walk documents
-      there_left k left =
-          reads_left {E = E} history connection namespace number p way documents old held version pinned pin rests running (word k) (left (word k))
+      there_left : (changed : Bool) → Tells changed old → KeepsWord (disk_history history read)
+          → (KeepsWord (disk_history history old) → IsLeftOf history old number p way documents) → ReadsRest changed history pinned its_walk documents
+      there_left changed tells k left =
+          reads_left {E = E} history connection namespace number p way documents old held version pinned pin changed tells running (word k) (left (word k))
 
-      beside : AreTied history old held.list → TiedBeside history read version held.list
-      beside tied = beside_on history pinned read version held.list gives.on (tied_pinned history old pinned version held.list pin tied)
+      -- the version has it, whatever the turn has changed
+      there_now : KeepsWord (disk_history history read) → (KeepsWord (disk_history history old) → IsLeftOf history old number p way documents)
+          → ReadsRest true history pinned its_walk documents
+      there_now = there_left true (λ running no. absurd cc)
+
+      beside : (changed : Bool) → AreTied changed history old held.list → TiedBeside changed history read version held.list
+      beside changed tied =
+          beside_on history changed pinned read version held.list gives.on (tied_pinned history changed old pinned version held.list pin tied)
 
       then_pins : (new : State D) → OnlyPins history read new → ReadsThenPins history pinned new
       then_pins new pins = record { read = read; on = gives.on; unchanged = gives.unchanged; same = gives.same; pins = pins }
@@ -276,11 +286,12 @@ module _ {D : Type 0} (history : D → History) (connection : ℕ) (namespace : 
           first = only;
           goes = then_pins (Err e) after gives new ends;
           err = gives.err;
+          keep = gives.keep;
           answers = λ k left.
               let k_read : KeepsWord (disk_history history read) = subst KeepsWord ends.untouched.disk k in
-              either e new ends (gives.answers k_read (there_left (Err e) after gives k_read (λ _. left)));
-          tied = λ left tied. subst (λ (x : Held). AreTied history new x.list) (sym gives.err)
-              (tied_unpinned history read new version held.list unpin (beside (Err e) after gives tied));
+              either e new ends (gives.answers k_read (there_now (Err e) after gives k_read (λ _. left)));
+          tied = λ left changed tells tied. subst (λ (x : Held). AreTied changed history new x.list) (sym gives.err)
+              (tied_unpinned history changed read new version held.list unpin (beside (Err e) after gives changed tied));
         }
       where
         either : (e : Refusal) (new : State D) → OnlyPins history read new
@@ -297,11 +308,12 @@ module _ {D : Type 0} (history : D → History) (connection : ℕ) (namespace : 
         first = only;
         goes = then_pins (Ok g) after gives read (no_pins history read);
         err = tt;
-        answers = λ k left. gives.answers k (there_left (Ok g) after gives k (λ _. left));
-        tied = λ left tied.
-            subst (λ (b : Bool). KeepsPin history version held after b read) is
-            (gives.pin (λ running k. there_left (Ok g) after gives k left))
-            (beside (Ok g) after gives tied);
+        keep = gives.keep;
+        answers = λ k left. gives.answers k (there_now (Ok g) after gives k (λ _. left));
+        tied = λ left changed tells tied.
+            subst (λ (b : Bool). KeepsPin changed history version held after b read) is
+            (gives.pin changed (λ running k. there_left (Ok g) after gives changed tells k left))
+            (beside (Ok g) after gives changed tied);
       }
 
       -- All was given, and the pin ended.
@@ -313,12 +325,13 @@ module _ {D : Type 0} (history : D → History) (connection : ℕ) (namespace : 
             first = only;
             goes = then_pins (Ok g) after gives new ends;
             err = tt;
+            keep = gives.keep;
             answers = λ k left.
                 let k_read : KeepsWord (disk_history history read) = subst KeepsWord ends.untouched.disk k in
-                gives.answers k_read (there_left (Ok g) after gives k_read (λ _. left));
-            tied = λ left tied.
-                let same : after ≡ held = subst (λ (b : Bool). KeepsPin history version held after b read) is
-                (gives.pin (λ running k. there_left (Ok g) after gives k left)) in
-                subst (λ (x : Held). AreTied history new x.list) (sym same)
-                (tied_unpinned history read new version held.list unpin (beside (Ok g) after gives tied));
+                gives.answers k_read (there_now (Ok g) after gives k_read (λ _. left));
+            tied = λ left changed tells tied.
+                let same : after ≡ held = subst (λ (b : Bool). KeepsPin changed history version held after b read) is
+                (gives.pin changed (λ running k. there_left (Ok g) after gives changed tells k left)) in
+                subst (λ (x : Held). AreTied changed history new x.list) (sym same)
+                (tied_unpinned history changed read new version held.list unpin (beside (Ok g) after gives changed tied));
           }

@@ -30,7 +30,7 @@ no_walk (Some w) keeps is true_is = absurd (no (sym true_is ∙ is))
 
 module _ {D : Type 0} (history : D → History) (file : State D) (held : Held) (at : ℕ) (namespace : List ℕ) (most : Option ℕ) where
   pub kept_refused : (e : Refusal) → e ≡ refusals.OutOfMemory → GivesNext history at namespace most (Err e) file file held held
-  kept_refused e is = record { goes = nothing_read history file; err = refl; answers = λ k tied. inl is; tied = λ tied. tied }
+  kept_refused e is = record { goes = nothing_read history file; err = refl; answers = λ k changed tied. inl is; tied = λ changed tied. tied }
 
   module _ (none : (held_at held at).walk ≡ None) (there : at < length held.list) (count : ℕ) where
     abbrev its : Cursor
@@ -42,10 +42,10 @@ module _ {D : Type 0} (history : D → History) (file : State D) (held : Held) (
     abbrev by_end : Bool → Held
     by_end is_last = if is_last then without held at else gone_on held at count None
 
-    tied_after : (is_last : Bool) → AreTied history file held.list → AreTied history file (by_end is_last).list
-    tied_after true tied = tied_removed history file held.list at there none tied
-    tied_after false tied =
-        tied_set history file held.list at there (after (held_at held at) count None)
+    tied_after : (is_last changed : Bool) → AreTied changed history file held.list → AreTied changed history file (by_end is_last).list
+    tied_after true changed tied = tied_removed history changed file held.list at there none tied
+    tied_after false changed tied =
+        tied_set history changed file held.list at there (after (held_at held at) count None)
         (ap (λ (w : Option HeldWalk). with_pin w []) (sym none)) tied (λ running k. tt)
 
     lawful_after : (is_last : Bool) → AreLawfulCursors (cursors_of held) → AreLawfulCursors (cursors_of (by_end is_last))
@@ -63,12 +63,13 @@ module _ {D : Type 0} (history : D → History) (file : State D) (held : Held) (
       kept_given reply counted says table = record {
         goes = nothing_read history file;
         err = tt;
-        answers = λ k tied. record {
+        answers = λ k changed tied. record {
           says = says ∙ ap (λ (n : ℕ). ok_reply (batch_reply (codes "nextBatch") n (cursor_at cs at).rest (cursor_at cs at).number namespace)) counted
               ∙ ap (λ (c : Cursor). ok_reply (batch_reply (codes "nextBatch") (batch_len_of c most) c.rest c.number namespace)) (cursor_in_table held at);
           left = table
               ∙ ap (λ (n : ℕ). let t : CursorTable = record { list = advanced cs at n; next = held.next } in t)
               (counted ∙ ap (λ (c : Cursor). batch_len_of c most) (cursor_in_table held at));
         };
-        tied = λ tied. subst (λ (x : Held). AreTied history file x.list) (sym went) (tied_after (nat_le (length its.rest) count) tied);
+        tied = λ changed tied. subst (λ (x : Held). AreTied changed history file x.list) (sym went)
+            (tied_after (nat_le (length its.rest) count) changed tied);
       }

@@ -1,5 +1,5 @@
 -- The next batch of a cursor is read from its version, and the cursor goes on or ends.
-use Rattle.std.proofs.Common.{◌≡◌, ◌≢◌, inl, inr, ℕ, zero, suc, ◌+◌, ◌-◌, ◌^◌, ◌<◌, ◌≤◌, true, false, List, [], ◌∷◌, length, drop}
+use Rattle.std.proofs.Common.{◌≡◌, ◌≢◌, inl, inr, ℕ, zero, suc, ◌+◌, ◌-◌, ◌^◌, ◌<◌, ◌≤◌, Bool, true, false, List, [], ◌∷◌, length, drop}
 use Rattle.std.proofs.Common.{Option, Some, None, Result, Ok, Err, refl, sym, ap, subst, ◌∙◌, arith}
 use Rattle.std.specs.Prelude.{⊤, map, ◌==◌, ◌||◌, nat_le, if◌then◌else◌, option_map, unwrap_or, codes, MatchOption, MatchResult}
 use Rattle.std.specs.Global.{Vec}
@@ -14,7 +14,6 @@ use Rattle.collections.specs.Standing.{HasState}
 use Rattle.collections.specs.State.{State}
 use Rattle.collections.specs.Versions.{ReadsVersion}
 use Rattle.collections.specs.View.{disk_history, is_changed, is_stopped}
-use Rattle.collections.proofs.VersionLemmas.{has_still, since_start_stays}
 use Rattle.database_model.specs.Cursors.{advanced, batch_len, batch_of, batch_reply, item_size}
 use Rattle.database_model.specs.GetMore.{batch_len_of}
 use Rattle.database_model.specs.Refusals.{ok_reply}
@@ -37,10 +36,10 @@ use Rattle.cursors.specs.Changes.{after, further, gone_on, onwards, without}
 use Rattle.cursors.specs.Held.{Held, HeldCursor, HeldWalk, Way, through, listed, cursors_of, held_at, no_held_cursor, table_of}
 use Rattle.cursors.specs.TableLaws.{ended_in_table, gone_on_in_table}
 use Rattle.pinned_cursors.specs.Batches.{GivesNext, IsNextBatch, ReadsAt, ReadsThenPins}
-use Rattle.pinned_cursors.specs.Tied.{AreTied, IsLeftBy, IsTied, ListsRest, ReadsRest, with_pin}
+use Rattle.pinned_cursors.specs.Tied.{AreTied, IsLeftBy, IsTied, ListsRest, ReadsRest, passes, with_pin}
 use Rattle.pinned_cursors.specs.Turns.{OnlyPins, Releases}
 use Rattle.pinned_cursors.proofs.ListLemmas.{each_at}
-use Rattle.pinned_cursors.proofs.TiedLemmas.{tied_set}
+use Rattle.pinned_cursors.proofs.TiedLemmas.{has_either, has_now, keeps_on, reads_to, tied_set}
 use Rattle.pinned_cursors.proofs.TurnLemmas.{no_pins, nothing_read}
 use Rattle.pinned_cursors.proofs.TurnTied.{tied_on}
 
@@ -80,17 +79,17 @@ module _ {D : Type 0} (history : D → History) (h : HeldCursor) (w : HeldWalk) 
   -- what is right of what the walk is still to give
   reads_of : (result : Result GivenBatch Refusal) → GoesFrom history old new → is_changed new ≡ is_changed old
       → ((s t : List Collection) → HasState history old s t → HasState history new s t)
-      → (KeepsWord (disk_history history new) → ReadsRest history old w h.cursor.rest
-      → MatchResult result (IsNextBatch history new h w namespace most) (HasCause history old new))
+      → (KeepsWord (disk_history history new) → (passing : Bool) → ReadsRest passing history old w h.cursor.rest
+      → MatchResult result (IsNextBatch passing history new h w namespace most) (HasCause history old new))
       → ReadsAt history h namespace most result old new
   reads_of result on unchanged same right = record {
     on = on;
     unchanged = unchanged;
     same = same;
-    answers = λ k v there r.
+    answers = λ k v there passing r.
         let one : v ≡ w = some_is v w (sym there ∙ is) in
-        subst (λ (x : HeldWalk). MatchResult result (IsNextBatch history new h x namespace most) (HasCause history old new)) (sym one)
-        (right k (subst (λ (x : HeldWalk). ReadsRest history old x h.cursor.rest) one r));
+        subst (λ (x : HeldWalk). MatchResult result (IsNextBatch passing history new h x namespace most) (HasCause history old new)) (sym one)
+        (right k passing (subst (λ (x : HeldWalk). ReadsRest passing history old x h.cursor.rest) one r));
   }
     where
       some_is : (a b : HeldWalk) → Some a ≡ Some b → a ≡ b
@@ -104,9 +103,9 @@ module _ {D : Type 0} (history : D → History) (h : HeldCursor) (w : HeldWalk) 
         subst (λ (x : Way). IsLeftBy x w.projection ds rest) its.way left
         ∙ (λ i. walk_rest walk.filter.now (sym its.projection i) (sym its.skip i) walk.limit walk.from.now ds)
 
-    next_so : (r : ReadsRest history old w h.cursor.rest) (b : GivenBatch) → IsGivenBatch walk asked r.home.documents b
-        → IsNextBatch history new h w namespace most b
-    next_so r b given =
+    next_so : (passing : Bool) (r : ReadsRest passing history old w h.cursor.rest) (b : GivenBatch) → IsGivenBatch walk asked r.home.documents b
+        → IsNextBatch passing history new h w namespace most b
+    next_so passing r b given =
         let left : rest_of walk r.home.documents ≡ h.cursor.rest = sym (left_by r.home.documents h.cursor.rest r.left) in
         record {
           counted = given.counted ∙ (λ i. batch_of (asks.most_is i) (left i));
@@ -119,7 +118,7 @@ module _ {D : Type 0} (history : D → History) (h : HeldCursor) (w : HeldWalk) 
         by_next : (next : Option (Vec ℕ))
             → MatchOption next (length (rest_of walk r.home.documents) ≤ b.count) (λ text. GoesOn walk r.home.documents b.count text.items)
             → MatchOption next (length h.cursor.rest ≤ b.count)
-            (λ text. (b.count < length h.cursor.rest) × ReadsRest history new (onwards b.count text.items w) (drop b.count h.cursor.rest))
+            (λ text. (b.count < length h.cursor.rest) × ReadsRest passing history new (onwards b.count text.items w) (drop b.count h.cursor.rest))
         by_next None none =
             let left : rest_of walk r.home.documents ≡ h.cursor.rest = sym (left_by r.home.documents h.cursor.rest r.left) in
             subst (λ (xs : List Pairs). length xs ≤ b.count) left none
@@ -131,7 +130,7 @@ module _ {D : Type 0} (history : D → History) (h : HeldCursor) (w : HeldWalk) 
               subst (λ (xs : List Pairs). b.count < length xs) left on.more,
               record {
                 collections = r.collections;
-                had = since_start_stays history old new goes w.version r.collections r.had;
+                had = keeps_on history old new goes passing w.version r.collections r.had;
                 home = r.home;
                 numbered = r.numbered;
                 stored = r.stored;
@@ -145,15 +144,15 @@ module _ {D : Type 0} (history : D → History) (h : HeldCursor) (w : HeldWalk) 
       → ReadsAt history h namespace most result old new
   reads_through walk its result reads = reads_of result reads.on reads.unchanged reads.same right
     where
-      right : KeepsWord (disk_history history new) → ReadsRest history old w h.cursor.rest
-          → MatchResult result (IsNextBatch history new h w namespace most) (HasCause history old new)
-      right k r = at result (reads.answers k r.collections (has_still history old w.version r.collections r.had) r.home
+      right : KeepsWord (disk_history history new) → (passing : Bool) → ReadsRest passing history old w h.cursor.rest
+          → MatchResult result (IsNextBatch passing history new h w namespace most) (HasCause history old new)
+      right k passing r = at result (reads.answers k r.collections (has_now history passing old w.version r.collections r.had) r.home
           (record { numbered = r.numbered; stored = r.stored }))
         where
           at : (q : Result GivenBatch Refusal)
               → MatchResult q (λ b. IsGivenBatch walk asked r.home.documents b) (HasCause history old new)
-              → MatchResult q (IsNextBatch history new h w namespace most) (HasCause history old new)
-          at (Ok b) given = next_so walk its reads.on r b given
+              → MatchResult q (IsNextBatch passing history new h w namespace most) (HasCause history old new)
+          at (Ok b) given = next_so walk its reads.on passing r b given
           at (Err e) cause = cause
 
   -- ---- by its list
@@ -165,18 +164,18 @@ module _ {D : Type 0} (history : D → History) (h : HeldCursor) (w : HeldWalk) 
         → ReadsAt history h namespace most result old new
     reads_listed its result reads = reads_of result reads.on reads.unchanged reads.same right
       where
-        right : KeepsWord (disk_history history new) → ReadsRest history old w h.cursor.rest
-            → MatchResult result (IsNextBatch history new h w namespace most) (HasCause history old new)
-        right k r =
+        right : KeepsWord (disk_history history new) → (passing : Bool) → ReadsRest passing history old w h.cursor.rest
+            → MatchResult result (IsNextBatch passing history new h w namespace most) (HasCause history old new)
+        right k passing r =
             let l : ListsRest (texts_of list.ids.now) w.projection r.home.documents h.cursor.rest =
             subst (λ (x : Way). IsLeftBy x w.projection r.home.documents h.cursor.rest) its.way r.left in
             let chosen : Chosen = record { home = r.home; documents = l.some } in
-            at result l (reads.answers k r.collections (has_still history old w.version r.collections r.had) chosen
+            at result l (reads.answers k r.collections (has_now history passing old w.version r.collections r.had) chosen
             (record { numbered = r.numbered; stored = r.stored; listed = l.there }))
           where
             at : (q : Result GivenBatch Refusal) (l : ListsRest (texts_of list.ids.now) w.projection r.home.documents h.cursor.rest)
                 → MatchResult q (λ b. IsListedBatch asked (map (project list.projection.now) l.some) b) (HasCause history old new)
-                → MatchResult q (IsNextBatch history new h w namespace most) (HasCause history old new)
+                → MatchResult q (IsNextBatch passing history new h w namespace most) (HasCause history old new)
             at (Err e) l cause = cause
             at (Ok b) l batch =
                 let rest : map (project list.projection.now) l.some ≡ h.cursor.rest = ap (λ p. map (project p) l.some) its.projection ∙ sym l.same in
@@ -192,13 +191,13 @@ module _ {D : Type 0} (history : D → History) (h : HeldCursor) (w : HeldWalk) 
               where
                 by_next : (next : Option (Vec ℕ)) → MatchOption next (length h.cursor.rest ≤ b.count) (λ _. b.count < length h.cursor.rest)
                     → MatchOption next (length h.cursor.rest ≤ b.count)
-                    (λ text. (b.count < length h.cursor.rest) × ReadsRest history new (onwards b.count text.items w) (drop b.count h.cursor.rest))
+                    (λ text. (b.count < length h.cursor.rest) × ReadsRest passing history new (onwards b.count text.items w) (drop b.count h.cursor.rest))
                 by_next None none = none
                 by_next (Some text) more = (
                   more,
                   record {
                     collections = r.collections;
-                    had = since_start_stays history old new reads.on w.version r.collections r.had;
+                    had = keeps_on history old new reads.on passing w.version r.collections r.had;
                     home = r.home;
                     numbered = r.numbered;
                     stored = r.stored;
@@ -239,11 +238,12 @@ module _ {D : Type 0} (history : D → History) (old read : State D) (held : Hel
   Read result = ReadsAt history here namespace bound result old read
 
   -- The cursors are tied where they were, and the walk gives what is left.
-  reads_tied : GoesFrom history old read → is_stopped old ≡ false → KeepsWord (disk_history history read) → AreTied history old held.list
-      → ReadsRest history old w here.cursor.rest
-  reads_tied goes running k tied =
-      subst (λ (walk : Option HeldWalk). MatchOption walk ⊤ (λ v. ReadsRest history old v here.cursor.rest)) is
-      (each_at (IsTied history old) held.list at no_held_cursor there (tied.each running (goes.stays.reads.on.kept k)))
+  reads_tied : GoesFrom history old read → is_stopped old ≡ false → KeepsWord (disk_history history read) → (changed : Bool)
+      → AreTied changed history old held.list → ReadsRest changed history old w here.cursor.rest
+  reads_tied goes running k changed tied =
+      reads_to history (passes changed here) changed old old w here.cursor.rest (has_either history here.cursor.touched changed old w.version)
+      (subst (λ (walk : Option HeldWalk). MatchOption walk ⊤ (λ v. ReadsRest (passes changed here) history old v here.cursor.rest)) is
+      (each_at (IsTied changed history old) held.list at no_held_cursor there (tied.each running (goes.stays.reads.on.kept k))))
 
   -- as many as a database's definition says
   same_count : (n : ℕ) → n ≡ batch_of bound here.cursor.rest → length here.cursor.rest < 2 ^ 64 → n ≡ batch_len_of here.cursor most
@@ -263,27 +263,28 @@ module _ {D : Type 0} (history : D → History) (old read : State D) (held : Hel
   gives_refused e running r = record {
     goes = then_pins (Err e) r read (no_pins history read);
     err = refl;
-    answers = λ k tied. r.answers k w is (reads_tied r.on running k tied);
-    tied = tied_on history old read held.list r.on;
+    answers = λ k changed tied. r.answers k w is changed (reads_tied r.on running k changed tied);
+    tied = λ changed. tied_on history old read held.list changed r.on;
   }
 
   module _ (b : GivenBatch) (running : is_stopped old ≡ false) (r : Read (Ok b)) where
-    next : KeepsWord (disk_history history read) → AreTied history old held.list → IsNextBatch history read here w namespace bound b
-    next k tied = r.answers k w is (reads_tied r.on running k tied)
+    next : KeepsWord (disk_history history read) → (changed : Bool) → AreTied changed history old held.list
+        → IsNextBatch changed history read here w namespace bound b
+    next k changed tied = r.answers k w is changed (reads_tied r.on running k changed tied)
 
-    says : (n : IsNextBatch history read here w namespace bound b)
+    says : (changed : Bool) (n : IsNextBatch changed history read here w namespace bound b)
         → b.reply ≡ ok_reply (batch_reply (codes "nextBatch") (batch_len_of here.cursor most) here.cursor.rest here.cursor.number namespace)
-    says n = n.says
+    says changed n = n.says
         ∙ ap (λ (m : ℕ). ok_reply (batch_reply (codes "nextBatch") m here.cursor.rest here.cursor.number namespace)) (same_count b.count n.counted n.few)
 
     -- ---- others are left
 
     module _ (text : Vec ℕ) (some : b.next ≡ Some text) where
-      more : IsNextBatch history read here w namespace bound b
-          → (b.count < length here.cursor.rest) × ReadsRest history read (onwards b.count text.items w) (drop b.count here.cursor.rest)
-      more n = subst
+      more : (changed : Bool) → IsNextBatch changed history read here w namespace bound b
+          → (b.count < length here.cursor.rest) × ReadsRest changed history read (onwards b.count text.items w) (drop b.count here.cursor.rest)
+      more changed n = subst
           (λ (o : Option (Vec ℕ)). MatchOption o (length here.cursor.rest ≤ b.count)
-          (λ t. (b.count < length here.cursor.rest) × ReadsRest history read (onwards b.count t.items w) (drop b.count here.cursor.rest)))
+          (λ t. (b.count < length here.cursor.rest) × ReadsRest changed history read (onwards b.count t.items w) (drop b.count here.cursor.rest)))
           some n.next
 
       pub gives_more : (after_it : Held) → after_it ≡ gone_on held at b.count (option_map (onwards b.count text.items) here.walk)
@@ -295,42 +296,43 @@ module _ {D : Type 0} (history : D → History) (old read : State D) (held : Hel
           record {
             goes = then_pins (Ok b) r read (no_pins history read);
             err = tt;
-            answers = λ k tied.
-                let n = next k tied in
+            answers = λ k changed tied.
+                let n = next k changed tied in
                 record {
-                  says = says n;
-                  left = ap table_of on ∙ gone_on_in_table held at b.count (Some (onwards b.count text.items w)) (more n).0
+                  says = says changed n;
+                  left = ap table_of on ∙ gone_on_in_table held at b.count (Some (onwards b.count text.items w)) (more changed n).0
                       ∙ ap (λ (m : ℕ). let t : CursorTable = record { list = advanced (cursors_of held) at m; next = held.next } in t)
                       (same_count b.count n.counted n.few);
                 };
-            tied = λ tied.
-                let on_read = tied_on history old read held.list r.on tied in
-                subst (λ (h : Held). AreTied history read h.list) (sym on)
-                (tied_set history read held.list at there x
+            tied = λ changed tied.
+                let on_read = tied_on history old read held.list changed r.on tied in
+                subst (λ (h : Held). AreTied changed history read h.list) (sym on)
+                (tied_set history changed read held.list at there x
                 (ap (λ (walk : Option HeldWalk). with_pin walk []) (sym is)) on_read
-                (λ still k. (more (next k tied)).1));
+                (λ still k. (more changed (next k changed tied)).1));
           }
 
     -- ---- it gave its last
 
-    pub gives_last : b.next ≡ None → (new : State D) (after_it : Held) → after_it ≡ without held at → Releases history read new held after_it
+    pub gives_last : b.next ≡ None → (new : State D) (after_it : Held) → after_it ≡ without held at
+        → ((changed : Bool) → Releases changed history read new held after_it)
         → Gives (Ok b.reply) new after_it
     gives_last none new after_it went releases = record {
-      goes = then_pins (Ok b) r new releases.pins;
+      goes = then_pins (Ok b) r new (releases true).pins;
       err = tt;
-      answers = λ k tied.
-          let n = next (subst KeepsWord releases.pins.untouched.disk k) tied in
+      answers = λ k changed tied.
+          let n = next (subst KeepsWord (releases true).pins.untouched.disk k) changed tied in
           let few = subst
           (λ (o : Option (Vec ℕ)). MatchOption o (length here.cursor.rest ≤ b.count)
-          (λ t. (b.count < length here.cursor.rest) × ReadsRest history read (onwards b.count t.items w) (drop b.count here.cursor.rest)))
+          (λ t. (b.count < length here.cursor.rest) × ReadsRest changed history read (onwards b.count t.items w) (drop b.count here.cursor.rest)))
           none n.next in
           record {
-            says = says n;
+            says = says changed n;
             left = ap table_of went ∙ ended_in_table held at b.count few
                 ∙ ap (λ (m : ℕ). let t : CursorTable = record { list = advanced (cursors_of held) at m; next = held.next } in t)
                 (same_count b.count n.counted n.few);
           };
-      tied = λ tied. releases.tied (tied_on history old read held.list r.on tied);
+      tied = λ changed tied. (releases changed).tied (tied_on history old read held.list changed r.on tied);
     }
 
 -- A file that has stopped gives nothing.
@@ -339,6 +341,6 @@ pub gives_stopped : {D : Type 0} (history : D → History) (file : State D) (hel
 gives_stopped history file held at namespace most stopped = record {
   goes = nothing_read history file;
   err = refl;
-  answers = λ k tied. inr (inl (refl, inl stopped));
-  tied = λ tied. tied;
+  answers = λ k changed tied. inr (inl (refl, inl stopped));
+  tied = λ changed tied. tied;
 }

@@ -1,6 +1,6 @@
 -- What reading the next batch of a cursor does that holds no documents.
-use Rattle.std.specs.Prelude.{◌≡◌, ℕ, ◌<◌, ◌≤◌, ◌^◌, List, Option, Some, Result, length, drop}
-use Rattle.std.specs.Prelude.{codes, MatchOption, MatchResult, OnErr}
+use Rattle.std.specs.Prelude.{◌≡◌, ℕ, ◌<◌, ◌≤◌, ◌^◌, Bool, List, Option, Some, Result, length}
+use Rattle.std.specs.Prelude.{codes, drop, MatchOption, MatchResult, OnErr}
 use Rattle.bson.specs.Tree.{Pairs}
 use Rattle.page.specs.History.{History, KeepsWord}
 use Rattle.path.specs.declared.refusal.Refusal.{Refusal}
@@ -20,15 +20,17 @@ use Rattle.pinned_cursors.specs.Turns.{OnlyPins}
 
 -- The batch has what goes into it of what is left of the cursor, its reply says so, and it says
 -- whether others are left, and from where the walk goes on to them.
-pub record IsNextBatch {D : Type 0} (history : D → History) (file : State D) (h : HeldCursor)
-    (w : HeldWalk) (namespace : List ℕ) (most : ℕ) (b : GivenBatch) : Type 0 where
+pub record IsNextBatch {D : Type 0} (passing : Bool) (history : D → History) (file : State D)
+    (h : HeldCursor) (w : HeldWalk) (namespace : List ℕ) (most : ℕ) (b : GivenBatch)
+    : Type 0 where
   pub counted : b.count ≡ batch_of most h.cursor.rest
   pub says : b.reply ≡ ok_reply (batch_reply (codes "nextBatch") b.count h.cursor.rest
       h.cursor.number namespace)
   pub few : length h.cursor.rest < 2 ^ 64
   pub next : MatchOption b.next (length h.cursor.rest ≤ b.count)
       (λ text. (b.count < length h.cursor.rest)
-      × ReadsRest history file (onwards b.count text.items w) (drop b.count h.cursor.rest))
+      × ReadsRest passing history file (onwards b.count text.items w)
+      (drop b.count h.cursor.rest))
 
 -- The next batch was read: nothing of the turn changes, and while the disk keeps its word, it is
 -- that of what is left, or the refusal has its cause.
@@ -39,8 +41,8 @@ pub record ReadsAt {D : Type 0} (history : D → History) (h : HeldCursor) (name
   pub same : (start now : List Collection) → HasState history old start now
       → HasState history new start now
   pub answers : KeepsWord (disk_history history new) → (w : HeldWalk) → h.walk ≡ Some w
-      → ReadsRest history old w h.cursor.rest
-      → MatchResult result (IsNextBatch history new h w namespace most)
+      → (passing : Bool) → ReadsRest passing history old w h.cursor.rest
+      → MatchResult result (IsNextBatch passing history new h w namespace most)
       (HasCause history old new)
 
 -- ---- and the cursor goes on, or ends
@@ -70,7 +72,9 @@ pub record GivesNext {D : Type 0} (history : D → History) (at : ℕ) (namespac
     (before after : Held) : Type 0 where
   pub goes : ReadsThenPins history old new
   pub err : OnErr result (after ≡ before)
-  pub answers : KeepsWord (disk_history history new) → AreTied history old before.list
+  pub answers : KeepsWord (disk_history history new)
+      → (changed : Bool) → AreTied changed history old before.list
       → MatchResult result (IsGivenNext at namespace most before after)
       (HasCause history old new)
-  pub tied : AreTied history old before.list → AreTied history new after.list
+  pub tied : (changed : Bool) → AreTied changed history old before.list
+      → AreTied changed history new after.list

@@ -15,7 +15,7 @@ use Rattle.projection.specs.Projection.{Projection}
 use Rattle.replies.specs.FirstBatch.{IsFirstBatch, IsNoBatch}
 use Rattle.cursors.specs.Held.{Held, HeldWalk, Way, cursors_of, table_of}
 use Rattle.pinned_cursors.specs.Batches.{ReadsThenPins}
-use Rattle.pinned_cursors.specs.Opening.{IsLeftOf}
+use Rattle.pinned_cursors.specs.Opening.{IsLeftOf, Tells, that_keep}
 use Rattle.pinned_cursors.specs.Tied.{AreTied, ReadsRest, TiedBeside}
 use Rattle.pinned_cursors.specs.declared.first.FirstGiven.{FirstGiven}
 use Rattle.pinned_cursors.specs.Turns.{OnlyPins}
@@ -43,6 +43,8 @@ pub record GivesFirst {D : Type 0} (history : D → History) (connection : ℕ)
   pub first : OnlyPins history old pinned
   pub goes : ReadsThenPins history pinned new
   pub err : OnErr result (after ≡ before)
+  -- a new one keeps no documents
+  pub keep : that_keep after ≡ that_keep before
   pub answers : KeepsWord (disk_history history new)
       → IsLeftOf history old number p way documents
       → MatchResult result (IsFirstGiven connection namespace documents most before after)
@@ -50,16 +52,17 @@ pub record GivesFirst {D : Type 0} (history : D → History) (connection : ℕ)
       ⊎ IsNoBatch (table_of before) connection documents most e)
   pub tied : (KeepsWord (disk_history history old)
       → IsLeftOf history old number p way documents)
-      → AreTied history old before.list → AreTied history new after.list
+      → (changed : Bool) → Tells changed old → AreTied changed history old before.list
+      → AreTied changed history new after.list
 
 -- ---- in the version that is pinned for it
 
 -- The cursors are as they were, or the pin is that of the new one.
-abbrev pub KeepsPin : {D : Type 0} → (D → History) → Version → Held → Held → Bool → State D
-    → Type 0
-KeepsPin history version before after true new =
-    TiedBeside history new version before.list → AreTied history new after.list
-KeepsPin history version before after false new = after ≡ before
+abbrev pub KeepsPin : {D : Type 0} → Bool → (D → History) → Version → Held → Held → Bool
+    → State D → Type 0
+KeepsPin changed history version before after true new =
+    TiedBeside changed history new version before.list → AreTied changed history new after.list
+KeepsPin changed history version before after false new = after ≡ before
 
 -- A first batch of what a walk is to give was given: nothing of the turn changes, and the cursors
 -- are as they were, or one was opened that has the pin.
@@ -71,11 +74,12 @@ pub record GivesPinned {D : Type 0} (history : D → History) (connection : ℕ)
   pub same : (start now : List Collection) → HasState history old start now
       → HasState history new start now
   pub err : OnErr result (after ≡ before)
-  pub answers : KeepsWord (disk_history history new) → ReadsRest history old w documents
+  pub keep : that_keep after ≡ that_keep before
+  pub answers : KeepsWord (disk_history history new) → ReadsRest true history old w documents
       → MatchResult result
       (λ g. IsFirstGiven connection namespace documents most before after g.reply)
       (λ e. HasCause history old new e
       ⊎ IsNoBatch (table_of before) connection documents most e)
-  pub pin : IfOk result (λ g. (is_stopped new ≡ false → KeepsWord (disk_history history new)
-      → ReadsRest history old w documents)
-      → KeepsPin history w.version before after g.is_open new)
+  pub pin : IfOk result (λ g. (changed : Bool) → (is_stopped new ≡ false
+      → KeepsWord (disk_history history new) → ReadsRest changed history old w documents)
+      → KeepsPin changed history w.version before after g.is_open new)

@@ -1,18 +1,21 @@
 -- What opening a cursor does that holds no documents.
-use Rattle.std.specs.Prelude.{◌≡◌, ℕ, ◌+◌, ◌-◌, All, List, [], ◌∷◌, ◌++◌, Result, OnErr, OnOk}
+use Rattle.std.specs.Prelude.{◌≡◌, ℕ, ◌+◌, ◌-◌, Bool, false, All, List, [], ◌∷◌, ◌++◌, Result}
+use Rattle.std.specs.Prelude.{OnErr, OnOk, is_some, not}
+use Rattle.std.specs.List.{filter}
 use Rattle.bson.specs.Tree.{Pairs}
 use Rattle.page.specs.History.{History, KeepsWord}
 use Rattle.entries.specs.State.{Collection}
 use Rattle.collections.specs.Reading.{IsNumbered}
 use Rattle.collections.specs.Standing.{HasState}
 use Rattle.collections.specs.State.{State}
-use Rattle.collections.specs.View.{disk_history}
+use Rattle.collections.specs.View.{disk_history, is_changed, is_stopped}
 use Rattle.database_model.specs.Cursors.{new_cursor}
 use Rattle.database_model.specs.Lawful.{IsStored}
 use Rattle.pager.specs.declared.version.Version.{Version}
 use Rattle.index.specs.View.{texts_of}
 use Rattle.projection.specs.Projection.{Projection}
-use Rattle.cursors.specs.Held.{Held, HeldWalk, Way, through, listed, cursors_of, table_of}
+use Rattle.cursors.specs.Held.{Held, HeldCursor, HeldWalk, Way, through, listed, cursors_of}
+use Rattle.cursors.specs.Held.{table_of}
 use Rattle.pinned_cursors.specs.Tied.{AreTied, IsLeftBy}
 use Rattle.pinned_cursors.specs.Turns.{OnlyPins}
 use Rattle.pinned_cursors.specs.declared.opening.ListLeft.{ListLeft}
@@ -43,6 +46,14 @@ pub record IsLeftOf {D : Type 0} (history : D → History) (file : State D) (num
   pub stored : All IsStored home.documents
   pub left : IsLeftBy way p home.documents rest
 
+-- the cursors that keep documents
+abbrev pub that_keep : Held → List HeldCursor
+that_keep held = filter (λ h. not (is_some h.walk)) held.list
+
+-- Where it is said that the turn has changed nothing, the file's tree is the committed one.
+abbrev pub Tells : {D : Type 0} → Bool → State D → Type 0
+Tells changed file = is_stopped file ≡ false → changed ≡ false → is_changed file ≡ false
+
 -- A cursor on these documents was opened, or all is as it was but for the pins. Where the documents
 -- are what is left in this way, the cursors stay tied to the file.
 pub record OpensPinned {D E : Type 0} (history : D → History) (connection : ℕ)
@@ -53,6 +64,9 @@ pub record OpensPinned {D E : Type 0} (history : D → History) (connection : �
     next = before.next + 1;
   })
   pub err : OnErr result (after ≡ before)
+  -- the new one keeps none
+  pub keep : that_keep after ≡ that_keep before
   pub pins : OnlyPins history old new
   pub tied : (KeepsWord (disk_history history old) → IsLeftOf history old number p way rest)
-      → AreTied history old before.list → AreTied history new after.list
+      → (changed : Bool) → Tells changed old → AreTied changed history old before.list
+      → AreTied changed history new after.list

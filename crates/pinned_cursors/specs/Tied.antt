@@ -1,6 +1,6 @@
 -- Cursors that hold no documents, and the file in which the versions that they read are pinned.
-use Rattle.std.specs.Prelude.{◌≡◌, ⊤, ℕ, false, All, List, [], ◌∷◌, map, Option, Some, None}
-use Rattle.std.specs.Prelude.{MatchOption}
+use Rattle.std.specs.Prelude.{◌≡◌, ◌&&◌, ⊤, ℕ, Bool, true, false, All, List, [], ◌∷◌, map}
+use Rattle.std.specs.Prelude.{Option, Some, None, MatchOption}
 use Rattle.std.specs.List.{AllByRecursion}
 use Rattle.bson.specs.Tree.{Pairs}
 use Rattle.page.specs.History.{History, KeepsWord}
@@ -9,7 +9,7 @@ use Rattle.entries.specs.State.{Collection}
 use Rattle.collections.specs.Reading.{IsNumbered}
 use Rattle.pager.specs.declared.version.Version.{Version}
 use Rattle.collections.specs.State.{State}
-use Rattle.collections.specs.Versions.{HasSinceStart, pins_of}
+use Rattle.collections.specs.Versions.{HasSinceStart, HasVersion, pins_of}
 use Rattle.collections.specs.View.{disk_history, is_stopped}
 use Rattle.database_model.specs.Lawful.{IsStored}
 use Rattle.projection.specs.Projection.{Projection, project}
@@ -28,21 +28,32 @@ abbrev pub IsLeftBy : Way → Projection → List Pairs → List Pairs → Type 
 IsLeftBy (through rules limit from) p ds rest = rest ≡ walk_rest rules p 0 limit from ds
 IsLeftBy (listed texts) p ds rest = ListsRest texts p ds rest
 
+-- What is asked of a version: that it has these collections; and, where taking back the turn ends
+-- no cursor that reads it, that it has had them since the turn began.
+abbrev pub HasFor : {D : Type 0} → Bool → (D → History) → State D → Version → List Collection
+    → Type 0
+HasFor true history file version collections = HasVersion history file version collections
+HasFor false history file version collections = HasSinceStart history file version collections
+
 -- These documents are what the walk is still to give of the collection of its number, as its
--- version has had it since the turn began.
-pub record ReadsRest {D : Type 0} (history : D → History) (file : State D) (w : HeldWalk)
-    (rest : List Pairs) : Type 0 where
+-- version has it. Whether taking back the turn ends its cursor is said first.
+pub record ReadsRest {D : Type 0} (passing : Bool) (history : D → History) (file : State D)
+    (w : HeldWalk) (rest : List Pairs) : Type 0 where
   pub collections : List Collection
-  pub had : HasSinceStart history file w.version collections
+  pub had : HasFor passing history file w.version collections
   pub home : Collection
   pub numbered : IsNumbered collections home w.number
   pub stored : All IsStored home.documents
   pub left : IsLeftBy w.way w.projection home.documents rest
 
+-- Where the turn has changed something, taking it back ends each cursor that it opened or advanced.
+abbrev pub passes : Bool → HeldCursor → Bool
+passes changed h = h.cursor.touched && changed
+
 -- what is left of a cursor that holds no documents is what its walk is still to give
-abbrev pub IsTied : {D : Type 0} → (D → History) → State D → HeldCursor → Type 0
-IsTied history file h =
-    MatchOption h.walk ⊤ (λ w. ReadsRest history file w h.cursor.rest)
+abbrev pub IsTied : {D : Type 0} → Bool → (D → History) → State D → HeldCursor → Type 0
+IsTied changed history file h =
+    MatchOption h.walk ⊤ (λ w. ReadsRest (passes changed h) history file w h.cursor.rest)
 
 -- ---- pins
 
@@ -57,17 +68,18 @@ pins_by [] = []
 pins_by (h ∷ hs) = with_pin h.walk (pins_by hs)
 
 -- While the disk keeps its word and until the file stops, what is left of each cursor is what its
--- walk gives. Nothing is pinned but for the cursors.
-pub record AreTied {D : Type 0} (history : D → History) (file : State D)
+-- walk gives. Nothing is pinned but for the cursors. Whether the turn has changed something is said
+-- first.
+pub record AreTied {D : Type 0} (changed : Bool) (history : D → History) (file : State D)
     (list : List HeldCursor) : Type 0 where
   pub each : is_stopped file ≡ false → KeepsWord (disk_history history file)
-      → AllByRecursion (IsTied history file) list
+      → AllByRecursion (IsTied changed history file) list
   pub pins : (n : ℕ) → times n (pins_of file) ≡ times n (pins_by list)
 
 -- The same, but for one pin of a version more, which no cursor has.
-pub record TiedBeside {D : Type 0} (history : D → History) (file : State D) (version : Version)
-    (list : List HeldCursor) : Type 0 where
+pub record TiedBeside {D : Type 0} (changed : Bool) (history : D → History) (file : State D)
+    (version : Version) (list : List HeldCursor) : Type 0 where
   pub each : is_stopped file ≡ false → KeepsWord (disk_history history file) →
-      AllByRecursion (IsTied history file) list
+      AllByRecursion (IsTied changed history file) list
   pub pins : (n : ℕ) → times n (pins_of file)
       ≡ times n (version.generation ∷ pins_by list)

@@ -1,5 +1,5 @@
 -- What a call that pins, or ends pins, leaves of the turn.
-use Rattle.std.specs.Prelude.{◌≡◌, List, Option, MatchOption}
+use Rattle.std.specs.Prelude.{◌≡◌, Bool, List, Option, MatchOption}
 use Rattle.page.specs.History.{History}
 use Rattle.entries.specs.State.{Collection}
 use Rattle.collections.specs.Marks.{IsUntouched}
@@ -25,8 +25,9 @@ abbrev pub EndsPin : {D : Type 0} → (D → History) → Option Version → Sta
 EndsPin history pinned old new =
     MatchOption pinned (new ≡ old) (λ version. UnpinsVersion history version old new)
 
--- Cursors came to others, and their pins with them.
-pub record Releases {D : Type 0} (history : D → History) (old new : State D)
+-- Cursors came to others, and their pins with them. Whether the turn has changed something is said
+-- first.
+pub record Releases {D : Type 0} (changed : Bool) (history : D → History) (old new : State D)
     (before after : Held) : Type 0 where
   pub pins : OnlyPins history old new
-  pub tied : AreTied history old before.list → AreTied history new after.list
+  pub tied : AreTied changed history old before.list → AreTied changed history new after.list

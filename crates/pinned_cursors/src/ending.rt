@@ -1,6 +1,6 @@
 //! Cursors end, and their pins with them.
 
-ghost use Rattle.std.specs.Prelude.{◌≡◌, ◌<◌, length};
+ghost use Rattle.std.specs.Prelude.{◌≡◌, ◌<◌, Bool, length};
 ghost use Rattle.cursors.specs.Changes.{without};
 ghost use Rattle.cursors.specs.Ending.{others};
 ghost use Rattle.pinned_cursors.specs.Turns.{EndsPin, Releases};
@@ -23,7 +23,8 @@ pub(crate) fn end_pin<D: Disk>(file: &mut Collections<D>, pinned: Option<Version
 pub(crate) fn end<D: Disk>(file: &mut Collections<D>, cursors: &mut Cursors, at: usize)
     requires there { at < length cursors.old.list }
     ensures left { cursors.new ≡ without cursors.old at }
-    ensures releases { Releases D.history file.old file.new cursors.old cursors.new }
+    ensures releases { (changed : Bool) → Releases changed D.history file.old file.new cursors.old
+        cursors.new }
 {
     let pinned = cursors.end_at(at);
     end_pin(file, pinned);
@@ -32,7 +33,8 @@ pub(crate) fn end<D: Disk>(file: &mut Collections<D>, cursors: &mut Cursors, at:
 /// Ends cursors one after the other, and the pins of those that hold no documents.
 pub fn end_all<D: Disk>(file: &mut Collections<D>, cursors: &mut Cursors, ends: &Ends<'_>)
     ensures left { cursors.new ≡ others ends.now cursors.old }
-    ensures releases { Releases D.history file.old file.new cursors.old cursors.new }
+    ensures releases { (changed : Bool) → Releases changed D.history file.old file.new cursors.old
+        cursors.new }
 {
     'ended: while let Some(pinned) = cursors.end_first(ends) {
         end_pin(file, pinned);

@@ -1,7 +1,6 @@
 //! A first batch of the documents of a list, which are looked up in the version that is pinned for a cursor on the others.
 
-ghost use Rattle.std.specs.Prelude.{◌≡◌, ◌≤◌, false, All, IfOk, length};
-ghost use Rattle.collections.specs.View.{is_changed};
+ghost use Rattle.std.specs.Prelude.{◌≤◌, All, IfOk, length};
 ghost use Rattle.cursors.specs.Held.{cursors_of};
 ghost use Rattle.database_model.specs.Lawful.{AreLawfulCursors, IsWithin};
 ghost use Rattle.pinned_cursors.specs.First.{GivesFirst, GivesPinned};
@@ -93,8 +92,8 @@ fn give_pinned<D: Disk>(
     })
 }
 
-/// Gives a first batch of the documents of a list, as the collections had them when the turn began, and opens a cursor on the others,
-/// for which that version stays pinned; `TooMany` where the connection may open none. An `Err` leaves the cursors as they were.
+/// Gives a first batch of the documents of a list, as the collections have them now, and opens a cursor on the others, for which
+/// that version stays pinned; `TooMany` where the connection may open none. An `Err` leaves the cursors as they were.
 pub fn give_first<D: Disk>(
     alloc: Global,
     file: &mut Collections<D>,
@@ -105,7 +104,6 @@ pub fn give_first<D: Disk>(
 ) -> Result<SpelledDocument, Refusal>
     requires short { length asked.now.namespace.now ≤ 255 }
     requires within { All IsWithin rest.value }
-    requires rests { is_changed file.old ≡ false }
     ensures gives { GivesFirst D.history asked.now.connection asked.now.namespace.now
         left.entry.number left.entry.projection.now (way_by left.entry) rest.value
         asked.now.most result file.old file.new cursors.old cursors.new }

@@ -1,7 +1,6 @@
 //! Cursors that hold no documents are opened.
 
-ghost use Rattle.std.specs.Prelude.{◌≡◌, ◌<◌, ◌^◌, false, All, IfOk, OnErr, OnOk, Some};
-ghost use Rattle.collections.specs.View.{is_changed};
+ghost use Rattle.std.specs.Prelude.{◌≡◌, ◌<◌, ◌^◌, All, IfOk, OnErr, OnOk, Some};
 ghost use Rattle.database_model.specs.Lawful.{IsWithin};
 ghost use Rattle.cursors.specs.Changes.{opened};
 ghost use Rattle.cursors.specs.View.{list_of, walk_of};
@@ -133,8 +132,8 @@ pub(crate) fn open_list(
     cursors.open_listed(connection, namespace, list)
 }
 
-/// Pins the collections as the turn began with them, and opens a cursor that goes on in them by what a walk has
-/// left. Behind an `Err` the cursors are as they were, and nothing more is pinned.
+/// Pins the collections as they are now, and opens a cursor that goes on in them by what a walk has left.
+/// Behind an `Err` the cursors are as they were, and nothing more is pinned.
 pub fn open_pinned<D: Disk>(
     file: &mut Collections<D>,
     cursors: &mut Cursors,
@@ -145,7 +144,6 @@ pub fn open_pinned<D: Disk>(
 ) -> Result<(), NoMemory>
     requires number { cursors.old.next < 2 ^ 63 }
     requires within { All IsWithin rest.value }
-    requires rests { is_changed file.old ≡ false }
     ensures { OpensPinned D.history connection namespace.now left.entry.number
         left.entry.walk.now.projection.now (way_behind left.entry) rest.value result file.old
         file.new cursors.old cursors.new }
@@ -171,7 +169,6 @@ pub fn open_listed<D: Disk>(
 ) -> Result<(), NoMemory>
     requires number { cursors.old.next < 2 ^ 63 }
     requires within { All IsWithin rest.value }
-    requires rests { is_changed file.old ≡ false }
     ensures { OpensPinned D.history connection namespace.now left.entry.number
         left.entry.projection.now (way_by left.entry) rest.value result file.old file.new
         cursors.old cursors.new }

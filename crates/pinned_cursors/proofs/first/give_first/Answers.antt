@@ -21,19 +21,19 @@ pub returns-in-Err-clause-gives : goal.returns-in-Err-clause-gives
 returns-in-Err-clause-gives g c =
     first_refused g.D.Disk.history c.args.asked.now.connection c.args.asked.now.namespace.now c.args.left.number c.args.left.projection.now
     (way_by c.args.left) c.args.rest.value c.args.asked.now.most c.args.file.now c.args.cursors.now (sym c.is_stopped.ensures ∙ c.if-is_stopped.false)
-    c.requires.rests c.in_ok-version.version c.pin.new.self c.give_pinned.new.file c.in_ok-version.ensures c.in-Err.refusal
+    c.in_ok-version.version c.pin.new.self c.give_pinned.new.file c.in_ok-version.ensures c.in-Err.refusal
     c.give_pinned.new.cursors c.in-Err.ensures.gives c.unpin.new.self c.unpin.ensures
 
 pub returns-then-given-clause-gives : goal.returns-then-given-clause-gives
 returns-then-given-clause-gives g c =
     first_open g.D.Disk.history c.args.asked.now.connection c.args.asked.now.namespace.now c.args.left.number c.args.left.projection.now
     (way_by c.args.left) c.args.rest.value c.args.asked.now.most c.args.file.now c.args.cursors.now (sym c.is_stopped.ensures ∙ c.if-is_stopped.false)
-    c.requires.rests c.in_ok-version.version c.pin.new.self c.give_pinned.new.file c.in_ok-version.ensures c.in-Ok.given
+    c.in_ok-version.version c.pin.new.self c.give_pinned.new.file c.in_ok-version.ensures c.in-Ok.given
     c.give_pinned.new.cursors c.in-Ok.ensures.gives c.if-given.true
 
 pub returns-clause-gives : goal.returns-clause-gives
 returns-clause-gives g c =
     first_whole g.D.Disk.history c.args.asked.now.connection c.args.asked.now.namespace.now c.args.left.number c.args.left.projection.now
     (way_by c.args.left) c.args.rest.value c.args.asked.now.most c.args.file.now c.args.cursors.now (sym c.is_stopped.ensures ∙ c.if-is_stopped.false)
-    c.requires.rests c.in_ok-version.version c.pin.new.self c.give_pinned.new.file c.in_ok-version.ensures c.in-Ok.given
+    c.in_ok-version.version c.pin.new.self c.give_pinned.new.file c.in_ok-version.ensures c.in-Ok.given
     c.give_pinned.new.cursors c.in-Ok.ensures.gives c.if-given.false c.unpin-2.new.self c.unpin-2.ensures

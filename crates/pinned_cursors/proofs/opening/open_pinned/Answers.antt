@@ -15,7 +15,7 @@ pub returns-in-Ok : goal.returns-in-Ok
 returns-in-Ok g c =
     opens_walk g.D.Disk.history c.args.connection c.args.namespace.now c.args.left.number c.args.left.walk.now.projection.now
     (way_behind c.args.left) c.args.rest.value c.args.file.now c.args.cursors.now c.in_ok-version.version
-    c.pin.new.self c.in_ok-version.ensures c.requires.rests c.open_walk.new.cursors c.in-Ok.ensures.ok
+    c.pin.new.self c.in_ok-version.ensures c.open_walk.new.cursors c.in-Ok.ensures.ok
 
 pub returns-in-Err : goal.returns-in-Err
 returns-in-Err g c =

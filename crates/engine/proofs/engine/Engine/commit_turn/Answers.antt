@@ -1,4 +1,4 @@
-use Rattle.std.proofs.Common.{◌≡◌, true, false, Ok, Err, arith, refl, sym, subst, ap, ◌∙◌}
+use Rattle.std.proofs.Common.{◌≡◌, ◌≢◌, true, false, Ok, Err, arith, refl, sym, subst, ap, ◌∙◌}
 use Rattle.std.specs.Prelude.{Result}
 use Rattle.roots.specs.declared.store.CommitFault.{CommitFault}
 use Rattle.roots.specs.declared.store.CommitFault.TheVariants as faults
@@ -7,7 +7,8 @@ use Rattle.collections.specs.Marks.{Undoes}
 use Rattle.collections.specs.State.{State}
 use Rattle.collections.specs.Versions.{CommitsVersions}
 use Rattle.pinned_cursors.specs.Tied.{AreTied}
-use Rattle.engine.proofs.Ending.{kept_as_it_is, undone_after, committed_now, cut_now, ran_before, room_cause, state_since, tied_at_rest, tied_through}
+use Rattle.pinned_cursors.proofs.TurnTied.{tied_committed, tied_cut, tied_failed}
+use Rattle.engine.proofs.Ending.{kept_as_it_is, undone_after, committed_now, cut_now, ran_before, room_cause, state_since, tied_at_rest}
 use Rattle.engine.proofs.Ending.{untouched_since}
 use Rattle.engine.proofs.engine.Engine.commit_turn.Goals as goal
 
@@ -28,8 +29,8 @@ returns-in-Ok g c =
     c.commit-2.ensures.versions in
     let made = subst (λ (r : Result (Unit {0}) CommitFault). files.Commits g.D.Disk.history r old.file c.commit-2.new.self) c.in-Ok.is
     c.commit-2.ensures.commits in
-    let tied = tied_through g.D.Disk.history old new c.requires.sound (Ok tt) c.commit-2.new.self made versions c.commit-2.ensures.pins
-    (λ running. made.running.0) in
+    let tied = tied_committed g.D.Disk.history old.file c.commit-2.new.self old.cursors.list old.is_changed c.commit-2.ensures.pins made versions
+    c.requires.sound.tied in
     committed_now g.D.Disk.history old new c.requires.sound c.if-not-self.false c.keep.ensures.rests c.keep.ensures.world c.keep.ensures.turn_start
     (tied_at_rest g.D.Disk.history old new c.requires.sound c.commit-2.new.self tied c.keep.ensures.file c.keep.ensures.cursors) saved
 
@@ -42,12 +43,9 @@ returns-in-Err-Device g c =
     (subst (λ (r : Result (Unit {0}) CommitFault). files.Commits g.D.Disk.history r old.file c.commit-2.new.self)
     (c.in-Err-Device.is ∙ ap (λ (e : CommitFault). Err e) c.in-Err-Device.field-0-is) c.commit-2.ensures.commits) in
     let result = c.in-Err-Device.is ∙ ap (λ (e : CommitFault). Err e) c.in-Err-Device.field-0-is in
-    let versions = subst (λ (r : Result (Unit {0}) CommitFault). CommitsVersions g.D.Disk.history r old.file c.commit-2.new.self) result
-    c.commit-2.ensures.versions in
     let made = subst (λ (r : Result (Unit {0}) CommitFault). files.Commits g.D.Disk.history r old.file c.commit-2.new.self) result
     c.commit-2.ensures.commits in
-    let tied = tied_through g.D.Disk.history old new c.requires.sound (Err faults.Device) c.commit-2.new.self made versions c.commit-2.ensures.pins
-    (λ running. let no : false ≡ true = sym running ∙ made.stops refl in cc) in
+    let tied = tied_cut g.D.Disk.history old.file c.commit-2.new.self old.cursors.list old.is_changed c.commit-2.ensures.pins made c.requires.sound.tied in
     cut_now g.D.Disk.history old new c.requires.sound c.if-not-self.false c.keep-in-Err-Device.ensures.rests c.keep-in-Err-Device.ensures.world
     c.keep-in-Err-Device.ensures.turn_start
     (tied_at_rest g.D.Disk.history old new c.requires.sound c.commit-2.new.self tied c.keep-in-Err-Device.ensures.file
@@ -61,9 +59,14 @@ returns-in-Err-Memory g c =
     let result = c.in-Err-Memory.is ∙ ap (λ (e : CommitFault). Err e) c.in-Err-Memory.field-0-is in
     let undoes = subst (λ (f : State D). Undoes g.D.Disk.history f new.file) (c.commit-2.ensures.commits.memory result) c.take_back.ensures.file in
     undone_after g.D.Disk.history old new c.requires.sound c.take_back.ensures.rests c.take_back.ensures.world c.take_back.ensures.turn_start
-    undoes.untouched undoes.state
-    (c.take_back.ensures.tied (subst (λ (f : State D). AreTied g.D.Disk.history f old.cursors.list) (sym (c.commit-2.ensures.commits.memory result))
+    undoes.untouched undoes.state undoes.rests
+    (c.take_back.ensures.tied old.is_changed
+    (subst (λ (f : State D). AreTied old.is_changed g.D.Disk.history f old.cursors.list) (sym (c.commit-2.ensures.commits.memory result))
     c.requires.sound.tied)) c.if-not-self.false faults.Memory (λ e. absurd cc) (λ e. absurd cc) (omega (arith, undoes.takes)) (λ e. undoes.takes)
+
+-- a refusal for want of room is none of the device
+no_device : {X : Type 0} → (let r : Result (Unit {0}) CommitFault = Err faults.Full in r) ≡ Err faults.Device → X
+no_device e = absurd cc
 
 pub returns-in-Err-Full : goal.returns-in-Err-Full
 returns-in-Err-Full g c =
@@ -74,9 +77,10 @@ returns-in-Err-Full g c =
     let result = c.in-Err-Full.is ∙ ap (λ (e : CommitFault). Err e) c.in-Err-Full.field-0-is in
     let room = c.commit-2.ensures.commits.full result in
     let undoes = c.take_back-in-Err-Full.ensures.file in
-    let tied = tied_through history old new c.requires.sound c.commit-2.result mid c.commit-2.ensures.commits c.commit-2.ensures.versions
-    c.commit-2.ensures.pins (ran_before history old new c.requires.sound mid room) in
+    let other : c.commit-2.result ≢ Err faults.Device = λ device. no_device (sym result ∙ device) in
+    let tied = tied_failed history old.file mid old.cursors.list old.is_changed c.commit-2.result other c.commit-2.ensures.commits c.commit-2.ensures.versions
+    c.commit-2.ensures.pins (ran_before history old new c.requires.sound mid room) c.requires.sound.tied in
     undone_after history old new c.requires.sound c.take_back-in-Err-Full.ensures.rests c.take_back-in-Err-Full.ensures.world
     c.take_back-in-Err-Full.ensures.turn_start (untouched_since history old new c.requires.sound mid undoes room)
-    (state_since history old new c.requires.sound mid undoes room) (c.take_back-in-Err-Full.ensures.tied tied) c.if-not-self.false faults.Full (λ e. absurd cc)
+    (state_since history old new c.requires.sound mid undoes room) undoes.rests (c.take_back-in-Err-Full.ensures.tied old.is_changed tied) c.if-not-self.false faults.Full (λ e. absurd cc)
     (λ e. room_cause history old new c.requires.sound mid undoes room) (omega (arith, c.commit-2.ensures.commits.takes, undoes.takes)) (λ e. absurd (e refl))

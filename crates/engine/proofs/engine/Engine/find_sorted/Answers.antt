@@ -1,4 +1,4 @@
-use Rattle.std.proofs.Common.{◌≡◌, ◌^◌, ◌-◌, ℕ, List, Some, Vec, Global, [], length, map, take, sym, ap, subst, ◌∙◌, arith}
+use Rattle.std.proofs.Common.{◌≡◌, ◌^◌, ◌-◌, ℕ, List, Some, Vec, Global, [], map, take, refl, sym, ap, subst, ◌∙◌, arith}
 use Rattle.std.proofs.lemmas.List.{take_all}
 use Rattle.std.proofs.lemmas.Result.{err_from_is_err_and}
 use Rattle.bson.specs.Tree.{Pairs}
@@ -16,10 +16,12 @@ use Rattle.engine.proofs.CataloguedLemmas.{IsCatalogueOf, has_home}
 use Rattle.engine.proofs.Finding.{all_suffice, given_within_limits}
 use Rattle.engine.proofs.FirstLemmas.{ids_asked}
 use Rattle.engine.proofs.GivingLemmas.{gives_behind}
+use Rattle.engine.proofs.KeepingPins.{pins_as_before}
 use Rattle.engine.proofs.LookingLemmas.{collections_same, performs_behind, performs_memory, performs_refused, reads_trans, world_same}
 use Rattle.engine.proofs.NamedLemmas.{of_home, of_no_home}
 use Rattle.engine.proofs.OnlyReading.{word_before}
 use Rattle.engine.proofs.WalkingLemmas.{found_ordered, ordered_of}
+use Rattle.pinned_cursors.specs.Opening.{that_keep}
 use Rattle.engine.proofs.engine.Engine.find_sorted.Goals as goal
 
 pub returns-in_err-home-clause-performs : goal.returns-in_err-home-clause-performs
@@ -39,16 +41,12 @@ returns-in_default-clause-performs g c =
     let mid = c.catalogued.new.self in
     let q = c.args.query.now in
     let asked : Find = record { namespace = c.args.namespace.now; query = q; batch_size = Some c.args.most } in
-    let none = c.new-none.result in
-    let looks = of_no_home history c.args.namespace.now old mid
-    (λ ds (found : Vec Pairs Global). found.items ≡ take (2 ^ 64 - 1) (order q.sort (matching q.filter ds)))
-    c.in_ok-home.field-0 c.in_ok-home.ensures.looks c.in_default.is none (c.new-none.ensures.items ∙ sym (take_all (2 ^ 64 - 1) [] (omega arith))) in
-    gives_behind history old mid c.give_found.new.self c.in_ok-home.ensures.looks.reads c.give_found.ensures.file
-    (ap (λ t. t.value) c.give_found.ensures.told) c.give_found.ensures.has_changes c.args.connection c.args.namespace.now (given q none.items) c.args.most
-    (run_find (world old) c.args.connection asked) c.give_found.result c.requires.short
-    (given_within_limits q none.items (λ k d below. absurd (omega (arith, below, ap length c.new-none.ensures.items)))) c.give_found.ensures.runs
-    (λ k. found_ordered (world old) c.args.connection c.args.namespace.now q c.args.most (2 ^ 64 - 1) none.items (all_suffice q)
-    (looks.answers k) (omega (arith, ap length c.new-none.ensures.items)))
+    let looks = of_no_home history c.args.namespace.now old mid (λ ds (found : List Pairs). found ≡ take (2 ^ 64 - 1) (order q.sort (matching q.filter ds)))
+    c.in_ok-home.field-0 c.in_ok-home.ensures.looks c.in_default.is [] (sym (take_all (2 ^ 64 - 1) [] (omega arith))) in
+    gives_behind history old mid mid c.in_ok-home.ensures.looks.reads (pins_as_before mid.is_changed history mid.file mid.cursors mid.cursors refl) refl refl
+    c.args.connection c.args.namespace.now (given q []) c.args.most (run_find (world old) c.args.connection asked) c.give_none.result c.requires.short
+    (given_within_limits q [] (λ k d below. absurd (omega (arith, below)))) c.give_none.ensures.runs
+    (λ k. found_ordered (world old) c.args.connection c.args.namespace.now q c.args.most (2 ^ 64 - 1) [] (all_suffice q) (looks.answers k) (omega arith))
 
 pub returns-in_err-found-clause-performs : goal.returns-in_err-found-clause-performs
 returns-in_err-found-clause-performs g c =
@@ -158,3 +156,26 @@ returns-clause-performs g c =
     performs_behind history old mid c.give_ids.new.self reads (run_find (world mid) c.args.connection asked)
     (run_find (world old) c.args.connection asked) c.give_ids.result c.give_ids.ensures.performs
     (λ k. ap (λ (w : World). run_find w c.args.connection asked) (world_same history old mid reads))
+
+-- ---- the cursors that keep documents
+
+pub returns-in_err-home-clause-keep : goal.returns-in_err-home-clause-keep
+returns-in_err-home-clause-keep g c = ap that_keep c.in_err-home.ensures.looks.reads.cursors
+
+pub returns-in_default-clause-keep : goal.returns-in_default-clause-keep
+returns-in_default-clause-keep g c = ap that_keep c.in_ok-home.ensures.looks.reads.cursors
+
+pub returns-in_err-found-clause-keep : goal.returns-in_err-found-clause-keep
+returns-in_err-found-clause-keep g c = ap that_keep (c.in_err-found.ensures.looks.reads.cursors ∙ c.in_ok-home.ensures.looks.reads.cursors)
+
+pub returns-then-needed-le-FEW-clause-keep : goal.returns-then-needed-le-FEW-clause-keep
+returns-then-needed-le-FEW-clause-keep g c = c.give_listed.ensures.keep ∙ ap that_keep (c.in_ok-found.ensures.looks.reads.cursors ∙ c.in_ok-home.ensures.looks.reads.cursors)
+
+pub returns-in_err-ids-clause-keep : goal.returns-in_err-ids-clause-keep
+returns-in_err-ids-clause-keep g c = ap that_keep (c.in_err-ids.ensures.looks.reads.cursors ∙ c.in_ok-home.ensures.looks.reads.cursors)
+
+pub returns-in_err-asked-clause-keep : goal.returns-in_err-asked-clause-keep
+returns-in_err-asked-clause-keep g c = ap that_keep (c.in_ok-ids.ensures.looks.reads.cursors ∙ c.in_ok-home.ensures.looks.reads.cursors)
+
+pub returns-clause-keep : goal.returns-clause-keep
+returns-clause-keep g c = c.give_ids.ensures.keep ∙ ap that_keep (c.in_ok-ids.ensures.looks.reads.cursors ∙ c.in_ok-home.ensures.looks.reads.cursors)

@@ -99,24 +99,24 @@ returns-clause-runs g c =
 
 pub returns-clause-file : goal.returns-clause-file
 returns-clause-file g c =
-    pins_of_opened g.D.Disk.history c.args.self.now.file c.args.self.now.cursors c.open_kept.new.self c.args.connection c.args.namespace.now
+    pins_of_opened c.args.self.now.is_changed g.D.Disk.history c.args.self.now.file c.args.self.now.cursors c.open_kept.new.self c.args.connection c.args.namespace.now
     (map (project c.new-whole.result) c.in_ok-rest.rest.items) c.in_ok-open_kept.ensures.ok
 
 pub returns-in_err-reply-clause-file : goal.returns-in_err-reply-clause-file
 returns-in_err-reply-clause-file g c =
-    pins_as_before g.D.Disk.history c.args.self.now.file c.args.self.now.cursors c.args.self.now.cursors refl
+    pins_as_before c.args.self.now.is_changed g.D.Disk.history c.args.self.now.file c.args.self.now.cursors c.args.self.now.cursors refl
 
 pub returns-then-len-count-clause-file : goal.returns-then-len-count-clause-file
 returns-then-len-count-clause-file g c =
-    pins_as_before g.D.Disk.history c.args.self.now.file c.args.self.now.cursors c.args.self.now.cursors refl
+    pins_as_before c.args.self.now.is_changed g.D.Disk.history c.args.self.now.file c.args.self.now.cursors c.args.self.now.cursors refl
 
 pub returns-in_err-rest-clause-file : goal.returns-in_err-rest-clause-file
 returns-in_err-rest-clause-file g c =
-    pins_as_before g.D.Disk.history c.args.self.now.file c.args.self.now.cursors c.args.self.now.cursors refl
+    pins_as_before c.args.self.now.is_changed g.D.Disk.history c.args.self.now.file c.args.self.now.cursors c.args.self.now.cursors refl
 
 pub returns-in_err-open_kept-clause-file : goal.returns-in_err-open_kept-clause-file
 returns-in_err-open_kept-clause-file g c =
-    pins_as_before g.D.Disk.history c.args.self.now.file c.args.self.now.cursors c.open_kept.new.self c.in_err-open_kept.ensures.err
+    pins_as_before c.args.self.now.is_changed g.D.Disk.history c.args.self.now.file c.args.self.now.cursors c.open_kept.new.self c.in_err-open_kept.ensures.err
 
 pub returns-in_err-rest-clause-runs : goal.returns-in_err-rest-clause-runs
 returns-in_err-rest-clause-runs g c =

@@ -91,7 +91,7 @@ returns-in_err-open_listed-clause-file g c =
     left_by_list history old c.requires.sound name c.args.home.now h.at p texts (drop n ds) rest
     (All-drop (λ d. find_document h.at.collection.documents (key_of d) ≡ Some d) n ds h.there)
     (spelled ∙ ap (map id_text_of) (behind_of n others ds c.deref-2.ensures.value)) (made ∙ ap (map (project p)) (behind_of n others ds c.deref-2.ensures.value)))
-    c.open_listed.result c.open_listed.ensures
+    c.open_listed.result c.requires.sound.unchanged c.open_listed.ensures
 
 pub returns-clause-file : goal.returns-clause-file
 returns-clause-file g c =
@@ -112,7 +112,7 @@ returns-clause-file g c =
     left_by_list history old c.requires.sound name c.args.home.now h.at p texts (drop n ds) rest
     (All-drop (λ d. find_document h.at.collection.documents (key_of d) ≡ Some d) n ds h.there)
     (spelled ∙ ap (map id_text_of) (behind_of n others ds c.deref-2.ensures.value)) (made ∙ ap (map (project p)) (behind_of n others ds c.deref-2.ensures.value)))
-    c.open_listed.result c.open_listed.ensures
+    c.open_listed.result c.requires.sound.unchanged c.open_listed.ensures
 
 pub returns-clause-runs : goal.returns-clause-runs
 returns-clause-runs g c =
@@ -145,8 +145,16 @@ returns-in_err-open_listed-clause-runs g c =
 
 pub returns-in_err-reply-clause-file : goal.returns-in_err-reply-clause-file
 returns-in_err-reply-clause-file g c =
-    pins_as_before g.D.Disk.history c.args.self.now.file c.args.self.now.cursors c.args.self.now.cursors refl
+    pins_as_before c.args.self.now.is_changed g.D.Disk.history c.args.self.now.file c.args.self.now.cursors c.args.self.now.cursors refl
 
 pub returns-then-len-count-clause-file : goal.returns-then-len-count-clause-file
 returns-then-len-count-clause-file g c =
-    pins_as_before g.D.Disk.history c.args.self.now.file c.args.self.now.cursors c.args.self.now.cursors refl
+    pins_as_before c.args.self.now.is_changed g.D.Disk.history c.args.self.now.file c.args.self.now.cursors c.args.self.now.cursors refl
+
+-- ---- the cursors that keep documents
+
+pub returns-in_err-open_listed-clause-keep : goal.returns-in_err-open_listed-clause-keep
+returns-in_err-open_listed-clause-keep g c = c.in_err-open_listed.ensures.keep
+
+pub returns-clause-keep : goal.returns-clause-keep
+returns-clause-keep g c = c.in_ok-open_listed.ensures.keep

@@ -41,3 +41,8 @@ returns-clause-performs g c =
     c.args.most r old.file file old.cursors held)
     c.query.view_is asked)
     c.give_first.ensures.lawful c.requires.there
+
+-- ---- the cursors that keep documents
+
+pub returns-clause-keep : goal.returns-clause-keep
+returns-clause-keep g c = c.give_first.ensures.gives.keep

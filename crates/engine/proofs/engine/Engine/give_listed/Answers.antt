@@ -38,7 +38,7 @@ returns-clause-runs g c =
 
 pub returns-in_err-asked-clause-file : goal.returns-in_err-asked-clause-file
 returns-in_err-asked-clause-file g c =
-    pins_as_before g.D.Disk.history c.args.self.now.file c.args.self.now.cursors c.args.self.now.cursors refl
+    pins_as_before c.args.self.now.is_changed g.D.Disk.history c.args.self.now.file c.args.self.now.cursors c.args.self.now.cursors refl
 
 pub give_by_list-requires-clause-there : goal.give_by_list-requires-clause-there
 give_by_list-requires-clause-there g c = λ k.

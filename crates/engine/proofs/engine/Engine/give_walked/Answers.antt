@@ -20,6 +20,7 @@ use Rattle.engine.specs.View.{world}
 use Rattle.engine.proofs.LookingLemmas.{collections_same, performs_behind, performs_read, performs_refused, world_same}
 use Rattle.engine.proofs.OnlyReading.{word_before}
 use Rattle.engine.proofs.WalkingLemmas.{at_home, left_by_walk, number_is, number_lacks, opens_done, opens_failed, walk_within, walked_opened, walked_refused, walked_whole}
+use Rattle.pinned_cursors.specs.Opening.{that_keep}
 use Rattle.engine.proofs.engine.Engine.give_walked.Goals as goal
 
 pub returns-in_err-batch-clause-performs : goal.returns-in_err-batch-clause-performs
@@ -93,9 +94,6 @@ open_pinned-requires-clause-within g c =
     (walk_within q.filter q.projection 0 (q.limit - c.in_ok-batch.batch.count) c.in-Some.from.items
     (documents_of (world mid).collections c.args.namespace.now)
     (stored_at (world mid).collections c.args.namespace.now c.in_ok-batch.ensures.looks.reads.sound.lawful.kept).1)
-
-pub open_pinned-requires-clause-rests : goal.open_pinned-requires-clause-rests
-open_pinned-requires-clause-rests g c = c.in_ok-batch.ensures.unchanged ∙ c.requires.rests
 
 pub returns-in_err-open_pinned-clause-performs : goal.returns-in_err-open_pinned-clause-performs
 returns-in_err-open_pinned-clause-performs g c =
@@ -183,3 +181,20 @@ returns-clause-performs g c =
     (λ i. let v : World = world_same history old mid reads i in
     record v { cursors = v.cursors ++ new_cursor v.next c.args.connection name (left_is i) ∷ []; next = v.next + 1 })))
     (λ k. refl)
+
+-- ---- the cursors that keep documents
+
+pub returns-in_err-batch-clause-keep : goal.returns-in_err-batch-clause-keep
+returns-in_err-batch-clause-keep g c = ap that_keep c.in_err-batch.ensures.looks.reads.cursors
+
+pub returns-in_default-clause-keep : goal.returns-in_default-clause-keep
+returns-in_default-clause-keep g c = ap that_keep c.in_ok-batch.ensures.looks.reads.cursors
+
+pub returns-then-is_none-clause-keep : goal.returns-then-is_none-clause-keep
+returns-then-is_none-clause-keep g c = ap that_keep c.in_ok-batch.ensures.looks.reads.cursors
+
+pub returns-in_err-open_pinned-clause-keep : goal.returns-in_err-open_pinned-clause-keep
+returns-in_err-open_pinned-clause-keep g c = c.in_err-open_pinned.ensures.keep ∙ ap that_keep c.in_ok-batch.ensures.looks.reads.cursors
+
+pub returns-clause-keep : goal.returns-clause-keep
+returns-clause-keep g c = c.in_ok-open_pinned.ensures.keep ∙ ap that_keep c.in_ok-batch.ensures.looks.reads.cursors

@@ -23,12 +23,13 @@ returns-clause-sound g c =
     let end = c.end_all in
     let new : Engine g.row.D.Denot =
     record { alloc = old.alloc; cursors = end.new.cursors; file = end.new.file; told = old.told; is_changed = old.is_changed } in
-    let pins = end.ensures.releases.pins in
-    keeps_sound g.D.Disk.history old new h (pins.state old.told.value.start old.told.value.now h.file) (end.ensures.releases.tied h.tied) refl
+    let releases = end.ensures.releases old.is_changed in
+    let pins = releases.pins in
+    keeps_sound g.D.Disk.history old new h (pins.state old.told.value.start old.told.value.now h.file) (releases.tied h.tied) refl
     (subst (λ (t : CursorTable). IsLawful (world_of old.told.value t))
     (sym (ap table_of end.ensures.left ∙ others_to_table (cases.Of c.args.connection) old.cursors))
     (forgotten_lawful g.D.Disk.history old c.args.connection h))
-    h.quiet
+    h.quiet (λ running rests. pins.unchanged ∙ h.unchanged (sym pins.untouched.stopped ∙ running) rests)
 
 pub returns-clause-rested : goal.returns-clause-rested
 returns-clause-rested g c = λ rests.

@@ -34,8 +34,8 @@ returns-clause-sendable g c =
 
 pub returns-in_err-told-clause-file : goal.returns-in_err-told-clause-file
 returns-in_err-told-clause-file g c =
-    pins_as_before g.D.Disk.history c.args.self.now.file c.args.self.now.cursors c.args.self.now.cursors refl
+    pins_as_before c.args.self.now.is_changed g.D.Disk.history c.args.self.now.file c.args.self.now.cursors c.args.self.now.cursors refl
 
 pub returns-in_err-reply-clause-file : goal.returns-in_err-reply-clause-file
 returns-in_err-reply-clause-file g c =
-    pins_as_before g.D.Disk.history c.args.self.now.file c.args.self.now.cursors c.args.self.now.cursors refl
+    pins_as_before c.args.self.now.is_changed g.D.Disk.history c.args.self.now.file c.args.self.now.cursors c.args.self.now.cursors refl

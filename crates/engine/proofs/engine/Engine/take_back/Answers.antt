@@ -1,20 +1,22 @@
-use Rattle.std.proofs.Common.{ap, ◌∙◌}
+use Rattle.std.proofs.Common.{ap, subst, sym, ◌∙◌}
 use Rattle.cursors.specs.EndingLaws.{others_to_table}
-use Rattle.cursors.specs.Held.{table_of}
+use Rattle.cursors.specs.Held.{Held, table_of}
 use Rattle.cursors.specs.declared.ending.Ends.TheVariants as cases
+use Rattle.pinned_cursors.proofs.TurnTied.{AreUntouched, others_untouched, tied_undone}
 use Rattle.engine.specs.View.{world_of}
-use Rattle.engine.proofs.Ending.{tied_undone, undone_of_pins}
+use Rattle.engine.proofs.Ending.{undone_of_pins}
 use Rattle.engine.proofs.engine.Engine.take_back.Goals as goal
 
 pub returns-clause-file : goal.returns-clause-file
 returns-clause-file g c =
-    undone_of_pins g.D.Disk.history c.args.self.now.file c.undo.new.self c.end_all.new.file c.undo.ensures.undoes c.end_all.ensures.releases.pins
+    undone_of_pins g.D.Disk.history c.args.self.now.file c.end_all.new.file c.undo.new.self (c.end_all.ensures.releases c.args.self.now.is_changed).pins
+    c.undo.ensures.undoes
 
 pub returns-clause-tied : goal.returns-clause-tied
-returns-clause-tied g c = λ tied.
-    let old = c.args.self.now in
-    c.end_all.ensures.releases.tied
-    (tied_undone g.D.Disk.history old.file c.undo.new.self old.cursors.list c.undo.ensures.undoes c.undo.ensures.versions c.undo.ensures.pins tied)
+returns-clause-tied g c = λ changed tied.
+    let rest = subst (λ (held : Held). AreUntouched held.list) (sym c.end_all.ensures.left) (others_untouched c.args.self.now.cursors) in
+    tied_undone g.D.Disk.history c.end_all.new.file c.undo.new.self c.undo.ensures.versions changed c.end_all.new.cursors.list rest c.undo.ensures.undoes
+    c.undo.ensures.pins ((c.end_all.ensures.releases changed).tied tied)
 
 pub returns-clause-world : goal.returns-clause-world
 returns-clause-world g c = λ i.

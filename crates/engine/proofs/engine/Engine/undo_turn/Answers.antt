@@ -13,12 +13,14 @@ use Rattle.engine.proofs.engine.Engine.undo_turn.Goals as goal
 pub returns-clause-sound : goal.returns-clause-sound
 returns-clause-sound g c =
     sound_again g.D.Disk.history c.args.self.now c.take_back.new.self c.requires.sound c.take_back.ensures.rests c.take_back.ensures.world
-    c.take_back.ensures.turn_start c.take_back.ensures.file.untouched c.take_back.ensures.file.state (c.take_back.ensures.tied c.requires.sound.tied)
+    c.take_back.ensures.turn_start c.take_back.ensures.file.untouched c.take_back.ensures.file.state c.take_back.ensures.file.rests
+    (c.take_back.ensures.tied c.args.self.now.is_changed c.requires.sound.tied)
 
 pub returns-clause-rested : goal.returns-clause-rested
 returns-clause-rested g c =
     rested_again g.D.Disk.history c.args.self.now c.take_back.new.self c.requires.sound c.take_back.ensures.rests c.take_back.ensures.world
-    c.take_back.ensures.turn_start c.take_back.ensures.file.untouched c.take_back.ensures.file.state (c.take_back.ensures.tied c.requires.sound.tied)
+    c.take_back.ensures.turn_start c.take_back.ensures.file.untouched c.take_back.ensures.file.state c.take_back.ensures.file.rests
+    (c.take_back.ensures.tied c.args.self.now.is_changed c.requires.sound.tied)
 
 pub returns-then-not-self-clause-world : goal.returns-then-not-self-clause-world
 returns-then-not-self-clause-world g c =
@@ -37,8 +39,11 @@ returns-then-not-self-clause-sound g c =
           (sym (ap table_of end.ensures.left ∙ others_to_table cases.Touched old.cursors)) (undone_lawful g.D.Disk.history old h).cursors;
       before = h.before;
       quiet = h.quiet;
-      file = end.ensures.releases.pins.state old.told.value.start old.told.value.now h.file;
-      tied = end.ensures.releases.tied h.tied;
+      file = (end.ensures.releases old.is_changed).pins.state old.told.value.start old.told.value.now h.file;
+      unchanged = λ running rests.
+          (end.ensures.releases old.is_changed).pins.unchanged
+          ∙ h.unchanged (sym (end.ensures.releases old.is_changed).pins.untouched.stopped ∙ running) rests;
+      tied = (end.ensures.releases old.is_changed).tied h.tied;
     }
 
 pub returns-then-not-self-clause-rested : goal.returns-then-not-self-clause-rested
