@@ -1,6 +1,6 @@
 -- Cursors stay tied to their file while a turn goes on, and where it ends.
-use Rattle.std.proofs.Common.{◌≡◌, ◌≢◌, Bool, false, true, List, [], ◌∷◌, map, Result, Ok, Err, refl, sym, ap, subst, ◌∙◌, arith}
-use Rattle.std.specs.Prelude.{◌&&◌, cond, not, Option, MatchOption, ⊤}
+use Rattle.std.proofs.Common.{◌≡◌, ◌≢◌, Bool, false, true, List, [], ◌∷◌, map, Option, Some, None, Result, Ok, Err, refl, sym, ap, subst, ◌∙◌, arith}
+use Rattle.std.specs.Prelude.{◌&&◌, cond, not, MatchOption, ⊤}
 use Rattle.std.specs.List.{AllByRecursion, filter}
 use Rattle.entries.specs.State.{Collection}
 use Rattle.pager.specs.declared.version.Version.{Version}
@@ -126,14 +126,14 @@ AreUntouched hs = AllByRecursion (λ (h : HeldCursor). h.cursor.touched ≡ fals
 
 others_so : (hs : List HeldCursor) → AreUntouched (filter (λ h. not h.cursor.touched) hs)
 others_so [] = tt
-others_so (h ∷ hs) = at h.cursor.touched refl
+others_so (h ∷ hs) = at (others_so hs) h.cursor.touched refl
   where
     rest : List HeldCursor
     rest = filter (λ h. not h.cursor.touched) hs
 
-    at : (touched : Bool) → h.cursor.touched ≡ touched → AreUntouched (cond (not h.cursor.touched) (h ∷ rest) rest)
-    at true is = subst (λ (t : Bool). AreUntouched (cond (not t) (h ∷ rest) rest)) (sym is) (others_so hs)
-    at false is = subst (λ (t : Bool). AreUntouched (cond (not t) (h ∷ rest) rest)) (sym is) (is, others_so hs)
+    at : AreUntouched rest → (touched : Bool) → h.cursor.touched ≡ touched → AreUntouched (cond (not h.cursor.touched) (h ∷ rest) rest)
+    at so true is = subst (λ (t : Bool). AreUntouched (cond (not t) (h ∷ rest) rest)) (sym is) so
+    at so false is = subst (λ (t : Bool). AreUntouched (cond (not t) (h ∷ rest) rest)) (sym is) (is, so)
 
 -- Where those end that the turn opened or advanced, none of the others was.
 pub others_untouched : (held : Held) → AreUntouched (others cases.Touched held).list
@@ -149,9 +149,9 @@ module _ {D : Type 0} (history : D → History) (old new : State D) (versions : 
       at : (touched : Bool) → touched ≡ false → (walk : Option HeldWalk)
           → MatchOption walk ⊤ (λ w. ReadsRest (touched && changed) history old w h.cursor.rest)
           → MatchOption walk ⊤ (λ w. ReadsRest (touched && false) history new w h.cursor.rest)
-      at true no walk tied = absurd cc
-      at false no None tied = tt
-      at false no (Some w) tied = reads_to history false false old new w h.cursor.rest (versions w.version) tied
+      at true is walk tied = absurd cc
+      at false is None tied = tt
+      at false is (Some w) tied = reads_to history false false old new w h.cursor.rest (versions w.version) tied
 
   pub tied_undone : (list : List HeldCursor) → AreUntouched list → Undoes history old new → pins_of new ≡ pins_of old
       → AreTied changed history old list → AreTied false history new list

@@ -26,8 +26,8 @@ pub returns-clause-runs : goal.returns-clause-runs
 returns-clause-runs g c =
     let w = world c.args.self.now in
     let gs = given c.args.query.now [] in
-    given_whole w c.args.connection c.args.namespace.now gs c.args.most c.in_ok.field-0.1 c.in_ok.field-0.0
+    given_whole w c.args.connection c.args.namespace.now gs c.args.most c.in_ok-reply.field-0-1 c.in_ok-reply.reply
     (subst (λ (es : List Pairs). IsFirstBatch
-    (table w c.args.connection c.args.namespace.now gs c.args.most) c.args.connection c.args.namespace.now es c.args.most c.in_ok.field-0.1
-    c.in_ok.field-0.0) (sym (given_of_none c.args.query.now)) c.in_ok.ensures.batch)
+    (table w c.args.connection c.args.namespace.now gs c.args.most) c.args.connection c.args.namespace.now es c.args.most c.in_ok-reply.field-0-1
+    c.in_ok-reply.reply) (sym (given_of_none c.args.query.now)) c.in_ok-reply.ensures.batch)
     (omega (arith, ap length (given_of_none c.args.query.now)))
