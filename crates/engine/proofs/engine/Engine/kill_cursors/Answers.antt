@@ -39,3 +39,6 @@ returns-in_err-told-clause-file g c =
 pub returns-in_err-reply-clause-file : goal.returns-in_err-reply-clause-file
 returns-in_err-reply-clause-file g c =
     pins_as_before c.args.self.now.is_changed g.D.Disk.history c.args.self.now.file c.args.self.now.cursors c.args.self.now.cursors refl
+
+pub returns-clause-file : goal.returns-clause-file
+returns-clause-file g c = c.end_all.ensures.releases c.args.self.now.is_changed
