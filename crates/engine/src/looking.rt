@@ -100,7 +100,7 @@ impl<D: Disk> Engine<D> {
         most: usize,
     ) -> Result<Vec<Vec<u8>>, Refusal>
         requires { IsSound D.history self.old }
-        ensures looks { LooksOf D.history (λ now c. IsHome now c home.now)
+        ensures { LooksOf D.history (λ now c. IsHome now c home.now)
             (λ now c ids. texts_of ids.items ≡ map id_text_of
             (take most (order query.now.sort (matching query.now.filter c.documents))))
             result self.old self.new }

@@ -108,7 +108,7 @@ returns-in_err-ids-clause-performs g c =
     let p = err_from_is_err_and c.from_residual-in_err-ids.result c.from_residual-in_err-ids.ensures.1 in
     let looks = of_home history c.args.namespace.now old c.catalogued.new.self
     (λ ds (ids : Vec (Vec ℕ Global) Global). texts_of ids.items ≡ map id_text_of (take c.enough-needed.result (order q.sort (matching q.filter ds))))
-    c.in_ok-home.field-0 c.in_ok-home.ensures.looks c.ordered_ids.new.self c.in-Some.home c.in-Some.is _ c.in_err-ids.ensures.looks in
+    c.in_ok-home.field-0 c.in_ok-home.ensures.looks c.ordered_ids.new.self c.in-Some.home c.in-Some.is _ c.in_err-ids.ensures in
     rw (p.1, p.2)
     (performs_refused history old c.ordered_ids.new.self (run_find (world old) c.args.connection asked) c.in_err-ids.field-0.0 looks.reads looks.answers)
 
@@ -119,7 +119,7 @@ returns-in_err-asked-clause-performs g c =
     let mid = c.ordered_ids.new.self in
     let asked : Find = record { namespace = c.args.namespace.now; query = c.args.query.now; batch_size = Some c.args.most } in
     let e = err_from_is_err_and c.from_residual-in_err-asked.result c.from_residual-in_err-asked.ensures.1 in
-    let reads = reads_trans history old c.catalogued.new.self mid c.in_ok-home.ensures.looks.reads c.in_ok-ids.ensures.looks.reads in
+    let reads = reads_trans history old c.catalogued.new.self mid c.in_ok-home.ensures.looks.reads c.in_ok-ids.ensures.reads in
     rw e.1 (performs_memory history old mid (run_find (world old) c.args.connection asked) e.0 e.2 reads)
 
 pub give_ids-requires-clause-there : goal.give_ids-requires-clause-there
@@ -133,7 +133,7 @@ give_ids-requires-clause-there g c = λ k.
     let ids = c.in_ok-ids.ids in
     let texts = texts_of c.in_ok-asked.asked.items in
     let first = c.in_ok-home.ensures.looks in
-    let then = c.in_ok-ids.ensures.looks in
+    let then = c.in_ok-ids.ensures in
     let is = subst (IsCatalogueOf name (world old).collections) c.in-Some.is (first.answers (word_before history mid.file new.file then.reads.goes k)) in
     let at = subst (λ (cs : List Collection). HasHome cs name c.in-Some.home) (sym (collections_same history old mid first.reads))
     (has_home (world old).collections name c.in-Some.home is) in
@@ -152,7 +152,7 @@ returns-clause-performs g c =
     let old = c.args.self.now in
     let mid = c.ordered_ids.new.self in
     let asked : Find = record { namespace = c.args.namespace.now; query = c.args.query.now; batch_size = Some c.args.most } in
-    let reads = reads_trans history old c.catalogued.new.self mid c.in_ok-home.ensures.looks.reads c.in_ok-ids.ensures.looks.reads in
+    let reads = reads_trans history old c.catalogued.new.self mid c.in_ok-home.ensures.looks.reads c.in_ok-ids.ensures.reads in
     performs_behind history old mid c.give_ids.new.self reads (run_find (world mid) c.args.connection asked)
     (run_find (world old) c.args.connection asked) c.give_ids.result c.give_ids.ensures.performs
     (λ k. ap (λ (w : World). run_find w c.args.connection asked) (world_same history old mid reads))
@@ -172,10 +172,10 @@ pub returns-then-needed-le-FEW-clause-keep : goal.returns-then-needed-le-FEW-cla
 returns-then-needed-le-FEW-clause-keep g c = c.give_listed.ensures.keep ∙ ap that_keep (c.in_ok-found.ensures.looks.reads.cursors ∙ c.in_ok-home.ensures.looks.reads.cursors)
 
 pub returns-in_err-ids-clause-keep : goal.returns-in_err-ids-clause-keep
-returns-in_err-ids-clause-keep g c = ap that_keep (c.in_err-ids.ensures.looks.reads.cursors ∙ c.in_ok-home.ensures.looks.reads.cursors)
+returns-in_err-ids-clause-keep g c = ap that_keep (c.in_err-ids.ensures.reads.cursors ∙ c.in_ok-home.ensures.looks.reads.cursors)
 
 pub returns-in_err-asked-clause-keep : goal.returns-in_err-asked-clause-keep
-returns-in_err-asked-clause-keep g c = ap that_keep (c.in_ok-ids.ensures.looks.reads.cursors ∙ c.in_ok-home.ensures.looks.reads.cursors)
+returns-in_err-asked-clause-keep g c = ap that_keep (c.in_ok-ids.ensures.reads.cursors ∙ c.in_ok-home.ensures.looks.reads.cursors)
 
 pub returns-clause-keep : goal.returns-clause-keep
-returns-clause-keep g c = c.give_ids.ensures.keep ∙ ap that_keep (c.in_ok-ids.ensures.looks.reads.cursors ∙ c.in_ok-home.ensures.looks.reads.cursors)
+returns-clause-keep g c = c.give_ids.ensures.keep ∙ ap that_keep (c.in_ok-ids.ensures.reads.cursors ∙ c.in_ok-home.ensures.looks.reads.cursors)

@@ -10,8 +10,8 @@ use Rattle.engine.proofs.LookingLemmas.{looks_so_of}
 use Rattle.engine.proofs.NamedLemmas.{asked_at_home}
 use Rattle.engine.proofs.engine.Engine.ordered_ids.Goals as goal
 
-pub returns-clause-looks : goal.returns-clause-looks
-returns-clause-looks g c =
+pub returns : goal.returns
+returns g c =
     let history = g.D.Disk.history in
     let old = c.args.self.now in
     let new = record old { file = c.ordered_ids_in.new.file } in
