@@ -88,7 +88,8 @@ module _ {D : Type 0} (history : D → History) (old : Engine D) (sound : IsSoun
 
       only_reads : (r : Result Loading OpenFault) (last : List Collection) → LoadsFile history r last mid new → OnlyReads history old after
       only_reads r last loads =
-          reads_on history old between after first (reads_file history between new first.sound loads.judges.read.on loads.judges.read.unchanged loads.judges.read.same)
+          reads_on history old between after first (reads_file history between new first.sound loads.judges.read.on loads.judges.read.unchanged
+          loads.judges.read.same)
 
       word_mid : (r : Result Loading OpenFault) (last : List Collection) → LoadsFile history r last mid new → KeepsWord (disk_history history after)
           → KeepsWord (disk_history history between)

@@ -29,7 +29,8 @@ module _ {D : Type 0} (history : D → History) where
 
   -- the file was
   pub reads_file : (old : Engine D) (file : State D) → IsSound history old → GoesFrom history old.file file
-      → views.is_changed file ≡ views.is_changed old.file → ((start now : List Collection) → HasState history old.file start now → HasState history file start now)
+      → views.is_changed file ≡ views.is_changed old.file → ((start now : List Collection) → HasState history old.file start now → HasState history file
+      start now)
       → OnlyReads history old (record old { file = file })
   reads_file old file h goes unchanged same = record {
     sound = record {

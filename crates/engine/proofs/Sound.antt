@@ -133,7 +133,8 @@ module _ {D : Type 0} (history : D → History) (old new : Engine D) (planned : 
       either (Err e) = changes
 
   -- pins came or went
-  pub performs_pins : (r : Result Pairs Refusal) → IsSound history old → OnlyPins history old.file new.file → AreTied (has_changes old) history new.file new.cursors.list
+  pub performs_pins : (r : Result Pairs Refusal) → IsSound history old → OnlyPins history old.file new.file → AreTied
+      (has_changes old) history new.file new.cursors.list
       → new.told.value ≡ old.told.value → has_changes new ≡ has_changes old → IsLawful (world new)
       → (KeepsWord (disk_history history new) → DoesPlanned history planned r old new) → OnErr r (world new ≡ world old) → Performs history planned r old new
   performs_pins r h pins tied =

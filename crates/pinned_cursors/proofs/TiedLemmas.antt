@@ -140,7 +140,8 @@ module _ {D : Type 0} (history : D → History) where
     pub tied_kept : (h : HeldCursor) → h.walk ≡ None → AreTied changed history file list → AreTied changed history file (list ++ h ∷ [])
     tied_kept h is tied = record {
       each = λ running k.
-          each_added (IsTied changed history file) list h (subst (λ (walk : Option HeldWalk). IsTied changed history file (record h { walk = walk })) (sym is) tt)
+          each_added (IsTied changed history file) list h (subst (λ (walk : Option HeldWalk). IsTied changed history file (record h { walk = walk }))
+          (sym is) tt)
           (tied.each running k);
       pins = λ n. tied.pins n ∙ ap (λ (walk : Option HeldWalk). times n (with_pin walk (pins_by list))) (sym is) ∙ sym (pins_added n list h);
     }

@@ -103,7 +103,8 @@ module _ {D : Type 0} (history : D → History) (old new : State D) (list : List
   tied_committed commits versions tied = tied_rested history new list (record {
     each = λ running k.
         each_as history changed false old new
-        (λ h version cs had. for_each history h.cursor.touched new version cs (versions.begun version cs (has_now history (passes changed h) old version cs had)))
+        (λ h version cs had. for_each history h.cursor.touched new version cs (versions.begun version cs (has_now history
+        (passes changed h) old version cs had)))
         list (tied.each commits.running.0 (commits.on.kept k));
     pins = λ n. ap (times n) pins ∙ tied.pins n;
   })

@@ -82,5 +82,6 @@ returns-in-Err-Full g c =
     c.commit-2.ensures.pins (ran_before history old new c.requires.sound mid room) c.requires.sound.tied in
     undone_after history old new c.requires.sound c.take_back-in-Err-Full.ensures.rests c.take_back-in-Err-Full.ensures.world
     c.take_back-in-Err-Full.ensures.turn_start (untouched_since history old new c.requires.sound mid undoes room)
-    (state_since history old new c.requires.sound mid undoes room) undoes.rests (c.take_back-in-Err-Full.ensures.tied old.is_changed tied) c.if-not-self.false faults.Full (λ e. absurd cc)
+    (state_since history old new c.requires.sound mid undoes room) undoes.rests (c.take_back-in-Err-Full.ensures.tied old.is_changed tied)
+    c.if-not-self.false faults.Full (λ e. absurd cc)
     (λ e. room_cause history old new c.requires.sound mid undoes room) (omega (arith, c.commit-2.ensures.commits.takes, undoes.takes)) (λ e. absurd (e refl))

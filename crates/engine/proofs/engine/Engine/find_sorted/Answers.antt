@@ -169,7 +169,8 @@ pub returns-in_err-found-clause-keep : goal.returns-in_err-found-clause-keep
 returns-in_err-found-clause-keep g c = ap that_keep (c.in_err-found.ensures.looks.reads.cursors ∙ c.in_ok-home.ensures.looks.reads.cursors)
 
 pub returns-then-needed-le-FEW-clause-keep : goal.returns-then-needed-le-FEW-clause-keep
-returns-then-needed-le-FEW-clause-keep g c = c.give_listed.ensures.keep ∙ ap that_keep (c.in_ok-found.ensures.looks.reads.cursors ∙ c.in_ok-home.ensures.looks.reads.cursors)
+returns-then-needed-le-FEW-clause-keep g c = c.give_listed.ensures.keep ∙ ap that_keep (c.in_ok-found.ensures.looks.reads.cursors
+    ∙ c.in_ok-home.ensures.looks.reads.cursors)
 
 pub returns-in_err-ids-clause-keep : goal.returns-in_err-ids-clause-keep
 returns-in_err-ids-clause-keep g c = ap that_keep (c.in_err-ids.ensures.reads.cursors ∙ c.in_ok-home.ensures.looks.reads.cursors)

@@ -47,7 +47,8 @@ returns-in_default-clause-performs g c =
     gives_behind history old mid mid c.in_ok-home.ensures.looks.reads (pins_as_before mid.is_changed history mid.file mid.cursors mid.cursors refl) refl refl
     c.args.connection c.args.namespace.now (given q []) c.args.most (run_find (world old) c.args.connection asked) c.give_none.result c.requires.short
     (given_within_limits q [] (λ k d below. absurd (omega (arith, below)))) c.give_none.ensures.runs
-    (λ k. found_plain (world old) c.args.connection c.args.namespace.now q c.args.most c.requires.unsorted (2 ^ 64 - 1) [] (all_suffice q) (looks.answers k) (omega arith))
+    (λ k. found_plain (world old) c.args.connection c.args.namespace.now q c.args.most c.requires.unsorted (2 ^ 64 - 1) [] (all_suffice q) (looks.answers k)
+    (omega arith))
 
 pub returns-in_err-found-clause-performs : goal.returns-in_err-found-clause-performs
 returns-in_err-found-clause-performs g c =
@@ -151,7 +152,8 @@ pub returns-in_err-found-clause-keep : goal.returns-in_err-found-clause-keep
 returns-in_err-found-clause-keep g c = ap that_keep (c.in_err-found.ensures.looks.reads.cursors ∙ c.in_ok-home.ensures.looks.reads.cursors)
 
 pub returns-in-Some-2-clause-keep : goal.returns-in-Some-2-clause-keep
-returns-in-Some-2-clause-keep g c = c.give_listed.ensures.keep ∙ ap that_keep (c.in_ok-found.ensures.looks.reads.cursors ∙ c.in_ok-home.ensures.looks.reads.cursors)
+returns-in-Some-2-clause-keep g c = c.give_listed.ensures.keep ∙ ap that_keep (c.in_ok-found.ensures.looks.reads.cursors
+    ∙ c.in_ok-home.ensures.looks.reads.cursors)
 
 pub returns-clause-keep : goal.returns-clause-keep
 returns-clause-keep g c = c.give_walked.ensures.keep ∙ ap that_keep (c.in_ok-found.ensures.looks.reads.cursors ∙ c.in_ok-home.ensures.looks.reads.cursors)

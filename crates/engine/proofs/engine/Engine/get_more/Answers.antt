@@ -17,7 +17,8 @@ returns-in_default-clause-performs g c =
     let history = g.D.Disk.history in
     let old = c.args.self.now in
     let asked : GetMore = record { id = c.args.id.now; namespace = c.args.namespace.now; batch_size = c.args.most } in
-    performs_in_memory history old old (run_get_more (world old) c.args.connection asked) _ c.requires.sound (releases_none history old.is_changed old.file old.cursors)
+    performs_in_memory history old old (run_get_more (world old) c.args.connection asked) _ c.requires.sound
+    (releases_none history old.is_changed old.file old.cursors)
     refl refl (lawful_world history old c.requires.sound)
     (refl, λ _. run_get_more-none (world old) c.args.connection asked (sym c.place_of.ensures ∙ c.in_default.is))
 

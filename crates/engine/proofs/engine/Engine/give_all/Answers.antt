@@ -99,7 +99,8 @@ returns-clause-runs g c =
 
 pub returns-clause-file : goal.returns-clause-file
 returns-clause-file g c =
-    pins_of_opened c.args.self.now.is_changed g.D.Disk.history c.args.self.now.file c.args.self.now.cursors c.open_kept.new.self c.args.connection c.args.namespace.now
+    pins_of_opened c.args.self.now.is_changed g.D.Disk.history c.args.self.now.file c.args.self.now.cursors c.open_kept.new.self c.args.connection
+    c.args.namespace.now
     (map (project c.new-whole.result) c.in_ok-rest.rest.items) c.in_ok-open_kept.ensures.ok
 
 pub returns-in_err-reply-clause-file : goal.returns-in_err-reply-clause-file

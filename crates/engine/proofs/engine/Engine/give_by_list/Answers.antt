@@ -90,7 +90,8 @@ returns-in_err-open_listed-clause-file g c =
     let h = c.requires.there k in
     left_by_list history old c.requires.sound name c.args.home.now h.at p texts (drop n ds) rest
     (All-drop (λ d. find_document h.at.collection.documents (key_of d) ≡ Some d) n ds h.there)
-    (spelled ∙ ap (map id_text_of) (behind_of n others ds c.deref-2.ensures.value)) (made ∙ ap (map (project p)) (behind_of n others ds c.deref-2.ensures.value)))
+    (spelled ∙ ap (map id_text_of) (behind_of n others ds c.deref-2.ensures.value)) (made ∙ ap (map (project p))
+    (behind_of n others ds c.deref-2.ensures.value)))
     c.open_listed.result c.requires.sound.unchanged c.open_listed.ensures
 
 pub returns-clause-file : goal.returns-clause-file
@@ -111,7 +112,8 @@ returns-clause-file g c =
     let h = c.requires.there k in
     left_by_list history old c.requires.sound name c.args.home.now h.at p texts (drop n ds) rest
     (All-drop (λ d. find_document h.at.collection.documents (key_of d) ≡ Some d) n ds h.there)
-    (spelled ∙ ap (map id_text_of) (behind_of n others ds c.deref-2.ensures.value)) (made ∙ ap (map (project p)) (behind_of n others ds c.deref-2.ensures.value)))
+    (spelled ∙ ap (map id_text_of) (behind_of n others ds c.deref-2.ensures.value)) (made ∙ ap (map (project p))
+    (behind_of n others ds c.deref-2.ensures.value)))
     c.open_listed.result c.requires.sound.unchanged c.open_listed.ensures
 
 pub returns-clause-runs : goal.returns-clause-runs

@@ -19,7 +19,8 @@ use Rattle.engine.specs.TakingOut.{HasHome}
 use Rattle.engine.specs.View.{world}
 use Rattle.engine.proofs.LookingLemmas.{collections_same, performs_behind, performs_read, performs_refused, world_same}
 use Rattle.engine.proofs.OnlyReading.{word_before}
-use Rattle.engine.proofs.WalkingLemmas.{at_home, left_by_walk, number_is, number_lacks, opens_done, opens_failed, walk_within, walked_opened, walked_refused, walked_whole}
+use Rattle.engine.proofs.WalkingLemmas.{at_home, left_by_walk, number_is, number_lacks, opens_done, opens_failed, walk_within}
+use Rattle.engine.proofs.WalkingLemmas.{walked_opened, walked_refused, walked_whole}
 use Rattle.pinned_cursors.specs.Opening.{that_keep}
 use Rattle.engine.proofs.engine.Engine.give_walked.Goals as goal
 

@@ -17,7 +17,8 @@ returns-in_err-names-clause-looks g c =
     let old = c.args.self.now in
     let e = err_from_is_err_and c.from_residual.result c.from_residual.ensures.1 in
     rw (e.1, e.2) (record {
-      reads = reads_so g.D.Disk.history old (record old { file = c.names.new.self }) c.requires refl refl refl c.names.ensures.on c.names.ensures.unchanged c.names.ensures.same;
+      reads = reads_so g.D.Disk.history old (record old { file = c.names.new.self }) c.requires refl refl refl c.names.ensures.on c.names.ensures.unchanged
+          c.names.ensures.same;
       answers = λ k. c.in_err-names.ensures.answers k old.told.value.start (world old).collections c.requires.file;
     })
 
@@ -35,7 +36,8 @@ returns-then-not-are_within-clause-looks g c =
     let front = c.args.front.now in
     let cs = (world old).collections in
     record {
-      reads = reads_so g.D.Disk.history old (record old { file = c.names.new.self }) c.requires refl refl refl c.names.ensures.on c.names.ensures.unchanged c.names.ensures.same;
+      reads = reads_so g.D.Disk.history old (record old { file = c.names.new.self }) c.requires refl refl refl c.names.ensures.on c.names.ensures.unchanged
+          c.names.ensures.same;
       answers = λ k.
           let read = c.in_ok-names.ensures.answers k old.told.value.start cs c.requires.file in
           let is : c.deref-2.result.now ≡ map listed (names_in front cs) =
@@ -52,7 +54,8 @@ returns-clause-looks g c =
     let old = c.args.self.now in
     let front = c.args.front.now in
     record {
-      reads = reads_so g.D.Disk.history old (record old { file = c.names.new.self }) c.requires refl refl refl c.names.ensures.on c.names.ensures.unchanged c.names.ensures.same;
+      reads = reads_so g.D.Disk.history old (record old { file = c.names.new.self }) c.requires refl refl refl c.names.ensures.on c.names.ensures.unchanged
+          c.names.ensures.same;
       answers = λ k.
           let read = c.in_ok-names.ensures.answers k old.told.value.start (world old).collections c.requires.file in
           listed_same front c.in_ok-names.names.items (world old).collections c.in_ok-listed.listed.items read

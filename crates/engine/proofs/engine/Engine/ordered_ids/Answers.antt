@@ -22,6 +22,8 @@ returns g c =
     ≡ map id_text_of (take c.args.most (order x.sort (matching x.filter of.documents)))) c.ordered_ids_in.result old.file c.ordered_ids_in.new.file)
     c.query.view_is c.ordered_ids_in.ensures in
     asked_at_home history c.args.home.now old new
-    (λ now of (found : Vec (Vec ℕ Global) Global). texts_of found.items ≡ map id_text_of (take c.args.most (order q.sort (matching q.filter of.documents)))) c.ordered_ids_in.result c.requires
+    (λ now of (found : Vec (Vec ℕ Global) Global). texts_of found.items ≡ map id_text_of (take c.args.most (order q.sort
+    (matching q.filter of.documents)))) c.ordered_ids_in.result c.requires
     (looks_so_of history old new c.requires refl refl refl (IsAsked c.args.home.now)
-    (λ now of (found : Vec (Vec ℕ Global) Global). texts_of found.items ≡ map id_text_of (take c.args.most (order q.sort (matching q.filter of.documents)))) c.ordered_ids_in.result reads)
+    (λ now of (found : Vec (Vec ℕ Global) Global). texts_of found.items ≡ map id_text_of (take c.args.most (order q.sort
+    (matching q.filter of.documents)))) c.ordered_ids_in.result reads)
