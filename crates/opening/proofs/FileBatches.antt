@@ -45,11 +45,12 @@ module _ {D : Type 0} (history : D → History) where
   word_before old new read k = (read.on.frame k).word
 
   pub read_none : (c : State D) → IsRead history c c
-  read_none c = record { on = grows_itself (pages_of history c); same = λ start now has. has; stays = λ k entries has. has }
+  read_none c = record { on = grows_itself (pages_of history c); unchanged = refl; same = λ start now has. has; stays = λ k entries has. has }
 
   pub read_on : (a b c : State D) → IsRead history a b → IsRead history b c → IsRead history a c
   read_on a b c first later = record {
     on = grows_trans (pages_of history a) (pages_of history b) (pages_of history c) first.on later.on;
+    unchanged = later.unchanged ∙ first.unchanged;
     same = λ start now has. later.same start now (first.same start now has);
     stays = λ k entries has. later.stays k entries (first.stays (word_before b c later k) entries has);
   }
@@ -59,7 +60,7 @@ module _ {D : Type 0} (history : D → History) where
   failed_from a b c first k (inr more) = inr (omega (arith, more, (first.on.frame k).failures))
 
   pub as_read : {X : Type 0} (P : List Entry → X → Type 0) (r : Result X Refusal) (old new : State D) → ReadsTree history P r old new → IsRead history old new
-  as_read P r old new reads = record { on = reads.on; same = reads.same; stays = reads.stays }
+  as_read P r old new reads = record { on = reads.on; unchanged = reads.unchanged; same = reads.same; stays = reads.stays }
 
 -- ---- faults
 

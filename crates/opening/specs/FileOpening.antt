@@ -31,6 +31,7 @@ use Rattle.opening.specs.Known.{Known}
 -- A file was only read: its turn goes on, and its collections and its entries stay.
 pub record IsRead {D : Type 0} (history : D → History) (old new : State D) : Type 0 where
   pub on : GoesFrom history old new
+  pub unchanged : is_changed new ≡ is_changed old
   pub same : (start now : List Collection) → HasState history old start now
       → HasState history new start now
   pub stays : KeepsWord (disk_history history new) → (entries : List Entry)
