@@ -144,7 +144,7 @@ returns-in-Err-Full-clause-settles g c =
     let connections = c.args.connections.now.items in
     let new = c.say_full.new.frames in
     let same : frames_in c.deref_mut-in-Err-Full.result.now ≡ refused_frames OutOfMemory connections = ap frames_in c.deref_mut-in-Err-Full.ensures.value
-        ∙ c.requires.refusals in
+    ∙ c.requires.refusals in
     let given : frames_in new ≡ refused_frames Full connections = c.say_full.ensures ∙ ap respelled_frames same ∙ refused_respelled connections in
     let first = c.deref_mut-in-Err-Full.result.now in
     let counts : length new ≡ length first = sym (length-map new (λ f. (f.0, f.1.items))) ∙ ap length c.say_full.ensures
