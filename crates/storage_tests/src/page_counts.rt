@@ -191,7 +191,7 @@ fn taken(book: &mut FreePages) -> Result<[Option<u32>; 4], NoMemory> {
     Ok([pinned, committed, book.take()?, book.take()?])
 }
 
-/// No server pins a version yet.
+/// A server pins the version that an open cursor reads on in.
 #[test]
 fn pinned_pages_are_not_taken(rt: HostRuntime) -> Result<(), Fail> {
     let mut book = FreePages::open(rt.alloc(), &[1, 2], 3, 5)?;
