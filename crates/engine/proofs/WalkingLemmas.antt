@@ -26,11 +26,13 @@ use Rattle.path.specs.declared.refusal.Refusal.TheVariants as refusals
 use Rattle.database_model.specs.Cursors.{batch_of, batch_reply, first_batch, is_refused, new_cursor}
 use Rattle.database_model.specs.Find.{Suffices, given, matching, query_result, run_find, window}
 use Rattle.sort.specs.Sort.{SortField, order}
-use Rattle.queries.proofs.OrderingLemmas.{first_kept, unsorted}
+use Rattle.queries.proofs.IdOrderLemmas.{keeps_matching}
+use Rattle.queries.proofs.OrderingLemmas.{first_kept}
 use Rattle.database_model.specs.Lawful.{IsKept, IsLawful, IsStored, IsWithin}
 use Rattle.database_model.specs.Refusals.{ok_reply}
 use Rattle.database_model.specs.World.{Cursor, World, documents_of}
 use Rattle.queries.specs.Batches.{GoesOn, IsGivenBatch, is_from, rest_from, rest_of, walk_rest}
+use Rattle.queries.specs.IdOrder.{keeps_id_order}
 use Rattle.queries.specs.Listed.{id_text_of}
 use Rattle.queries.specs.declared.batches.BatchAsked.{BatchAsked}
 use Rattle.queries.specs.declared.batches.GivenBatch.{GivenBatch}
@@ -68,19 +70,27 @@ pub found_ordered : (w : World) (connection : ℕ) (name : List ℕ) (q : Query)
 found_ordered w connection name q most enough found suffices is few =
     run_find-is w connection name q most (given q found) (given_enough q enough (documents_of w.collections name) found suffices is few)
 
--- so is what was found in the order of `_id`, where it asks for no sort
-pub found_plain : (w : World) (connection : ℕ) (name : List ℕ) (q : Query) (most : ℕ) → q.sort ≡ [] → (enough : ℕ) (found : List Pairs) → Suffices q enough
-    → found ≡ take enough (matching q.filter (documents_of w.collections name)) → length found < 2 ^ 64 - 1
+-- the documents that match stand in the order that the query asks for
+abbrev pub StandInOrder : World → List ℕ → Query → Type 0
+StandInOrder w name q = order q.sort (matching q.filter (documents_of w.collections name)) ≡ matching q.filter (documents_of w.collections name)
+
+-- so they do where that leaves the order of `_id` as it is
+pub stand_so : {D : Type 0} (history : D → History) (e : Engine D) (name : List ℕ) (q : Query) → IsSound history e → keeps_id_order q.sort ≡ true
+    → StandInOrder (world e) name q
+stand_so history e name q sound keeps =
+    let stored = stored_at (world e).collections name (lawful_world history e sound).collections.kept in
+    keeps_matching q.sort q.filter (documents_of (world e).collections name) keeps stored.0 stored.1
+
+-- then what was found in the order of `_id` is what it asks for, too
+pub found_plain : (w : World) (connection : ℕ) (name : List ℕ) (q : Query) (most : ℕ) → StandInOrder w name q → (enough : ℕ) (found : List Pairs)
+    → Suffices q enough → found ≡ take enough (matching q.filter (documents_of w.collections name)) → length found < 2 ^ 64 - 1
     → first_batch w connection name (given q found) (batch_of most (given q found))
     ≡ run_find w connection (record { namespace = name; query = q; batch_size = Some most })
-found_plain w connection name q most none enough found suffices is few =
-    let ds = documents_of w.collections name in
-    let plain : order q.sort (matching q.filter ds) ≡ matching q.filter ds =
-    ap (λ (fields : List SortField). order fields (matching q.filter ds)) none ∙ unsorted (matching q.filter ds) in
-    found_ordered w connection name q most enough found suffices (is ∙ ap (take enough) (sym plain)) few
+found_plain w connection name q most stand enough found suffices is few =
+    found_ordered w connection name q most enough found suffices (is ∙ ap (take enough) (sym stand)) few
 
 -- the batch that a whole walk gave is the first of what the query asks for
-module _ (w : World) (connection : ℕ) (name : List ℕ) (q : Query) (most : ℕ) (unsorted : q.sort ≡ []) (walk : Walk) (is : IsWholeWalk q walk)
+module _ (w : World) (connection : ℕ) (name : List ℕ) (q : Query) (most : ℕ) (stand : StandInOrder w name q) (walk : Walk) (is : IsWholeWalk q walk)
     (asked : BatchAsked) (kind : asked.kind ≡ kinds.First) (named : asked.namespace.now ≡ name) (most_is : asked.most ≡ most)
     (b : GivenBatch) (given : IsGivenBatch walk asked (documents_of w.collections name) b) where
   abbrev ds : List Pairs
@@ -96,7 +106,7 @@ module _ (w : World) (connection : ℕ) (name : List ℕ) (q : Query) (most : �
   planned = run_find w connection find_asked
 
   rest_is : rest_of walk ds ≡ gs
-  rest_is = (λ i. walk_rest (is.filter i) (is.projection i) (is.skip i) (is.limit i) (is.from i) ds) ∙ whole_walk q ds unsorted
+  rest_is = (λ i. walk_rest (is.filter i) (is.projection i) (is.skip i) (is.limit i) (is.from i) ds) ∙ whole_walk q ds stand
 
   counted : b.count ≡ batch_of most gs
   counted = given.counted ∙ (λ i. batch_of (most_is i) (rest_is i))

@@ -14,6 +14,7 @@ use bson::{NoMemory, SpelledDocument};
 use commands::Query;
 use page::Disk;
 use path::Refusal;
+use queries::keeps_id_order;
 use replies::ConnId;
 
 /// What stands from a place on.
@@ -74,7 +75,7 @@ impl<D: Disk> Engine<D> {
         ensures keep { that_keep self.new.cursors ≡ that_keep self.old.cursors }
         ensures sendable { IfOk result (λ d. IsSendable d) }
     {
-        if query.sort.is_empty() {
+        if keeps_id_order(&query.sort) {
             return self.find_walking(connection, namespace, query, most);
         }
         self.find_sorted(connection, namespace, query, most)

@@ -1,6 +1,6 @@
 //! `find` in the order of its walk: a batch is spelled while the collection is walked through, and a cursor goes on from there.
 
-ghost use Rattle.std.specs.Prelude.{◌≡◌, ◌-◌, ◌≤◌, [], false, IfOk, Some, length};
+ghost use Rattle.std.specs.Prelude.{◌≡◌, ◌-◌, ◌≤◌, true, IfOk, Some, length};
 ghost use Rattle.database_model.specs.Find.{run_find};
 ghost use Rattle.database_model.specs.World.{documents_of};
 ghost use Rattle.engine.specs.Durable.{disk_history, file_of, has_changes, IsSound};
@@ -10,6 +10,7 @@ ghost use Rattle.engine.specs.View.{world};
 ghost use Rattle.engine.specs.Walking.{IsWholeWalk};
 ghost use Rattle.page.specs.History.{KeepsWord};
 ghost use Rattle.queries.specs.Batches.{walk_rest};
+ghost use Rattle.queries.specs.IdOrder.{keeps_id_order};
 ghost use Rattle.pinned_cursors.specs.Opening.{that_keep};
 ghost use Rattle.replies.specs.View.{IsSendable};
 
@@ -66,7 +67,7 @@ impl<D: Disk> Engine<D> {
     ) -> Result<SpelledDocument, Refusal>
         requires short { length namespace.now ≤ 255 }
         requires sound { IsSound D.history self.old }
-        requires unsorted { query.now.sort ≡ [] }
+        requires in_order { keeps_id_order query.now.sort ≡ true }
         ensures performs { Performs D.history
             (run_find (world self.old) connection
             (record { namespace = namespace.now; query = query.now; batch_size = Some most }))
@@ -96,7 +97,7 @@ impl<D: Disk> Engine<D> {
     ) -> Result<SpelledDocument, Refusal>
         requires short { length namespace.now ≤ 255 }
         requires sound { IsSound D.history self.old }
-        requires unsorted { query.now.sort ≡ [] }
+        requires in_order { keeps_id_order query.now.sort ≡ true }
         requires home { KeepsWord (disk_history D.history self.old)
             → HasHome (world self.old).collections namespace.now home.now }
         ensures performs { Performs D.history

@@ -9,6 +9,7 @@ pub mod PipingLemmas
 pub mod ByIdLemmas
 pub mod LookingUpLemmas
 pub mod ByIndexLemmas
+pub mod IdOrderLemmas
 pub mod IdRangeLemmas
 pub mod DenseLemmas
 pub mod IdTextLemmas

@@ -25,7 +25,7 @@ use Rattle.filter.specs.Condition.{Conditions}
 use Rattle.filter.specs.Matches.{matches}
 use Rattle.projection.specs.Projection.{Projection, project}
 use Rattle.projection.specs.ProjectionLaws.{project_no_larger}
-use Rattle.sort.specs.Sort.{SortField, order}
+use Rattle.sort.specs.Sort.{order}
 use Rattle.entries.specs.LawfulState.{IsRising, IsStorable}
 use Rattle.entries.specs.State.{key_of}
 use Rattle.entries.proofs.EntryLemmas.{id_is_key}
@@ -34,7 +34,6 @@ use Rattle.database_model.specs.Find.{limited, matching, query_result, window}
 use Rattle.database_model.specs.Lawful.{IsStored, IsWithin}
 use Rattle.queries.specs.Batches.{PassFrom, is_from, picked, rest_from, walk_rest}
 use Rattle.queries.specs.IdRange.{PassWithin, has_id_within}
-use Rattle.queries.proofs.OrderingLemmas.{unsorted}
 
 abbrev text : Pairs → List ℕ
 text d = tree_text (key_of d)
@@ -224,12 +223,11 @@ stored_within ds h = λ k d below. record { size = (h k d below).size; depth = (
 
 -- ---- from the beginning
 
--- a walk from the beginning gives what a query without a sort gives
-pub whole_walk : (q : Query) (ds : List Pairs) → q.sort ≡ [] → walk_rest q.filter q.projection q.skip q.limit [] ds ≡ query_result q ds
-whole_walk q ds none =
+-- a walk from the beginning gives what a query gives whose sort leaves them in their order
+pub whole_walk : (q : Query) (ds : List Pairs) → order q.sort (matching q.filter ds) ≡ matching q.filter ds
+    → walk_rest q.filter q.projection q.skip q.limit [] ds ≡ query_result q ds
+whole_walk q ds plain =
     let all : rest_from [] ds ≡ ds = filter-all (is_from []) (λ d. not_below (text d)) ds in
-    let plain : order q.sort (matching q.filter ds) ≡ matching q.filter ds =
-    ap (λ (fields : List SortField). order fields (matching q.filter ds)) none ∙ unsorted (matching q.filter ds) in
     ap (picked q.filter q.projection q.skip q.limit) all
     ∙ ap (λ (es : List Pairs). map (project q.projection) (window q.skip q.limit es)) (sym plain)
   where

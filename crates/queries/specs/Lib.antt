@@ -5,6 +5,7 @@ pub mod ById
 pub mod ByIndex
 pub mod Dense
 pub mod Folding
+pub mod IdOrder
 pub mod IdRange
 pub mod Listed
 pub mod SortedIds

@@ -16,7 +16,8 @@ use path::Path;
 use planner::short_text;
 use std::alloc::Global;
 
-fn is_id(path: &Path) -> bool
+/// Whether a path is `_id`.
+pub(crate) fn is_id(path: &Path) -> bool
     ensures { result ≡ is_id path.now }
 {
     match path.parts() {

@@ -33,7 +33,7 @@ returns-clause-reads g c =
     let keeps : KeepsFirst stages first.sort.now first.most = c.in-Some.ensures in
     reads_made g.D.Disk.history (IsAsked c.args.home.now)
     (λ now of (found : Option (Vec Pairs Global)). IfSome found (λ v. v.items ≡ take first.most (order first.sort.now (matching rs of.documents))))
-    (λ now of (found : Option (Vec Pairs Global)). IfSome found (λ few. AreEnough stages few.items of.documents)) c.args.file.now c.first_by_index.new.file
+    (λ now of (found : Option (Vec Pairs Global)). IfSome found (λ few. AreEnough stages few.items of.documents)) c.args.file.now c.first_in_order.new.file
     c.in_ok-found.field-0 (Some c.in_ok-built.built) c.in_ok-found.ensures.reads
     (λ now of asked told.
     first_needed stages first.sort.now first.most keeps rs c.in_ok-built.built.items of.documents c.asked_by-filter.ensures

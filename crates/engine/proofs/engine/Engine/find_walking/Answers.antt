@@ -21,7 +21,7 @@ use Rattle.engine.proofs.KeepingPins.{pins_as_before}
 use Rattle.engine.proofs.LookingLemmas.{collections_same, performs_behind, performs_refused, reads_trans, world_same}
 use Rattle.engine.proofs.NamedLemmas.{of_home, of_no_home}
 use Rattle.engine.proofs.OnlyReading.{word_before}
-use Rattle.engine.proofs.WalkingLemmas.{first_of, found_plain}
+use Rattle.engine.proofs.WalkingLemmas.{first_of, found_plain, stand_so}
 use Rattle.pinned_cursors.specs.Opening.{that_keep}
 use Rattle.engine.proofs.engine.Engine.find_walking.Goals as goal
 
@@ -42,12 +42,13 @@ returns-in_default-clause-performs g c =
     let mid = c.catalogued.new.self in
     let q = c.args.query.now in
     let asked : Find = record { namespace = c.args.namespace.now; query = q; batch_size = Some c.args.most } in
+    let stand = stand_so history old c.args.namespace.now q c.requires.sound c.requires.in_order in
     let looks = of_no_home history c.args.namespace.now old mid (λ ds (found : List Pairs). found ≡ take (2 ^ 64 - 1) (matching q.filter ds))
     c.in_ok-home.field-0 c.in_ok-home.ensures.looks c.in_default.is [] (sym (take_all (2 ^ 64 - 1) [] (omega arith))) in
     gives_behind history old mid mid c.in_ok-home.ensures.looks.reads (pins_as_before mid.is_changed history mid.file mid.cursors mid.cursors refl) refl refl
     c.args.connection c.args.namespace.now (given q []) c.args.most (run_find (world old) c.args.connection asked) c.give_none.result c.requires.short
     (given_within_limits q [] (λ k d below. absurd (omega (arith, below)))) c.give_none.ensures.runs
-    (λ k. found_plain (world old) c.args.connection c.args.namespace.now q c.args.most c.requires.unsorted (2 ^ 64 - 1) [] (all_suffice q) (looks.answers k)
+    (λ k. found_plain (world old) c.args.connection c.args.namespace.now q c.args.most stand (2 ^ 64 - 1) [] (all_suffice q) (looks.answers k)
     (omega arith))
 
 pub returns-in_err-found-clause-performs : goal.returns-in_err-found-clause-performs
@@ -77,6 +78,7 @@ returns-in-Some-2-clause-performs g c =
     let q = c.args.query.now in
     let asked : Find = record { namespace = c.args.namespace.now; query = q; batch_size = Some c.args.most } in
     let found = c.in-Some-2.found in
+    let stand = stand_so history old c.args.namespace.now q c.requires.sound c.requires.in_order in
     let here = subst (λ (x : Query). LooksOf history (λ now of. IsHome now of c.in-Some.home)
     (λ now of (o : Option (Vec Pairs)). AreFirst c.enough.result x.filter of.documents o) c.looked_up.result c.catalogued.new.self c.looked_up.new.self)
     c.query.view_is c.looked_up.ensures.looks in
@@ -91,7 +93,7 @@ returns-in-Some-2-clause-performs g c =
     (ap (λ t. t.value) c.give_listed.ensures.told) c.give_listed.ensures.has_changes c.args.connection c.args.namespace.now
     (given q found.items) c.args.most (run_find (world old) c.args.connection asked) c.give_listed.result c.requires.short
     (given_within_limits q found.items within) c.give_listed.ensures.runs
-    (λ k. found_plain (world old) c.args.connection c.args.namespace.now q c.args.most c.requires.unsorted c.enough.result found.items c.enough.ensures
+    (λ k. found_plain (world old) c.args.connection c.args.namespace.now q c.args.most stand c.enough.result found.items c.enough.ensures
     (subst (AreFirst c.enough.result q.filter (documents_of (world old).collections c.args.namespace.now)) c.in-Some-2.is (told.answers k))
     (omega (arith, found.ok.0, found.ok.1, found.small)))
 

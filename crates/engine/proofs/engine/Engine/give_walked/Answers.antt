@@ -20,7 +20,7 @@ use Rattle.engine.specs.View.{world}
 use Rattle.engine.proofs.LookingLemmas.{collections_same, performs_behind, performs_read, performs_refused, world_same}
 use Rattle.engine.proofs.OnlyReading.{word_before}
 use Rattle.engine.proofs.WalkingLemmas.{at_home, left_by_walk, number_is, number_lacks, opens_done, opens_failed, walk_within}
-use Rattle.engine.proofs.WalkingLemmas.{walked_opened, walked_refused, walked_whole}
+use Rattle.engine.proofs.WalkingLemmas.{stand_so, walked_opened, walked_refused, walked_whole}
 use Rattle.pinned_cursors.specs.Opening.{that_keep}
 use Rattle.engine.proofs.engine.Engine.give_walked.Goals as goal
 
@@ -44,6 +44,7 @@ returns-in_default-clause-performs g c =
     let mid = c.walked.new.self in
     let name = c.args.namespace.now in
     let asked : Find = record { namespace = name; query = c.args.query.now; batch_size = Some c.args.most } in
+    let stand = stand_so history old name c.args.query.now c.requires.sound c.requires.in_order in
     let walk = c.whole_walk-walk.result in
     let batch : BatchAsked = record { kind = kinds.First; namespace = c.args.namespace; number = c.unwrap_or.result; most = c.args.most } in
     let looks = c.in_ok-batch.ensures.looks in
@@ -52,7 +53,7 @@ returns-in_default-clause-performs g c =
     let f = c.requires.home (word_before history old.file mid.file looks.reads.goes k) in
     let given = at_home (world old).collections name c.args.home.now f (λ (ds : List Pairs). IsGivenBatch walk batch ds b)
     (looks.answers k f.collection f.catalogued) in
-    walked_whole (world old) c.args.connection name c.args.query.now c.args.most c.requires.unsorted walk c.whole_walk-walk.ensures batch refl refl refl b
+    walked_whole (world old) c.args.connection name c.args.query.now c.args.most stand walk c.whole_walk-walk.ensures batch refl refl refl b
     given c.in_default.is
     ∙ (λ i. let r : Result (World × Pairs) Refusal = Ok (sym (world_same history old mid looks.reads) i, b.reply) in r))
 
@@ -64,6 +65,7 @@ returns-then-is_none-clause-performs g c =
     let w = world old in
     let name = c.args.namespace.now in
     let asked : Find = record { namespace = name; query = c.args.query.now; batch_size = Some c.args.most } in
+    let stand = stand_so history old name c.args.query.now c.requires.sound c.requires.in_order in
     let walk = c.whole_walk-walk.result in
     let batch : BatchAsked = record { kind = kinds.First; namespace = c.args.namespace; number = c.unwrap_or.result; most = c.args.most } in
     let looks = c.in_ok-batch.ensures.looks in
@@ -75,7 +77,7 @@ returns-then-is_none-clause-performs g c =
     let given = at_home w.collections name c.args.home.now f (λ (ds : List Pairs). IsGivenBatch walk batch ds b)
     (looks.answers k f.collection f.catalogued) in (
       world_same history old mid looks.reads,
-      inl (walked_refused w c.args.connection name c.args.query.now c.args.most c.requires.unsorted walk c.whole_walk-walk.ensures batch refl refl refl b
+      inl (walked_refused w c.args.connection name c.args.query.now c.args.most stand walk c.whole_walk-walk.ensures batch refl refl refl b
           given c.in-Some.from c.in-Some.is full),
     ))
 
@@ -140,6 +142,7 @@ returns-clause-performs g c =
     let q = c.args.query.now in
     let home = c.args.home.now in
     let asked : Find = record { namespace = name; query = q; batch_size = Some c.args.most } in
+    let stand = stand_so history old name c.args.query.now c.requires.sound c.requires.in_order in
     let planned = run_find w c.args.connection asked in
     let looks = c.in_ok-batch.ensures.looks in
     let reads = looks.reads in
@@ -178,7 +181,7 @@ returns-clause-performs g c =
     (λ k.
     let f = c.requires.home (word_before history old.file mid.file reads.goes k) in
     let given = at_home w.collections name home f (λ (ds : List Pairs). IsGivenBatch walk batch ds b) (looks.answers k f.collection f.catalogued) in
-    walked_opened w c.args.connection name q c.args.most c.requires.unsorted walk is batch refl refl refl b given c.in-Some.from c.in-Some.is number free _
+    walked_opened w c.args.connection name q c.args.most stand walk is batch refl refl refl b given c.in-Some.from c.in-Some.is number free _
     (λ i. let v : World = world_same history old mid reads i in
     record v { cursors = v.cursors ++ new_cursor v.next c.args.connection name (left_is i) ∷ []; next = v.next + 1 })))
     (λ k. refl)
