@@ -382,8 +382,40 @@ def indexes(server):
     refused(OperationFailure, lambda: users.find({"city": 2}).hint("both").explain(), 72)
     users.drop_index("both")
     expect(sorted(users.index_information()), ["_id_", "city_1", "name_1"])
+    index_options(database)
     users.drop_indexes()
     expect(sorted(users.index_information()), ["_id_"])
+
+
+def index_options(database):
+    """Options of an index that say nothing are read over, others refused by their names."""
+    users = database.users
+    expect(users.create_index("born", background=True, sparse=False, hidden=False, partialFilterExpression={}), "born_1")
+    plain = {"v": 2, "ns": "indexed.users", "collation": {"locale": "simple"}}
+    expect(database.command("createIndexes", "users", indexes=[{"key": {"age": 1}, "name": "age_1", **plain}])["numIndexesAfter"], 5)
+    for name, value in (("sparse", True), ("hidden", True), ("partialFilterExpression", {"a": 1}), ("v", 3), ("collation", {"locale": "de"}),
+                        ("expireAfterSeconds", 60)):
+        fault = refused(OperationFailure, lambda: users.create_index("other", **{name: value}), 72)
+        expect(f"'{name}'" in str(fault), True)
+    command = lambda **options: database.command("createIndexes", "users", indexes=[{"key": {"o": 1}, "name": "o_1", **options}])
+    refused(OperationFailure, lambda: command(comment="why"), 9)
+    expect("o_1" in users.index_information() or "other_1" in users.index_information(), False)
+
+
+def statement_fields(server):
+    """Fields of a statement that say nothing are read over, others refused by their names, and then nothing is done."""
+    database = server.client().statements
+    database.c.insert_many([{"_id": n, "a": n} for n in range(4)])
+    plain = {"hint": None, "arrayFilters": [], "collation": {"locale": "simple"}}
+    update = lambda n, **more: {"q": {"_id": n}, "u": {"$set": {"b": n}}, **more}
+    expect(database.command("update", "c", updates=[update(0, **plain), update(1, hint={})])["nModified"], 2)
+    expect(database.command("delete", "c", deletes=[{"q": {"_id": 3}, "limit": 1, "hint": None, "collation": {"locale": "simple"}}])["n"], 1)
+    for name, value in (("hint", "a_1"), ("hint", {"a": 1}), ("arrayFilters", [{"x": 1}]), ("collation", {"locale": "de"})):
+        fault = refused(OperationFailure, lambda: database.command("update", "c", updates=[update(2), update(0, **{name: value})]), 72)
+        expect(f"'{name}'" in str(fault), True)
+    refused(OperationFailure, lambda: database.command("delete", "c", deletes=[{"q": {}, "limit": 0, "hint": "a_1"}]), 72)
+    expect(database.command("update", "c", updates=[update(2, comment="why")])["writeErrors"][0]["code"], 9)
+    expect(list(database.c.find()), [{"_id": 0, "a": 0, "b": 0}, {"_id": 1, "a": 1, "b": 1}, {"_id": 2, "a": 2}])
 
 
 def collections(server):
@@ -601,7 +633,7 @@ OTHERS = [other_driver("ruby", ["ruby", "-rmongo", "-e", "1"], ["ruby", f"{HERE}
           # it is compiled first, and at the first time the driver too, which takes twenty seconds
           other_driver("go", GO + ["list", "go.mongodb.org/mongo-driver/mongo"], GO + ["run", f"{HERE}/drivers.go"], 2 * PATIENCE)]
 
-CASES = [handshake, inserts, raw_inserts, finds, cursors, abandoned_cursors, updates, batches, upserts, modifications, deletes, counts, distincts, indexes,
+CASES = [handshake, inserts, raw_inserts, finds, cursors, abandoned_cursors, updates, statement_fields, batches, upserts, modifications, deletes, counts, distincts, indexes,
          collections, refusals, whole_doubles, unacknowledged, pool, clients, idle_sockets, killed]
 
 

@@ -1,4 +1,5 @@
 mod CleaningLemmas
+mod HoldingLemmas
 mod AskingLaws
 mod StatementLaws
 mod PlanLaws

@@ -4,7 +4,7 @@ use Rattle.std.specs.Prelude.{if◌then◌else◌, is_none}
 use Rattle.std.specs.Option.{option_or, option_map}
 use Rattle.std.specs.Str.{bytes_eq}
 use Rattle.std.proofs.lemmas.Slice.Eq.{bytes_eq-Decides}
-use Rattle.bson.specs.Tree.{Tree, Pairs, no_pairs, pair, Items, append}
+use Rattle.bson.specs.Tree.{Tree, Pairs, pair, Items, append}
 use Rattle.bson.specs.Lookup.{lookup}
 use Rattle.path.specs.Parts.{path_of}
 use Rattle.drivers.specs.Answering.{wait_of, kill_wait, distinct_kept, distinct_wait, collections_wait, batch_wait, write_wait, other_wait}
@@ -23,13 +23,14 @@ use Rattle.driver_replies.specs.Writes.{is_true, write_of, field_of, is_alone, i
 use Rattle.driver_replies.specs.declared.fresh_ids.FreshIds.{FreshIds}
 use Rattle.driver_replies.specs.declared.writes.Write.{Write}
 use Rattle.driver_replies.specs.declared.writes.Write.TheVariants as writes
+use Rattle.drivers.specs.declared.cleaning.Whose.TheVariants as whoses
 use Rattle.drivers.specs.declared.command.Asked.{Asked}
 use Rattle.drivers.specs.declared.command.Asked.TheVariants as askeds
 use Rattle.drivers.specs.declared.rules.Rule.{Rule}
 use Rattle.drivers.specs.declared.plan.Plan.{Plan}
 use Rattle.drivers.specs.declared.plan.Wait.{Wait}
 use Rattle.drivers.specs.declared.plan.Wait.TheVariants as waits
-use Rattle.drivers.proofs.AskingLaws.{kept-without}
+use Rattle.drivers.proofs.AskingLaws.{found-without, kept-without}
 
 -- names of which one has a rule and the other hasn't are two
 differs : (name other : List ℕ) → is_none (rule_of name) ≡ false → is_none (rule_of other) ≡ true → bytes_eq other name ≡ false
@@ -41,12 +42,6 @@ differs name other has hasnt = at (bytes_eq other name) refl
         let no : is_none (rule_of name) ≡ true = subst (λ (n : List ℕ). is_none (rule_of n) ≡ true) same hasnt in
         absurd cc
     at false e = e
-
-found-without : (before : Pairs) (name : List ℕ) (t : Tree) (behind : Pairs) (other : List ℕ) → bytes_eq other name ≡ false
-    → lookup (append before (pair name t behind)) other ≡ lookup (append before behind) other
-found-without no_pairs name t behind other e = rw e refl
-found-without (pair first u before) name t behind other e =
-    ap (λ (x : Option Tree). if bytes_eq other first then Some u else x) (found-without before name t behind other e)
 
 -- the database, the cursors and the statements stand under names without a rule
 no_rule_database : is_none (rule_of (codes "$db")) ≡ true
@@ -126,7 +121,7 @@ kill-alike ps qs h = ap (kill_wait ps) (ids-alike ps qs h) ∙ at (ids_of qs)
     at (Some ids) = ap (λ (left : Pairs). waits.Kill (no_kills left ids)) (h.left askeds.KillCursors)
 
 -- what has a rule whatever the command is, isn't kept
-dropped : (asked : Asked) (name : List ℕ) → is_none (rule_of name) ≡ false → is_kept asked name ≡ false
+dropped : (asked : Asked) (name : List ℕ) → is_none (rule_of name) ≡ false → is_kept (whoses.Command asked) name ≡ false
 dropped asked name has = at (own_rule asked name)
   where
     at : (own : Option Rule) → is_none (option_or own (rule_of name)) ≡ false

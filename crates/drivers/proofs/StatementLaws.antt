@@ -3,9 +3,9 @@ use Rattle.std.proofs.Common.{◌≡◌, ℕ, Bool, true, false, List, codes, Op
 use Rattle.std.specs.Prelude.{◌==◌, if◌then◌else◌}
 use Rattle.std.specs.Str.{bytes_eq}
 use Rattle.std.proofs.lemmas.Slice.Eq.{bytes_eq-Decides}
-use Rattle.bson.specs.Edits.{items_len}
+use Rattle.bson.specs.Edits.{items_len, put}
 use Rattle.bson.specs.Lookup.{lookup}
-use Rattle.bson.specs.Tree.{Pairs, no_pairs, pair, Items}
+use Rattle.bson.specs.Tree.{Tree, Pairs, no_pairs, pair, Items}
 use Rattle.driver_replies.specs.Cursors.{ids_of}
 use Rattle.driver_replies.specs.Distinct.{distinct_of}
 use Rattle.driver_replies.specs.NewIds.{with_new_ids}
@@ -16,11 +16,13 @@ use Rattle.driver_replies.specs.declared.fresh_ids.FreshIds.{FreshIds}
 use Rattle.driver_replies.specs.declared.writes.Write.{Write}
 use Rattle.driver_replies.specs.declared.writes.Write.TheVariants as writes
 use Rattle.drivers.specs.Answering.{kill_wait, distinct_kept, other_wait, wait_of, is_modification, is_single}
-use Rattle.drivers.specs.Cleaning.{is_kept, first_refused, kept}
+use Rattle.drivers.specs.Cleaning.{is_kept, own_fields, kept_array, with_kept, kept_under, first_refused, kept}
 use Rattle.drivers.specs.Commands.{command_of}
 use Rattle.drivers.specs.Laws.{done, AreOfCommand, AsksSameStatements}
 use Rattle.drivers.specs.Rules.{rule_of}
 use Rattle.drivers.specs.Starting.{name_of, ask_unless, do_command}
+use Rattle.drivers.specs.declared.cleaning.Whose.{Whose}
+use Rattle.drivers.specs.declared.cleaning.Whose.TheVariants as whoses
 use Rattle.drivers.specs.declared.command.Asked.TheVariants as askeds
 use Rattle.drivers.specs.declared.command.Command.{Command}
 use Rattle.drivers.specs.declared.command.Command.TheVariants as commands
@@ -79,7 +81,7 @@ of_write ids body batch (Some write) is e =
 
 record IsAskedWrite (name : List ℕ) : Type 0 where
   forwarded : command_of name ≡ Some (commands.Forwarded askeds.Write)
-  stays : is_kept askeds.Write name ≡ true
+  stays : is_kept (whoses.Command askeds.Write) name ≡ true
 
 insert_asked : IsAskedWrite (codes "insert")
 unfolding command_of rule_of
@@ -104,9 +106,34 @@ asked_write name write e =
     at false false true f g is e = subst IsAskedWrite (sym ((bytes_eq-Decides name (codes "delete")).0 is)) delete_asked
     at false false false f g h e = absurd cc
 
-same_name : (body : Pairs) → is_kept askeds.Write (name_of body) ≡ true → name_of (kept askeds.Write body) ≡ name_of body
-same_name no_pairs e = refl
-same_name (pair name t ps) e = ap (λ (b : Bool). name_of (if b then pair name t (kept askeds.Write ps) else kept askeds.Write ps)) e
+own_name : (body : Pairs) → is_kept (whoses.Command askeds.Write) (name_of body) ≡ true
+    → name_of (own_fields (whoses.Command askeds.Write) body) ≡ name_of body
+own_name no_pairs e = refl
+own_name (pair name t ps) e =
+    let left = own_fields (whoses.Command askeds.Write) ps in
+    ap (λ (b : Bool). name_of (if b then pair name t left else left)) e
+
+put_name : (ps : Pairs) (field : List ℕ) (t u : Tree) → lookup ps field ≡ Some t → name_of (put ps field u) ≡ name_of ps
+put_name no_pairs field t u e = absurd cc
+put_name (pair name v ps) field t u e = at (bytes_eq field name)
+  where
+    at : (b : Bool) → name_of (if b then pair name u ps else pair name v (put ps field u)) ≡ name
+    at true = refl
+    at false = refl
+
+under_name : (whose : Whose) (field : List ℕ) (ps : Pairs) → name_of (kept_under whose field ps) ≡ name_of ps
+under_name whose field ps = at (lookup ps field) refl
+  where
+    at : (x : Option Tree) → lookup ps field ≡ x → name_of (with_kept whose field x ps) ≡ name_of ps
+    at None e = refl
+    at (Some t) e = put_name ps field t (kept_array whose t) e
+
+same_name : (body : Pairs) → is_kept (whoses.Command askeds.Write) (name_of body) ≡ true → name_of (kept askeds.Write body) ≡ name_of body
+same_name body e =
+    let own = own_fields (whoses.Command askeds.Write) body in
+    under_name whoses.Statement (codes "deletes") (kept_under whoses.Statement (codes "updates") own)
+    ∙ under_name whoses.Statement (codes "updates") own
+    ∙ own_name body e
 
 -- ---- the command that was asked first
 

@@ -16,8 +16,9 @@ commands_by_name =
     ++ each (commands.Own owns.Login)
     (codes "saslStart" ∷ codes "saslContinue" ∷ codes "authenticate" ∷ [])
     ++ each (commands.Forwarded askeds.Plain)
-    (codes "ping" ∷ codes "count" ∷ codes "aggregate" ∷ codes "create" ∷ codes "drop"
-    ∷ codes "createIndexes" ∷ codes "dropIndexes" ∷ [])
+    (codes "ping" ∷ codes "count" ∷ codes "aggregate" ∷ codes "create" ∷ codes "drop" ∷ [])
+    ++ each (commands.Forwarded askeds.CreateIndexes) (codes "createIndexes" ∷ [])
+    ++ each (commands.Forwarded askeds.Plain) (codes "dropIndexes" ∷ [])
     ++ each (commands.Forwarded askeds.Write)
     (codes "insert" ∷ codes "update" ∷ codes "delete" ∷ [])
     ++ each (commands.Forwarded askeds.Find) (codes "find" ∷ [])

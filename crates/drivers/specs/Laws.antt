@@ -2,16 +2,19 @@
 use Rattle.std.specs.Prelude.{◌≡◌, ℕ, Bool, false, is_none, List, Option, Some, None}
 use Rattle.bson.specs.Edits.{cut}
 use Rattle.bson.specs.Lookup.{lookup}
-use Rattle.bson.specs.Tree.{Tree, Pairs, pair, append}
+use Rattle.bson.specs.Tree.{Tree, document, Pairs, pair, append}
 use Rattle.driver_replies.specs.Writes.{field_of, statements_in}
 use Rattle.driver_replies.specs.declared.batch.Batch.{Batch}
-use Rattle.drivers.specs.Cleaning.{is_kept, field_fault, first_refused, kept}
+use Rattle.drivers.specs.Cleaning.{is_kept, field_fault, entry_fault, kept_entry, first_refused}
+use Rattle.drivers.specs.Cleaning.{kept}
 use Rattle.drivers.specs.Starting.{ask, do_command, name_of}
 use Rattle.drivers.specs.Answering.{plan_for}
 use Rattle.drivers.specs.Rules.{rule_of}
 use Rattle.drivers.specs.Commands.{command_of}
 use Rattle.driver_replies.specs.declared.fresh_ids.FreshIds.{FreshIds}
 use Rattle.drivers.specs.declared.server_info.ServerInfo.{ServerInfo}
+use Rattle.drivers.specs.declared.cleaning.Whose.{Whose}
+use Rattle.drivers.specs.declared.cleaning.Whose.TheVariants as whoses
 use Rattle.drivers.specs.declared.command.Asked.{Asked}
 use Rattle.drivers.specs.declared.command.Command.TheVariants as commands
 use Rattle.drivers.specs.declared.plan.Wait.TheVariants as waits
@@ -58,9 +61,20 @@ AsksSameStatements = (info : ServerInfo) (more : Bool) (body command : Pairs) (b
 abbrev pub IgnoredMakesNoDifference : Type 0
 IgnoredMakesNoDifference = (info : ServerInfo) (command : List ℕ) (value : Tree) (before : Pairs)
     (name : List ℕ) (t : Tree) (behind : Pairs)
-    → ((asked : Asked) → (is_kept asked name ≡ false) × (field_fault asked name t ≡ None))
+    → ((asked : Asked) → (is_kept (whoses.Command asked) name ≡ false)
+    × (field_fault (whoses.Command asked) name t ≡ None))
     → done info (pair command value (append before (pair name t behind)))
     ≡ done info (pair command value (append before behind))
+
+-- A field of an index or of a statement that has a rule and isn't refused makes no difference to
+-- what is refused of it, nor to what is asked.
+abbrev pub IgnoredInEntries : Type 0
+IgnoredInEntries = (whose : Whose) (before : Pairs) (name : List ℕ) (t : Tree) (behind : Pairs)
+    → is_kept whose name ≡ false → field_fault whose name t ≡ None
+    → (entry_fault whose (document (append before (pair name t behind)))
+    ≡ entry_fault whose (document (append before behind)))
+    × (kept_entry whose (document (append before (pair name t behind)))
+    ≡ kept_entry whose (document (append before behind)))
 
 -- A field behind the command's name that has a rule whatever the command is makes no difference to
 -- what is kept for the database's reply, and so none to the answer.

@@ -1,5 +1,5 @@
 -- What is done first with commands, worked by hand.
-use Rattle.std.specs.Prelude.{◌≡◌, ℕ, pos, true, List, [], ◌∷◌, codes}
+use Rattle.std.specs.Prelude.{◌≡◌, ℕ, pos, true, false, List, [], ◌∷◌, codes}
 use Rattle.bson.specs.Tree.{Tree, scalar, document, array, object_id, null, boolean, int64, Pairs}
 use Rattle.bson.specs.Tree.{no_pairs, pair, Items, no_items, item}
 use Rattle.driver_replies.specs.Fields.{int, words}
@@ -40,6 +40,27 @@ inserts documents =
     pair (codes "insert") (words (codes "c"))
     (pair (codes "documents") (array documents)
     (pair (codes "$db") (words (codes "t")) no_pairs))
+
+-- {createIndexes: "c", indexes: [{key: {a: 1}, name: "a_1", more}], $db: "t"}
+abbrev pub makes_index : Pairs → Pairs
+makes_index more =
+    pair (codes "createIndexes") (words (codes "c"))
+    (pair (codes "indexes") (array (item
+    (document (pair (codes "key") (one (codes "a") (int (pos 1)))
+    (pair (codes "name") (words (codes "a_1")) more))) no_items))
+    (pair (codes "$db") (words (codes "t")) no_pairs))
+
+-- {update: "c", updates: [{q: {}, u: {}}, {q: {}, u: {}, more}], $db: "t"}
+abbrev pub updates_with : Pairs → Pairs
+updates_with more =
+    pair (codes "update") (words (codes "c"))
+    (pair (codes "updates") (array (item (statement no_pairs) (item (statement more) no_items)))
+    (pair (codes "$db") (words (codes "t")) no_pairs))
+  where
+    statement : Pairs → Tree
+    statement behind =
+        document (pair (codes "q") (document no_pairs)
+        (pair (codes "u") (document no_pairs) behind))
 
 -- the object id of the second 5 with the number 256 n + k
 abbrev pub id_of : ℕ → ℕ → Tree
@@ -119,6 +140,30 @@ pub record StepRows : Type 0 where
       item (document (pair (codes "_id") (id_of 0 255) (pair (codes "a") (int (pos 1)) no_pairs)))
       (item (document a_alone) (item (int (pos 3)) (item (one (codes "_id") (id_of 1 2)) no_items)))
       ))
+  pub background : (info : ServerInfo)
+      → done info (makes_index (pair (codes "v") (int (pos 2))
+      (pair (codes "background") (scalar (boolean true))
+      (pair (codes "sparse") (scalar (boolean false)) no_pairs))))
+      ≡ steps.Ask (makes_index no_pairs)
+  pub sparse : (info : ServerInfo)
+      → done info (makes_index (pair (codes "sparse") (scalar (boolean true)) no_pairs))
+      ≡ steps.Reply (
+      refusal_document (pos 72) (codes "InvalidOptions")
+      (codes "field 'sparse': not supported by docpage")
+      )
+  pub index_comment : (info : ServerInfo)
+      → done info (makes_index (pair (codes "comment") (scalar null) no_pairs))
+      ≡ steps.Ask (makes_index (pair (codes "comment") (scalar null) no_pairs))
+  pub no_array_filters : (info : ServerInfo)
+      → done info (updates_with (pair (codes "hint") (scalar null)
+      (pair (codes "arrayFilters") (array no_items) no_pairs)))
+      ≡ steps.Ask (updates_with no_pairs)
+  pub statement_hint : (info : ServerInfo)
+      → done info (updates_with (pair (codes "hint") (words (codes "a_1")) no_pairs))
+      ≡ steps.Reply (
+      refusal_document (pos 72) (codes "InvalidOptions")
+      (codes "field 'hint': not supported by docpage")
+      )
   pub get_more : (info : ServerInfo) → done info (without (codes "getMore"))
       ≡ steps.AskOwner (pos 1) (pair (codes "getMore") (scalar (int64 (pos 1)))
       (pair (codes "$db") (words (codes "t")) no_pairs))

@@ -117,6 +117,16 @@ is_simple (document ps) =
     && option_map_or (is_word (codes "simple" ∷ [])) (lookup ps (codes "locale")) false
 is_simple other = false
 
+-- Indexes of a MongoDB server are of version 1 or 2, and drivers see no difference between these.
+abbrev pub is_version_number : ℤ → Bool
+is_version_number (pos n) = n == 1 || n == 2
+is_version_number (negsuc n) = false
+
+abbrev pub is_index_version : Tree → Bool
+is_index_version (scalar (int32 z)) = is_version_number z
+is_index_version (scalar (int64 z)) = is_version_number z
+is_index_version other = false
+
 abbrev pub truth_fault : Tree → Option Reason
 truth_fault (scalar (boolean b)) = None
 truth_fault other = Some reasons.FieldType
@@ -152,5 +162,6 @@ fault_of rules.WriteConcern t = options_fault write_option_fault t
 fault_of rules.ReadConcern t = options_fault read_option_fault t
 fault_of rules.Collation t = unless_said (is_simple t)
 fault_of rules.ApiVersion t = unless_said (is_word (codes "1" ∷ []) t)
+fault_of rules.IndexVersion t = unless_said (is_index_version t)
 fault_of rules.Truth t = truth_fault t
 fault_of rules.NameFilter t = unless_said (is_name_filter t)

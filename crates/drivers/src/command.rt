@@ -25,7 +25,9 @@ pub(crate) enum Own {
 pub(crate) enum Asked {
     /// Nothing.
     Plain,
-    /// A write, which may say whether its statements are in order.
+    /// A `createIndexes`, each of whose indexes has fields of its own.
+    CreateIndexes,
+    /// A write, which may say whether its statements are in order. Each of these has fields of its own.
     Write,
     /// A `find`, which may say that its first batch is its last.
     Find,
@@ -74,7 +76,7 @@ const COMMANDS: [(&str, Command); 31] = [
     ("aggregate", Command::Forwarded(Asked::Plain)),
     ("create", Command::Forwarded(Asked::Plain)),
     ("drop", Command::Forwarded(Asked::Plain)),
-    ("createIndexes", Command::Forwarded(Asked::Plain)),
+    ("createIndexes", Command::Forwarded(Asked::CreateIndexes)),
     ("dropIndexes", Command::Forwarded(Asked::Plain)),
     ("insert", Command::Forwarded(Asked::Write)),
     ("update", Command::Forwarded(Asked::Write)),

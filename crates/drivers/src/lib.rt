@@ -8,6 +8,7 @@ mod distinct;
 mod explaining;
 mod framing;
 mod handshake;
+mod holding;
 pub mod laws;
 mod modifying;
 mod options;

@@ -5,7 +5,7 @@ ghost use Rattle.std.specs.List.{list_any};
 ghost use Rattle.std.specs.Str.{bytes_eq};
 ghost use Rattle.std.specs.Prelude.{map};
 ghost use Rattle.bson.specs.View.{tree, pairs_of};
-ghost use Rattle.drivers.specs.Rules.{is_nothing, is_word, is_one_of, servers_fault, w_fault, write_option_fault, read_option_fault, first_in, options_fault, is_simple, is_name_asked, is_name_filter, unless_said, truth_fault, fault_of};
+ghost use Rattle.drivers.specs.Rules.{is_nothing, is_word, is_one_of, servers_fault, w_fault, write_option_fault, read_option_fault, first_in, options_fault, is_simple, is_name_asked, is_name_filter, is_version_number, is_index_version, unless_said, truth_fault, fault_of};
 
 use crate::reason::Reason;
 use crate::rules::Rule;
@@ -198,6 +198,24 @@ fn is_name_filter(value: &Value) -> bool
     }
 }
 
+/// Whether indexes of this version are no other than those of the database.
+fn is_version_number(number: i64) -> bool
+    ensures { result ≡ is_version_number number }
+{
+    number == 1 || number == 2
+}
+
+/// Whether a value is such a version.
+fn is_index_version(value: &Value) -> bool
+    ensures { result ≡ is_index_version (tree value.now) }
+{
+    match value {
+        Value::Int32(number) => is_version_number(i64::from(*number)),
+        Value::Int64(number) => is_version_number(*number),
+        _ => false,
+    }
+}
+
 fn unless_said(said: bool) -> Option<Reason>
     ensures { result ≡ unless_said said }
 {
@@ -230,6 +248,7 @@ pub(crate) fn fault_of(rule: Rule, value: &Value) -> Option<Reason>
         Rule::ReadConcern => read_concern_fault(value),
         Rule::Collation => unless_said(is_simple(value)),
         Rule::ApiVersion => unless_said(is_word(&["1"], value)),
+        Rule::IndexVersion => unless_said(is_index_version(value)),
         Rule::Truth => truth_fault(value),
         Rule::NameFilter => unless_said(is_name_filter(value)),
     }

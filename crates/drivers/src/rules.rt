@@ -24,6 +24,8 @@ pub(crate) enum Rule {
     Collation,
     /// The version of the commands.
     ApiVersion,
+    /// How an index is kept in a file.
+    IndexVersion,
     /// True or false, which the plan sees to.
     Truth,
     /// Which collections are listed, by their names, which the plan sees to.

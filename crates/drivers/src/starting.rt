@@ -89,7 +89,7 @@ fn ask_explain(alloc: Global, mut body: Document) -> Result<Step, NoMemory>
     let Some(Value::Document(find)) = body.get("explain") else {
         return Ok(Step::Ask(body));
     };
-    if let Some((name, reason)) = first_refused(Asked::Find, find.pairs()) {
+    if let Some((name, reason)) = first_refused(Asked::Find, find) {
         return Ok(Step::Reply(refusal_reply(alloc, reason, name)?));
     }
     let find = kept(Asked::Find, find.copy()?);
@@ -110,7 +110,7 @@ fn ask_write(alloc: Global, ids: FreshIds, body: Document) -> Result<Step, NoMem
 fn ask(alloc: Global, ids: FreshIds, asked: Asked, body: Document) -> Result<Step, NoMemory>
     ensures { IfOk result (λ s. s ≡ ask_unless ids asked (first_refused asked body) body) }
 {
-    if let Some((name, reason)) = first_refused(asked, body.pairs()) {
+    if let Some((name, reason)) = first_refused(asked, &body) {
         return Ok(Step::Reply(refusal_reply(alloc, reason, name)?));
     }
     let body = kept(asked, body);

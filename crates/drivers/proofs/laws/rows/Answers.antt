@@ -20,5 +20,10 @@ returns c = record {
   distinct = λ info. refl;
   no_path = λ info. refl;
   insert = λ info. refl;
+  background = λ info. refl;
+  sparse = λ info. refl;
+  index_comment = λ info. refl;
+  no_array_filters = λ info. refl;
+  statement_hint = λ info. refl;
   get_more = λ info. refl;
 }

@@ -4,8 +4,9 @@ use Rattle.bson.specs.Lookup.{lookup}
 use Rattle.bson.specs.Tree.{document}
 use Rattle.bson.specs.View.{tree}
 use Rattle.bson.specs.declared.value.Value.{Value}
+use Rattle.drivers.specs.declared.cleaning.Whose.TheVariants as whoses
 use Rattle.drivers.specs.declared.command.Asked.TheVariants as askeds
-use Rattle.drivers.proofs.CleaningLemmas.{kept-levels}
+use Rattle.drivers.proofs.CleaningLemmas.{own-levels}
 use Rattle.driver_replies.specs.LevelLaws.{inner-levels}
 use Rattle.drivers.proofs.starting.ask_explain.Goals as goal
 
@@ -18,6 +19,6 @@ set-requires-clause-flat c =
       arith,
       ap pairs_levels c.kept-find.ensures,
       ap pairs_levels c.in_ok-copy.ensures,
-      kept-levels askeds.Find c.in_ok-copy.field-0,
+      own-levels (whoses.Command askeds.Find) c.in_ok-copy.field-0,
       inner-levels c.args.body find (codes "explain") c.levels-levels.ensures.lawful there,
     )
