@@ -1,7 +1,13 @@
 -- What is asked is what is wanted.
-use Rattle.std.proofs.Common.{◌≡◌, ℕ, true, List, Option, Some, None, refl, ap, subst, ◌∙◌, inl, inr}
-use Rattle.std.specs.Prelude.{is_none, slice_set}
+use Rattle.std.proofs.Common.{◌≡◌, ◌≤◌, ℕ, true, List, [], length, Option, Some, None, refl, sym, ap, subst, ◌∙◌, inl, inr, append-nil}
+use Rattle.std.specs.Prelude.{is_none, slice_set, Ok}
+use Rattle.bson.specs.Limits.{message_limit}
+use Rattle.bson.specs.Spelling.{frame_of, pairs_bytes}
+use Rattle.bson.specs.Lawful.{IsDocument}
 use Rattle.bson.specs.Tree.{Pairs}
+use Rattle.bson.specs.Reading.{document_at}
+use Rattle.bson.proofs.TreeLaws.{document_again}
+use Rattle.op_msg.specs.Request.{document_alone, document_in}
 use Rattle.drivers.specs.Answering.{kill_command}
 use Rattle.server.specs.ServerState.{ServerState}
 use Rattle.front.specs.Asking.{loan_to_end, IsNoOther, IsAskedOn, AsksWanted, EndsOn, EndsOne}
@@ -26,6 +32,14 @@ asked_wanted socket q w old new before after asks (inr h) = inr (record {
   lent = h.lent;
   asked = h.asked;
 })
+
+-- a command is read again of its bytes
+pub reads_again : (command : Pairs) → IsDocument command → length (frame_of (pairs_bytes command)) ≤ message_limit
+    → document_in (frame_of (pairs_bytes command)) ≡ Ok command
+reads_again command lawful fits =
+    let bytes = frame_of (pairs_bytes command) in
+    ap document_alone
+    (ap document_at (sym (append-nil bytes)) ∙ document_again bytes command [] (record { lawful = lawful; spelled = refl; size = fits }))
 
 -- ---- a cursor is ended
 

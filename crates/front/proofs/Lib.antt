@@ -9,3 +9,5 @@ pub mod ReplyingLemmas
 pub mod FrameLaws
 pub mod TurningLemmas
 mod OneSocketLemmas
+mod UnreadLemmas
+mod RoundLemmas

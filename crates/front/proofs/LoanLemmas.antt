@@ -4,7 +4,7 @@ use Rattle.std.specs.Prelude.{nat_lt, if◌then◌else◌, is_none, IfSome}
 use Rattle.front.specs.Lending.{loan_at, is_at_rest, count_at, with_one, least_used, Lends}
 use Rattle.front.specs.declared.lending.Loan.{Loan}
 
-none_if : {X : Type 0} (x : Option X) → is_none x ≡ true → x ≡ None
+pub none_if : {X : Type 0} (x : Option X) → is_none x ≡ true → x ≡ None
 none_if None e = refl
 none_if (Some x) e = absurd cc
 

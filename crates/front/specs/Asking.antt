@@ -4,7 +4,7 @@ use Rattle.std.specs.Prelude.{Result, Ok, Err, Option, Some, None}
 use Rattle.bson.specs.Limits.{message_limit}
 use Rattle.bson.specs.Spelling.{frame_of, pairs_bytes}
 use Rattle.bson.specs.Tree.{Pairs}
-use Rattle.op_msg.specs.Request.{reply_bytes}
+use Rattle.op_msg.specs.Request.{document_in, reply_bytes}
 use Rattle.driver_messages.specs.Incoming.{next_message}
 use Rattle.driver_messages.specs.declared.message.Message.{Message}
 use Rattle.driver_messages.specs.declared.stream_fault.StreamFault.{StreamFault}
@@ -60,11 +60,12 @@ IsNoOther (Some command) what = what ≡ Some command
 abbrev pub question_bytes : Pairs → List ℕ
 question_bytes command = reply_bytes 1 0 command
 
--- The command has room in a message. It came so on an open connection, behind what waited there,
--- and nothing else came on any.
+-- The command has room in a message, of which it is read again. It came so on an open connection,
+-- behind what waited there, and nothing else came on any.
 pub record IsAskedOn (old : ServerState) (id : ℕ) (command : Pairs)
     (new : ServerState) : Type 0 where
   pub room : length (frame_of (pairs_bytes command)) + 21 ≤ message_limit
+  pub reads : document_in (frame_of (pairs_bytes command)) ≡ Ok command
   pub takes : is_closed_in (find_connection old.connections id) ≡ false
   pub came : new ≡ fed old id (question_bytes command)
 

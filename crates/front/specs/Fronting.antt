@@ -27,9 +27,8 @@ answered s = record s { answer = None }
 
 -- A turn hands out the answers that are ready, one of a socket at most and in rising number, and
 -- closes the sockets that are to be closed.
-pub record HandsOut (replies : List (ℕ × List ℕ)) (closed : List ℕ)
+pub record HandsOut (ready : List Socket) (replies : List (ℕ × List ℕ)) (closed : List ℕ)
     (new : List Socket) : Type 0 where
-  pub ready : List Socket
   pub answers : replies ≡ answers_from 0 ready
   pub given : new ≡ map answered ready
   pub over : closed ≡ closed_from 0 new

@@ -9,3 +9,5 @@ pub mod Laws
 pub mod Turning
 pub mod Cursors
 pub mod OneSocket
+pub mod Unread
+pub mod Rounds

@@ -3,7 +3,7 @@
 ghost use Rattle.std.specs.Prelude.{◌≡◌, drop, true, Ok, Err, IfOk, OnOk, OnErr};
 ghost use Rattle.op_msg.specs.Request.{document_in};
 ghost use Rattle.drivers.specs.Answering.{kill_command};
-ghost use Rattle.server.specs.Durable.{IsSound};
+ghost use Rattle.server.specs.Durable.{is_stopped, IsSound};
 ghost use Rattle.server.specs.View.{state};
 ghost use Rattle.front.specs.Asking.{IsAskedOn};
 ghost use Rattle.front.specs.OneSocket.{is_long};
@@ -36,10 +36,12 @@ pub(crate) fn ask<D: Disk>(
 ) -> Result<(), NotAsked>
     requires sound { IsSound D.history core.old }
     ensures sound { IsSound D.history core.new }
+    ensures running { is_stopped core.new ≡ is_stopped core.old }
     ensures asked { OnOk result (IsAskedOn (state core.old) id command.now (state core.new)) }
     ensures nothing { OnErr result (state core.new ≡ state core.old) }
     ensures long { result ≡ Err NotAsked.Long → is_long command.now ≡ true }
 {
+    let _lawful = command.pairs();
     if command.encoded_len() > MOST_BYTES {
         return Err(NotAsked::Long);
     }

@@ -1,24 +1,26 @@
 //! Sockets of drivers before a server.
 
 ghost use Rattle.server.specs.Durable.{IsSound};
+ghost use Rattle.server.specs.View.{frames_in, state};
 ghost use Rattle.front.specs.Turning.{desk, AsksAlone, AsksInTurn, ServesOne};
-ghost use Rattle.std.specs.Prelude.{◌≡◌, ◌+◌, ◌<◌, ◌≤◌, ◌^◌, OnOk, true, false, None, Some, length, map, max};
+ghost use Rattle.std.specs.Prelude.{◌≡◌, ◌+◌, ◌<◌, ◌≤◌, ◌^◌, [], OnOk, true, false, None, Some, length, map, max};
 ghost use Rattle.sockets.specs.Handing.{Hands, Closes};
 ghost use Rattle.front.specs.Tying.{AreTied};
 ghost use Rattle.front.specs.Alone.{IsNobodyAlone, NobodyBetween, StandsAlone};
+ghost use Rattle.front.specs.Unread.{AreAtRest, HasTurned, HaveReplies, IsBehind};
 ghost use Rattle.front.specs.Fronting.{frame_to, answers_from, closing, closed_from, answered};
 ghost use Rattle.front.specs.Serving.{HaveGrown, OthersStay};
+ghost use Rattle.front.specs.Rounds.{EndsSome, MakesTurn, OnlyTakes, TakesEach, floor};
 
 use crate::info::next_info;
 use crate::lending::Lending;
 use crate::open_cursors::OpenCursors;
-use crate::serving::{end_cursor, serve_socket, take_closed, take_reply};
+use crate::serving::{end_cursor, serve_socket, take_reply};
 use crate::socket::Socket;
 use bson::NoMemory;
 use engine::ConnId;
-use op_msg::FrameFault;
 use page::Disk;
-use server::{Core, TurnFault, TurnOut};
+use server::{Core, TurnFault};
 use sockets::{NotTaken, Outlet, Service, Stopped};
 use std::alloc::Global;
 use std::mem;
@@ -52,7 +54,8 @@ impl<C: Clock + Drop, D: Disk + Drop> Front<C, D> {
     /// A front of a server that has no connection yet.
     pub fn new(clock: C, core: Core<D>) -> Front<C, D>
         requires sound { IsSound D.history core }
-        ensures sound { IsSound D.history result.core }
+        requires fresh { (state core).connections ≡ [] }
+        ensures sound { IsBehind D.history result.lending.loans result.core }
         ensures tied { AreTied result.lending.loans result.sockets.items }
         ensures stands { StandsAlone result.alone result.sockets.items }
     {
@@ -84,12 +87,12 @@ impl<C: Clock + Drop, D: Disk + Drop> Front<C, D> {
     /// still ask in this turn.
     fn ask_one(&mut self, number: usize, time: u64) -> bool
         requires time { time < 2 ^ 63 }
-        requires sound { IsSound D.history self.old.core }
+        requires sound { IsBehind D.history self.old.lending.loans self.old.core }
         requires tied { AreTied self.old.lending.loans self.old.sockets.items }
         requires inside { number < length self.old.sockets.items }
         requires free { self.old.alone ≡ None }
         requires stands { StandsAlone (Some number) self.old.sockets.items }
-        ensures sound { IsSound D.history self.new.core }
+        ensures sound { IsBehind D.history self.new.lending.loans self.new.core }
         ensures tied { AreTied self.new.lending.loans self.new.sockets.items }
         ensures stands { StandsAlone self.new.alone self.new.sockets.items }
         ensures between { NobodyBetween self.old.lending.loans self.old.sockets.items
@@ -121,10 +124,10 @@ impl<C: Clock + Drop, D: Disk + Drop> Front<C, D> {
     /// Goes on with the message during which nobody else may ask. Whether there is one.
     fn ask_alone(&mut self, time: u64) -> bool
         requires time { time < 2 ^ 63 }
-        requires sound { IsSound D.history self.old.core }
+        requires sound { IsBehind D.history self.old.lending.loans self.old.core }
         requires tied { AreTied self.old.lending.loans self.old.sockets.items }
         requires stands { StandsAlone self.old.alone self.old.sockets.items }
-        ensures sound { IsSound D.history self.new.core }
+        ensures sound { IsBehind D.history self.new.lending.loans self.new.core }
         ensures tied { AreTied self.new.lending.loans self.new.sockets.items }
         ensures stands { StandsAlone self.new.alone self.new.sockets.items }
         ensures between { NobodyBetween self.old.lending.loans self.old.sockets.items
@@ -151,10 +154,10 @@ impl<C: Clock + Drop, D: Disk + Drop> Front<C, D> {
 
     /// Takes messages of sockets, each in its turn, and asks the server what they want to know, as far as connections are at rest.
     fn ask_all(&mut self)
-        requires sound { IsSound D.history self.old.core }
+        requires sound { IsBehind D.history self.old.lending.loans self.old.core }
         requires tied { AreTied self.old.lending.loans self.old.sockets.items }
         requires stands { StandsAlone self.old.alone self.old.sockets.items }
-        ensures sound { IsSound D.history self.new.core }
+        ensures sound { IsBehind D.history self.new.lending.loans self.new.core }
         ensures tied { AreTied self.new.lending.loans self.new.sockets.items }
         ensures stands { StandsAlone self.new.alone self.new.sockets.items }
         ensures between { NobodyBetween self.old.lending.loans self.old.sockets.items
@@ -186,14 +189,16 @@ impl<C: Clock + Drop, D: Disk + Drop> Front<C, D> {
 
     /// Ends some cursors of sockets that have ended, as far as their owners are at rest.
     fn end_cursors(&mut self)
-        requires sound { IsSound D.history self.old.core }
+        requires sound { IsBehind D.history self.old.lending.loans self.old.core }
         requires tied { AreTied self.old.lending.loans self.old.sockets.items }
         requires stands { StandsAlone self.old.alone self.old.sockets.items }
-        ensures sound { IsSound D.history self.new.core }
+        ensures sound { IsBehind D.history self.new.lending.loans self.new.core }
         ensures tied { AreTied self.new.lending.loans self.new.sockets.items }
         ensures stands { StandsAlone self.new.alone self.new.sockets.items }
+        ensures ends { EndsSome self.old self.new }
     {
-        'cursors: for _ in 0..MOST_ENDS {
+        'cursors: for times in 0..MOST_ENDS {
+            let _ = times;
             let Ok(ended) = end_cursor(&mut self.core, &mut self.lending, &self.cursors) else {
                 return;
             };
@@ -203,36 +208,41 @@ impl<C: Clock + Drop, D: Disk + Drop> Front<C, D> {
         }
     }
 
-    /// Makes a turn of the server, and takes what it handed out.
+    /// Makes a turn of the server, and takes what it replies: each connection is at rest again, and nothing stands on any. Where
+    /// memory runs out for it, all that was asked waits for the next turn.
     fn make_turn(&mut self) -> Result<(), Stopped>
-        requires sound { IsSound D.history self.old.core }
+        requires sound { IsBehind D.history self.old.lending.loans self.old.core }
         requires tied { AreTied self.old.lending.loans self.old.sockets.items }
         requires stands { StandsAlone self.old.alone self.old.sockets.items }
-        ensures sound { IsSound D.history self.new.core }
+        ensures sound { IsBehind D.history self.new.lending.loans self.new.core }
         ensures tied { AreTied self.new.lending.loans self.new.sockets.items }
         ensures stands { StandsAlone self.new.alone self.new.sockets.items }
+        ensures turns { OnOk result (MakesTurn D.history self.old self.new) }
     {
         match self.core.turn() {
             Ok(turn) => {
-                self.take_turn(&turn);
+                self.take_replies(&turn.replies);
                 Ok(())
             }
-            // The messages wait for the next turn.
             Err(TurnFault::Memory) => Ok(()),
             Err(TurnFault::Stopped) => Err(Stopped),
         }
     }
 
-    /// Takes what a turn of the server handed out.
-    fn take_turn(&mut self, turn: &TurnOut)
-        requires sound { IsSound D.history self.old.core }
+    /// Takes the replies of a turn of the server, of which each connection that is lent has one.
+    fn take_replies(&mut self, replies: &[(ConnId, Vec<u8>)])
+        requires turned { HasTurned D.history self.old.core }
         requires tied { AreTied self.old.lending.loans self.old.sockets.items }
         requires stands { StandsAlone self.old.alone self.old.sockets.items }
-        ensures sound { IsSound D.history self.new.core }
+        requires replied { HaveReplies self.old.lending.loans replies.now }
+        ensures turned { HasTurned D.history self.new.core }
         ensures tied { AreTied self.new.lending.loans self.new.sockets.items }
         ensures stands { StandsAlone self.new.alone self.new.sockets.items }
+        ensures rest { AreAtRest self.new.lending.loans }
+        ensures takes { TakesEach (frames_in replies.now) (floor self.old) (floor self.new) }
+        ensures only { OnlyTakes self.old self.new }
     {
-        'replies: for (id, frame) in turn.replies.iter() {
+        'replies: for (id, frame) in replies {
             let _taken = take_reply(
                 &mut self.core,
                 &mut self.lending,
@@ -242,50 +252,30 @@ impl<C: Clock + Drop, D: Disk + Drop> Front<C, D> {
                 frame,
             );
         }
-        self.take_all_closed(&turn.closed);
-    }
-
-    /// Takes which connections a turn of the server has closed.
-    fn take_all_closed(&mut self, closed: &[(ConnId, FrameFault)])
-        requires sound { IsSound D.history self.old.core }
-        requires tied { AreTied self.old.lending.loans self.old.sockets.items }
-        requires stands { StandsAlone self.old.alone self.old.sockets.items }
-        ensures sound { IsSound D.history self.new.core }
-        ensures tied { AreTied self.new.lending.loans self.new.sockets.items }
-        ensures stands { StandsAlone self.new.alone self.new.sockets.items }
-    {
-        'closed: for (id, _) in closed {
-            take_closed(
-                &mut self.core,
-                &mut self.lending,
-                &mut self.cursors,
-                &mut self.sockets,
-                *id,
-            );
-        }
     }
 }
 
 impl<C: Clock + Drop, D: Disk + Drop> Service for Front<C, D> {
-    ghost use Rattle.server.specs.Durable.{IsSound};
+    ghost use Rattle.front.specs.Unread.{IsBehind};
     ghost use Rattle.std.specs.Prelude.{◌≡◌, map, slice_set};
     ghost use Rattle.front.specs.Lending.{after_end};
     ghost use Rattle.front.specs.Serving.{fresh};
     ghost use Rattle.front.specs.Tying.{AreTied};
     ghost use Rattle.front.specs.Alone.{StandsAlone};
-    ghost use Rattle.front.specs.Fronting.{IsFed, IsEnded, HandsOut};
+    ghost use Rattle.front.specs.Fronting.{IsFed, IsEnded};
+    ghost use Rattle.front.specs.Rounds.{IsRound};
 
     ghost PLACES = { 1024 };
 
     const PLACES: usize = PLACES;
 
-    ghost is_sound = { λ front. IsSound D.history front.core
+    ghost is_sound = { λ front. IsBehind D.history front.lending.loans front.core
         × AreTied front.lending.loans front.sockets.items
         × StandsAlone front.alone front.sockets.items };
 
     ghost is_fed = { λ old i bytes new. IsFed old.sockets.items i bytes new.sockets.items };
 
-    ghost is_answered = { λ old replies closed new. HandsOut replies closed new.sockets.items };
+    ghost is_answered = { λ old replies closed new. IsRound D.history old replies closed new };
 
     ghost is_ended = { λ old i new. IsEnded old.sockets.items i new.sockets.items };
 

@@ -57,7 +57,8 @@ impl Lending {
     /// Lends a connection that is at rest.
     pub fn lend(&mut self, id: ConnId, loan: Loan)
         requires rest { is_at_rest self.old.loans id ≡ true }
-        ensures { self.new.loans ≡ slice_set self.old.loans id (Some loan) }
+        ensures lent { self.new.loans ≡ slice_set self.old.loans id (Some loan) }
+        ensures there { loan_at self.new.loans id ≡ Some loan }
     {
         self.loans[usize::from(id.number())] = Some(loan);
     }

@@ -1,10 +1,10 @@
 //! What a turn does with the sockets.
 
-ghost use Rattle.std.specs.Prelude.{◌≡◌, ◌&&◌, true, false, None, Some, Ok};
+ghost use Rattle.std.specs.Prelude.{◌≡◌, ◌⊎◌, ◌&&◌, true, false, None, Some, Ok};
 ghost use Rattle.std.specs.Prelude.{IfSome, IfOk, OnOk, OnErr, is_some, drop, slice_set};
 ghost use Rattle.std.specs.Prelude.{if◌then◌else◌};
 ghost use Rattle.std.specs.List.{list_any};
-ghost use Rattle.server.specs.Durable.{IsSound};
+ghost use Rattle.server.specs.ServerState.{ended};
 ghost use Rattle.server.specs.View.{state};
 ghost use Rattle.op_msg.specs.Request.{document_in};
 ghost use Rattle.front.specs.Asking.{question_in, wanted, loan_to_end, AsksWanted, EndsOne};
@@ -16,6 +16,7 @@ ghost use Rattle.front.specs.Lending.{loan_at, is_at_rest, borrower, Lends};
 ghost use Rattle.front.specs.Serving.{OthersStay};
 ghost use Rattle.front.specs.Tying.{Asks, LendsToNone};
 ghost use Rattle.front.specs.Alone.{AreLentTo, GoesOnAlone, has_begun, is_alone};
+ghost use Rattle.front.specs.Unread.{HasTurned, IsBehind};
 
 use crate::asking::{
     NotAsked, ask, cursor_left, document_of, end_command, has_ended, namespace_of,
@@ -84,8 +85,8 @@ fn ask_question<D: Disk>(
     number: usize,
     socket: &mut Socket,
 ) -> Result<(), NoMemory>
-    requires sound { IsSound D.history core.old }
-    ensures sound { IsSound D.history core.new }
+    requires sound { IsBehind D.history lending.old.loans core.old }
+    ensures sound { IsBehind D.history lending.new.loans core.new }
     ensures lends { Lends (Some number) lending.old.loans lending.new.loans }
     ensures asks { Asks number lending.old.loans lending.new.loans socket.old socket.new }
     ensures alone { has_begun socket.new ≡ true → is_alone socket.old ≡ true }
@@ -134,8 +135,8 @@ pub(crate) fn serve_socket<D: Disk>(
     info: &ServerInfo,
     socket: &mut Socket,
 ) -> Result<(), NoMemory>
-    requires sound { IsSound D.history core.old }
-    ensures sound { IsSound D.history core.new }
+    requires sound { IsBehind D.history lending.old.loans core.old }
+    ensures sound { IsBehind D.history lending.new.loans core.new }
     ensures lends { Lends (Some number) lending.old.loans lending.new.loans }
     ensures asks { Asks number lending.old.loans lending.new.loans socket.old socket.new }
     ensures begins { has_begun socket.old ≡ false → has_begun socket.new ≡ true
@@ -171,8 +172,8 @@ pub(crate) fn end_cursor<D: Disk>(
     lending: &mut Lending,
     cursors: &OpenCursors,
 ) -> Result<bool, NotAsked>
-    requires sound { IsSound D.history core.old }
-    ensures sound { IsSound D.history core.new }
+    requires sound { IsBehind D.history lending.old.loans core.old }
+    ensures sound { IsBehind D.history lending.new.loans core.new }
     ensures lends { Lends None lending.old.loans lending.new.loans }
     ensures none { LendsToNone lending.old.loans lending.new.loans }
     ensures ends { OnOk result (EndsOne (first_to_end lending.old.loans cursors.now.list.items)
@@ -280,8 +281,11 @@ pub(crate) fn take_reply<D: Disk>(
     owner: ConnId,
     frame: &[u8],
 ) -> Result<(), NoMemory>
-    requires sound { IsSound D.history core.old }
-    ensures sound { IsSound D.history core.new }
+    requires turned { HasTurned D.history core.old }
+    ensures turned { HasTurned D.history core.new }
+    ensures server { OnOk result (state core.new ≡ state core.old) }
+    ensures begins { OnErr result ((state core.new ≡ state core.old)
+        ⊎ (state core.new ≡ ended (state core.old) owner)) }
     ensures rest { lending.new.loans ≡ slice_set lending.old.loans owner None }
     ensures others { OthersStay sockets.old (borrower (loan_at lending.old.loans owner)) sockets.new }
     ensures alone { GoesOnAlone sockets.old (borrower (loan_at lending.old.loans owner)) sockets.new }
@@ -303,29 +307,4 @@ pub(crate) fn take_reply<D: Disk>(
             Err(fault)
         }
     }
-}
-
-/// The server has closed a connection: it begins anew, without cursors, and the socket to which it was lent
-/// is closed.
-pub(crate) fn take_closed<D: Disk>(
-    core: &mut Core<D>,
-    lending: &mut Lending,
-    cursors: &mut OpenCursors,
-    sockets: &mut [Socket],
-    owner: ConnId,
-)
-    requires sound { IsSound D.history core.old }
-    ensures sound { IsSound D.history core.new }
-    ensures rest { lending.new.loans ≡ slice_set lending.old.loans owner None }
-    ensures others { OthersStay sockets.old (borrower (loan_at lending.old.loans owner)) sockets.new }
-    ensures alone { GoesOnAlone sockets.old (borrower (loan_at lending.old.loans owner)) sockets.new }
-    ensures closes { Becomes sockets.old (borrower (loan_at lending.old.loans owner))
-        (λ s t. t ≡ closed s) sockets.new }
-{
-    core.gone(owner);
-    cursors.end_all(owner);
-    let Some(loan) = lending.take_back(owner) else {
-        return;
-    };
-    give_up(sockets, loan);
 }

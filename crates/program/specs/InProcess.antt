@@ -9,7 +9,7 @@ use Rattle.page.specs.History.{History}
 use Rattle.server.specs.ServerState.{fed}
 use Rattle.server.specs.Turning.{TakesTurn}
 use Rattle.server.specs.View.{state, frames_in}
-use Rattle.server.specs.Durable.{collections_of, file_of}
+use Rattle.server.specs.Durable.{collections_of, disk_history, file_of}
 use Rattle.server.specs.declared.turn.Core.{Core}
 use Rattle.server.specs.declared.turn.TurnOut.{TurnOut}
 use Rattle.server.specs.declared.turn.TurnFault.{TurnFault}
@@ -30,8 +30,8 @@ abbrev pub Says : List (ℕ × List ℕ) → Pairs → Type 0
 Says [] reply = ⊥
 Says (f ∷ fs) reply = document_in (drop 21 f.1) ≡ Ok reply
 
--- A command by what it was answered. Where memory ran out, it left the collections, or one turn took
--- it whose reply found no memory.
+-- A command by what it was answered. Where memory ran out, it left the collections and made no call
+-- of the disk, or one turn took it whose reply found no memory.
 abbrev pub AnswersCommand : {D : Type 0} → (D → History) → Core D → Pairs
     → Result Pairs DatabaseFault → Core D → Type 0
 AnswersCommand history old command (Ok reply) new =
@@ -42,5 +42,6 @@ AnswersCommand history old command (Err faults.TooLarge) new =
 AnswersCommand history old command (Err faults.Stopped) new =
     TakesCommand history old command (Err turns.Stopped) new
 AnswersCommand history old command (Err faults.Memory) new =
-    (collections_of new ≡ collections_of old)
+    ((collections_of new ≡ collections_of old)
+    × (disk_history history new ≡ disk_history history old))
     ⊎ ((out : TurnOut) × TakesCommand history old command (Ok out) new)

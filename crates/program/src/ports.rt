@@ -1,6 +1,8 @@
 //! The program over a port of this machine.
 
+ghost use Rattle.std.specs.Prelude.{◌≡◌, []};
 ghost use Rattle.server.specs.Durable.{IsSound};
+ghost use Rattle.server.specs.View.{state};
 
 use crate::fault::ProgramFault;
 use crate::words::{Listened, Served};
@@ -48,6 +50,7 @@ pub(crate) fn listen_to_drivers<
     D: Disk + Drop,
 >(rt: &R, core: Core<D>, listened: &Listened, output: &mut impl Write) -> Result<(), ProgramFault>
     requires sound { IsSound D.history core }
+    requires fresh { (state core).connections ≡ [] }
 {
     let listener = bind(rt, listened.port, output)?;
     answer_drivers(rt, listener, listened, core)
@@ -59,6 +62,7 @@ fn answer_drivers<
     D: Disk + Drop,
 >(rt: &R, listener: TcpListener, listened: &Listened, core: Core<D>) -> Result<(), ProgramFault>
     requires sound { IsSound D.history core }
+    requires fresh { (state core).connections ≡ [] }
 {
     let mut front = Front::new(rt, core);
     Ok(sockets::listen(rt, listener, listened.idle, &mut front)?)

@@ -1,8 +1,9 @@
 //! The program `docpage`, over any reader and writers.
 
-ghost use Rattle.std.specs.Prelude.{IfOk};
+ghost use Rattle.std.specs.Prelude.{◌≡◌, [], IfOk};
 ghost use Rattle.page.specs.Unknown.{unknown_history};
 ghost use Rattle.server.specs.Durable.{IsSound};
+ghost use Rattle.server.specs.View.{state};
 
 use crate::check::check;
 use crate::dump::dump;
@@ -165,7 +166,8 @@ fn open<R: AllocGlobal + Files<File = File>>(
     rt: &R,
     words: &Words,
 ) -> Result<Server<FileDisk>, ProgramFault>
-    ensures { IfOk result (λ server. IsSound (λ _. unknown_history) server.core) }
+    ensures sound { IfOk result (λ server. IsSound (λ _. unknown_history) server.core) }
+    ensures fresh { IfOk result (λ server. (state server.core).connections ≡ []) }
 {
     let opened = match &words.task {
         Task::Export(_) | Task::Check | Task::Dump(_) => FileDisk::open_to_read(rt, &words.file),

@@ -10,6 +10,7 @@ pub mod Prefixes
 pub mod Places
 pub mod ConnectionServed
 pub mod ConnectionsServed
+pub mod ConnectionIn
 pub mod StreamsTaken
 pub mod BatchesGiven
 pub mod Ascending

@@ -34,6 +34,8 @@ pub record TakesTurn {D : Type 0} (history : D → History) (old : Core D)
       TurnFails (KeepsWord (disk_history history new))
       (IsCaused (moment_of history old) (moment_of history new)) (state old) fault
       (is_stopped old) (state new))
+  -- where memory runs out before a message is taken, all is as it was
+  pub untouched : result ≡ Err turn_faults.Memory → new ≡ old
   pub on : GoesOn (disk_history history old) (disk_history history new)
   -- a crash at any moment of the call leaves the collections as they were before the turn or as
   -- they are after it

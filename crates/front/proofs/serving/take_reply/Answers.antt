@@ -2,6 +2,7 @@ use Rattle.std.proofs.Common.{◌≡◌, ap, inl}
 use Rattle.front.specs.Lending.{borrower}
 use Rattle.front.specs.Replying.{closed, IsClosed}
 use Rattle.front.proofs.ReplyingLemmas.{becomes_more, becomes_same, on_err, on_ok, takes_document}
+use Rattle.front.proofs.UnreadLemmas.{turned_ended}
 use Rattle.front.proofs.serving.take_reply.Goals as goal
 
 pub returns-in-Ok-clause-takes : goal.returns-in-Ok-clause-takes
@@ -18,3 +19,7 @@ pub returns-in-Err-clause-closes : goal.returns-in-Err-clause-closes
 returns-in-Err-clause-closes g c =
     becomes_same c.args.sockets.now c.give_up.new.sockets _ _ IsClosed (ap borrower c.in-Some.ensures.loan)
     (becomes_more _ _ _ (λ s t. t ≡ closed s) IsClosed (λ s t h. inl h) c.give_up.ensures.closes)
+
+pub returns-in-Err-clause-turned : goal.returns-in-Err-clause-turned
+returns-in-Err-clause-turned g c =
+    turned_ended g.D.Disk.history c.args.core.now c.gone.new.self c.args.owner c.requires.turned c.gone.ensures.sound c.gone.ensures.state

@@ -1,15 +1,15 @@
 use Rattle.std.proofs.Common.{◌≡◌, ◌≤◌, ◌<◌, ◌+◌, ◌%◌, ℕ, None, get_or, length}
-use Rattle.server.specs.Durable.{IsSound}
 use Rattle.front.specs.Alone.{StandsAlone}
 use Rattle.front.specs.Turning.{desk}
 use Rattle.front.specs.Tying.{AreTied}
+use Rattle.front.specs.Unread.{IsBehind}
 use Rattle.front.specs.declared.socket.Socket.{Socket}
 use Rattle.front.proofs.TurningLemmas.{HaveServed}
 use Rattle.front.proofs.front.Front.ask_all.Given as goal
 
 abbrev pub invariant-sockets : goal.invariant-sockets
 invariant-sockets g l = record {
-  sound : IsSound g.D.Disk.history l.self.core;
+  sound : IsBehind g.D.Disk.history l.self.lending.loans l.self.core;
   tied : AreTied l.self.lending.loans l.self.sockets.items;
   free : l.self.alone ≡ None;
   stands : StandsAlone None l.self.sockets.items;

@@ -1,4 +1,8 @@
+use Rattle.std.proofs.Common.{refl, sym, ap, ◌∙◌}
+use Rattle.front.specs.Fronting.{answers_from, closed_from}
 use Rattle.front.proofs.AloneLemmas.{stands_given}
+use Rattle.front.proofs.ReplyingLemmas.{when_ok}
+use Rattle.front.proofs.RoundLemmas.{hands_out}
 use Rattle.front.proofs.TyingLemmas.{tied_given}
 use Rattle.front.proofs.front.FrontService.answer.Goals as goal
 
@@ -10,3 +14,23 @@ returns-clause-sound g c = (
   stands_given c.make_turn.new.self.alone c.make_turn.new.self.sockets.len c.make_turn.new.self.sockets.items _ c.give_answers.new.sockets
       c.make_turn.ensures.stands c.deref_mut.ensures.value c.deref_mut.ensures.len c.give_answers.ensures.answered,
 )
+
+pub returns-clause-answered : goal.returns-clause-answered
+returns-clause-answered g c = record {
+  replies = answers_from 0 c.deref_mut.result.now;
+  closed = closed_from 0 c.deref.result.now;
+  between = c.give_answers.new.outlet;
+  turn = record {
+    ended = c.end_cursors.new.self;
+    ends = c.end_cursors.ensures.ends;
+    asked = c.ask_all.new.self;
+    asks = c.ask_all.ensures.asks;
+    turned = c.make_turn.new.self;
+    turns = when_ok c.make_turn.result (sym c.is_err.ensures.value ∙ c.if-is_err.false) c.make_turn.ensures.turns;
+    hands_out = hands_out c.make_turn.new.self.sockets.len c.make_turn.new.self.sockets.items c.deref_mut.result.now c.give_answers.new.sockets _ _
+        c.deref_mut.ensures.value c.deref_mut.ensures.len c.give_answers.ensures.answered refl (ap (closed_from 0) c.deref.ensures.value);
+    rest = refl;
+  };
+  hands = c.give_answers.ensures.hands;
+  closes = c.close_sockets.ensures;
+}

@@ -1,12 +1,14 @@
 use Rattle.std.proofs.Common.{rules, ◌<◌, ◌∙◌, length}
 use Rattle.front.proofs.AloneLemmas.{stands_ended}
 use Rattle.front.proofs.TyingLemmas.{tied_end, tied_over}
+use Rattle.front.proofs.UnreadLemmas.{behind_without}
 use Rattle.front.proofs.front.FrontService.forget.Goals as goal
 
 pub returns-then-connection-len-clause-sound : goal.returns-then-connection-len-clause-sound
 returns-then-connection-len-clause-sound g c =
     let inside : c.args.connection < length c.args.self.now.sockets.items = search rules in (
-      c.requires.sound.0,
+      behind_without g.D.Disk.history c.args.self.now.lending.loans c.end.new.self.loans c.args.connection c.args.self.now.core c.end.ensures
+          c.requires.sound.0,
       tied_end c.args.self.now.lending.loans c.end.new.self.loans c.args.self.now.sockets.items c.args.connection c.replace.new.dest c.requires.sound.1
           c.end.ensures,
       stands_ended c.args.self.now.alone c.args.self.now.sockets.items c.args.connection c.replace.new.dest inside
@@ -15,7 +17,7 @@ returns-then-connection-len-clause-sound g c =
 
 pub returns-else-connection-len-clause-sound : goal.returns-else-connection-len-clause-sound
 returns-else-connection-len-clause-sound g c = (
-  c.requires.sound.0,
+  behind_without g.D.Disk.history c.args.self.now.lending.loans c.end.new.self.loans c.args.connection c.args.self.now.core c.end.ensures c.requires.sound.0,
   tied_over c.args.self.now.lending.loans c.end.new.self.loans c.args.self.now.sockets.items c.args.connection c.requires.sound.1 c.end.ensures,
   c.requires.sound.2,
 )

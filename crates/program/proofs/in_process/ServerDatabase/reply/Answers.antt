@@ -1,12 +1,8 @@
 use Rattle.std.proofs.Common.{refl, inl, sym, ap, subst, ◌∙◌, ◌≡◌}
-use Rattle.std.specs.Prelude.{Bool, true, false, Result, Err}
-use Rattle.page.specs.History.{KeepsWord}
-use Rattle.server.specs.Causes.{IsCaused}
-use Rattle.server.specs.Durable.{disk_history, is_stopped, moment_of}
+use Rattle.std.specs.Prelude.{Result, Err}
+use Rattle.server.specs.Durable.{collections_of, disk_history}
 use Rattle.server.specs.ServerState.{ServerState}
-use Rattle.server.specs.Turn.{TurnFails}
 use Rattle.server.specs.Turning.{TakesTurn}
-use Rattle.server.specs.View.{state}
 use Rattle.server.specs.declared.turn.TurnOut.{TurnOut}
 use Rattle.server.specs.declared.turn.TurnFault.{TurnFault}
 use Rattle.server.specs.declared.turn.TurnFault.TheVariants as turns
@@ -14,11 +10,14 @@ use Rattle.program.proofs.CommandLemmas.{answered, asked_of, when_err}
 use Rattle.program.proofs.in_process.ServerDatabase.reply.Goals as goal
 
 pub returns-in_default-clause-answers : goal.returns-in_default-clause-answers
-returns-in_default-clause-answers g c = inl refl
+returns-in_default-clause-answers g c = inl (refl, refl)
 
 pub returns-then-is_err-clause-answers : goal.returns-then-is_err-clause-answers
 returns-then-is_err-clause-answers g c =
-    inl (ap (λ (s : ServerState). s.world.collections) (when_err c.feed.result (sym c.is_err.ensures.value ∙ c.if-is_err.true) c.feed.ensures.err))
+    inl (
+      ap (λ (s : ServerState). s.world.collections) (when_err c.feed.result (sym c.is_err.ensures.value ∙ c.if-is_err.true) c.feed.ensures.err),
+      c.feed.ensures.disk,
+    )
 
 pub returns-in-Ok-turn-clause-answers : goal.returns-in-Ok-turn-clause-answers
 returns-in-Ok-turn-clause-answers g c =
@@ -53,13 +52,8 @@ returns-clause-answers g c =
     c.in-Err-Memory.field-0-is c.in-Err-Memory.ensures in
     let message = asked_of old asked c.only_connection-id.result c.deref.result.now c.args.command.now c.feed.result
     (sym c.is_err.ensures.value ∙ c.if-is_err.false) c.feed.ensures.fed c.only_connection-id.ensures (c.deref.ensures.value ∙ c.in-Ok.ensures) in
-    let same = still (is_stopped asked) taken.fails in
-    inl (ap (λ (s : ServerState). s.world.collections) c.gone.ensures.state ∙ ap (λ (s : ServerState). s.world.collections) same
-    ∙ ap (λ (s : ServerState). s.world.collections) message)
-  where
-    -- where memory ran out before the turn took a message, nothing changed
-    still : (stopped : Bool) → TurnFails (KeepsWord (disk_history g.D.Disk.history c.turn.new.self))
-        (IsCaused (moment_of g.D.Disk.history c.feed.new.self) (moment_of g.D.Disk.history c.turn.new.self)) (state c.feed.new.self) turns.Memory stopped
-        (state c.turn.new.self) → state c.turn.new.self ≡ state c.feed.new.self
-    still true h = absurd h
-    still false h = h
+    let same : c.turn.new.self ≡ asked = taken.untouched refl in
+    inl (
+      ap (λ (s : ServerState). s.world.collections) c.gone.ensures.state ∙ ap collections_of same ∙ ap (λ (s : ServerState). s.world.collections) message,
+      c.gone.ensures.disk ∙ ap (disk_history g.D.Disk.history) same ∙ c.feed.ensures.disk,
+    )

@@ -52,6 +52,7 @@ returns-then-is_stopped g c = record {
   hands_out = tt;
   leaves = tt;
   fails = search rules;
+  untouched = λ e. absurd cc;
   on = search rules;
   any_moment = search rules;
   acknowledged = search rules;
@@ -72,6 +73,7 @@ returns-in_err-refusals g c = record {
   hands_out = search rules;
   leaves = search rules;
   fails = search rules;
+  untouched = λ _. refl;
   on = search rules;
   any_moment = let engine = c.args.self.now.engine in
       stays (trusted_history g.D.Disk.history) engine engine (λ image. Holds image (world engine).collections) c.requires.sound.engine
@@ -115,6 +117,7 @@ returns-in_default g c =
             leaves = λ i. record { world = broke.ends i; connections = ran.connections i };
           } in
           subst (λ (b : Bool). TurnFails kept (IsCaused old new) (state core) turns.Stopped b after) (sym runs) cut;
+      untouched = λ e. absurd cc;
       on = ran.on;
       any_moment = λ _. ran.any_moment;
       acknowledged = search rules;
@@ -167,6 +170,7 @@ returns g c =
           (world c.forget_closed.new.engine) _ settles closes forgets left;
       leaves = left;
       fails = search rules;
+      untouched = λ e. absurd cc;
       on = search rules;
       any_moment = λ _. let closed = prepared.closed.items in
           forgotten history core.engine c.run_messages.new.engine c.forget_closed.new.engine closed forgot.disk forgets ran.any_moment;
