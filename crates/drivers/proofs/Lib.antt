@@ -3,3 +3,4 @@ mod HoldingLemmas
 mod AskingLaws
 mod StatementLaws
 mod PlanLaws
+mod AskedLaws

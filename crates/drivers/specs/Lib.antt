@@ -10,3 +10,4 @@ pub mod Answering
 pub mod Framing
 pub mod Rows
 pub mod AloneLaws
+pub mod Asked

@@ -1,6 +1,7 @@
 //! Laws of the definitions, as contracts.
 
 ghost use Rattle.drivers.specs.Laws.{AsksOwnFields, AsksSameStatements, IgnoredMakesNoDifference, IgnoredInEntries, IgnoredLeavesThePlan};
+ghost use Rattle.drivers.specs.Asked.{IgnoredGoesTheSame, IsHeardAsWanted, RefusedAsksNothing};
 ghost use Rattle.drivers.specs.Rows.{StepRows};
 
 /// Something is asked of the database only if the command is one for it and no field of it is refused: the command without the fields
@@ -27,6 +28,21 @@ pub fn ignored_in_entries()
 /// Such a field, where it has a rule whatever the command is, makes no difference to the answer either.
 pub fn ignored_leaves_the_plan()
     ensures { IgnoredLeavesThePlan }
+{}
+
+/// However the database replies, a message that wants an answer is asked next or answered, and one that wants none is never answered.
+pub fn ends_as_wanted()
+    ensures { IsHeardAsWanted }
+{}
+
+/// A command that is refused in front asks nothing of the database.
+pub fn refused_asks_nothing()
+    ensures { RefusedAsksNothing }
+{}
+
+/// A field that is ignored whatever the command is makes no difference to what is asked, nor to how it ends, however the database replies.
+pub fn ignored_goes_the_same()
+    ensures { IgnoredGoesTheSame }
 {}
 
 /// Commands, worked by hand.
