@@ -1,0 +1,14 @@
+pub mod Putting
+pub mod Inserting
+pub mod Deleting
+pub mod Entering
+pub mod Counting
+pub mod Seeing
+pub mod Sizes
+pub mod Documents
+pub mod Updating
+pub mod Values
+pub mod Changing
+pub mod Parts
+pub mod Reading
+pub mod Spelled

@@ -1,0 +1,19 @@
+//! Laws of writes of several statements, each the contract of a function that does nothing.
+
+ghost use Rattle.bulk_writes.specs.Laws.{DeleteInTurn, InsertInTurn};
+ghost use Rattle.bulk_writes.specs.UpdateLaws.{UpdateInTurn};
+
+/// The documents of an insert, inserted one after the other, come to what the insert of all comes to, and are refused for what that one is.
+pub fn insert_in_turn()
+    ensures { InsertInTurn }
+{}
+
+/// The statements of a delete, one after the other, leave what the delete of all leaves, and take away as many documents.
+pub fn delete_in_turn()
+    ensures { DeleteInTurn }
+{}
+
+/// The statements of an update that isn't refused are done, one after the other, and leave what the update of all leaves.
+pub fn update_in_turn()
+    ensures { UpdateInTurn }
+{}
