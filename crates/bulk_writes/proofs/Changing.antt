@@ -1,20 +1,21 @@
 -- What an update makes of a document is one.
-use Rattle.std.proofs.Common.{◌≡◌, ◌≢◌, ◌≤◌, ℕ, ℤ, pos, negsuc, ◌+ℤ◌, suc, Bool, true, false, List, [], ◌∷◌, Option, Some, None, Result, Ok, Err, refl, ap, subst, arith, FitsSigned}
-use Rattle.std.specs.Prelude.{◌&&◌, int_lt, not, codes, if◌then◌else◌}
+use Rattle.std.proofs.Common.{◌≡◌, ◌≢◌, ℕ, ℤ, pos, negsuc, ◌+ℤ◌, Bool, true, false, List, [], ◌∷◌, Option, Some, None, Ok, Err, refl, arith, FitsSigned}
+use Rattle.std.specs.Prelude.{if◌then◌else◌}
 use Rattle.std.specs.Int.{w32, w64}
 use Rattle.std.specs.Str.{bytes_eq}
 use Rattle.std.proofs.lemmas.Bool.Decides.{nat_tests}
 use Rattle.std.proofs.lemmas.Slice.Eq.{bytes_eq-Decides}
 use borrow.Author.Differences.{fits_in, fits_out, sum_is_lem}
-use Rattle.bson.specs.Lawful.{IsDocument, IsItems, IsName, IsPairs, IsScalar, IsTree, Lacks}
+use Rattle.bson.specs.Lawful.{IsItems, IsName, IsPairs, IsTree, Lacks}
 use Rattle.bson.specs.Lookup.{lookup}
-use Rattle.bson.specs.Tree.{Tree, scalar, int32 as int32_scalar, int64 as int64_scalar, document, array, Pairs, no_pairs, pair, Items, no_items, item, append_items}
+use Rattle.bson.specs.Tree.{Tree, scalar, int32 as int32_scalar, int64 as int64_scalar, document, array, Pairs, no_pairs, pair, Items, no_items, item}
+use Rattle.bson.specs.Tree.{append_items}
 use Rattle.filter.specs.Condition.{Condition}
 use Rattle.filter.specs.Elements.{element_matches}
 use Rattle.filter.specs.Matches.{is_equal}
 use Rattle.path.specs.declared.refusal.Refusal.{Refusal}
 use Rattle.path.specs.declared.refusal.Refusal.TheVariants as refusals
-use Rattle.path.specs.Edits.{cut_at, if_ok, set_at, within, write_at}
+use Rattle.path.specs.Edits.{cut_at, set_at, write_at}
 use Rattle.path.specs.Place.{passes_array, value_at}
 use Rattle.outcome.specs.Outcome.{fault_or}
 use Rattle.value_order.specs.Order.{compare}
@@ -26,7 +27,8 @@ use Rattle.update.specs.Operators.{apply_action}
 use Rattle.update.specs.Renames.{moved, rename_at}
 use Rattle.update.specs.Replacements.{in_place_of, replace, with_id}
 use Rattle.update.specs.Stored.{first_pair, id_first, id_name, judged, stored_fault, without}
-use Rattle.update.specs.Update.{Action, at_least, at_most, Edit, edits, increment, int32, int64, Number, Path, pull, push, rename, replacement, set, unset, Update as Change}
+use Rattle.update.specs.Update.{Action, at_least, at_most, Edit, edits, increment, int32, int64, Number, Path, pull, push, rename, replacement, set}
+use Rattle.update.specs.Update.{unset, Update as Change}
 use Rattle.bulk_writes.proofs.Values.{AreNames, cut_lawful, field_there, given, IfGiven, IfThere, set_given, value_there, written_at}
 
 -- ---- lists and numbers

@@ -1,10 +1,11 @@
 -- What one statement counts, and what it adds to the counts of those before it.
-use Rattle.std.proofs.Common.{◌≡◌, ℕ, suc, ◌+◌, ◌-◌, ◌^◌, min, Bool, true, false, List, [], ◌∷◌, ◌++◌, Option, Some, None, Result, Ok, Err, refl, sym, ap, subst, ◌∙◌, arith}
+use Rattle.std.proofs.Common.{◌≡◌, ℕ, suc, ◌+◌, ◌-◌, ◌^◌, min, Bool, true, false, List, [], ◌∷◌, ◌++◌, Option, Some, None, Result, Ok, Err, refl, sym}
+use Rattle.std.proofs.Common.{ap, subst, ◌∙◌, arith}
 use Rattle.std.specs.Prelude.{not, ◌&&◌, nat_lt, if◌then◌else◌}
 use Rattle.std.specs.Str.{bytes_eq}
 use Rattle.std.proofs.lemmas.Bool.Decides.{nat_tests}
 use Rattle.bson.specs.EditPlaces.{append_items-none}
-use Rattle.bson.specs.Tree.{Tree, Pairs, Items, append_items, no_items}
+use Rattle.bson.specs.Tree.{Tree, Pairs, append_items}
 use Rattle.filter.specs.Matches.{matches}
 use Rattle.outcome.specs.Outcome.{◌>>=◌, or_refused}
 use Rattle.path.specs.declared.refusal.Refusal.{Refusal}
@@ -14,7 +15,7 @@ use Rattle.commands.specs.OutcomeLaws.{step_of}
 use Rattle.commands.specs.Update.{UpdateStatement}
 use Rattle.database_model.specs.Documents.{key_of, place}
 use Rattle.database_model.specs.Merging.{Listed, listed_to, none_changed, not_listed, run_listed, upsert_listed, with_listed}
-use Rattle.database_model.specs.Update.{Changed, changed_to, counted, modified_by, passed_over, spelled, update_from, upsert_document}
+use Rattle.database_model.specs.Update.{Changed, changed_to, counted, passed_over, spelled, update_from, upsert_document}
 use Rattle.statements.proofs.MeantUpdates.{one_step}
 use Rattle.bulk_writes.specs.UpdateLaws.{entry_of}
 

@@ -1,24 +1,21 @@
 -- The statements of a delete, one after the other.
-use Rattle.std.proofs.Common.{◌≡◌, ◌≤◌, ◌+◌, ◌-◌, ℕ, suc, Bool, true, false, List, [], ◌∷◌, length, map, Option, Some, None, Result, Ok, Err, refl, sym, ap, ◌∙◌}
+use Rattle.std.proofs.Common.{◌≡◌, ◌≤◌, ◌+◌, ◌-◌, ℕ, suc, Bool, true, false, List, [], ◌∷◌, length, map, Option, Some, None, Result, Ok, refl, sym, ap, ◌∙◌}
 use Rattle.std.proofs.Common.{arith, length-append, length-take, length-drop, take, drop, sum}
-use Rattle.std.specs.Prelude.{not, if◌then◌else◌, remove, codes}
+use Rattle.std.specs.Prelude.{not, if◌then◌else◌}
 use Rattle.std.specs.List.{filter, position}
 use Rattle.std.proofs.lemmas.List.Sums.{sum_by-cons}
-use Rattle.bson.specs.Tree.{Pairs, no_pairs, pair}
+use Rattle.bson.specs.Tree.{Pairs}
 use Rattle.filter.specs.Matches.{matches}
 use Rattle.outcome.specs.Outcome.{◌>>=◌}
 use Rattle.path.specs.declared.refusal.Refusal.{Refusal}
-use Rattle.commands.specs.Command.{Command}
-use Rattle.commands.specs.Delete.{Deletion, Delete}
+use Rattle.commands.specs.Delete.{Deletion}
 use Rattle.entries.specs.State.{Collection, find_collection, put_collection}
 use Rattle.entries.proofs.FoundLawLemmas.{put_twice}
 use Rattle.entries.proofs.PlaceLemmas.{found_name}
 use Rattle.database_model.specs.Delete.{after_deletion, after_deletions, deleted_in, run_delete, without_at}
-use Rattle.database_model.specs.Refusals.{total}
-use Rattle.database_model.specs.Step.{run}
 use Rattle.database_model.specs.World.{World, documents_of, documents_or_none}
 use Rattle.bulk_writes.specs.InTurn.{delete_one, run_in_turn}
-use Rattle.bulk_writes.specs.Laws.{DeleteInTurn, taken_by, taken_in, total_reply}
+use Rattle.bulk_writes.specs.Laws.{DeleteInTurn, taken_by, total_reply}
 use Rattle.bulk_writes.proofs.Putting.{found_put}
 
 -- ---- how many are taken away
@@ -127,7 +124,8 @@ pub delete_in_turn : DeleteInTurn
 unfolding run_delete
 delete_in_turn world connection c some = record {
   new = left_in connection c.namespace world c.deletions;
-  whole = ap (λ (n : ℕ). Ok (left_in connection c.namespace world c.deletions, total_reply n)) (sym (taken_sum c.deletions (documents_of world.collections c.namespace)));
+  whole = ap (λ (n : ℕ). Ok (left_in connection c.namespace world c.deletions, total_reply n))
+      (sym (taken_sum c.deletions (documents_of world.collections c.namespace)));
   same = at c.deletions refl;
 }
   where

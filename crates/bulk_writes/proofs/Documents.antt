@@ -1,15 +1,14 @@
 -- What statements that make documents of documents leave of a collection, and what they write to it, are documents. So the collection with
 -- what is written is, document by document, what the statements leave.
-use Rattle.std.proofs.Common.{◌≡◌, ℕ, suc, ◌≤◌, Bool, true, false, List, [], ◌∷◌, ◌++◌, length, map, take, Option, Some, None, Result, Ok, Err, refl, sym, ap, subst, ◌∙◌}
+use Rattle.std.proofs.Common.{◌≡◌, ℕ, Bool, true, false, List, [], ◌∷◌, ◌++◌, length, map, take, Result, Ok, Err, refl, sym, ap, subst, ◌∙◌}
 use Rattle.std.proofs.Common.{All, append-nil, arith}
-use Rattle.std.specs.Prelude.{not, ◌&&◌, if◌then◌else◌}
+use Rattle.std.specs.Prelude.{if◌then◌else◌}
 use Rattle.std.specs.List.{filter, list_any}
 use Rattle.std.specs.Str.{bytes_eq}
 use Rattle.std.specs.declared.cmp.Ordering.{Ordering}
 use Rattle.std.specs.declared.cmp.Ordering.TheVariants as orders
 use Rattle.std.proofs.lemmas.List.Elements.{All-append, All-cons, All-filter, All-head, All-tail, All-take}
 use Rattle.bson.specs.Lawful.{IsDocument}
-use Rattle.bson.specs.Spelling.{frame_of, pairs_bytes, Spells}
 use Rattle.bson.specs.Tree.{Pairs}
 use Rattle.bson.proofs.TreeLaws.{one_spelling}
 use Rattle.filter.specs.Matches.{matches}
@@ -17,7 +16,6 @@ use Rattle.outcome.specs.Outcome.{◌>>=◌}
 use Rattle.path.specs.declared.refusal.Refusal.{Refusal}
 use Rattle.value_order.specs.Order.{compare}
 use Rattle.update.specs.Applying.{apply}
-use Rattle.update.specs.Update.{Update as Change}
 use Rattle.commands.specs.Update.{IsRead, UpdateStatement}
 use Rattle.entries.specs.Documents.{put_document}
 use Rattle.entries.specs.Entering.{DocumentWrite}
@@ -130,7 +128,8 @@ module _ (s : UpdateStatement) (make : MakesDocuments s) where
 
   -- a statement alone writes what it writes
   pub alone_writes : (ds : List Pairs) → writes_of (s ∷ []) ds ≡ statement_writes s ds
-  alone_writes ds = ap (λ (ws : List DocumentWrite). statement_writes s ds ++ ws) (none_behind (run_listed 0 s (not_listed ds))) ∙ append-nil (statement_writes s ds)
+  alone_writes ds = ap (λ (ws : List DocumentWrite). statement_writes s ds ++ ws) (none_behind (run_listed 0 s (not_listed ds)))
+      ∙ append-nil (statement_writes s ds)
     where
       none_behind : (r : Result Listed Refusal) → unless_refused (writes_from 1 []) r ≡ []
       none_behind (Ok l) = refl

@@ -1,12 +1,11 @@
 -- What is written to a collection, at once or some of it first and the rest then.
-use Rattle.std.proofs.Common.{◌≡◌, ℕ, Bool, true, false, List, [], ◌∷◌, ◌++◌, append-nil, Option, Some, Result, Ok, Err, refl, sym, ap, ◌∙◌}
-use Rattle.bson.specs.Tree.{Pairs}
-use Rattle.outcome.specs.Outcome.{◌>>=◌, unless}
+use Rattle.std.proofs.Common.{◌≡◌, ℕ, false, List, [], ◌∷◌, ◌++◌, append-nil, Option, Result, Ok, Err, refl, sym, ap, ◌∙◌}
+use Rattle.outcome.specs.Outcome.{◌>>=◌}
 use Rattle.path.specs.declared.refusal.Refusal.{Refusal}
 use Rattle.path.specs.declared.refusal.Refusal.TheVariants as refusals
 use Rattle.commands.specs.OutcomeLaws.{passed, step_of}
 use Rattle.entries.specs.Entering.{DocumentWrite, enter_each, entered}
-use Rattle.entries.specs.State.{Collection, find_collection, put_collection}
+use Rattle.entries.specs.State.{Collection, put_collection}
 use Rattle.entries.proofs.EnteringLemmas.{has_entered}
 use Rattle.database_model.specs.Insert.{is_full}
 use Rattle.database_model.specs.Merging.{put_each}

@@ -13,7 +13,6 @@ use Rattle.entries.specs.State.{Collection, put_collection}
 use Rattle.entries.proofs.EnteringLemmas.{has_entered}
 use Rattle.database_model.specs.Documents.{checked, insert_all, insert_one as enter_one}
 use Rattle.database_model.specs.Insert.{inserted, is_full, run_insert}
-use Rattle.database_model.specs.Step.{run}
 use Rattle.database_model.specs.World.{World, collection_of}
 use Rattle.bulk_writes.specs.InTurn.{insert_one, run_in_turn}
 use Rattle.bulk_writes.specs.Laws.{InsertInTurn, n_reply, ones}
@@ -43,7 +42,8 @@ all_named c next (ps ∷ ds) e =
     all_named s.0 next ds s.2 ∙ one_named c s.0 ps s.1
 
 -- some are inserted, and then the others
-inserted_append : (cs : List Collection) (name : List ℕ) (a b : List Pairs) → inserted cs name (a ++ b) ≡ (inserted cs name a >>= (λ next. inserted next name b))
+inserted_append : (cs : List Collection) (name : List ℕ) (a b : List Pairs)
+    → inserted cs name (a ++ b) ≡ (inserted cs name a >>= (λ next. inserted next name b))
 inserted_append cs name a b = put_append insert_all all_append all_named name cs a b
 
 -- ---- in a world
@@ -83,7 +83,8 @@ module _ (connection : ℕ) (name : List ℕ) where
 
   in_turn_so : (world : World) (ps : Pairs) (ds : List Pairs)
       → run_in_turn world connection (each (ps ∷ ds)) ≡ all_come_to world (inserted world.collections name (ps ∷ ds)) (ones (ps ∷ ds))
-  in_turn_so world ps [] = ap (goes_on []) (inserts_so world (record { namespace = name; documents = ps ∷ [] })) ∙ at (inserted world.collections name (ps ∷ []))
+  in_turn_so world ps [] = ap (goes_on []) (inserts_so world (record { namespace = name; documents = ps ∷ [] }))
+      ∙ at (inserted world.collections name (ps ∷ []))
     where
       at : (r : Result (List Collection) Refusal) → goes_on [] (come_to world r (n_reply 1)) ≡ all_come_to world r (ones (ps ∷ []))
       at (Err e) = refl
@@ -91,7 +92,8 @@ module _ (connection : ℕ) (name : List ℕ) where
   in_turn_so world ps (d ∷ ds) =
       ap (goes_on (d ∷ ds)) (inserts_so world (record { namespace = name; documents = ps ∷ [] }))
       ∙ at (inserted world.collections name (ps ∷ [])) (λ next. in_turn_so (with_next world next) d ds)
-      ∙ ap (λ (r : Result (List Collection) Refusal). all_come_to world r (ones (ps ∷ d ∷ ds))) (sym (inserted_append world.collections name (ps ∷ []) (d ∷ ds)))
+      ∙ ap (λ (r : Result (List Collection) Refusal). all_come_to world r (ones (ps ∷ d ∷ ds)))
+      (sym (inserted_append world.collections name (ps ∷ []) (d ∷ ds)))
     where
       by : (r : Result (List Collection) Refusal) → behind (n_reply 1) (all_come_to world r (ones (d ∷ ds))) ≡ all_come_to world r (ones (ps ∷ d ∷ ds))
       by (Err e) = refl
@@ -119,7 +121,8 @@ whole_so : (world : World) (connection : ℕ) (c : Insert) (ds : List Pairs) →
     → all_come_to world (inserted world.collections c.namespace c.documents) (ones c.documents)
     ≡ (run_insert world c >>= (λ x. Ok (x.0, ones c.documents)))
 whole_so world connection c ds is =
-    at (inserted world.collections c.namespace c.documents) ∙ ap (λ (r : Result (World × Pairs) Refusal). r >>= (λ x. Ok (x.0, ones c.documents))) (sym (inserts_so world c))
+    at (inserted world.collections c.namespace c.documents)
+    ∙ ap (λ (r : Result (World × Pairs) Refusal). r >>= (λ x. Ok (x.0, ones c.documents))) (sym (inserts_so world c))
   where
     at : (r : Result (List Collection) Refusal)
         → all_come_to world r (ones c.documents) ≡ (come_to world r (n_reply (length c.documents)) >>= (λ x. Ok (x.0, ones c.documents)))

@@ -12,3 +12,6 @@ pub mod Changing
 pub mod Parts
 pub mod Reading
 pub mod Spelled
+pub mod OwnField
+pub mod Asking
+pub mod Answering

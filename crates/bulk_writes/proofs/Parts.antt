@@ -1,5 +1,6 @@
 -- The parts of a path are names.
-use Rattle.std.proofs.Common.{◌≡◌, ◌≤◌, ◌<◌, ℕ, zero, suc, ◌+◌, Bool, true, false, List, [], ◌∷◌, length, get_or, take, drop, length-drop, Option, Some, None, Ok, Err, refl, sym, ap, subst, ◌∙◌, arith}
+use Rattle.std.proofs.Common.{◌≡◌, ◌≤◌, ◌<◌, ℕ, zero, suc, ◌+◌, Bool, true, false, List, [], ◌∷◌, length, get_or, drop, length-drop, Option, Some}
+use Rattle.std.proofs.Common.{None, refl, sym, ap, subst, ◌∙◌, arith}
 use Rattle.std.proofs.Common.{IsUtf8}
 use Rattle.std.specs.Prelude.{◌||◌, ◌==◌, nat_lt, if◌then◌else◌}
 use Rattle.std.specs.List.{list_any, position_or_len, slice_split}
@@ -12,7 +13,7 @@ use Rattle.filter.specs.Reading.{or_refusal, path_in}
 use Rattle.outcome.specs.Outcome.{fault_or}
 use Rattle.path.specs.declared.fault.PathFault.{PathFault}
 use Rattle.path.specs.declared.fault.PathFault.TheVariants as faults
-use Rattle.path.specs.Parts.{begins_with_dollar, has_zero, is_empty, parts_of, path_fault}
+use Rattle.path.specs.Parts.{has_zero, parts_of, path_fault}
 use Rattle.bulk_writes.proofs.Values.{AreNames, IfGiven}
 
 abbrev AreTexts : List (List ℕ) → Type 0

@@ -1,27 +1,29 @@
 -- A statement that a document spells makes documents of documents.
-use Rattle.std.proofs.Common.{◌≡◌, ◌≤◌, ℕ, suc, Bool, true, false, List, [], ◌∷◌, ◌++◌, map, Option, Some, None, Result, Ok, Err, refl, sym, ap, subst, ◌∙◌, arith, IsUtf8}
-use Rattle.std.specs.Prelude.{◌&&◌, codes, if◌then◌else◌}
+use Rattle.std.proofs.Common.{ℕ, Bool, true, false, List, [], ◌∷◌, ◌++◌, map, Result, Ok, Err, IsUtf8}
+use Rattle.std.specs.Prelude.{codes, if◌then◌else◌}
 use Rattle.std.specs.Str.{bytes_eq}
 use Rattle.bson.specs.Kinds.{kind_byte}
-use Rattle.bson.specs.Lawful.{IsDocument, IsItems, IsPairs, IsTree}
+use Rattle.bson.specs.Lawful.{IsItems, IsPairs, IsTree}
 use Rattle.bson.specs.Tree.{Tree, scalar, text, boolean, min_key, max_key, null, document, array, Pairs, no_pairs, pair, Items, no_items, item}
-use Rattle.filter.specs.Condition.{all, any, at, Condition, condition, Conditions, element, element_document, equal, equals, is, no_conditions, not_all, not_any, of_kinds, Predicate, size}
+use Rattle.filter.specs.Condition.{all, any, at, Condition, condition, Conditions, element, element_document, equal, equals, is, no_conditions}
+use Rattle.filter.specs.Condition.{not_all, not_any, of_kinds, Predicate, size}
 use Rattle.filter.specs.declared.condition.Comparison.{Comparison}
 use Rattle.filter.specs.declared.condition.Comparison.TheVariants as comparisons
 use Rattle.filter.specs.Elements.{read_element_condition}
 use Rattle.filter.specs.IdPaths.{begins_with_id}
-use Rattle.filter.specs.Reading.{array_in, every, exists, has_operators, just, named_condition, operation, order_operand, path_in, read_element, read_filter, read_known}
+use Rattle.filter.specs.Reading.{array_in, every, exists, has_operators, just, named_condition, operation, order_operand, path_in, read_element}
+use Rattle.filter.specs.Reading.{read_filter, read_known}
 use Rattle.filter.specs.Reading.{read_members, read_not, read_operand, read_operators}
 use Rattle.filter.specs.Words.{all_kinds, operator_of, size_in}
 use Rattle.path.specs.declared.refusal.Refusal.{Refusal}
 use Rattle.path.specs.declared.refusal.Refusal.TheVariants as refusals
 use Rattle.path.specs.Edits.{if_ok, set_at}
-use Rattle.update.specs.Applying.{apply}
-use Rattle.update.specs.Arrays.{each_items, items_of_each, items_to_push, no_more}
+use Rattle.update.specs.Arrays.{each_items, items_to_push, no_more}
 use Rattle.update.specs.Numbers.{number_in}
 use Rattle.update.specs.Operators.{editable_path, new_path, no_id, operator_of as edit_operator_of, read_action}
-use Rattle.update.specs.Reading.{conflicts, known_operator, operands_in, read_edit, read_edits, read_operator, read_operators as read_edits_of, read_update, without_conflict}
-use Rattle.update.specs.Update.{Action, Edit, edits, increment, Number, Path, pull, push, rename, replacement, Update as Change}
+use Rattle.update.specs.Reading.{conflicts, known_operator, operands_in, read_edit, read_edits, read_operator, read_operators as read_edits_of}
+use Rattle.update.specs.Reading.{read_update, without_conflict}
+use Rattle.update.specs.Update.{Edit, edits, Path, replacement}
 use Rattle.update.specs.Upserts.{base_of, is_below_id, with_condition, with_conditions, with_equal, with_equalities, with_equality}
 use Rattle.bulk_writes.proofs.Changing.{AreEdits, IsAction, IsChange, IsEdit, IsNumber, number_given}
 use Rattle.bulk_writes.proofs.Parts.{path_given}
@@ -141,7 +143,8 @@ known_given name t h =
     (one (bytes_eq name (codes "$nin")) _ _ (made_given IsEquality (array_in t) (λ (ts : Items). not_any (equals ts)) (λ ts. tt))
     tt)))))))))))
   where
-    one : (b : Bool) (x y : _) → IfGiven IsEquality (read_known x t) → IfGiven IsEquality (read_known y t) → IfGiven IsEquality (read_known (if b then x else y) t)
+    one : (b : Bool) (x y : _) → IfGiven IsEquality (read_known x t) → IfGiven IsEquality (read_known y t)
+        → IfGiven IsEquality (read_known (if b then x else y) t)
     one true x y first later = first
     one false x y first later = later
 

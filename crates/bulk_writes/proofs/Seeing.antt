@@ -1,6 +1,6 @@
 -- What statements come to in their collection, seen as what they come to over its documents.
-use Rattle.std.proofs.Common.{◌≡◌, ℕ, suc, Bool, true, false, List, [], ◌∷◌, ◌++◌, length, map, Option, Some, None, Result, Ok, Err, refl, sym, ap, subst, ◌∙◌}
-use Rattle.std.specs.Prelude.{not, ◌&&◌, ◌||◌, nat_le, is_some, if◌then◌else◌}
+use Rattle.std.proofs.Common.{◌≡◌, ℕ, suc, Bool, true, false, List, [], ◌∷◌, ◌++◌, map, Option, Some, None, Result, Ok, Err, refl, sym, ap, ◌∙◌}
+use Rattle.std.specs.Prelude.{not, ◌&&◌, ◌||◌, if◌then◌else◌}
 use Rattle.std.specs.List.{list_any}
 use Rattle.bson.specs.Tree.{document, Pairs, item, no_items, append_items}
 use Rattle.filter.specs.Matches.{matches}
@@ -10,12 +10,13 @@ use Rattle.path.specs.declared.refusal.Refusal.TheVariants as refusals
 use Rattle.update.specs.Applying.{apply}
 use Rattle.commands.specs.OutcomeLaws.{passed, step_of}
 use Rattle.commands.specs.Update.{UpdateStatement}
-use Rattle.entries.specs.State.{Collection, find_collection, put_collection}
+use Rattle.entries.specs.State.{Collection, find_collection}
 use Rattle.entries.proofs.PlaceLemmas.{found_name}
 use Rattle.database_model.specs.Documents.{key_of, place}
 use Rattle.database_model.specs.Insert.{is_full}
-use Rattle.database_model.specs.Merging.{Listed, listed_to, none_changed, one_or_none, run_each, run_listed, upsert_listed, with_listed}
-use Rattle.database_model.specs.Update.{Changed, changed_in, changed_to, counted, not_changed, passed_over, run_statement, run_statements, update_from, Updated, updated_to, upsert}
+use Rattle.database_model.specs.Merging.{Listed, listed_to, one_or_none, run_each, run_listed, upsert_listed, with_listed}
+use Rattle.database_model.specs.Update.{Changed, changed_in, changed_to, counted, not_changed, passed_over, run_statement, run_statements}
+use Rattle.database_model.specs.Update.{update_from, Updated, updated_to, upsert}
 use Rattle.database_model.specs.Update.{upsert_document, upserted_entry, with_upserted}
 use Rattle.database_model.specs.World.{documents_of, documents_or_none, with_documents}
 use Rattle.database_model.specs.Writes.{made_write, statement_writes}

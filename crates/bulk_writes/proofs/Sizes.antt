@@ -1,12 +1,13 @@
 -- A reply that says what one of the statements made is no longer than the reply that says what all of them made.
-use Rattle.std.proofs.Common.{◌≡◌, ◌≤◌, ℕ, suc, ◌+◌, Bool, true, false, length, length-append, Option, Some, None, refl, sym, ap, subst, ◌∙◌, arith}
+use Rattle.std.proofs.Common.{◌≡◌, ◌≤◌, ℕ, suc, ◌+◌, Bool, false, length, length-append, Option, Some, None, refl, ap, ◌∙◌, arith}
 use Rattle.std.specs.Prelude.{◌==◌, codes, if◌then◌else◌}
 use Rattle.std.specs.Fmt.{decimal}
 use Rattle.std.proofs.lemmas.Bool.Decides.{nat_tests}
-use Rattle.bson.specs.EditPlaces.{items_len-append, append_items-none}
+use Rattle.bson.specs.EditPlaces.{append_items-none}
 use Rattle.bson.specs.Edits.{items_len}
-use Rattle.bson.specs.SizingLaws.{element-length, frame_of-length, items_bytes-append, items_bytes-item, items_bytes-none, pairs_bytes-none, pairs_size-append, pairs_size-pair}
-use Rattle.bson.specs.Spelling.{element, frame_of, items_bytes, pairs_bytes, tree_bytes, type_byte}
+use Rattle.bson.specs.SizingLaws.{element-length, frame_of-length, items_bytes-append, items_bytes-item, items_bytes-none, pairs_bytes-none}
+use Rattle.bson.specs.SizingLaws.{pairs_size-append, pairs_size-pair}
+use Rattle.bson.specs.Spelling.{element, items_bytes, pairs_bytes, tree_bytes, type_byte}
 use Rattle.bson.specs.Tree.{Tree, document, array, Pairs, no_pairs, pair, Items, no_items, item, append_items}
 use Rattle.database_model.specs.Refusals.{int, total, ok_reply}
 use Rattle.database_model.specs.Update.{counts_reply, spelled, upserted_entry, upserted_pairs}
@@ -102,9 +103,11 @@ has_room (item u ts) t =
     let first : length (items_bytes 0 all) ≡ length (element (type_byte u) (decimal 0) (tree_bytes u)) + length (items_bytes (0 + 1) ts) =
     ap length (items_bytes-item 0 u ts) ∙ length-append (element (type_byte u) (decimal 0) (tree_bytes u)) (items_bytes (0 + 1) ts) in
     let its = element-length (type_byte u) (decimal 0) (tree_bytes u) in
+    let size = some_size all (one_at_least (items_len ts)) in
+    let more_sized = some_size (append_items all (item t no_items)) (one_at_least (items_len (append_items ts (item t no_items)))) in
     record {
-      before = omega (arith, some_size all (one_at_least (items_len ts)), some_size (append_items all (item t no_items)) (one_at_least (items_len (append_items ts (item t no_items)))), more);
-      itself = omega (arith, some_size (append_items all (item t no_items)) (one_at_least (items_len (append_items ts (item t no_items)))), more, long, first, its);
+      before = omega (arith, size, more_sized, more);
+      itself = omega (arith, more_sized, more, long, first, its);
     }
 
 -- what one more statement made

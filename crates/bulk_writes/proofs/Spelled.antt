@@ -1,12 +1,11 @@
 -- The statements of an update that a document spells make documents of documents.
-use Rattle.std.proofs.Common.{◌≡◌, ◌≤◌, ℕ, suc, Bool, true, false, List, [], ◌∷◌, length, Option, Some, None, Result, Ok, Err, refl, subst, arith, All}
+use Rattle.std.proofs.Common.{◌≡◌, ℕ, Bool, true, false, List, [], ◌∷◌, Option, Some, None, Result, Ok, Err, refl, subst, arith, All}
 use Rattle.std.specs.Prelude.{◌&&◌, ◌==◌, codes, if◌then◌else◌, nat_lt}
 use Rattle.std.specs.Str.{bytes_eq}
 use Rattle.std.proofs.lemmas.List.Elements.{All-cons}
 use Rattle.bson.specs.Edits.{items_len}
 use Rattle.bson.specs.Lawful.{IsDocument, IsItems, IsPairs, IsTree}
 use Rattle.bson.specs.Tree.{Tree, scalar, document, array, Pairs, no_pairs, pair, Items, no_items, item}
-use Rattle.filter.specs.Condition.{Conditions}
 use Rattle.filter.specs.Reading.{read_filter}
 use Rattle.outcome.specs.Outcome.{◌>>=◌, or_refused, unless}
 use Rattle.path.specs.declared.refusal.Refusal.{Refusal}
@@ -21,11 +20,10 @@ use Rattle.commands.specs.Fields.{CommonFields, common_field, read_fields}
 use Rattle.commands.specs.Names.{namespace_of}
 use Rattle.commands.specs.OutcomeLaws.{step_of}
 use Rattle.commands.specs.Statements.{each_of, statements_in}
-use Rattle.commands.specs.Update.{flag_field, IsRead, no_statement_fields, no_update_fields, read_statement, read_update_command, statement_field, Update}
+use Rattle.commands.specs.Update.{IsRead, no_statement_fields, no_update_fields, read_statement, read_update_command, statement_field, Update}
 use Rattle.commands.specs.Update.{update_field, update_statements_in, UpdateFields, UpdateStatement, UpdateStatementFields}
-use Rattle.commands.specs.Values.{bool_in, document_in, items_of, spelled_in, text_in}
+use Rattle.commands.specs.Values.{bool_in, items_of, spelled_in, text_in}
 use Rattle.database_model.specs.Documents.{key_checked, key_of}
-use Rattle.database_model.specs.Update.{upsert_document}
 use Rattle.statements.proofs.Applied.{applied}
 use Rattle.bulk_writes.proofs.Changing.{applied_given, IsChange}
 use Rattle.bulk_writes.proofs.Documents.{MakesDocuments}
@@ -123,7 +121,8 @@ field_given f name t h k = by (bytes_eq name (codes "q")) (bytes_eq name (codes 
         then_given IsReadChange AreFields (spelled_in read_update t) _ (document_given IsReadChange read_update change_given t k)
         (λ change is. record { top = h.top; change = is })
     by false false true d = then_given (λ (b : Bool). Any b) AreFields (bool_in t) _ (any_given (bool_in t)) (λ b u. record { top = h.top; change = h.change })
-    by false false false true = then_given (λ (b : Bool). Any b) AreFields (bool_in t) _ (any_given (bool_in t)) (λ b u. record { top = h.top; change = h.change })
+    by false false false true = then_given (λ (b : Bool). Any b) AreFields (bool_in t) _ (any_given (bool_in t))
+        (λ b u. record { top = h.top; change = h.change })
     by false false false false = tt
 
 fields_given : (ps : Pairs) (f : UpdateStatementFields) → AreFields f → IsPairs ps → IfGiven AreFields (read_fields statement_field f ps)
@@ -156,7 +155,8 @@ each_given (item t ts) h =
     (λ s is. then_given AreGood AreGood (each_of (spelled_in read_statement) ts) _ (each_given ts h.1) (λ ss are. (is, are)))
 
 items_given : (t : Tree) → IsTree t → IfGiven IsItems (statements_in t)
-items_given t h = then_given IsItems IsItems (or_refused (items_of t) refusals.TypeMismatch) _ (some_given IsItems (items_of t) refusals.TypeMismatch (there t h))
+items_given t h = then_given IsItems IsItems (or_refused (items_of t) refusals.TypeMismatch) _
+    (some_given IsItems (items_of t) refusals.TypeMismatch (there t h))
     (λ ts k. unless_given IsItems (nat_lt 1000 (items_len ts)) refusals.TooMany (unless (items_len ts == 0) refusals.BadValue (Ok ts))
     (unless_given IsItems (items_len ts == 0) refusals.BadValue (Ok ts) k))
   where
@@ -205,7 +205,8 @@ IsGoodCommand other = Unit {0}
 other_given : {X : Type 0} (make : X → Command) (read : Result X Refusal) → ((x : X) → IsGoodCommand (make x)) → IfGiven IsGoodCommand (as_command make read)
 other_given {X} make read good = then_given (λ (x : X). Any x) IsGoodCommand read (λ x. Ok (make x)) (any_given read) (λ x u. good x)
 
-chosen : (b : Bool) (one later : Result Command Refusal) → IfGiven IsGoodCommand one → IfGiven IsGoodCommand later → IfGiven IsGoodCommand (if b then one else later)
+chosen : (b : Bool) (one later : Result Command Refusal) → IfGiven IsGoodCommand one → IfGiven IsGoodCommand later
+    → IfGiven IsGoodCommand (if b then one else later)
 chosen true one later first second = first
 chosen false one later first second = second
 

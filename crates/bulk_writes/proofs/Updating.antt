@@ -1,16 +1,16 @@
 -- The statements of an update, one after the other.
-use Rattle.std.proofs.Common.{◌≡◌, ◌≤◌, ℕ, suc, ◌+◌, ◌-◌, ◌^◌, min, Bool, true, false, List, [], ◌∷◌, ◌++◌, length, map, Option, Some, None, Result, Ok, Err, refl, sym, ap, subst, ◌∙◌}
+use Rattle.std.proofs.Common.{◌≡◌, ◌≤◌, ℕ, suc, ◌+◌, ◌-◌, ◌^◌, min, Bool, true, false, List, [], ◌∷◌, ◌++◌, length, map, Option, Some, None, Result}
+use Rattle.std.proofs.Common.{Ok, refl, sym, ap, subst, ◌∙◌}
 use Rattle.std.proofs.Common.{All, arith, sum_by}
-use Rattle.std.specs.Prelude.{not, ◌&&◌, codes, nat_lt, if◌then◌else◌}
+use Rattle.std.specs.Prelude.{not, ◌&&◌, codes, nat_lt}
 use Rattle.std.proofs.lemmas.Bool.Decides.{nat_tests}
 use Rattle.std.proofs.lemmas.List.Elements.{All-head, All-tail}
 use Rattle.std.proofs.lemmas.List.Sums.{sum_by-cons}
 use Rattle.bson.specs.EditPlaces.{append_items-none}
-use Rattle.bson.specs.Tree.{Tree, Pairs, pair, Items, no_items, item, append_items}
+use Rattle.bson.specs.Tree.{Pairs, pair, Items, no_items, item, append_items}
 use Rattle.outcome.specs.Outcome.{◌>>=◌, unless}
 use Rattle.path.specs.declared.refusal.Refusal.{Refusal}
 use Rattle.path.specs.declared.refusal.Refusal.TheVariants as refusals
-use Rattle.commands.specs.Command.{Command}
 use Rattle.commands.specs.OutcomeLaws.{passed, step_of}
 use Rattle.commands.specs.Update.{IsRead, Update, UpdateStatement}
 use Rattle.entries.specs.Entering.{DocumentWrite}
@@ -21,7 +21,7 @@ use Rattle.database_model.specs.Insert.{is_full}
 use Rattle.database_model.specs.Lawful.{IsHeld}
 use Rattle.database_model.specs.Merging.{Listed, not_listed, put_each, run_each, run_listed}
 use Rattle.database_model.specs.Refusals.{int, ok_reply}
-use Rattle.database_model.specs.Update.{Changed, counts_reply, judged, not_changed, not_updated, run_all, run_statement, run_statements, spelled, update_from}
+use Rattle.database_model.specs.Update.{Changed, counts_reply, judged, not_changed, not_updated, run_all, run_statements, spelled, update_from}
 use Rattle.database_model.specs.Update.{update_reply, Updated, upsert_document, upserted_pairs}
 use Rattle.database_model.specs.UpdateCommand.{entered_in, run_update, writes_in}
 use Rattle.database_model.specs.World.{World, documents_of, documents_or_none}
@@ -30,7 +30,7 @@ use Rattle.statements.specs.WriteLaws.{documents_in}
 use Rattle.bulk_writes.specs.InTurn.{run_in_turn, update_one}
 use Rattle.bulk_writes.specs.UpdateLaws.{Counts, entries_from, entry_of, told, UpdateInTurn, UpdatesInTurn}
 use Rattle.bulk_writes.proofs.Counting.{Alone, alone, clamped}
-use Rattle.bulk_writes.proofs.Documents.{alone_writes, AreGood, has_left, HasLeft, MakesDocuments}
+use Rattle.bulk_writes.proofs.Documents.{alone_writes, AreGood, has_left, MakesDocuments}
 use Rattle.bulk_writes.proofs.Entering.{entered_append, entered_documents, is_written}
 use Rattle.bulk_writes.proofs.Seeing.{all_seen, Came, its_write, one_came, seen_in}
 use Rattle.bulk_writes.proofs.Sizes.{alone_size, made_size, more_size, reply_size}
@@ -38,18 +38,18 @@ use Rattle.bulk_writes.proofs.Spelled.{are_spelled, AreSpelled}
 
 -- ---- what is counted
 
-abbrev matched_in : List Counts → ℕ
+abbrev pub matched_in : List Counts → ℕ
 matched_in cs = sum_by (λ c. c.matched) cs
 
-abbrev modified_in : List Counts → ℕ
+abbrev pub modified_in : List Counts → ℕ
 modified_in cs = sum_by (λ c. c.modified) cs
 
-items_assoc : (a b c : Items) → append_items (append_items a b) c ≡ append_items a (append_items b c)
+pub items_assoc : (a b c : Items) → append_items (append_items a b) c ≡ append_items a (append_items b c)
 items_assoc no_items b c = refl
 items_assoc (item t a) b c = ap (item t) (items_assoc a b c)
 
 -- what is told of one
-told_one : (x : Counts) → told (x ∷ []) ≡ counts_reply x.matched x.modified (entry_of 0 x.made)
+pub told_one : (x : Counts) → told (x ∷ []) ≡ counts_reply x.matched x.modified (entry_of 0 x.made)
 told_one x =
     let matched : matched_in (x ∷ []) ≡ x.matched = omega arith in
     let modified : modified_in (x ∷ []) ≡ x.modified = omega arith in

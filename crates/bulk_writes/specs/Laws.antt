@@ -1,5 +1,5 @@
 -- What a write of several statements comes to, against its statements one by one.
-use Rattle.std.specs.Prelude.{◌≡◌, ◌≢◌, ◌-◌, ◌+◌, ℕ, List, [], ◌∷◌, length, map, codes, Ok, sum}
+use Rattle.std.specs.Prelude.{◌≡◌, ◌≢◌, ◌-◌, ℕ, List, [], ◌∷◌, length, map, codes, Ok, sum}
 use Rattle.bson.specs.Tree.{Pairs, no_pairs, pair}
 use Rattle.outcome.specs.Outcome.{◌>>=◌}
 use Rattle.commands.specs.Command.{insert, delete}

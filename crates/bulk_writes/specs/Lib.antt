@@ -1,3 +1,4 @@
 pub mod InTurn
 pub mod Laws
 pub mod UpdateLaws
+pub mod AskedLaws

@@ -1,5 +1,6 @@
 //! Laws of writes of several statements, each the contract of a function that does nothing.
 
+ghost use Rattle.bulk_writes.specs.AskedLaws.{AnsweredAlike};
 ghost use Rattle.bulk_writes.specs.Laws.{DeleteInTurn, InsertInTurn};
 ghost use Rattle.bulk_writes.specs.UpdateLaws.{UpdateInTurn};
 
@@ -16,4 +17,9 @@ pub fn delete_in_turn()
 /// The statements of an update that isn't refused are done, one after the other, and leave what the update of all leaves.
 pub fn update_in_turn()
     ensures { UpdateInTurn }
+{}
+
+/// A write that is done as a whole leaves the world, and is answered, as it would be with each of its statements asked by itself.
+pub fn answered_alike()
+    ensures { AnsweredAlike }
 {}
