@@ -1,5 +1,5 @@
 -- What the statements of a write come to, asked one after the other, is what the whole comes to.
-use Rattle.std.proofs.Common.{◌≡◌, ◌≤◌, ℕ, ℤ, pos, ◌+ℤ◌, suc, ◌+◌, ◌-◌, ◌^◌, min, sum, Bool, true, false, List, [], ◌∷◌, length, map, Option, Some}
+use Rattle.std.proofs.Common.{◌≡◌, ◌≤◌, ℕ, ℤ, pos, ◌+ℤ◌, suc, ◌+◌, ◌-◌, ◌^◌, min, sum, Bool, true, false, List, [], ◌∷◌, length, map, Option, Some, inl, inr}
 use Rattle.std.proofs.Common.{None, Result, Ok, refl, sym, ap, subst, ◌∙◌}
 use Rattle.std.proofs.Common.{arith, All}
 use Rattle.std.specs.Prelude.{◌==◌, codes, if◌then◌else◌}
@@ -10,9 +10,9 @@ use Rattle.std.proofs.lemmas.List.Sums.{sum_by-cons}
 use Rattle.std.proofs.lemmas.Slice.Eq.{bytes_eq-Decides}
 use Rattle.bson.specs.EditPlaces.{append_items-none}
 use Rattle.bson.specs.Edits.{cut, items_len, put}
-use Rattle.bson.specs.Lawful.{IsDocument, IsPairs}
+use Rattle.bson.specs.Lawful.{IsDocument, IsItems, IsPairs, IsTree}
 use Rattle.bson.specs.Lookup.{lookup}
-use Rattle.bson.specs.Tree.{Tree, array, Pairs, pair, no_pairs, Items, no_items, append_items}
+use Rattle.bson.specs.Tree.{Tree, scalar, document, array, item, Pairs, pair, no_pairs, Items, no_items, append_items}
 use Rattle.outcome.specs.Outcome.{◌>>=◌}
 use Rattle.path.specs.declared.refusal.Refusal.{Refusal}
 use Rattle.commands.specs.Command.{as_command, Command, command_of, delete, insert, update}
@@ -20,12 +20,13 @@ use Rattle.commands.specs.CommandLaws.{bounded}
 use Rattle.commands.specs.Delete.{Delete, DeleteFields, Deletion, no_delete_fields, read_delete, read_deletion}
 use Rattle.commands.specs.Insert.{Insert, InsertFields, no_insert_fields, read_insert}
 use Rattle.commands.specs.OutcomeLaws.{step_of}
-use Rattle.commands.specs.Update.{no_update_fields, read_statement, read_update_command, Update, UpdateFields, UpdateStatement}
+use Rattle.commands.specs.Update.{IsRead, no_update_fields, read_statement, read_update_command, Update, UpdateFields, UpdateStatement}
 use Rattle.commands.specs.Values.{document_in, spelled_in}
 use Rattle.database_model.specs.Lawful.{IsHeld}
 use Rattle.database_model.specs.Refusals.{ok_reply, total}
 use Rattle.database_model.specs.Step.{run}
 use Rattle.database_model.specs.Update.{counts_reply}
+use Rattle.database_model.specs.UpdateCommand.{run_update}
 use Rattle.database_model.specs.World.{World}
 use Rattle.driver_replies.specs.declared.fresh_ids.FreshIds.{FreshIds}
 use Rattle.driver_replies.specs.declared.tally.Tally.{Tally}
@@ -33,12 +34,17 @@ use Rattle.driver_replies.specs.declared.writes.Write.{Write}
 use Rattle.driver_replies.specs.declared.writes.Write.TheVariants as writes
 use Rattle.driver_replies.specs.Fields.{long}
 use Rattle.driver_replies.specs.Tallies.{no_tally, refused, with_counts, with_list, with_reply, write_reply}
-use Rattle.driver_replies.specs.Writes.{batch_of, field_of, is_update, statements_in, write_of}
-use Rattle.bulk_writes.specs.AskedLaws.{AnsweredAlike, AreAnswered, NeedNoIds}
+use Rattle.driver_replies.specs.Writes.{batch_of, field_of, is_update, statements_in, write_of, is_upsert, needs_id}
+use Rattle.bulk_writes.specs.AskedLaws.{AnsweredAlike, AreAnswered}
 use Rattle.bulk_writes.specs.InTurn.{delete_one, insert_one, run_in_turn, update_one}
 use Rattle.bulk_writes.specs.Laws.{n_reply, ones, taken_in, total_reply}
 use Rattle.bulk_writes.specs.UpdateLaws.{Counts, entries_from, entry_of, told}
-use Rattle.bulk_writes.proofs.Asking.{all_asked, are_commands, AreCommands, AreDone, batch_with, Parts, parts_of, tallied, with_one}
+use Rattle.bulk_writes.proofs.Asking.{all_asked, are_commands, AreCommands, AreDone, batch_with, Parts, parts_of, tallied, with_one, asked_first, AreMet, IsMet}
+use Rattle.bulk_writes.proofs.Matching.{alike}
+use Rattle.bulk_writes.proofs.OwnField.{AreEach}
+use Rattle.bulk_writes.proofs.Spelled.{are_spelled}
+use Rattle.bulk_writes.proofs.Values.{field_there, IfThere}
+use Rattle.bulk_writes.proofs.Waiting.{cut_reads, is_waiting, without_upsert}
 use Rattle.bulk_writes.proofs.Counting.{clamped}
 use Rattle.bulk_writes.proofs.Deleting.{delete_in_turn}
 use Rattle.bulk_writes.proofs.Inserting.{insert_in_turn}
@@ -135,20 +141,100 @@ as_many connection (c ∷ cs) world new replies e =
     let listed : first.0.1 ∷ later.0.1 ≡ replies = ap (λ (x : World × List Pairs). x.1) same in
     omega (arith, ap length listed, as_many connection cs first.0.0 later.0.0 later.0.1 later.1)
 
+-- ---- statements that don't wait
+
+module _ (write : Write) (never : (t : Tree) → needs_id write t ≡ false) where
+  all_met : (ts : Items) (rs : List Pairs) → AreMet write ts rs
+  all_met no_items rs = tt
+  all_met (item t ts) [] = tt
+  all_met (item t ts) (r ∷ rs) = (inl (never t), all_met ts rs)
+
+  plain : (t : Tree) → asked_first write t ≡ t
+  plain (scalar s) = refl
+  plain (array ts) = refl
+  plain (document ps) = ap (λ (b : Bool). document (if b then cut ps (codes "upsert") else ps)) (never (document ps))
+
 -- ---- all are asked
 
 answered_so : (write : Write) (rest : Pairs) (ordered : Bool) (connection : ℕ) (ids : FreshIds) (left ts : Items) (cs : List Command) (world new : World)
-    (replies : List Pairs) (answer : Pairs) → left ≡ ts → NeedNoIds write left → AreCommands (with_one write rest) ts cs
+    (replies : List Pairs) (answer : Pairs) → left ≡ ts → AreMet write ts replies → AreCommands (λ t. with_one write rest (asked_first write t)) ts cs
     → run_in_turn world connection cs ≡ Ok (new, replies) → AreDone replies → write_reply (is_update write) (tallied (pos 0) replies no_tally) ≡ answer
     → AreAnswered world connection (batch_with write rest ordered left (pos 0) ids no_tally) new answer
-answered_so write rest ordered connection ids left ts cs world new replies answer is none are ran done says =
-    let e = all_asked write rest ordered connection ts cs world new replies (pos 0) ids no_tally (subst (NeedNoIds write) is none) are ran done in
+answered_so write rest ordered connection ids left ts cs world new replies answer is met are ran done says =
+    let e = all_asked write rest ordered connection ts cs world new replies (pos 0) ids no_tally met are ran done in
     subst (λ (us : Items). AreAnswered world connection (batch_with write rest ordered us (pos 0) ids no_tally) new answer) (sym is) (record {
       end = batch_with write rest ordered no_items e.index e.left_ids (tallied (pos 0) replies no_tally);
       asked = e.is;
       all = refl;
       answers = says;
     })
+
+-- ---- statements that wait
+
+-- What is asked for the statements of an update, and that it comes to the same.
+record Waits (connection : ℕ) (namespace : List ℕ) (rest : Pairs) (ts : Items) (world new : World) (replies : List Pairs) : Type 0 where
+  asked : List UpdateStatement
+  commands : AreCommands (λ u. with_one writes.Update rest (asked_first writes.Update u)) ts (map (update_one namespace) asked)
+  ran : run_in_turn world connection (map (update_one namespace) asked) ≡ Ok (new, replies)
+  met : AreMet writes.Update ts replies
+
+-- What is asked for one of them.
+record WaitsOne (namespace : List ℕ) (rest : Pairs) (t : Tree) (world new : World) (reply : Pairs) : Type 0 where
+  asked : UpdateStatement
+  command : command_of (with_one writes.Update rest (asked_first writes.Update t)) ≡ Ok (update_one namespace asked)
+  ran : run_update world (record { namespace = namespace; statements = asked ∷ [] }) ≡ Ok (new, reply)
+  met : IsMet writes.Update t reply
+
+module _ (connection : ℕ) (namespace : List ℕ) (rest : Pairs)
+    (again : (u : Tree) (y : UpdateStatement) → spelled_in read_statement u ≡ Ok y
+    → command_of (with_one writes.Update rest u) ≡ Ok (update_one namespace y)) where
+  one_waits : (t : Tree) (s : UpdateStatement) → IsTree t → spelled_in read_statement t ≡ Ok s → IsRead s.change → (world new : World) (reply : Pairs)
+      → run_update world (record { namespace = namespace; statements = s ∷ [] }) ≡ Ok (new, reply) → WaitsOne namespace rest t world new reply
+  one_waits (scalar z) s h e read world new reply ran = absurd cc
+  one_waits (array ts) s h e read world new reply ran = absurd cc
+  one_waits (document ps) s h e read world new reply ran = at (is_upsert ps) refl
+    where
+      at : (b : Bool) → is_upsert ps ≡ b → WaitsOne namespace rest (document ps) world new reply
+      at false is = record {
+        asked = s;
+        command = ap (λ (b : Bool). command_of (with_one writes.Update rest (document (if b then cut ps (codes "upsert") else ps)))) is
+            ∙ again (document ps) s e;
+        ran = ran;
+        met = inl is;
+      }
+      at true is =
+          let a = alike world namespace s new reply (is_waiting ps s h read is e) ran in
+          record {
+            asked = without_upsert s;
+            command = ap (λ (b : Bool). command_of (with_one writes.Update rest (document (if b then cut ps (codes "upsert") else ps)))) is
+                ∙ again (document (cut ps (codes "upsert"))) (without_upsert s) (cut_reads ps s h e);
+            ran = a.same;
+            met = inr a.counts;
+          }
+
+  waits : (ts : Items) (ss : List UpdateStatement) → IsItems ts → AreEach (spelled_in read_statement) ts ss
+      → All (λ (s : UpdateStatement). IsRead s.change) ss → (world new : World) (replies : List Pairs)
+      → run_in_turn world connection (map (update_one namespace) ss) ≡ Ok (new, replies) → Waits connection namespace rest ts world new replies
+  waits no_items [] h each read world new replies e = record { asked = []; commands = tt; ran = e; met = tt }
+  waits no_items (s ∷ ss) h each read world new replies e = absurd each
+  waits (item t ts) [] h each read world new replies e = absurd each
+  waits (item t ts) (s ∷ ss) h each read world new replies e =
+      let first = step_of (run_update world (record { namespace = namespace; statements = s ∷ [] }))
+      (λ x. run_in_turn x.0 connection (map (update_one namespace) ss)
+      >>= (λ y. let r : Result (World × List Pairs) Refusal = Ok (y.0, x.1 ∷ y.1) in r)) (new, replies) e in
+      let later = step_of (run_in_turn first.0.0 connection (map (update_one namespace) ss))
+      (λ y. let r : Result (World × List Pairs) Refusal = Ok (y.0, first.0.1 ∷ y.1) in r) (new, replies) first.2 in
+      let same : ◌≡◌ {A = World × List Pairs} (later.0.0, first.0.1 ∷ later.0.1) (new, replies) = cc in
+      let one = one_waits t s h.0 each.0 (read 0 s (omega arith)) world first.0.0 first.0.1 first.1 in
+      let others = waits ts ss h.1 each.1 (λ k d below. read (suc k) d (omega (arith, below))) first.0.0 later.0.0 later.0.1 later.1 in
+      subst (λ (x : World × List Pairs). Waits connection namespace rest (item t ts) world x.0 x.1) same (record {
+        asked = one.asked ∷ others.asked;
+        commands = (one.command, others.commands);
+        ran = ap (λ (r : Result (World × Pairs) Refusal). r >>= (λ x. run_in_turn x.0 connection (map (update_one namespace) others.asked)
+            >>= (λ y. Ok (y.0, x.1 ∷ y.1)))) one.ran
+            ∙ ap (λ (r : Result (World × List Pairs) Refusal). r >>= (λ y. Ok (y.0, first.0.1 ∷ y.1))) others.ran;
+        met = (one.met, others.met);
+      })
 
 module _ (world new : World) (connection : ℕ) (ordered : Bool) (ids : FreshIds) (t : Tree) (ps : Pairs) (c : Command) (reply : Pairs)
     (ran : run world connection c ≡ Ok (new, reply)) where
@@ -172,10 +258,9 @@ module _ (world new : World) (connection : ℕ) (ordered : Bool) (ids : FreshIds
       parts_of (λ (f : InsertFields). f.common) (λ f. f.documents) (λ f k. record f { common = k }) (λ f ds. record f { documents = Some ds }) (λ f k. refl)
       (λ f k. refl) (λ f ds. refl) (λ f ds. refl) document_in (codes "documents") no_insert_fields refl insert_of t ps x h e
 
-  insert_answered : IsPairs ps → command_of (pair (codes "insert") t ps) ≡ Ok c → NeedNoIds writes.Insert (Left writes.Insert (codes "insert"))
-      → Answered writes.Insert (codes "insert")
+  insert_answered : IsPairs ps → command_of (pair (codes "insert") t ps) ≡ Ok c → Answered writes.Insert (codes "insert")
   unfolding command_of
-  insert_answered h e none =
+  insert_answered h e =
       let x = step_of (read_insert t ps) (λ y. let r : Result Command Refusal = Ok (insert y) in r) c e in
       let it : insert x.0 ≡ c = cc in
       let p = insert_parts x.0 h x.1 in
@@ -191,9 +276,11 @@ module _ (world new : World) (connection : ℕ) (ordered : Bool) (ids : FreshIds
       let number : clamped (0 + sum (one_for p.all)) ≡ length p.all = omega (arith, ones_sum p.all, within.1, same_length) in
       answered_so writes.Insert (pair (codes "insert") t (cut ps (codes "documents"))) ordered connection ids (Left writes.Insert (codes "insert")) p.items
       (map (insert_one p.namespace) p.all) world new (map total_reply (one_for p.all)) (put (ok_reply reply) (codes "ok") (long (pos 1)))
-      (ap statements_in p.there) none
-      (are_commands document_in (with_one writes.Insert (pair (codes "insert") t (cut ps (codes "documents")))) (insert_one p.namespace)
-      (λ u d reads. ap (as_command insert) (p.again u d reads)) p.items p.all p.each)
+      (ap statements_in p.there) (all_met writes.Insert (λ v. refl) p.items (map total_reply (one_for p.all)))
+      (are_commands document_in (λ u. with_one writes.Insert (pair (codes "insert") t (cut ps (codes "documents"))) (asked_first writes.Insert u))
+      (insert_one p.namespace)
+      (λ u d reads. ap (λ (v : Tree). command_of (with_one writes.Insert (pair (codes "insert") t (cut ps (codes "documents"))) v))
+      (plain writes.Insert (λ v. refl) u) ∙ ap (as_command insert) (p.again u d reads)) p.items p.all p.each)
       all (totals_done (one_for p.all))
       (ap (write_reply false) (totals (pos 0) (one_for p.all) 0 0 no_items)
       ∙ ap (λ (n : ℕ). put (ok_reply (n_reply n)) (codes "ok") (long (pos 1))) number
@@ -212,10 +299,9 @@ module _ (world new : World) (connection : ℕ) (ordered : Bool) (ids : FreshIds
       parts_of (λ (f : DeleteFields). f.common) (λ f. f.deletions) (λ f k. record f { common = k }) (λ f ds. record f { deletions = Some ds }) (λ f k. refl)
       (λ f k. refl) (λ f ds. refl) (λ f ds. refl) (spelled_in read_deletion) (codes "deletes") no_delete_fields refl delete_of t ps x h e
 
-  delete_answered : IsPairs ps → command_of (pair (codes "delete") t ps) ≡ Ok c → NeedNoIds writes.Delete (Left writes.Delete (codes "delete"))
-      → Answered writes.Delete (codes "delete")
+  delete_answered : IsPairs ps → command_of (pair (codes "delete") t ps) ≡ Ok c → Answered writes.Delete (codes "delete")
   unfolding command_of
-  delete_answered h e none =
+  delete_answered h e =
       let x = step_of (read_delete t ps) (λ y. let r : Result Command Refusal = Ok (delete y) in r) c e in
       let it : delete x.0 ≡ c = cc in
       let p = delete_parts x.0 h x.1 in
@@ -229,9 +315,11 @@ module _ (world new : World) (connection : ℕ) (ordered : Bool) (ids : FreshIds
       let number : clamped (0 + sum (taken_in world d)) ≡ clamped (sum (taken_in world d)) = omega arith in
       answered_so writes.Delete (pair (codes "delete") t (cut ps (codes "deletes"))) ordered connection ids (Left writes.Delete (codes "delete")) p.items
       (map (delete_one p.namespace) p.all) world new (map total_reply (taken_in world d)) (put (ok_reply reply) (codes "ok") (long (pos 1)))
-      (ap statements_in p.there) none
-      (are_commands (spelled_in read_deletion) (with_one writes.Delete (pair (codes "delete") t (cut ps (codes "deletes")))) (delete_one p.namespace)
-      (λ u y reads. ap (as_command delete) (p.again u y reads)) p.items p.all p.each)
+      (ap statements_in p.there) (all_met writes.Delete (λ v. refl) p.items (map total_reply (taken_in world d)))
+      (are_commands (spelled_in read_deletion) (λ u. with_one writes.Delete (pair (codes "delete") t (cut ps (codes "deletes"))) (asked_first writes.Delete u))
+      (delete_one p.namespace)
+      (λ u y reads. ap (λ (v : Tree). command_of (with_one writes.Delete (pair (codes "delete") t (cut ps (codes "deletes"))) v))
+      (plain writes.Delete (λ v. refl) u) ∙ ap (as_command delete) (p.again u y reads)) p.items p.all p.each)
       (law.same ∙ ap (λ (w : World). Ok (w, map total_reply (taken_in world d))) ended) (totals_done (taken_in world d))
       (ap (write_reply false) (totals (pos 0) (taken_in world d) 0 0 no_items)
       ∙ ap (λ (n : ℕ). put (ok_reply (n_reply n)) (codes "ok") (long (pos 1))) number
@@ -263,18 +351,17 @@ module _ (world new : World) (connection : ℕ) (ordered : Bool) (ids : FreshIds
       at false = refl
 
   update_answered : IsDocument (pair (codes "update") t ps) → All IsHeld world.collections → command_of (pair (codes "update") t ps) ≡ Ok c
-      → NeedNoIds writes.Update (Left writes.Update (codes "update"))
       → Answered writes.Update (codes "update")
   unfolding command_of
-  update_answered document held e none =
+  update_answered lawful held e =
       let x = step_of (read_update_command t ps) (λ y. let r : Result Command Refusal = Ok (update y) in r) c e in
       let it : update x.0 ≡ c = cc in
-      let p = update_parts x.0 document.lawful.3 x.1 in
+      let p = update_parts x.0 lawful.lawful.3 x.1 in
       let d = update_of p.namespace p.all in
       let spells : command_of (pair (codes "update") t ps) ≡ Ok (update d) = e ∙ ap (λ (y : Command). Ok y) (sym it ∙ ap update (sym p.is)) in
       let whole : run world connection (update d) ≡ Ok (new, reply) =
       ap (λ (y : Update). run world connection (update y)) p.is ∙ ap (run world connection) it ∙ ran in
-      let law = update_in_turn world new connection (pair (codes "update") t ps) d reply document spells held whole in
+      let law = update_in_turn world new connection (pair (codes "update") t ps) d reply lawful spells held whole in
       let within = bounded (pair (codes "update") t ps) (update d) spells in
       let few : 0 + length law.counts ≤ 1000 =
       omega (
@@ -285,14 +372,14 @@ module _ (world new : World) (connection : ℕ) (ordered : Bool) (ids : FreshIds
         within.0,
         within.1,
       ) in
+      let items_are : IsItems p.items = subst IfThere p.there (field_there ps (codes "updates") lawful.lawful.3) in
+      let w = waits connection p.namespace (pair (codes "update") t (cut ps (codes "updates"))) (λ u y reads. ap (as_command update) (p.again u y reads))
+      p.items p.all items_are p.each (are_spelled (pair (codes "update") t ps) d lawful spells).read world new (map (λ y. told (y ∷ [])) law.counts) law.same in
       let matched : 0 + matched_in law.counts ≡ matched_in law.counts = omega arith in
       let modified : 0 + modified_in law.counts ≡ modified_in law.counts = omega arith in
       answered_so writes.Update (pair (codes "update") t (cut ps (codes "updates"))) ordered connection ids (Left writes.Update (codes "update")) p.items
-      (map (update_one p.namespace) p.all) world new (map (λ y. told (y ∷ [])) law.counts) (put (ok_reply reply) (codes "ok") (long (pos 1)))
-      (ap statements_in p.there) none
-      (are_commands (spelled_in read_statement) (with_one writes.Update (pair (codes "update") t (cut ps (codes "updates")))) (update_one p.namespace)
-      (λ u y reads. ap (as_command update) (p.again u y reads)) p.items p.all p.each)
-      law.same (told_done law.counts)
+      (map (update_one p.namespace) w.asked) world new (map (λ y. told (y ∷ [])) law.counts) (put (ok_reply reply) (codes "ok") (long (pos 1)))
+      (ap statements_in p.there) w.met w.commands w.ran (told_done law.counts)
       (ap (write_reply true) (all_told 0 law.counts 0 0 no_items few)
       ∙ all_say (0 + matched_in law.counts) (0 + modified_in law.counts) (entries_from 0 law.counts)
       ∙ (λ k. put (ok_reply (counts_reply (matched k) (modified k) (entries_from 0 law.counts))) (codes "ok") (long (pos 1)))
@@ -303,7 +390,7 @@ module _ (world new : World) (connection : ℕ) (ordered : Bool) (ids : FreshIds
   -- of a write under this name
   abbrev Goal : Write → List ℕ → Type 0
   Goal write name =
-      IsDocument (pair name t ps) → command_of (pair name t ps) ≡ Ok c → NeedNoIds write (Left write name) → Answered write name
+      IsDocument (pair name t ps) → command_of (pair name t ps) ≡ Ok c → Answered write name
 
   so_named : (w v : Write) (n name : List ℕ) → ◌≡◌ {A = Option Write} (Some w) (Some v) → bytes_eq name n ≡ true → Goal w n → Goal v name
   so_named w v n name is named go =
@@ -316,11 +403,11 @@ module _ (world new : World) (connection : ℕ) (ordered : Bool) (ids : FreshIds
     where
       at : (a b d : Bool) → bytes_eq name (codes "insert") ≡ a → bytes_eq name (codes "update") ≡ b → bytes_eq name (codes "delete") ≡ d
           → (if a then Some writes.Insert else if b then Some writes.Update else if d then Some writes.Delete else None) ≡ Some write → Goal write name
-      at true b d f g h k = so_named writes.Insert write (codes "insert") name k f (λ l e n. insert_answered l.lawful.3 e n)
-      at false true d f g h k = so_named writes.Update write (codes "update") name k g (λ l e n. update_answered l held e n)
-      at false false true f g h k = so_named writes.Delete write (codes "delete") name k h (λ l e n. delete_answered l.lawful.3 e n)
+      at true b d f g h k = so_named writes.Insert write (codes "insert") name k f (λ l e. insert_answered l.lawful.3 e)
+      at false true d f g h k = so_named writes.Update write (codes "update") name k g (λ l e. update_answered l held e)
+      at false false true f g h k = so_named writes.Delete write (codes "delete") name k h (λ l e. delete_answered l.lawful.3 e)
       at false false false f g h k = absurd cc
 
 pub answered_alike : AnsweredAlike
-answered_alike world new connection write ordered ids name t ps c reply is document spells none held ran =
-    by_name world new connection ordered ids t ps c reply ran write name held is document spells none
+answered_alike world new connection write ordered ids name t ps c reply is lawful spells held ran =
+    by_name world new connection ordered ids t ps c reply ran write name held is lawful spells

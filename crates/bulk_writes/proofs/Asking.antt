@@ -1,6 +1,6 @@
 -- The statements of a write, asked one after the other, are the writes of one statement each that it consists of.
-use Rattle.std.proofs.Common.{◌≡◌, ◌≢◌, ℕ, ℤ, pos, ◌+ℤ◌, Bool, true, false, List, [], ◌∷◌, map, Option, Some, None, Result, Ok, refl, ap, ◌∙◌}
-use Rattle.std.specs.Prelude.{◌&&◌, codes, if◌then◌else◌, is_none, is_some, not}
+use Rattle.std.proofs.Common.{◌≡◌, ◌≢◌, ℕ, ℤ, pos, ◌+ℤ◌, Bool, true, false, List, [], ◌∷◌, map, Option, Some, None, Result, Ok, refl, ap, ◌∙◌, ◌⊎◌, inl, inr}
+use Rattle.std.specs.Prelude.{◌&&◌, codes, if◌then◌else◌, is_none, is_some}
 use Rattle.std.specs.Int.{saturate_signed, w32}
 use Rattle.bson.specs.Edits.{cut, items_len, put}
 use Rattle.bson.specs.Lawful.{IsPairs}
@@ -22,9 +22,9 @@ use Rattle.driver_replies.specs.declared.fresh_ids.FreshIds.{FreshIds}
 use Rattle.driver_replies.specs.declared.tally.Tally.{Tally}
 use Rattle.driver_replies.specs.declared.writes.Write.{Write}
 use Rattle.driver_replies.specs.Tallies.{refused, with_reply}
-use Rattle.driver_replies.specs.Writes.{after_reply, asked_statement, asked_upsert, field_of, finds_nothing, is_zero_count, needs_id, next_command}
+use Rattle.driver_replies.specs.Writes.{after_reply, asked_statement, field_of, finds_nothing, is_zero_count, needs_id, next_command}
 use Rattle.driver_replies.specs.Writes.{next_ids, passed, with_tally}
-use Rattle.bulk_writes.specs.AskedLaws.{asked_each, asked_next, NeedNoIds, with_reply_of}
+use Rattle.bulk_writes.specs.AskedLaws.{asked_each, asked_next, with_reply_of}
 use Rattle.bulk_writes.specs.InTurn.{run_in_turn}
 use Rattle.bulk_writes.proofs.OwnField.{all_in, AreEach, by_field, has_items, its_field, one_in}
 
@@ -130,6 +130,27 @@ and_no false = refl
 abbrev pub with_one : Write → Pairs → Tree → Pairs
 with_one write rest t = put rest (field_of write) (array (item t no_items))
 
+-- what is asked first for a statement: an upsert that waits for an object id as an update
+abbrev pub asked_first : Write → Tree → Tree
+asked_first write (document ps) = document (if needs_id write (document ps) then cut ps (codes "upsert") else ps)
+asked_first write other = other
+
+-- it doesn't wait for one, or it met a document
+abbrev pub IsMet : Write → Tree → Pairs → Type 0
+IsMet write t r = (needs_id write t ≡ false) ⊎ (is_zero_count (lookup (ok_reply r) (codes "n")) ≡ false)
+
+abbrev pub AreMet : Write → Items → List Pairs → Type 0
+AreMet write no_items rs = Unit {0}
+AreMet write (item t ts) [] = Unit {0}
+AreMet write (item t ts) (r ∷ rs) = IsMet write t r × AreMet write ts rs
+
+asked_no_more : (a c d : Bool) → (a ≡ false) ⊎ (d ≡ false) → (a && true && c && d) ≡ false
+asked_no_more false c d h = refl
+asked_no_more true false d h = refl
+asked_no_more true true false h = refl
+asked_no_more true true true (inl e) = e
+asked_no_more true true true (inr e) = e
+
 module _ (write : Write) (rest : Pairs) (ordered : Bool) where
   abbrev pub batch_with : Items → ℤ → FreshIds → Tally → Batch
   batch_with ts z ids tally = record {
@@ -143,21 +164,20 @@ module _ (write : Write) (rest : Pairs) (ordered : Bool) where
     tally = tally;
   }
 
-  asked_itself : (t : Tree) (batch : Batch) → batch.write ≡ write → needs_id write t ≡ false → asked_statement batch t ≡ t
-  asked_itself (scalar s) batch same e = refl
-  asked_itself (array ts) batch same e = refl
-  asked_itself (document ps) batch same e =
-      ap (λ (qs : Pairs). document qs)
-      (ap (λ (b : Bool). if b then asked_upsert batch ps else ps) (ap (λ (w : Write). needs_id w (document ps)) same ∙ e))
+  asked_so : (t : Tree) (left : Items) (z : ℤ) (ids : FreshIds) (tally : Tally) → asked_statement (batch_with left z ids tally) t ≡ asked_first write t
+  asked_so (scalar s) left z ids tally = refl
+  asked_so (array ts) left z ids tally = refl
+  asked_so (document ps) left z ids tally = refl
 
-  replied : (t : Tree) (ts : Items) (z : ℤ) (ids : FreshIds) (tally : Tally) (reply : Pairs) → needs_id write t ≡ false → refused reply ≡ None
-      → after_reply (batch_with (item t ts) z ids tally) reply
-      ≡ batch_with ts (saturate_signed w32 (z +ℤ pos 1)) (next_ids ids) (with_reply z reply tally)
-  replied t ts z ids tally reply none done =
+  replied : (t : Tree) (ts : Items) (z : ℤ) (ids : FreshIds) (tally : Tally) (r : Pairs) → IsMet write t r → refused (ok_reply r) ≡ None
+      → after_reply (batch_with (item t ts) z ids tally) (ok_reply r)
+      ≡ batch_with ts (saturate_signed w32 (z +ℤ pos 1)) (next_ids ids) (with_reply z (ok_reply r) tally)
+  replied t ts z ids tally r met done =
       let batch = batch_with (item t ts) z ids tally in
+      let reply = ok_reply r in
       let next = passed (with_tally batch reply) reply in
       let found_some : finds_nothing batch reply ≡ false =
-      ap (λ (b : Bool). b && not batch.is_new && is_none (refused reply) && is_zero_count (lookup reply (codes "n"))) none in
+      asked_no_more (needs_id write t) (is_none (refused reply)) (is_zero_count (lookup reply (codes "n"))) met in
       ap (λ (b : Bool). if b then record batch { is_new = true } else next) found_some
       ∙ ap (λ (left : Items). batch_with left (saturate_signed w32 (z +ℤ pos 1)) (next_ids ids) (with_reply z reply tally))
       (ap (λ (b : Bool). if b then no_items else ts) (ap (λ (o : Option ℤ). ordered && is_some o) done ∙ and_no ordered))
@@ -170,7 +190,8 @@ module _ (write : Write) (rest : Pairs) (ordered : Bool) where
         ≡ (new, batch_with no_items index left_ids (tallied z replies tally))
 
   pub all_asked : (connection : ℕ) (ts : Items) (cs : List Command) (world new : World) (replies : List Pairs) (z : ℤ) (ids : FreshIds) (tally : Tally)
-      → NeedNoIds write ts → AreCommands (with_one write rest) ts cs → run_in_turn world connection cs ≡ Ok (new, replies) → AreDone replies
+      → AreMet write ts replies → AreCommands (λ t. with_one write rest (asked_first write t)) ts cs
+      → run_in_turn world connection cs ≡ Ok (new, replies) → AreDone replies
       → Ends connection ts world new replies z ids tally
   all_asked connection no_items (c ∷ cs) world new replies z ids tally none are e done = absurd are
   all_asked connection (item t ts) [] world new replies z ids tally none are e done = absurd are
@@ -204,13 +225,13 @@ module _ (write : Write) (rest : Pairs) (ordered : Bool) where
       let next = batch_with ts (saturate_signed w32 (z +ℤ pos 1)) (next_ids ids) (with_reply z (ok_reply r) tally) in
       let rest_of = all_asked connection ts cs first.0.0 new rs (saturate_signed w32 (z +ℤ pos 1)) (next_ids ids) (with_reply z (ok_reply r) tally) none.1 are.1
       ran done.1 in
-      let stepped : step world connection (Ok (with_one write rest t)) ≡ (first.0.0, ok_reply r) =
+      let stepped : step world connection (Ok (with_one write rest (asked_first write t))) ≡ (first.0.0, ok_reply r) =
       ap (λ (x : Result Command Refusal). answered world (x >>= (λ command. run world connection command))) are.0
       ∙ ap (answered world) first.1 ∙ (λ k. (first.0.0, ok_reply (reply_is k))) in
       let asked : asked_next (next_command (item t ts) batch) world connection batch ≡ (first.0.0, next) =
-      ap (λ (u : Tree). with_reply_of (step world connection (Ok (with_one write rest u))) batch) (asked_itself t batch refl none.0)
+      ap (λ (u : Tree). with_reply_of (step world connection (Ok (with_one write rest u))) batch) (asked_so t (item t ts) z ids tally)
       ∙ ap (λ (x : World × Pairs). with_reply_of x batch) stepped
-      ∙ (λ k. (first.0.0, replied t ts z ids tally (ok_reply r) none.0 done.0 k)) in
+      ∙ (λ k. (first.0.0, replied t ts z ids tally r none.0 done.0 k)) in
       record {
         index = rest_of.index;
         left_ids = rest_of.left_ids;

@@ -54,6 +54,15 @@ put_each_all [] ds all are = all
 put_each_all (d ∷ news) ds all are =
     put_each_all news (put_document d ds) (put_all d ds all (All-head IsDocument d news are)) (All-tail IsDocument d news are)
 
+-- a statement alone writes what it writes
+pub alone_writes : (s : UpdateStatement) (ds : List Pairs) → writes_of (s ∷ []) ds ≡ statement_writes s ds
+alone_writes s ds = ap (λ (ws : List DocumentWrite). statement_writes s ds ++ ws) (none_behind (run_listed 0 s (not_listed ds)))
+    ∙ append-nil (statement_writes s ds)
+  where
+    none_behind : (r : Result Listed Refusal) → unless_refused (writes_from 1 []) r ≡ []
+    none_behind (Ok l) = refl
+    none_behind (Err e) = refl
+
 module _ (s : UpdateStatement) (make : MakesDocuments s) where
   -- ---- what is left
 
@@ -126,15 +135,6 @@ module _ (s : UpdateStatement) (make : MakesDocuments s) where
       at true = changes_all (updated_by s ds) (updated s.multi)
       at false = made_all
 
-  -- a statement alone writes what it writes
-  pub alone_writes : (ds : List Pairs) → writes_of (s ∷ []) ds ≡ statement_writes s ds
-  alone_writes ds = ap (λ (ws : List DocumentWrite). statement_writes s ds ++ ws) (none_behind (run_listed 0 s (not_listed ds)))
-      ∙ append-nil (statement_writes s ds)
-    where
-      none_behind : (r : Result Listed Refusal) → unless_refused (writes_from 1 []) r ≡ []
-      none_behind (Ok l) = refl
-      none_behind (Err e) = refl
-
 -- ---- documents with the same bytes
 
 same_document : (a b : Pairs) → IsDocument a → IsDocument b → IsStored b → spelled a ≡ spelled b → a ≡ b
@@ -180,7 +180,7 @@ has_left i s l m alone read make good e is same =
       stored = good.kept.1;
     } in
     let leads : map spelled (put_each (documents_in (statement_writes s ds)) ds) ≡ map spelled m.documents =
-    ap (λ (ws : List DocumentWrite). map spelled (put_each (documents_in ws) ds)) (sym (alone_writes s make ds))
+    ap (λ (ws : List DocumentWrite). map spelled (put_each (documents_in ws) ds)) (sym (alone_writes s ds))
     ∙ writes_lead (s ∷ []) ds alone such run ∙ ap (map spelled) (sym same) in
     record {
       good = record { kept = kept; documents = all };

@@ -15,3 +15,5 @@ pub mod Spelled
 pub mod OwnField
 pub mod Asking
 pub mod Answering
+pub mod Waiting
+pub mod Matching

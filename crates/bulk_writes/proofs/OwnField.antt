@@ -17,7 +17,7 @@ use Rattle.commands.specs.Statements.{each_of, statements_in}
 equal_names : (a b : List ℕ) → bytes_eq a b ≡ true → bytes_eq b a ≡ true
 equal_names a b e = (bytes_eq-Decides b a).1 (sym ((bytes_eq-Decides a b).0 e))
 
-other_names : (a b : List ℕ) → a ≢ b → (bytes_eq a b ≡ false) × (bytes_eq b a ≡ false)
+pub other_names : (a b : List ℕ) → a ≢ b → (bytes_eq a b ≡ false) × (bytes_eq b a ≡ false)
 other_names a b differ = (at (bytes_eq a b) refl, by (bytes_eq b a) refl)
   where
     at : (c : Bool) → bytes_eq a b ≡ c → c ≡ false

@@ -32,31 +32,31 @@ use Rattle.bulk_writes.proofs.Values.{IfGiven}
 
 -- ---- what isn't refused
 
-then_given : {A B : Type 0} (P : A → Type 0) (Q : B → Type 0) (r : Result A Refusal) (f : A → Result B Refusal) → IfGiven P r
+pub then_given : {A B : Type 0} (P : A → Type 0) (Q : B → Type 0) (r : Result A Refusal) (f : A → Result B Refusal) → IfGiven P r
     → ((x : A) → P x → IfGiven Q (f x)) → IfGiven Q (r >>= f)
 then_given P Q (Ok x) f h go = go x h
 then_given P Q (Err e) f h go = tt
 
-abbrev Any : {X : Type 0} → X → Type 0
+abbrev pub Any : {X : Type 0} → X → Type 0
 Any x = Unit {0}
 
-any_given : {X : Type 0} (r : Result X Refusal) → IfGiven (λ (x : X). Any x) r
+pub any_given : {X : Type 0} (r : Result X Refusal) → IfGiven (λ (x : X). Any x) r
 any_given (Ok x) = tt
 any_given (Err e) = tt
 
-abbrev IfSomeOf : {X : Type 0} → (X → Type 0) → Option X → Type 0
+abbrev pub IfSomeOf : {X : Type 0} → (X → Type 0) → Option X → Type 0
 IfSomeOf P None = Unit {0}
 IfSomeOf P (Some x) = P x
 
-some_given : {X : Type 0} (P : X → Type 0) (o : Option X) (e : Refusal) → IfSomeOf P o → IfGiven P (or_refused o e)
+pub some_given : {X : Type 0} (P : X → Type 0) (o : Option X) (e : Refusal) → IfSomeOf P o → IfGiven P (or_refused o e)
 some_given P None e h = tt
 some_given P (Some x) e h = h
 
-unless_given : {X : Type 0} (P : X → Type 0) (b : Bool) (e : Refusal) (r : Result X Refusal) → IfGiven P r → IfGiven P (unless b e r)
+pub unless_given : {X : Type 0} (P : X → Type 0) (b : Bool) (e : Refusal) (r : Result X Refusal) → IfGiven P r → IfGiven P (unless b e r)
 unless_given P true e r h = tt
 unless_given P false e r h = h
 
-it_is : {X : Type 0} (P : X → Type 0) (r : Result X Refusal) (x : X) → IfGiven P r → r ≡ Ok x → P x
+pub it_is : {X : Type 0} (P : X → Type 0) (r : Result X Refusal) (x : X) → IfGiven P r → r ≡ Ok x → P x
 it_is P r x h e = subst (IfGiven P) e h
 
 -- ---- a statement
@@ -84,7 +84,7 @@ makes_documents s h = record {
       subst IsDocument same (of_applied s.change b.0 n.0 h.change (it_is IsPairs (base_of s.filter) b.0 (base_given s.filter h.top) b.1) n.1);
 }
 
-document_given : {X : Type 0} (P : X → Type 0) (read : Pairs → Result X Refusal) → ((ps : Pairs) → IsPairs ps → IfGiven P (read ps)) → (t : Tree) → IsTree t
+pub document_given : {X : Type 0} (P : X → Type 0) (read : Pairs → Result X Refusal) → ((ps : Pairs) → IsPairs ps → IfGiven P (read ps)) → (t : Tree) → IsTree t
     → IfGiven P (spelled_in read t)
 document_given P read reads (document ps) h = reads ps h
 document_given P read reads (array ts) h = tt

@@ -99,7 +99,7 @@ module _ (connection : ℕ) (name : List ℕ) where
     cs = world.collections
 
     writes_so : writes_in name (s ∷ []) cs ≡ statement_writes s ds
-    writes_so = alone_writes s make (documents_of cs name) ∙ ap (statement_writes s) there
+    writes_so = alone_writes s (documents_of cs name) ∙ ap (statement_writes s) there
 
     room : (new : Pairs) → upsert_document s ≡ Ok new → (c : Changed) → update_from s (not_changed (not_updated cs)) (documents_of cs name) ≡ Ok c
         → (not c.found && s.upsert) ≡ true → is_full cs name ≡ false
