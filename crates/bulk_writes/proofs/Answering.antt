@@ -12,7 +12,7 @@ use Rattle.bson.specs.EditPlaces.{append_items-none}
 use Rattle.bson.specs.Edits.{cut, items_len, put}
 use Rattle.bson.specs.Lawful.{IsDocument, IsItems, IsPairs, IsTree}
 use Rattle.bson.specs.Lookup.{lookup}
-use Rattle.bson.specs.Tree.{Tree, scalar, document, array, item, Pairs, pair, no_pairs, Items, no_items, append_items}
+use Rattle.bson.specs.Tree.{Tree, scalar, int32, document, array, item, Pairs, pair, no_pairs, Items, no_items, append_items}
 use Rattle.outcome.specs.Outcome.{◌>>=◌}
 use Rattle.path.specs.declared.refusal.Refusal.{Refusal}
 use Rattle.commands.specs.Command.{as_command, Command, command_of, delete, insert, update}
@@ -24,22 +24,31 @@ use Rattle.commands.specs.Update.{IsRead, no_update_fields, read_statement, read
 use Rattle.commands.specs.Values.{document_in, spelled_in}
 use Rattle.database_model.specs.Lawful.{IsHeld}
 use Rattle.database_model.specs.Refusals.{ok_reply, total}
-use Rattle.database_model.specs.Step.{run}
+use Rattle.database_model.specs.Step.{answered as answered_with, run, step}
 use Rattle.database_model.specs.Update.{counts_reply}
 use Rattle.database_model.specs.UpdateCommand.{run_update}
 use Rattle.database_model.specs.World.{World}
+use Rattle.driver_replies.specs.declared.batch.Batch.{Batch}
 use Rattle.driver_replies.specs.declared.fresh_ids.FreshIds.{FreshIds}
 use Rattle.driver_replies.specs.declared.tally.Tally.{Tally}
 use Rattle.driver_replies.specs.declared.writes.Write.{Write}
 use Rattle.driver_replies.specs.declared.writes.Write.TheVariants as writes
 use Rattle.driver_replies.specs.Fields.{long}
-use Rattle.driver_replies.specs.Tallies.{no_tally, refused, with_counts, with_list, with_reply, write_reply}
+use Rattle.driver_replies.specs.Tallies.{code_in, no_tally, refused, with_counts, with_list, with_reply, write_reply}
+use Rattle.driver_replies.specs.WriteErrors.{refused_statement}
 use Rattle.driver_replies.specs.Writes.{batch_of, field_of, is_update, statements_in, write_of, is_upsert, needs_id}
-use Rattle.bulk_writes.specs.AskedLaws.{AnsweredAlike, AreAnswered}
+use Rattle.drivers.specs.Answering.{answered, answered_by, statement_step, whole_step, widened}
+use Rattle.drivers.specs.declared.plan.Plan.{Plan}
+use Rattle.drivers.specs.declared.plan.Wait.{Wait}
+use Rattle.drivers.specs.declared.plan.Wait.TheVariants as waits
+use Rattle.drivers.specs.declared.step.Step.TheVariants as steps
+use Rattle.drivers.specs.Starting.{unheard}
+use Rattle.bulk_writes.specs.AskedLaws.{AnsweredAlike, asked_each, heard}
 use Rattle.bulk_writes.specs.InTurn.{delete_one, insert_one, run_in_turn, update_one}
 use Rattle.bulk_writes.specs.Laws.{n_reply, ones, taken_in, total_reply}
 use Rattle.bulk_writes.specs.UpdateLaws.{Counts, entries_from, entry_of, told}
-use Rattle.bulk_writes.proofs.Asking.{all_asked, are_commands, AreCommands, AreDone, batch_with, Parts, parts_of, tallied, with_one, asked_first, AreMet, IsMet}
+use Rattle.bulk_writes.proofs.Asking.{all_asked, are_commands, AreCommands, AreDone, batch_with, Parts, parts_of, tallied, with_one, asked_first}
+use Rattle.bulk_writes.proofs.Asking.{AreMet, IsMet, next_of, not_reworded}
 use Rattle.bulk_writes.proofs.Matching.{alike}
 use Rattle.bulk_writes.proofs.OwnField.{AreEach}
 use Rattle.bulk_writes.proofs.Spelled.{are_spelled}
@@ -156,18 +165,34 @@ module _ (write : Write) (never : (t : Tree) → needs_id write t ≡ false) whe
 
 -- ---- all are asked
 
+-- What is known of the reply of a whole: no refusal, and what drivers are told then.
+record IsTold (reply answer : Pairs) : Type 0 where
+  done : refused (ok_reply reply) ≡ None
+  wide : widened (ok_reply reply) ≡ answer
+
+final_so : (plan : Plan) (batch : Batch) (reply answer : Pairs) → IsTold reply answer → plan.wait ≡ waits.Batch batch
+    → answered plan (ok_reply reply) ≡ (record plan { wait = waits.Plain }, unheard plan.more_to_come (steps.Reply answer))
+final_so plan batch reply answer h is =
+    ap (λ (w : Wait). answered_by w plan (ok_reply reply)) is
+    ∙ ap (λ (o : Option ℤ). whole_step o plan batch (ok_reply reply)) (none_of (lookup (ok_reply reply) (codes "code")) h.done)
+    ∙ ap (λ (r : Pairs). (record plan { wait = waits.Plain }, unheard plan.more_to_come (steps.Reply r)))
+    (ap widened (not_reworded plan.database plan.collection (ok_reply reply) h.done) ∙ h.wide)
+  where
+    none_of : (o : Option Tree) → code_in o ≡ None → refused_statement o ≡ None
+    none_of (Some (scalar (int32 z))) e = absurd cc
+    none_of other e = refl
+
 answered_so : (write : Write) (rest : Pairs) (ordered : Bool) (connection : ℕ) (ids : FreshIds) (left ts : Items) (cs : List Command) (world new : World)
-    (replies : List Pairs) (answer : Pairs) → left ≡ ts → AreMet write ts replies → AreCommands (λ t. with_one write rest (asked_first write t)) ts cs
+    (replies : List Pairs) (reply answer : Pairs) (plan : Plan) → left ≡ ts → AreMet write ts replies
+    → AreCommands (λ t. with_one write rest (asked_first write t)) ts cs
     → run_in_turn world connection cs ≡ Ok (new, replies) → AreDone replies → write_reply (is_update write) (tallied (pos 0) replies no_tally) ≡ answer
-    → AreAnswered world connection (batch_with write rest ordered left (pos 0) ids no_tally) new answer
-answered_so write rest ordered connection ids left ts cs world new replies answer is met are ran done says =
-    let e = all_asked write rest ordered connection ts cs world new replies (pos 0) ids no_tally met are ran done in
-    subst (λ (us : Items). AreAnswered world connection (batch_with write rest ordered us (pos 0) ids no_tally) new answer) (sym is) (record {
-      end = batch_with write rest ordered no_items e.index e.left_ids (tallied (pos 0) replies no_tally);
-      asked = e.is;
-      all = refl;
-      answers = says;
-    })
+    → IsTold reply answer → plan.wait ≡ waits.Batch (batch_with write rest ordered left (pos 0) ids no_tally)
+    → asked_each (items_len left) connection (world, next_of write rest ordered plan left (pos 0) ids no_tally) ≡ (new, answered plan (ok_reply reply))
+answered_so write rest ordered connection ids left ts cs world new replies reply answer plan is met are ran done says told_so waits_so =
+    let e = all_asked write rest ordered connection plan ts cs world new replies (pos 0) ids no_tally met are ran done in
+    ap (λ (us : Items). asked_each (items_len us) connection (world, next_of write rest ordered plan us (pos 0) ids no_tally)) is ∙ e.is
+    ∙ ap (λ (r : Pairs). (new, (record plan { wait = waits.Plain }, unheard plan.more_to_come (steps.Reply r)))) says
+    ∙ (λ k. (new, sym (final_so plan (batch_with write rest ordered left (pos 0) ids no_tally) reply answer told_so waits_so) k))
 
 -- ---- statements that wait
 
@@ -212,13 +237,13 @@ module _ (connection : ℕ) (namespace : List ℕ) (rest : Pairs)
             met = inr a.counts;
           }
 
-  waits : (ts : Items) (ss : List UpdateStatement) → IsItems ts → AreEach (spelled_in read_statement) ts ss
+  all_wait : (ts : Items) (ss : List UpdateStatement) → IsItems ts → AreEach (spelled_in read_statement) ts ss
       → All (λ (s : UpdateStatement). IsRead s.change) ss → (world new : World) (replies : List Pairs)
       → run_in_turn world connection (map (update_one namespace) ss) ≡ Ok (new, replies) → Waits connection namespace rest ts world new replies
-  waits no_items [] h each read world new replies e = record { asked = []; commands = tt; ran = e; met = tt }
-  waits no_items (s ∷ ss) h each read world new replies e = absurd each
-  waits (item t ts) [] h each read world new replies e = absurd each
-  waits (item t ts) (s ∷ ss) h each read world new replies e =
+  all_wait no_items [] h each read world new replies e = record { asked = []; commands = tt; ran = e; met = tt }
+  all_wait no_items (s ∷ ss) h each read world new replies e = absurd each
+  all_wait (item t ts) [] h each read world new replies e = absurd each
+  all_wait (item t ts) (s ∷ ss) h each read world new replies e =
       let first = step_of (run_update world (record { namespace = namespace; statements = s ∷ [] }))
       (λ x. run_in_turn x.0 connection (map (update_one namespace) ss)
       >>= (λ y. let r : Result (World × List Pairs) Refusal = Ok (y.0, x.1 ∷ y.1) in r)) (new, replies) e in
@@ -226,7 +251,7 @@ module _ (connection : ℕ) (namespace : List ℕ) (rest : Pairs)
       (λ y. let r : Result (World × List Pairs) Refusal = Ok (y.0, first.0.1 ∷ y.1) in r) (new, replies) first.2 in
       let same : ◌≡◌ {A = World × List Pairs} (later.0.0, first.0.1 ∷ later.0.1) (new, replies) = cc in
       let one = one_waits t s h.0 each.0 (read 0 s (omega arith)) world first.0.0 first.0.1 first.1 in
-      let others = waits ts ss h.1 each.1 (λ k d below. read (suc k) d (omega (arith, below))) first.0.0 later.0.0 later.0.1 later.1 in
+      let others = all_wait ts ss h.1 each.1 (λ k d below. read (suc k) d (omega (arith, below))) first.0.0 later.0.0 later.0.1 later.1 in
       subst (λ (x : World × List Pairs). Waits connection namespace rest (item t ts) world x.0 x.1) same (record {
         asked = one.asked ∷ others.asked;
         commands = (one.command, others.commands);
@@ -237,10 +262,32 @@ module _ (connection : ℕ) (namespace : List ℕ) (rest : Pairs)
       })
 
 module _ (world new : World) (connection : ℕ) (ordered : Bool) (ids : FreshIds) (t : Tree) (ps : Pairs) (c : Command) (reply : Pairs)
-    (ran : run world connection c ≡ Ok (new, reply)) where
+    (ran : run world connection c ≡ Ok (new, reply)) (plan : Plan) where
   abbrev Answered : Write → List ℕ → Type 0
   Answered write name =
-      AreAnswered world connection (batch_of write ordered ids (pair name t ps)) new (put (ok_reply reply) (codes "ok") (long (pos 1)))
+      plan.wait ≡ waits.Batch (batch_of write ordered ids (pair name t ps))
+      → asked_each (items_len (batch_of write ordered ids (pair name t ps)).left) connection
+      (world, statement_step plan (batch_of write ordered ids (pair name t ps)))
+      ≡ (new, answered plan (ok_reply reply))
+
+  abbrev answer : Pairs
+  answer = put (ok_reply reply) (codes "ok") (long (pos 1))
+
+  -- a reply that says a number
+  told_number : (n : ℕ) → reply ≡ n_reply n → IsTold reply answer
+  told_number n is = subst (λ (r : Pairs). IsTold r (put (ok_reply r) (codes "ok") (long (pos 1)))) (sym is) (record { done = refl; wide = refl })
+
+  -- or what an update did
+  told_update : (a b : ℕ) (made : Items) → reply ≡ counts_reply a b made → IsTold reply answer
+  told_update a b made is =
+      subst (λ (r : Pairs). IsTold r (put (ok_reply r) (codes "ok") (long (pos 1)))) (sym is) (at (items_len made == 0))
+    where
+      at : (e : Bool)
+          → IsTold (pair (codes "n") (total a) (pair (codes "nModified") (total b) (if e then no_pairs else pair (codes "upserted") (array made) no_pairs)))
+          (put (ok_reply (pair (codes "n") (total a) (pair (codes "nModified") (total b)
+          (if e then no_pairs else pair (codes "upserted") (array made) no_pairs)))) (codes "ok") (long (pos 1)))
+      at true = record { done = refl; wide = refl }
+      at false = record { done = refl; wide = refl }
 
   abbrev Left : Write → List ℕ → Items
   Left write name = statements_in (lookup (pair name t ps) (field_of write))
@@ -275,7 +322,7 @@ module _ (world new : World) (connection : ℕ) (ordered : Bool) (ids : FreshIds
       ∙ ap (λ (rs : List Pairs). Ok (new, rs)) (ones_are p.all) in
       let number : clamped (0 + sum (one_for p.all)) ≡ length p.all = omega (arith, ones_sum p.all, within.1, same_length) in
       answered_so writes.Insert (pair (codes "insert") t (cut ps (codes "documents"))) ordered connection ids (Left writes.Insert (codes "insert")) p.items
-      (map (insert_one p.namespace) p.all) world new (map total_reply (one_for p.all)) (put (ok_reply reply) (codes "ok") (long (pos 1)))
+      (map (insert_one p.namespace) p.all) world new (map total_reply (one_for p.all)) reply answer plan
       (ap statements_in p.there) (all_met writes.Insert (λ v. refl) p.items (map total_reply (one_for p.all)))
       (are_commands document_in (λ u. with_one writes.Insert (pair (codes "insert") t (cut ps (codes "documents"))) (asked_first writes.Insert u))
       (insert_one p.namespace)
@@ -285,6 +332,7 @@ module _ (world new : World) (connection : ℕ) (ordered : Bool) (ids : FreshIds
       (ap (write_reply false) (totals (pos 0) (one_for p.all) 0 0 no_items)
       ∙ ap (λ (n : ℕ). put (ok_reply (n_reply n)) (codes "ok") (long (pos 1))) number
       ∙ ap (λ (r : Pairs). put (ok_reply r) (codes "ok") (long (pos 1))) (sym says))
+      (told_number (length p.all) says)
 
   -- ---- delete
 
@@ -314,7 +362,7 @@ module _ (world new : World) (connection : ℕ) (ordered : Bool) (ids : FreshIds
       let says : total_reply (sum (taken_in world d)) ≡ reply = ap (λ (y : World × Pairs). y.1) both in
       let number : clamped (0 + sum (taken_in world d)) ≡ clamped (sum (taken_in world d)) = omega arith in
       answered_so writes.Delete (pair (codes "delete") t (cut ps (codes "deletes"))) ordered connection ids (Left writes.Delete (codes "delete")) p.items
-      (map (delete_one p.namespace) p.all) world new (map total_reply (taken_in world d)) (put (ok_reply reply) (codes "ok") (long (pos 1)))
+      (map (delete_one p.namespace) p.all) world new (map total_reply (taken_in world d)) reply answer plan
       (ap statements_in p.there) (all_met writes.Delete (λ v. refl) p.items (map total_reply (taken_in world d)))
       (are_commands (spelled_in read_deletion) (λ u. with_one writes.Delete (pair (codes "delete") t (cut ps (codes "deletes"))) (asked_first writes.Delete u))
       (delete_one p.namespace)
@@ -324,6 +372,7 @@ module _ (world new : World) (connection : ℕ) (ordered : Bool) (ids : FreshIds
       (ap (write_reply false) (totals (pos 0) (taken_in world d) 0 0 no_items)
       ∙ ap (λ (n : ℕ). put (ok_reply (n_reply n)) (codes "ok") (long (pos 1))) number
       ∙ ap (λ (r : Pairs). put (ok_reply r) (codes "ok") (long (pos 1))) says)
+      (told_number (clamped (sum (taken_in world d))) (sym says))
 
   -- ---- update
 
@@ -373,17 +422,18 @@ module _ (world new : World) (connection : ℕ) (ordered : Bool) (ids : FreshIds
         within.1,
       ) in
       let items_are : IsItems p.items = subst IfThere p.there (field_there ps (codes "updates") lawful.lawful.3) in
-      let w = waits connection p.namespace (pair (codes "update") t (cut ps (codes "updates"))) (λ u y reads. ap (as_command update) (p.again u y reads))
+      let w = all_wait connection p.namespace (pair (codes "update") t (cut ps (codes "updates"))) (λ u y reads. ap (as_command update) (p.again u y reads))
       p.items p.all items_are p.each (are_spelled (pair (codes "update") t ps) d lawful spells).read world new (map (λ y. told (y ∷ [])) law.counts) law.same in
       let matched : 0 + matched_in law.counts ≡ matched_in law.counts = omega arith in
       let modified : 0 + modified_in law.counts ≡ modified_in law.counts = omega arith in
       answered_so writes.Update (pair (codes "update") t (cut ps (codes "updates"))) ordered connection ids (Left writes.Update (codes "update")) p.items
-      (map (update_one p.namespace) w.asked) world new (map (λ y. told (y ∷ [])) law.counts) (put (ok_reply reply) (codes "ok") (long (pos 1)))
+      (map (update_one p.namespace) w.asked) world new (map (λ y. told (y ∷ [])) law.counts) reply answer plan
       (ap statements_in p.there) w.met w.commands w.ran (told_done law.counts)
       (ap (write_reply true) (all_told 0 law.counts 0 0 no_items few)
       ∙ all_say (0 + matched_in law.counts) (0 + modified_in law.counts) (entries_from 0 law.counts)
       ∙ (λ k. put (ok_reply (counts_reply (matched k) (modified k) (entries_from 0 law.counts))) (codes "ok") (long (pos 1)))
       ∙ ap (λ (r : Pairs). put (ok_reply r) (codes "ok") (long (pos 1))) (sym law.counted))
+      (told_update (matched_in law.counts) (modified_in law.counts) (entries_from 0 law.counts) law.counted)
 
   -- ---- the law
 
@@ -409,5 +459,10 @@ module _ (world new : World) (connection : ℕ) (ordered : Bool) (ids : FreshIds
       at false false false f g h k = absurd cc
 
 pub answered_alike : AnsweredAlike
-answered_alike world new connection write ordered ids name t ps c reply is lawful spells held ran =
-    by_name world new connection ordered ids t ps c reply ran write name held is lawful spells
+answered_alike world new connection write ordered ids name t ps c reply plan batch is lawful spells held ran made waits_so =
+    let whole : step world connection (Ok (pair name t ps)) ≡ (new, ok_reply reply) =
+    ap (λ (x : Result Command Refusal). answered_with world (x >>= (λ command. run world connection command))) spells ∙ ap (answered_with world) ran in
+    let same = by_name world new connection ordered ids t ps c reply ran plan write name held is lawful spells
+    (waits_so ∙ ap (λ (b : Batch). waits.Batch b) (sym made)) in
+    ap (λ (b : Batch). asked_each (items_len b.left) connection (world, statement_step plan b)) (sym made) ∙ same
+    ∙ sym (ap (λ (x : World × Pairs). heard x plan) whole)

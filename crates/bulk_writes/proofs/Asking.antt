@@ -5,7 +5,7 @@ use Rattle.std.specs.Int.{saturate_signed, w32}
 use Rattle.bson.specs.Edits.{cut, items_len, put}
 use Rattle.bson.specs.Lawful.{IsPairs}
 use Rattle.bson.specs.Lookup.{lookup}
-use Rattle.bson.specs.Tree.{Tree, scalar, document, array, Pairs, Items, no_items, item}
+use Rattle.bson.specs.Tree.{Tree, scalar, int32, document, array, Pairs, Items, no_items, item}
 use Rattle.outcome.specs.Outcome.{◌>>=◌, or_refused}
 use Rattle.path.specs.declared.refusal.Refusal.{Refusal}
 use Rattle.path.specs.declared.refusal.Refusal.TheVariants as refusals
@@ -15,16 +15,21 @@ use Rattle.commands.specs.Names.{namespace_of}
 use Rattle.commands.specs.OutcomeLaws.{step_of}
 use Rattle.commands.specs.Values.{text_in}
 use Rattle.database_model.specs.Refusals.{ok_reply}
-use Rattle.database_model.specs.Step.{answered, run, step}
+use Rattle.database_model.specs.Step.{answered as answered_with, run, step}
 use Rattle.database_model.specs.World.{World}
 use Rattle.driver_replies.specs.declared.batch.Batch.{Batch}
 use Rattle.driver_replies.specs.declared.fresh_ids.FreshIds.{FreshIds}
 use Rattle.driver_replies.specs.declared.tally.Tally.{Tally}
 use Rattle.driver_replies.specs.declared.writes.Write.{Write}
-use Rattle.driver_replies.specs.Tallies.{refused, with_reply}
+use Rattle.driver_replies.specs.Tallies.{code_in, refused, with_reply}
 use Rattle.driver_replies.specs.Writes.{after_reply, asked_statement, field_of, finds_nothing, is_zero_count, needs_id, next_command}
 use Rattle.driver_replies.specs.Writes.{next_ids, passed, with_tally}
-use Rattle.bulk_writes.specs.AskedLaws.{asked_each, asked_next, with_reply_of}
+use Rattle.drivers.specs.Answering.{answered, next_statement, reworded, statement_step, text_for, with_text}
+use Rattle.drivers.specs.declared.plan.Plan.{Plan}
+use Rattle.drivers.specs.declared.plan.Wait.{Wait}
+use Rattle.drivers.specs.declared.plan.Wait.TheVariants as waits
+use Rattle.drivers.specs.declared.step.Step.{Step}
+use Rattle.bulk_writes.specs.AskedLaws.{asked_each, heard}
 use Rattle.bulk_writes.specs.InTurn.{run_in_turn}
 use Rattle.bulk_writes.proofs.OwnField.{all_in, AreEach, by_field, has_items, its_field, one_in}
 
@@ -151,6 +156,21 @@ asked_no_more true true false h = refl
 asked_no_more true true true (inl e) = e
 asked_no_more true true true (inr e) = e
 
+-- what is kept of a plan is replaced
+waits_anyway : (plan : Plan) (wait : Wait) (o : Option Pairs) (batch : Batch)
+    → next_statement o (record plan { wait = wait }) batch ≡ next_statement o plan batch
+waits_anyway plan wait None batch = refl
+waits_anyway plan wait (Some command) batch = refl
+
+-- only a refusal is told in other words
+no_text : (o : Option Tree) (database collection : List ℕ) → code_in o ≡ None → text_for o database collection ≡ None
+no_text (Some (scalar (int32 z))) database collection e = absurd cc
+no_text other database collection e = refl
+
+pub not_reworded : (database collection : List ℕ) (reply : Pairs) → refused reply ≡ None → reworded database collection reply ≡ reply
+not_reworded database collection reply done =
+    ap (λ (o : Option (List ℕ)). with_text o reply) (no_text (lookup reply (codes "code")) database collection done)
+
 module _ (write : Write) (rest : Pairs) (ordered : Bool) where
   abbrev pub batch_with : Items → ℤ → FreshIds → Tally → Batch
   batch_with ts z ids tally = record {
@@ -182,27 +202,40 @@ module _ (write : Write) (rest : Pairs) (ordered : Bool) where
       ∙ ap (λ (left : Items). batch_with left (saturate_signed w32 (z +ℤ pos 1)) (next_ids ids) (with_reply z reply tally))
       (ap (λ (b : Bool). if b then no_items else ts) (ap (λ (o : Option ℤ). ordered && is_some o) done ∙ and_no ordered))
 
+  -- what is done first, and then
+  abbrev pub next_of : Plan → Items → ℤ → FreshIds → Tally → Plan × Step
+  next_of plan ts z ids tally = next_statement (next_command ts (batch_with ts z ids tally)) plan (batch_with ts z ids tally)
+
+  heard_next : (plan : Plan) (t : Tree) (ts : Items) (z : ℤ) (ids : FreshIds) (tally : Tally) (r : Pairs) → IsMet write t r → refused (ok_reply r) ≡ None
+      → answered (record plan { wait = waits.Statement (batch_with (item t ts) z ids tally) }) (ok_reply r)
+      ≡ next_of plan ts (saturate_signed w32 (z +ℤ pos 1)) (next_ids ids) (with_reply z (ok_reply r) tally)
+  heard_next plan t ts z ids tally r met done =
+      let batch = batch_with (item t ts) z ids tally in
+      let waiting : Plan = record plan { wait = waits.Statement batch } in
+      let next = batch_with ts (saturate_signed w32 (z +ℤ pos 1)) (next_ids ids) (with_reply z (ok_reply r) tally) in
+      ap (λ (reply : Pairs). statement_step waiting (after_reply batch reply)) (not_reworded plan.database plan.collection (ok_reply r) done)
+      ∙ ap (statement_step waiting) (replied t ts z ids tally r met done) ∙ waits_anyway plan (waits.Statement batch) (next_command ts next) next
+
   -- All are asked, and these are their replies.
-  pub record Ends (connection : ℕ) (ts : Items) (world new : World) (replies : List Pairs) (z : ℤ) (ids : FreshIds) (tally : Tally) : Type 0 where
+  pub record Ends (connection : ℕ) (plan : Plan) (ts : Items) (world new : World) (replies : List Pairs) (z : ℤ) (ids : FreshIds) (tally : Tally) : Type 0 where
     pub index : ℤ
     pub left_ids : FreshIds
-    pub is : asked_each (items_len ts) connection (world, batch_with ts z ids tally)
-        ≡ (new, batch_with no_items index left_ids (tallied z replies tally))
+    pub is : asked_each (items_len ts) connection (world, next_of plan ts z ids tally)
+        ≡ (new, next_of plan no_items index left_ids (tallied z replies tally))
 
-  pub all_asked : (connection : ℕ) (ts : Items) (cs : List Command) (world new : World) (replies : List Pairs) (z : ℤ) (ids : FreshIds) (tally : Tally)
-      → AreMet write ts replies → AreCommands (λ t. with_one write rest (asked_first write t)) ts cs
-      → run_in_turn world connection cs ≡ Ok (new, replies) → AreDone replies
-      → Ends connection ts world new replies z ids tally
-  all_asked connection no_items (c ∷ cs) world new replies z ids tally none are e done = absurd are
-  all_asked connection (item t ts) [] world new replies z ids tally none are e done = absurd are
-  all_asked connection no_items [] world new replies z ids tally none are e done =
+  pub all_asked : (connection : ℕ) (plan : Plan) (ts : Items) (cs : List Command) (world new : World) (replies : List Pairs) (z : ℤ) (ids : FreshIds)
+      (tally : Tally) → AreMet write ts replies → AreCommands (λ t. with_one write rest (asked_first write t)) ts cs
+      → run_in_turn world connection cs ≡ Ok (new, replies) → AreDone replies → Ends connection plan ts world new replies z ids tally
+  all_asked connection plan no_items (c ∷ cs) world new replies z ids tally met are e done = absurd are
+  all_asked connection plan (item t ts) [] world new replies z ids tally met are e done = absurd are
+  all_asked connection plan no_items [] world new replies z ids tally met are e done =
       let same : ◌≡◌ {A = World × List Pairs} (world, []) (new, replies) = cc in
       record {
         index = z;
         left_ids = ids;
-        is = λ k. (ap (λ (x : World × List Pairs). x.0) same k, batch_with no_items z ids (tallied z (ap (λ (x : World × List Pairs). x.1) same k) tally));
+        is = λ k. (ap (λ (x : World × List Pairs). x.0) same k, next_of plan no_items z ids (tallied z (ap (λ (x : World × List Pairs). x.1) same k) tally));
       }
-  all_asked connection (item t ts) (c ∷ cs) world new [] z ids tally none are e done =
+  all_asked connection plan (item t ts) (c ∷ cs) world new [] z ids tally met are e done =
       let first = step_of (run world connection c)
       (λ x. run_in_turn x.0 connection cs >>= (λ y. let r : Result (World × List Pairs) Refusal = Ok (y.0, x.1 ∷ y.1) in r)) (new, []) e in
       let later = step_of (run_in_turn first.0.0 connection cs)
@@ -210,7 +243,7 @@ module _ (write : Write) (rest : Pairs) (ordered : Bool) where
       let same : ◌≡◌ {A = World × List Pairs} (later.0.0, first.0.1 ∷ later.0.1) (new, []) = cc in
       let never : first.0.1 ∷ later.0.1 ≡ [] = ap (λ (x : World × List Pairs). x.1) same in
       absurd cc
-  all_asked connection (item t ts) (c ∷ cs) world new (r ∷ rs) z ids tally none are e done =
+  all_asked connection plan (item t ts) (c ∷ cs) world new (r ∷ rs) z ids tally met are e done =
       let first = step_of (run world connection c)
       (λ x. run_in_turn x.0 connection cs >>= (λ y. let r : Result (World × List Pairs) Refusal = Ok (y.0, x.1 ∷ y.1) in r)) (new, r ∷ rs) e in
       let later = step_of (run_in_turn first.0.0 connection cs)
@@ -221,17 +254,17 @@ module _ (write : Write) (rest : Pairs) (ordered : Bool) where
       let reply_is : first.0.1 ≡ r = cc in
       let replies_are : later.0.1 ≡ rs = cc in
       let ran : run_in_turn first.0.0 connection cs ≡ Ok (new, rs) = later.1 ∙ (λ k. Ok (ended k, replies_are k)) in
-      let batch = batch_with (item t ts) z ids tally in
-      let next = batch_with ts (saturate_signed w32 (z +ℤ pos 1)) (next_ids ids) (with_reply z (ok_reply r) tally) in
-      let rest_of = all_asked connection ts cs first.0.0 new rs (saturate_signed w32 (z +ℤ pos 1)) (next_ids ids) (with_reply z (ok_reply r) tally) none.1 are.1
-      ran done.1 in
+      let waiting : Plan = record plan { wait = waits.Statement (batch_with (item t ts) z ids tally) } in
+      let rest_of = all_asked connection plan ts cs first.0.0 new rs (saturate_signed w32 (z +ℤ pos 1)) (next_ids ids) (with_reply z (ok_reply r) tally) met.1
+      are.1 ran done.1 in
       let stepped : step world connection (Ok (with_one write rest (asked_first write t))) ≡ (first.0.0, ok_reply r) =
-      ap (λ (x : Result Command Refusal). answered world (x >>= (λ command. run world connection command))) are.0
-      ∙ ap (answered world) first.1 ∙ (λ k. (first.0.0, ok_reply (reply_is k))) in
-      let asked : asked_next (next_command (item t ts) batch) world connection batch ≡ (first.0.0, next) =
-      ap (λ (u : Tree). with_reply_of (step world connection (Ok (with_one write rest u))) batch) (asked_so t (item t ts) z ids tally)
-      ∙ ap (λ (x : World × Pairs). with_reply_of x batch) stepped
-      ∙ (λ k. (first.0.0, replied t ts z ids tally r none.0 done.0 k)) in
+      ap (λ (x : Result Command Refusal). answered_with world (x >>= (λ command. run world connection command))) are.0
+      ∙ ap (answered_with world) first.1 ∙ (λ k. (first.0.0, ok_reply (reply_is k))) in
+      let asked : heard (step world connection (Ok (with_one write rest (asked_statement (batch_with (item t ts) z ids tally) t)))) waiting
+      ≡ (first.0.0, next_of plan ts (saturate_signed w32 (z +ℤ pos 1)) (next_ids ids) (with_reply z (ok_reply r) tally)) =
+      ap (λ (u : Tree). heard (step world connection (Ok (with_one write rest u))) waiting) (asked_so t (item t ts) z ids tally)
+      ∙ ap (λ (x : World × Pairs). heard x waiting) stepped
+      ∙ (λ k. (first.0.0, heard_next plan t ts z ids tally r met.0 done.0 k)) in
       record {
         index = rest_of.index;
         left_ids = rest_of.left_ids;
