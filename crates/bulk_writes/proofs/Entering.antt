@@ -12,7 +12,7 @@ use Rattle.database_model.specs.Merging.{put_each}
 use Rattle.database_model.specs.UpdateCommand.{entered_in, written_in}
 use Rattle.database_model.specs.World.{collection_of, documents_of, documents_or_none}
 use Rattle.statements.specs.WriteLaws.{documents_in}
-use Rattle.bulk_writes.proofs.Putting.{found_put, put_append}
+use Rattle.bulk_writes.proofs.Putting.{found_put, put_append, room_put}
 
 each_append : (c : Collection) (a b : List DocumentWrite) → enter_each c (a ++ b) ≡ (enter_each c a >>= (λ m. enter_each m b))
 each_append c [] b = refl
@@ -50,6 +50,7 @@ module _ (name : List ℕ) where
   -- what is written where there is room
   pub record IsWritten (ws : List DocumentWrite) (cs next : List Collection) : Type 0 where
     pub room : is_full cs name ≡ false
+    pub after : is_full next name ≡ false
     pub left : documents_of next name ≡ put_each (documents_in ws) (documents_of cs name)
 
   pub is_written : (ws : List DocumentWrite) (cs next : List Collection) → written_in name ws cs ≡ Ok next → IsWritten ws cs next
@@ -60,6 +61,7 @@ module _ (name : List ℕ) where
       let same : put_collection s.0 cs ≡ next = cc in
       record {
         room = p.0;
+        after = ap (λ (xs : List Collection). is_full xs name) (sym same) ∙ room_put s.0 cs name (each_named there s.0 ws s.1);
         left = ap (λ (xs : List Collection). documents_of xs name) (sym same)
             ∙ ap (λ (o : Option Collection). documents_or_none o) (found_put s.0 cs name (each_named there s.0 ws s.1)) ∙ each_documents ws there s.0 s.1;
       }

@@ -17,3 +17,4 @@ pub mod Asking
 pub mod Answering
 pub mod Waiting
 pub mod Matching
+pub mod Refusing

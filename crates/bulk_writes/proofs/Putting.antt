@@ -17,6 +17,17 @@ and_false false = refl
 pub found_put : (m : Collection) (cs : List Collection) (name : List ℕ) → m.name ≡ name → find_collection (put_collection m cs) name ≡ Some m
 found_put m cs name is = subst (λ (n : List ℕ). find_collection (put_collection m cs) n ≡ Some m) is (finds_put m cs)
 
+-- so it isn't one too many
+pub room_put : (m : Collection) (cs : List Collection) (name : List ℕ) → m.name ≡ name → is_full (put_collection m cs) name ≡ false
+room_put m cs name is =
+    ap (λ (o : Option Collection). nat_le 1000 (length (put_collection m cs)) && not (is_some o)) (found_put m cs name is)
+    ∙ and_false (nat_le 1000 (length (put_collection m cs)))
+
+-- nor is one that is there
+pub room_there : (m : Collection) (cs : List Collection) (name : List ℕ) → find_collection cs name ≡ Some m → is_full cs name ≡ false
+room_there m cs name found =
+    ap (λ (o : Option Collection). nat_le 1000 (length cs) && not (is_some o)) found ∙ and_false (nat_le 1000 (length cs))
+
 -- Whichever way they enter: some enter, and then the others, and the collection keeps its name.
 module _ {W : Type 0} (enter : Collection → List W → Result Collection Refusal)
     (append : (c : Collection) (a b : List W) → enter c (a ++ b) ≡ (enter c a >>= (λ m. enter m b)))
@@ -31,16 +42,13 @@ module _ {W : Type 0} (enter : Collection → List W → Result Collection Refus
     abbrev now : List Collection
     now = put_collection m cs
 
-    has_room : is_full now name ≡ false
-    has_room = ap (λ (o : Option Collection). nat_le 1000 (length now) && not (is_some o)) (found_put m cs name is) ∙ and_false (nat_le 1000 (length now))
-
     is_it : collection_of now name ≡ m
     is_it = ap (or_empty name (unused now)) (found_put m cs name is)
         ∙ (λ k. record { name = sym is k; number = m.number; documents = m.documents; indexes = m.indexes })
 
     pub again : (ws : List W) → put_in ws now ≡ (enter m ws >>= putting cs)
     again ws =
-        ap (λ (b : Bool). unless b refusals.TooMany (enter (collection_of now name) ws >>= putting now)) has_room
+        ap (λ (b : Bool). unless b refusals.TooMany (enter (collection_of now name) ws >>= putting now)) (room_put m cs name is)
         ∙ ap (λ (c : Collection). enter c ws >>= putting now) is_it
         ∙ at (enter m ws) refl
       where

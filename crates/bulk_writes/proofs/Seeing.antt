@@ -101,7 +101,7 @@ module _ (name : List ℕ) where
 
   -- ---- what is done in the collection is done over its documents
 
-  one_seen : (i : ℕ) (s : UpdateStatement) (u v : Updated) → run_statement name i s u ≡ Ok v → run_listed i s (seen_in u) ≡ Ok (seen_in v)
+  pub one_seen : (i : ℕ) (s : UpdateStatement) (u v : Updated) → run_statement name i s u ≡ Ok v → run_listed i s (seen_in u) ≡ Ok (seen_in v)
   one_seen i s u v e =
       let c = step_of (update_from s (not_changed u) (documents_of u.collections name)) (ends i s u) v e in
       ap (λ (r : Result Changed Refusal). r >>= ends_listed i s (seen_in u)) c.1 ∙ at c.0 c.1 (not c.0.found && s.upsert) c.2

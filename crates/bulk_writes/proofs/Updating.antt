@@ -204,7 +204,7 @@ module _ (connection : ℕ) (name : List ℕ) where
 -- ---- the law
 
 -- the documents of a collection are good, those of one that is or of a missing one
-good_in : (cs : List Collection) (name : List ℕ) → All IsHeld cs → AreGood (documents_of cs name)
+pub good_in : (cs : List Collection) (name : List ℕ) → All IsHeld cs → AreGood (documents_of cs name)
 good_in cs name held = at (find_collection cs name) refl
   where
     at : (o : Option Collection) → find_collection cs name ≡ o → AreGood (documents_or_none o)

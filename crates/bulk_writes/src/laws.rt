@@ -2,7 +2,7 @@
 
 ghost use Rattle.bulk_writes.specs.AskedLaws.{AnsweredAlike};
 ghost use Rattle.bulk_writes.specs.Laws.{DeleteInTurn, InsertInTurn};
-ghost use Rattle.bulk_writes.specs.UpdateLaws.{UpdateInTurn};
+ghost use Rattle.bulk_writes.specs.UpdateLaws.{UpdateInTurn, WholeIsDone};
 
 /// The documents of an insert, inserted one after the other, come to what the insert of all comes to, and are refused for what that one is.
 pub fn insert_in_turn()
@@ -17,6 +17,11 @@ pub fn delete_in_turn()
 /// The statements of an update that isn't refused are done, one after the other, and leave what the update of all leaves.
 pub fn update_in_turn()
     ensures { UpdateInTurn }
+{}
+
+/// An update each of whose statements is done, one after the other, is done as a whole, where its message is within its limit.
+pub fn whole_is_done()
+    ensures { WholeIsDone }
 {}
 
 /// A write that is done as a whole leaves the world, and is answered, as it would be with each of its statements asked by itself.
