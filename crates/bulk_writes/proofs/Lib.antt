@@ -17,4 +17,5 @@ pub mod Asking
 pub mod Answering
 pub mod Waiting
 pub mod Matching
-pub mod Refusing
+pub mod Stepping
+pub mod Reasons

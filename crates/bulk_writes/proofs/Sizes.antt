@@ -17,11 +17,11 @@ length-total : (n : ℕ) → length (tree_bytes (total n)) ≡ 4
 unfolding tree_bytes
 length-total n = refl
 
-length-int : (n : ℕ) → length (tree_bytes (int n)) ≡ 4
+pub length-int : (n : ℕ) → length (tree_bytes (int n)) ≡ 4
 unfolding tree_bytes
 length-int n = refl
 
-length-document : (ps : Pairs) → length (tree_bytes (document ps)) ≡ length (pairs_bytes ps) + 5
+pub length-document : (ps : Pairs) → length (tree_bytes (document ps)) ≡ length (pairs_bytes ps) + 5
 unfolding tree_bytes
 length-document ps = frame_of-length (pairs_bytes ps)
 
@@ -51,7 +51,7 @@ reply_size matched modified ts =
       length-total modified,
     )
 
-none_size : made_size no_items ≡ 0
+pub none_size : made_size no_items ≡ 0
 none_size = ap length pairs_bytes-none
 
 some_size : (ts : Items) → (items_len ts == 0) ≡ false → made_size ts ≡ length (items_bytes 0 ts) + 15
@@ -72,7 +72,7 @@ entry_length i j id =
       length-int j,
     )
 
-one_size : (t : Tree) → made_size (item t no_items) ≡ length (decimal 0) + length (tree_bytes t) + 17
+pub one_size : (t : Tree) → made_size (item t no_items) ≡ length (decimal 0) + length (tree_bytes t) + 17
 one_size t =
     let bytes : ℕ = length (items_bytes 0 (item t no_items)) in
     omega (

@@ -1,6 +1,6 @@
 -- What an update of several statements comes to, against its statements one by one.
 use Rattle.std.specs.Prelude.{◌≡◌, ◌≤◌, ◌+◌, ℕ, suc, List, [], ◌∷◌, map, sum_by, Option, Some}
-use Rattle.std.specs.Prelude.{None, Ok, All}
+use Rattle.std.specs.Prelude.{None, Ok, Err, All}
 use Rattle.bson.specs.Tree.{Tree, document, Pairs, Items, no_items, item, append_items}
 use Rattle.bson.specs.Lawful.{IsDocument}
 use Rattle.commands.specs.Command.{command_of, update}
@@ -9,6 +9,7 @@ use Rattle.database_model.specs.Lawful.{IsHeld}
 use Rattle.database_model.specs.Step.{run}
 use Rattle.database_model.specs.Update.{counts_reply, upserted_entry}
 use Rattle.database_model.specs.World.{World}
+use Rattle.path.specs.declared.refusal.Refusal.{Refusal}
 use Rattle.statements.specs.Room.{fields_size}
 use Rattle.bulk_writes.specs.InTurn.{run_in_turn, singles}
 
@@ -55,10 +56,10 @@ UpdateInTurn = (world new : World) (connection : ℕ) (body : Pairs) (c : Update
     → run world connection (update c) ≡ Ok (new, reply)
     → UpdatesInTurn world connection c new reply
 
--- Nor is it refused where none of them is, if its message is within its limit.
-abbrev pub WholeIsDone : Type 0
-WholeIsDone = (world new : World) (connection : ℕ) (body : Pairs) (c : Update)
-    (replies : List Pairs) → IsDocument body → command_of body ≡ Ok (update c)
-    → fields_size body + 5 ≤ 1048555 → All IsHeld world.collections
-    → run_in_turn world connection (singles (update c)) ≡ Ok (new, replies)
-    → (reply : Pairs) × (run world connection (update c) ≡ Ok (new, reply))
+-- One that is refused, and whose message is within its limit, is refused for the reason for which
+-- the first of them is that is refused.
+abbrev pub UpdateRefused : Type 0
+UpdateRefused = (world : World) (connection : ℕ) (body : Pairs) (c : Update) (r : Refusal)
+    → IsDocument body → command_of body ≡ Ok (update c) → fields_size body + 5 ≤ 1048555
+    → All IsHeld world.collections → run world connection (update c) ≡ Err r
+    → run_in_turn world connection (singles (update c)) ≡ Err r

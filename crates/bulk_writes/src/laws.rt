@@ -2,7 +2,7 @@
 
 ghost use Rattle.bulk_writes.specs.AskedLaws.{AnsweredAlike};
 ghost use Rattle.bulk_writes.specs.Laws.{DeleteInTurn, InsertInTurn};
-ghost use Rattle.bulk_writes.specs.UpdateLaws.{UpdateInTurn, WholeIsDone};
+ghost use Rattle.bulk_writes.specs.UpdateLaws.{UpdateInTurn, UpdateRefused};
 
 /// The documents of an insert, inserted one after the other, come to what the insert of all comes to, and are refused for what that one is.
 pub fn insert_in_turn()
@@ -19,9 +19,9 @@ pub fn update_in_turn()
     ensures { UpdateInTurn }
 {}
 
-/// An update each of whose statements is done, one after the other, is done as a whole, where its message is within its limit.
-pub fn whole_is_done()
-    ensures { WholeIsDone }
+/// An update that is refused, and whose message is within its limit, is refused for what the first refused one of its statements is.
+pub fn update_refused()
+    ensures { UpdateRefused }
 {}
 
 /// A write that is done as a whole leaves the world, and is answered, as it would be with each of its statements asked by itself.

@@ -1,8 +1,7 @@
--- Where each statement of an update is done by itself, one after the other, all are done as a whole, but for the length of the reply.
+-- What a statement of an update that is done by itself leaves of the whole.
 use Rattle.std.proofs.Common.{◌≡◌, ℕ, suc, ◌+◌, Bool, true, false, List, [], ◌∷◌, ◌++◌, map, Option, Some, None, Result, Ok, Err}
-use Rattle.std.proofs.Common.{refl, sym, ap, subst, ◌∙◌, All, arith}
+use Rattle.std.proofs.Common.{refl, sym, ap, subst, ◌∙◌}
 use Rattle.std.specs.Prelude.{not, ◌&&◌, if◌then◌else◌}
-use Rattle.std.proofs.lemmas.List.Elements.{All-head, All-tail}
 use Rattle.bson.specs.Tree.{Pairs}
 use Rattle.filter.specs.Matches.{matches}
 use Rattle.outcome.specs.Outcome.{◌>>=◌, or_refused}
@@ -24,23 +23,18 @@ use Rattle.database_model.specs.World.{World, documents_of, documents_or_none, w
 use Rattle.database_model.specs.Writes.{made_write, statement_writes, unless_refused, writes_from}
 use Rattle.statements.specs.WriteLaws.{documents_in}
 use Rattle.statements.proofs.MeantUpdates.{one_step}
-use Rattle.statements.proofs.ReplyRoom.{replies_have_room}
-use Rattle.bulk_writes.specs.InTurn.{run_in_turn, update_one}
-use Rattle.bulk_writes.specs.UpdateLaws.{told, WholeIsDone}
 use Rattle.bulk_writes.proofs.Counting.{alone, clamped}
 use Rattle.bulk_writes.proofs.Documents.{alone_writes, AreGood, has_left, MakesDocuments}
 use Rattle.bulk_writes.proofs.Entering.{entered_append, entered_documents, is_written}
 use Rattle.bulk_writes.proofs.Putting.{room_put, room_there}
 use Rattle.bulk_writes.proofs.Seeing.{its_write, one_came, one_seen, seen_in}
-use Rattle.bulk_writes.proofs.Spelled.{are_spelled}
-use Rattle.bulk_writes.proofs.Updating.{good_in, update_in_turn}
 
 -- ---- a statement is done whatever was counted before it
 
-abbrev Comes : Bool → Result Changed Refusal → Type 0
+abbrev pub Comes : Bool → Result Changed Refusal → Type 0
 Comes found r = (e : Changed) × (r ≡ Ok e) × (e.found ≡ found)
 
-from_any : (s : UpdateStatement) (c d : Changed) (xs : List Pairs) (f : Changed) → c.found ≡ d.found → update_from s d xs ≡ Ok f
+pub from_any : (s : UpdateStatement) (c d : Changed) (xs : List Pairs) (f : Changed) → c.found ≡ d.found → update_from s d xs ≡ Ok f
     → Comes f.found (update_from s c xs)
 from_any s c d [] f same e = let ended : d ≡ f = cc in (c, refl, same ∙ ap (λ (x : Changed). x.found) ended)
 from_any s c d (x ∷ xs) f same e = at (matches s.filter x) (apply s.change 65535 x) s.multi (λ a b k g. from_any s a b xs f k g) e
@@ -154,14 +148,14 @@ module _ (name : List ℕ) (i : ℕ) (s : UpdateStatement) (u v : Updated) (cs n
 -- ---- one statement by itself
 
 -- What its update did.
-record IsDone (world : World) (name : List ℕ) (s : UpdateStatement) (new : World) : Type 0 where
-  next : List Collection
-  left : Listed
-  written : entered_in name (statement_writes s (documents_of world.collections name)) world.collections ≡ Ok next
-  is : run_listed 0 s (not_listed (documents_of world.collections name)) ≡ Ok left
-  leads : new ≡ record world { collections = next }
+pub record IsDone (world : World) (name : List ℕ) (s : UpdateStatement) (new : World) : Type 0 where
+  pub next : List Collection
+  pub left : Listed
+  pub written : entered_in name (statement_writes s (documents_of world.collections name)) world.collections ≡ Ok next
+  pub is : run_listed 0 s (not_listed (documents_of world.collections name)) ≡ Ok left
+  pub leads : new ≡ record world { collections = next }
 
-is_done : (world : World) (name : List ℕ) (s : UpdateStatement) (new : World) (reply : Pairs)
+pub is_done : (world : World) (name : List ℕ) (s : UpdateStatement) (new : World) (reply : Pairs)
     → run_update world (record { namespace = name; statements = s ∷ [] }) ≡ Ok (new, reply) → IsDone world name s new
 unfolding run_update
 is_done world name s new reply e =
@@ -182,80 +176,55 @@ is_done world name s new reply e =
 
 -- ---- all of them
 
-module _ (connection : ℕ) (name : List ℕ) where
-  -- The whole is done too.
-  record Whole (i : ℕ) (ss : List UpdateStatement) (u : Updated) (cs : List Collection) : Type 0 where
-    next : List Collection
-    to : Updated
-    written : entered_in name (writes_from i ss (seen_in name u)) cs ≡ Ok next
-    is : run_statements name i ss u ≡ Ok to
+-- What a statement that is done by itself leaves of a whole: the others, over what it left.
+pub record Stepped (name : List ℕ) (i : ℕ) (s : UpdateStatement) (ss : List UpdateStatement) (u : Updated) (cs next : List Collection) : Type 0 where
+  pub to : Updated
+  pub p : ℕ
+  pub q : ℕ
+  pub now : documents_of next name ≡ documents_of to.collections name
+  pub good : AreGood (documents_of to.collections name)
+  pub room : is_full to.collections name ≡ is_full next name
+  pub matched : to.matched ≡ clamped p
+  pub modified : to.modified ≡ clamped q
+  pub written : entered_in name (writes_from i (s ∷ ss) (seen_in name u)) cs ≡ entered_in name (writes_from (suc i) ss (seen_in name to)) next
+  pub is : run_statements name i (s ∷ ss) u ≡ run_statements name (suc i) ss to
 
-  whole : (i : ℕ) (ss : List UpdateStatement) (world new : World) (replies : List Pairs) (u : Updated) (p q : ℕ)
-      → All (λ (s : UpdateStatement). IsRead s.change) ss → All MakesDocuments ss
-      → documents_of world.collections name ≡ documents_of u.collections name → AreGood (documents_of u.collections name)
-      → is_full u.collections name ≡ is_full world.collections name → u.matched ≡ clamped p → u.modified ≡ clamped q
-      → run_in_turn world connection (map (update_one name) ss) ≡ Ok (new, replies) → Whole i ss u world.collections
-  whole i [] world new replies u p q read make there good alike matched modified e =
-      record { next = world.collections; to = u; written = refl; is = refl }
-  whole i (s ∷ ss) world new replies u p q read make there good alike matched modified e =
-      let first = step_of (run_update world (record { namespace = name; statements = s ∷ [] }))
-      (λ x. run_in_turn x.0 connection (map (update_one name) ss)
-      >>= (λ y. let r : Result (World × List Pairs) Refusal = Ok (y.0, x.1 ∷ y.1) in r)) (new, replies) e in
-      let later = step_of (run_in_turn first.0.0 connection (map (update_one name) ss))
-      (λ y. let r : Result (World × List Pairs) Refusal = Ok (y.0, first.0.1 ∷ y.1) in r) (new, replies) first.2 in
-      let d = is_done world name s first.0.0 first.0.1 first.1 in
-      let l = seen_in name u in
-      let read_it = All-head (λ (z : UpdateStatement). IsRead z.change) s ss read in
-      let make_it = All-head MakesDocuments s ss make in
-      let left_is : run_listed 0 s (not_listed l.documents) ≡ Ok d.left = ap (λ (xs : List Pairs). run_listed 0 s (not_listed xs)) (sym there) ∙ d.is in
-      let m = run_any i s l d.left left_is in
-      let a = alone i s l m.0 p q matched modified m.1 in
-      let h = has_left i s l m.0 a.left read_it make_it good m.1 a.is a.documents in
-      let here = statement_writes s l.documents in
-      let wrote : entered_in name here world.collections ≡ Ok d.next =
-      ap (λ (xs : List Pairs). entered_in name (statement_writes s xs) world.collections) (sym there) ∙ d.written in
-      let came = one_came name i s u m.0 (λ fresh makes c from asked.
-      alike ∙ (is_written name (made_write fresh ∷ []) world.collections d.next
-      (ap (λ (ws : List DocumentWrite). entered_in name ws world.collections)
-      (sym (its_write s (not_changed u) (documents_of u.collections name) c fresh from asked makes)) ∙ wrote)).room) m.1 in
-      let now : documents_of d.next name ≡ documents_of came.to.collections name =
-      entered_documents name here world.collections d.next wrote ∙ ap (put_each (documents_in here)) there ∙ h.put
-      ∙ sym (ap (λ (x : Listed). x.documents) came.seen) in
-      let room = room_next name i s u came.to world.collections d.next alike came.is wrote in
-      let good_next : AreGood (documents_of came.to.collections name) = subst AreGood (sym (ap (λ (x : Listed). x.documents) came.seen)) h.good in
-      let ran : run_in_turn (record world { collections = d.next }) connection (map (update_one name) ss) ≡ Ok later.0 =
-      ap (λ (x : World). run_in_turn x connection (map (update_one name) ss)) (sym d.leads) ∙ later.1 in
-      let others = whole (suc i) ss (record world { collections = d.next }) later.0.0 later.0.1 came.to (p + a.left.matched) (q + a.left.modified)
-      (All-tail (λ (z : UpdateStatement). IsRead z.change) s ss read) (All-tail MakesDocuments s ss make) now good_next room
-      (ap (λ (x : Listed). x.matched) came.seen ∙ a.matched) (ap (λ (x : Listed). x.modified) came.seen ∙ a.modified) ran in
-      record {
-        next = others.next;
-        to = others.to;
-        written = ap (λ (r : Result Listed Refusal). entered_in name (here ++ unless_refused (writes_from (suc i) ss) r) world.collections)
-            (m.1 ∙ ap (λ (x : Listed). Ok x) (sym came.seen))
-            ∙ entered_append name here (writes_from (suc i) ss (seen_in name came.to)) world.collections
-            ∙ ap (λ (r : Result (List Collection) Refusal). r >>= (λ xs. entered_in name (writes_from (suc i) ss (seen_in name came.to)) xs)) wrote
-            ∙ others.written;
-        is = ap (λ (r : Result Updated Refusal). r >>= run_statements name (suc i) ss) came.is ∙ others.is;
-      }
+-- there is room for what an upsert makes
+pub has_room : (name : List ℕ) (s : UpdateStatement) (u : Updated) (cs next : List Collection) → is_full u.collections name ≡ is_full cs name
+    → entered_in name (statement_writes s (documents_of u.collections name)) cs ≡ Ok next → (fresh : Pairs) → upsert_document s ≡ Ok fresh → (c : Changed)
+    → update_from s (not_changed u) (documents_of u.collections name) ≡ Ok c → (not c.found && s.upsert) ≡ true → is_full u.collections name ≡ false
+has_room name s u cs next alike wrote fresh makes c from asked =
+    alike ∙ (is_written name (made_write fresh ∷ []) cs next
+    (ap (λ (ws : List DocumentWrite). entered_in name ws cs) (sym (its_write s (not_changed u) (documents_of u.collections name) c fresh from asked makes))
+    ∙ wrote)).room
 
--- ---- the law
-
-pub whole_is_done : WholeIsDone
-unfolding run_update
-whole_is_done world new connection body c replies document spells short held e =
+pub stepped : (name : List ℕ) (i : ℕ) (s : UpdateStatement) (ss : List UpdateStatement) (world new : World) (u : Updated) (p q : ℕ) → IsRead s.change
+    → MakesDocuments s → documents_of world.collections name ≡ documents_of u.collections name → AreGood (documents_of u.collections name)
+    → is_full u.collections name ≡ is_full world.collections name → u.matched ≡ clamped p → u.modified ≡ clamped q → (d : IsDone world name s new)
+    → Stepped name i s ss u world.collections d.next
+stepped name i s ss world new u p q read make there good alike matched modified d =
     let cs = world.collections in
-    let such = are_spelled body c document spells in
-    let none : 0 ≡ clamped 0 = omega arith in
-    let w = whole connection c.namespace 0 c.statements world new replies (not_updated cs) 0 0 such.read such.make refl (good_in cs c.namespace held) refl none
-    none e in
-    let done : run_update world c ≡ Ok (record world { collections = w.next }, update_reply w.to) =
-    ap (λ (r : Result (List Collection) Refusal). r >>= (λ xs. run_all c.namespace c.statements cs
-    >>= (λ u. Ok (record world { collections = xs }, update_reply u)))) w.written
-    ∙ ap (λ (r : Result Updated Refusal). r >>= (λ u. Ok (record world { collections = w.next }, update_reply u)))
-    (replies_have_room body c cs spells short ∙ w.is) in
-    let law = update_in_turn world (record world { collections = w.next }) connection body c (update_reply w.to) document spells held done in
-    let both : ◌≡◌ {A = Result (World × List Pairs) Refusal} (Ok (record world { collections = w.next }, map (λ x. told (x ∷ [])) law.counts))
-    (Ok (new, replies)) = sym law.same ∙ e in
-    let pair_is : ◌≡◌ {A = World × List Pairs} (record world { collections = w.next }, map (λ x. told (x ∷ [])) law.counts) (new, replies) = cc in
-    (update_reply w.to, done ∙ ap (λ (x : World). Ok (x, update_reply w.to)) (ap (λ (x : World × List Pairs). x.0) pair_is))
+    let l = seen_in name u in
+    let left_is : run_listed 0 s (not_listed l.documents) ≡ Ok d.left = ap (λ (xs : List Pairs). run_listed 0 s (not_listed xs)) (sym there) ∙ d.is in
+    let m = run_any i s l d.left left_is in
+    let a = alone i s l m.0 p q matched modified m.1 in
+    let h = has_left i s l m.0 a.left read make good m.1 a.is a.documents in
+    let here = statement_writes s l.documents in
+    let wrote : entered_in name here cs ≡ Ok d.next = ap (λ (xs : List Pairs). entered_in name (statement_writes s xs) cs) (sym there) ∙ d.written in
+    let came = one_came name i s u m.0 (has_room name s u cs d.next alike wrote) m.1 in
+    let docs : documents_of came.to.collections name ≡ m.0.documents = ap (λ (x : Listed). x.documents) came.seen in
+    record {
+      to = came.to;
+      p = p + a.left.matched;
+      q = q + a.left.modified;
+      now = entered_documents name here cs d.next wrote ∙ ap (put_each (documents_in here)) there ∙ h.put ∙ sym docs;
+      good = subst AreGood (sym docs) h.good;
+      room = room_next name i s u came.to cs d.next alike came.is wrote;
+      matched = ap (λ (x : Listed). x.matched) came.seen ∙ a.matched;
+      modified = ap (λ (x : Listed). x.modified) came.seen ∙ a.modified;
+      written = ap (λ (r : Result Listed Refusal). entered_in name (here ++ unless_refused (writes_from (suc i) ss) r) cs)
+          (m.1 ∙ ap (λ (x : Listed). Ok x) (sym came.seen))
+          ∙ entered_append name here (writes_from (suc i) ss (seen_in name came.to)) cs
+          ∙ ap (λ (r : Result (List Collection) Refusal). r >>= (λ xs. entered_in name (writes_from (suc i) ss (seen_in name came.to)) xs)) wrote;
+      is = ap (λ (r : Result Updated Refusal). r >>= run_statements name (suc i) ss) came.is;
+    }
