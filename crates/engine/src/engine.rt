@@ -8,6 +8,7 @@ ghost use Rattle.collections.specs.Opening.{HasLimit};
 ghost use Rattle.cursors.specs.Changes.{all_at_rest};
 ghost use Rattle.engine.specs.Committing.{Commits};
 ghost use Rattle.engine.specs.Continuing.{Continues};
+ghost use Rattle.engine.specs.Laws.{BodyOnlyReads, OnlyReads};
 ghost use Rattle.engine.specs.Opening.{IsOpened};
 ghost use Rattle.opening.specs.Refusing.{IsRefused};
 ghost use Rattle.pinned_cursors.specs.Tied.{AreTied};
@@ -103,6 +104,7 @@ impl<D: Disk> Engine<D> {
         ensures has_changes { KeepsWord (disk_history D.history self.new)
             → WroteNothing (world self.old) (Ok body.now) (world self.new)
             → has_changes self.new ≡ has_changes self.old }
+        ensures reads { BodyOnlyReads (Ok body.now) → has_changes self.new ≡ has_changes self.old }
         ensures sendable { IfOk result (λ a. IsSendable (answer_of a)) }
     {
         match Command::read(self.alloc, body) {
@@ -125,6 +127,8 @@ impl<D: Disk> Engine<D> {
         ensures has_changes { KeepsWord (disk_history D.history self.new)
             → (world self.new).collections ≡ (world self.old).collections
             → ChangesNone (world self.old) (command_read command.now)
+            → has_changes self.new ≡ has_changes self.old }
+        ensures reads { OnlyReads (Ok (command_read command.now))
             → has_changes self.new ≡ has_changes self.old }
         ensures sendable { IfOk result (λ a. IsSendable (answer_of a)) }
     {
@@ -164,6 +168,8 @@ impl<D: Disk> Engine<D> {
         ensures has_changes { KeepsWord (disk_history D.history self.new)
             → (world self.new).collections ≡ (world self.old).collections
             → has_changes self.new ≡ has_changes self.old }
+        ensures reads { OnlyReads (Ok (command_read command.now))
+            → has_changes self.new ≡ has_changes self.old }
         ensures sendable { IfOk result (λ a. IsSendable (answer_of a)) }
     {
         match command {
@@ -199,6 +205,7 @@ impl<D: Disk> Engine<D> {
         ensures has_changes { KeepsWord (disk_history D.history self.new)
             → WroteNothing (world self.old) (Ok body.now) (world self.new)
             → has_changes self.new ≡ has_changes self.old }
+        ensures reads { BodyOnlyReads (Ok body.now) → has_changes self.new ≡ has_changes self.old }
         ensures sendable { IsSendable (reply_of result) }
     {
         match self.run(connection, body) {

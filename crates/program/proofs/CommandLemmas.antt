@@ -5,6 +5,7 @@ use Rattle.std.specs.Prelude.{◌≢◌, Result, Ok, Err, OnErr, Option, Some, I
 use Rattle.bson.specs.Tree.{Pairs}
 use Rattle.op_msg.specs.Request.{document_in, reply_bytes}
 use Rattle.page.specs.History.{History}
+use Rattle.server.specs.Durable.{is_stopped}
 use Rattle.server.specs.ServerState.{fed}
 use Rattle.server.specs.View.{state, frames_in}
 use Rattle.server.specs.declared.connection.FeedFault.{FeedFault}
@@ -16,12 +17,12 @@ use Rattle.shell.specs.declared.database.DatabaseFault.TheVariants as faults
 use Rattle.program.specs.InProcess.{AnswersCommand, Says, TakesCommand}
 
 module _ {D : Type 0} (history : D → History) (old : Core D) (command : Pairs) (new : Core D) (out : TurnOut)
-    (taken : TakesCommand history old command (Ok out) new) where
+    (runs : is_stopped old ≡ false) (taken : TakesCommand history old command (Ok out) new) where
   -- the turn answered: its reply was read, or found no memory
   pub answered : (r : Result Pairs DatabaseFault) → IfOk r (Says (frames_in out.replies.items)) → IfErr r (λ fault. fault ≡ faults.Memory)
       → AnswersCommand history old command r new
   answered (Ok reply) says why = (out, taken, says)
-  answered (Err faults.Memory) says why = inr (out, taken)
+  answered (Err faults.Memory) says why = (runs, inr (out, taken))
   answered (Err faults.TooLarge) says why = absurd cc
   answered (Err faults.Stopped) says why = absurd cc
 

@@ -2,6 +2,7 @@
 -- message of connection 0, and its reply is the document that the turn hands out. So a command runs
 -- once at most, and it is never asked again behind the back of whoever asks.
 use Rattle.std.specs.Prelude.{◌≡◌, ◌⊎◌, ◌<◌, ℕ, List, [], ◌∷◌, length, drop, Result, Ok, Err}
+use Rattle.std.specs.Prelude.{true, false}
 use Rattle.bson.specs.Tree.{Pairs}
 use Rattle.bson.specs.Spelling.{frame_of, pairs_bytes}
 use Rattle.op_msg.specs.Request.{document_in, reply_bytes}
@@ -9,7 +10,7 @@ use Rattle.page.specs.History.{History}
 use Rattle.server.specs.ServerState.{fed}
 use Rattle.server.specs.Turning.{TakesTurn}
 use Rattle.server.specs.View.{state, frames_in}
-use Rattle.server.specs.Durable.{collections_of, disk_history, file_of}
+use Rattle.server.specs.Durable.{collections_of, disk_history, file_of, is_stopped}
 use Rattle.server.specs.declared.turn.Core.{Core}
 use Rattle.server.specs.declared.turn.TurnOut.{TurnOut}
 use Rattle.server.specs.declared.turn.TurnFault.{TurnFault}
@@ -30,18 +31,20 @@ abbrev pub Says : List (ℕ × List ℕ) → Pairs → Type 0
 Says [] reply = ⊥
 Says (f ∷ fs) reply = document_in (drop 21 f.1) ≡ Ok reply
 
--- A command by what it was answered. Where memory ran out, it left the collections and made no call
--- of the disk, or one turn took it whose reply found no memory.
+-- A command by what it was answered. A server that had stopped answers so, whatever it is asked,
+-- and changes nothing. Where memory ran out, one that runs left the collections and made no call of
+-- the disk, or one turn took the command and its reply found no memory.
 abbrev pub AnswersCommand : {D : Type 0} → (D → History) → Core D → Pairs
     → Result Pairs DatabaseFault → Core D → Type 0
 AnswersCommand history old command (Ok reply) new =
     (out : TurnOut) × TakesCommand history old command (Ok out) new
     × Says (frames_in out.replies.items) reply
-AnswersCommand history old command (Err faults.TooLarge) new =
-    (new ≡ old) × (1048555 < length (frame_of (pairs_bytes command)))
+AnswersCommand history old command (Err faults.TooLarge) new = (is_stopped old ≡ false)
+    × (new ≡ old) × (1048555 < length (frame_of (pairs_bytes command)))
 AnswersCommand history old command (Err faults.Stopped) new =
-    TakesCommand history old command (Err turns.Stopped) new
-AnswersCommand history old command (Err faults.Memory) new =
-    ((collections_of new ≡ collections_of old)
+    ((is_stopped old ≡ true) × (new ≡ old))
+    ⊎ ((is_stopped old ≡ false) × TakesCommand history old command (Err turns.Stopped) new)
+AnswersCommand history old command (Err faults.Memory) new = (is_stopped old ≡ false)
+    × (((collections_of new ≡ collections_of old)
     × (disk_history history new ≡ disk_history history old))
-    ⊎ ((out : TurnOut) × TakesCommand history old command (Ok out) new)
+    ⊎ ((out : TurnOut) × TakesCommand history old command (Ok out) new))

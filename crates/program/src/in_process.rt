@@ -31,6 +31,9 @@ impl<D: Disk> Database for Server<D> {
         AnswersCommand D.history old.core command result new.core };
 
     fn reply(&mut self, command: &Document) -> Result<Document, DatabaseFault> {
+        if self.core.is_stopped() {
+            return Err(DatabaseFault::Stopped);
+        }
         if command.encoded_len() > MOST_BYTES {
             return Err(DatabaseFault::TooLarge);
         }

@@ -16,7 +16,7 @@ use Rattle.server.specs.ServerState.{ServerState, ended, fed}
 use Rattle.server.specs.Turn.{Call, Out, Runs, Turns, Undone, calls, faults, forget_all}
 use Rattle.server.specs.Causes.{IsCaused}
 use Rattle.server.specs.Moment.{Moment, TurnEnd}
-use Rattle.server.specs.History.{Happens, RoomRanOut}
+use Rattle.server.specs.History.{Happens, TakenBack}
 use Rattle.server.specs.Batches.{BatchesCutTheList, CutsTheList, batch_of_answer, batches_in, batches_of_calls, batches_of_turn}
 use Rattle.server.specs.declared.step.Step.{Step}
 use Rattle.server.specs.declared.step.Step.TheVariants as steps
@@ -123,16 +123,17 @@ undone_gives number beside state new refusal out had h drawn has =
     subst (λ (s : ServerState). Gives number [] had s.world) (sym h.leaves)
     (forgets number had (after_undo before h.last) (faults state.connections) back.drawn (stays (left_whole number ran.rest (after_undo before h.last) back)))
 
-turn_gives : (number : ℕ) (beside : World → Refusal → Type 0) (no_room : Type 0) (state new : ServerState) (out : Out) (h : Turns beside no_room state out new)
+turn_gives : (number : ℕ) (beside : World → Refusal → Type 0) (undone : Refusal → Type 0) (state new : ServerState) (out : Out)
+    (h : Turns beside undone state out new)
     (had : List Pairs) → number < state.world.next
-    → HasLeft number state.world.cursors had → Gives number (batches_of_turn number beside no_room state out new h) had new.world
-turn_gives number beside no_room state new out (inl done) had drawn has =
+    → HasLeft number state.world.cursors had → Gives number (batches_of_turn number beside undone state out new h) had new.world
+turn_gives number beside undone state new out (inl done) had drawn has =
     let cs = calls state.connections in
     subst (λ (s : ServerState). Gives number (batches_of_calls number beside state.world cs done.replies done.last done.runs) had s.world) (sym done.leaves)
     (done_gives number (batches_of_calls number beside state.world cs done.replies done.last done.runs) had done.last (faults state.connections)
     (calls_give number beside state.world cs done.replies done.last done.runs had drawn has))
-turn_gives number beside no_room state new out (inr (inl undone)) had drawn has = undone_gives number beside state new _ out had undone drawn has
-turn_gives number beside no_room state new out (inr (inr (full, undone))) had drawn has = undone_gives number beside state new _ out had undone drawn has
+turn_gives number beside undone state new out (inr (inl (why, back))) had drawn has = undone_gives number beside state new _ out had back drawn has
+turn_gives number beside undone state new out (inr (inr (why, back))) had drawn has = undone_gives number beside state new _ out had back drawn has
 
 -- ---- a history
 
@@ -148,8 +149,8 @@ history_gives number at state (steps.Gone id ∷ later) given ends new h had dra
     history_gives number at (ended state id) later given ends new h had one.drawn (left_whole number had (forget state.world id) one)
 history_gives number at state (steps.Turn ∷ later) given ends new h had drawn has =
     let beside = IsCaused at h.3.at in
-    let one = turn_gives number beside (RoomRanOut at h.3.at state) state h.0 h.1 h.5 had drawn has in
-    gives_on number (batches_of_turn number beside (RoomRanOut at h.3.at state) state h.1 h.0 h.5)
+    let one = turn_gives number beside (TakenBack at h.3.at) state h.0 h.1 h.5 had drawn has in
+    gives_on number (batches_of_turn number beside (TakenBack at h.3.at) state h.1 h.0 h.5)
     (batches_in number h.3.at h.0 later h.2 h.4 new h.9) had h.0.world new.world one
     (history_gives number h.3.at h.0 later h.2 h.4 new h.9 one.rest one.drawn one.is_left)
 

@@ -22,15 +22,11 @@ use Rattle.engine.specs.Durable.{disk_history, file_of, full_takes_of, generatio
 use Rattle.engine.specs.declared.engine.Engine.{Engine}
 use Rattle.engine.specs.View.{world, turn_start}
 use Rattle.engine.proofs.Continuing.{continues_still}
-use Rattle.server.specs.Turn.{Call, Runs, calls}
-use Rattle.server.specs.declared.connection.Connection.{Connection}
+use Rattle.server.specs.Turn.{Call, Runs, WroteNone, ChangeNothing}
 use Rattle.server.specs.Taking.{Serves}
 use Rattle.server.specs.Moment.{Moment, TurnEnd, Follows, FollowsInTurn, FollowInOrder, last_moment}
 use Rattle.server.specs.Causes.{FoundNoPage, IsCaused, OfAnyCause}
 use Rattle.server.specs.Durable.{engine_moment}
-
-abbrev Beside : Type 1
-Beside = World → Refusal → Type 0
 
 pub follows_itself : (m : Moment) → Follows m m
 follows_itself m = record {
@@ -119,12 +115,30 @@ module _ (beside other : World → Refusal → Type 0) (weaker : (planned : Worl
   runs_weaker (c ∷ cs) w [] new h = absurd h
   runs_weaker (c ∷ cs) w (r ∷ rs) new h = (h.0, answers_weaker w _ _ h.0 r h.1, runs_weaker cs h.0 rs new h.2)
 
-  pub serves_weaker : (word before : Type 0) → (word → before) → (cs : List Call) (old new : World) (ok : Bool) (given now : List (ℕ × List ℕ))
-      → Serves before beside cs old new ok given now → Serves word other cs old new ok given now
-  serves_weaker word before kept cs old new ok given now s = record {
+  -- none of them wrote anything
+  pub wrote_weaker : (cs : List Call) (w : World) (rs : List Pairs) (new : World) (h : Runs beside w cs rs new)
+      → WroteNone other w cs rs new (runs_weaker cs w rs new h) → WroteNone beside w cs rs new h
+  unfolding runs_weaker
+  wrote_weaker [] w rs new h none = tt
+  wrote_weaker (c ∷ cs) w [] new h none = tt
+  wrote_weaker (c ∷ cs) w (r ∷ rs) new h none = (none.0, wrote_weaker cs h.0 rs new h.2 none.1)
+
+  -- nor did those that change nothing however they are answered
+  pub changed_none : (cs : List Call) (w : World) (rs : List Pairs) (new : World) (h : Runs beside w cs rs new) → ChangeNothing other w cs
+      → WroteNone beside w cs rs new h
+  changed_none [] w rs new h nothing = tt
+  changed_none (c ∷ cs) w [] new h nothing = tt
+  changed_none (c ∷ cs) w (r ∷ rs) new h nothing =
+      let one = nothing h.0 r (answers_weaker w _ _ h.0 r h.1) in
+      (one.0, changed_none cs h.0 rs new h.2 one.1)
+
+  pub serves_weaker : (word before : Type 0) → (word → before) → (same : Type 0) (cs : List Call) (old new : World) (ok : Bool) (given now : List (ℕ × List ℕ))
+      → Serves before beside same cs old new ok given now → Serves word other same cs old new ok given now
+  serves_weaker word before kept same cs old new ok given now s = record {
     replies = s.replies;
     one_each = s.one_each;
     runs = λ k. runs_weaker cs old s.replies new (s.runs (kept k));
+    wrote = λ k none. s.wrote (kept k) (wrote_weaker cs old s.replies new (s.runs (kept k)) none);
     frames = s.frames;
   }
 
@@ -247,18 +261,10 @@ idle_commit history old mid new result rests same commits =
     disk_same history mid new (commits.quiet (ap has_changes same ∙ rests)).1 ∙ ap (disk_history history) same
 
 -- the messages of a turn, by the causes of the whole turn
-module _ {D : Type 0} (history : D → History) (old mid new : Engine D) (goes : Continues history old mid)
-    (after : Follows (engine_moment history mid) (engine_moment history new)) where
-  abbrev early : Beside
-  early = IsCaused (engine_moment history old) (engine_moment history mid)
-
-  abbrev whole : Beside
-  whole = IsCaused (engine_moment history old) (engine_moment history new)
-
-  pub runs_over : (ls connections : List Connection) → ls ≡ connections → (replies : List Pairs) → Runs early (world old) (calls ls) replies (world mid)
-      → Runs whole (world old) (calls connections) replies (world mid)
-  runs_over ls connections is replies runs =
-      runs_weaker early whole
-      (caused_wider (engine_moment history old) (engine_moment history old) (engine_moment history mid) (engine_moment history new)
-      (follows_itself (engine_moment history old)) (goes_follows history old mid goes) after)
-      (calls connections) (world old) replies (world mid) (subst (λ (ks : List Connection). Runs early (world old) (calls ks) replies (world mid)) is runs)
+pub cause_over : {D : Type 0} (history : D → History) (old mid new : Engine D) → Continues history old mid
+    → Follows (engine_moment history mid) (engine_moment history new) → (planned : World) (r : Refusal)
+    → IsCaused (engine_moment history old) (engine_moment history mid) planned r
+    → IsCaused (engine_moment history old) (engine_moment history new) planned r
+cause_over history old mid new goes after =
+    caused_wider (engine_moment history old) (engine_moment history old) (engine_moment history mid) (engine_moment history new)
+    (follows_itself (engine_moment history old)) (goes_follows history old mid goes) after

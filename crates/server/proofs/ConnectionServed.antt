@@ -9,15 +9,15 @@ use Rattle.op_msg.specs.declared.request.Request.{Request}
 use Rattle.database_model.specs.World.{World}
 use Rattle.path.specs.declared.refusal.Refusal.{Refusal}
 use Rattle.database_model.specs.Step.{WroteNothing}
+use Rattle.engine.specs.Laws.{BodyOnlyReads}
 use Rattle.outcome.specs.Outcome.{Gives}
 use Rattle.bson.specs.declared.fault.BsonFault.{BsonFault}
 use Rattle.bson.specs.declared.fault.BsonFault.TheVariants as bson_faults
-use Rattle.server.specs.Turn.{frame_unless, frame_for, call_at, taken_at, ChangeNothing}
+use Rattle.server.specs.Turn.{frame_unless, frame_for, call_at, taken_at, AllRead}
 use Rattle.server.specs.Taking.{IsTaken, IsAnswer, Serves}
 use Rattle.server.specs.declared.connection.Connection.{Connection}
 use Rattle.server.specs.declared.connection.Taken.{Taken}
 use Rattle.server.specs.declared.connection.Taken.TheVariants as takes
-use Rattle.server.proofs.CauseLemmas.{answers_weaker}
 
 abbrev Front : Type 0
 Front = Result (Option (Frame × List ℕ)) FrameFault
@@ -36,37 +36,41 @@ is_called old new (Ok None) n r h none = absurd h
 is_called old new (Err e) n r h none = absurd h
 is_called old new (Ok (Some x)) n r h none = absurd cc
 
-module _ (word : Type 0) (beside : World → Refusal → Type 0) (old new : Connection) where
-  pub nothing_served : (front : Front) (t : Taken) (w : World) (given : List (ℕ × List ℕ)) → IsTaken old front t new
-      → ((n : ℕ) (r : Request) → t ≡ takes.Call n r → ⊥) → Serves word beside (call_at old front) w w true given given
-  nothing_served (Ok None) t w given h none = record { replies = []; one_each = refl; runs = λ k. refl; frames = λ e. sym (append-nil given) }
-  nothing_served (Err e) t w given h none = record { replies = []; one_each = refl; runs = λ k. refl; frames = λ e. sym (append-nil given) }
-  nothing_served (Ok (Some x)) takes.Nothing w given h none = absurd h
-  nothing_served (Ok (Some x)) (takes.Call n r) w given h none = absurd (none n r refl)
+module _ (word : Type 0) (beside : World → Refusal → Type 0) (same : Type 0) (old new : Connection) where
+  nothing : (w : World) (given : List (ℕ × List ℕ)) → same → Serves word beside same [] w w true given given
+  nothing w given stays =
+      record { replies = []; one_each = refl; runs = λ k. refl; wrote = λ k n. stays; frames = λ e. sym (append-nil given) }
+
+  pub nothing_served : (front : Front) (t : Taken) (w : World) (given : List (ℕ × List ℕ)) → same → IsTaken old front t new
+      → ((n : ℕ) (r : Request) → t ≡ takes.Call n r → ⊥) → Serves word beside same (call_at old front) w w true given given
+  nothing_served (Ok None) t w given stays h none = nothing w given stays
+  nothing_served (Err e) t w given stays h none = nothing w given stays
+  nothing_served (Ok (Some x)) takes.Nothing w given stays h none = absurd h
+  nothing_served (Ok (Some x)) (takes.Call n r) w given stays h none = absurd (none n r refl)
 
   pub one_served : (front : Front) (n : ℕ) (r : Request) (w w' : World) (reply : Pairs) (ok : Bool) (given now : List (ℕ × List ℕ))
       → IsTaken old front (takes.Call n r) new
-      → (word → IsAnswer beside w old.id r w' reply) → (ok ≡ true → now ≡ given ++ frame_unless r.more_to_come old.id n r.request_id reply)
-      → Serves word beside (call_at old front) w w' ok given now
-  one_served (Ok None) n r w w' reply ok given now h a f = absurd h
-  one_served (Err e) n r w w' reply ok given now h a f = absurd h
-  one_served (Ok (Some x)) n r w w' reply ok given now h a f = record {
+      → (word → IsAnswer beside w old.id r w' reply)
+      → (word → (read : Result Pairs BsonFault) → Gives bson_faults.Memory (λ d. d) r.body read → WroteNothing w read w' → same)
+      → (ok ≡ true → now ≡ given ++ frame_unless r.more_to_come old.id n r.request_id reply)
+      → Serves word beside same (call_at old front) w w' ok given now
+  one_served (Ok None) n r w w' reply ok given now h a q f = absurd h
+  one_served (Err e) n r w w' reply ok given now h a q f = absurd h
+  one_served (Ok (Some x)) n r w w' reply ok given now h a q f = record {
     replies = reply ∷ [];
     one_each = refl;
     runs = λ k. (w', a k (body_of x.0) h.1.body, refl);
-    frames = λ e. f e ∙ ap (λ (fs : List (ℕ × List ℕ)). given ++ fs) (same ∙ sym (append-nil (frame_for (record { connection = old; frame = x.0 }) reply)));
+    wrote = λ k none. q k (body_of x.0) h.1.body none.0;
+    frames = λ e. f e ∙ ap (λ (fs : List (ℕ × List ℕ)). given ++ fs) (so ∙ sym (append-nil (frame_for (record { connection = old; frame = x.0 }) reply)));
   }
     where
-      same : frame_unless r.more_to_come old.id n r.request_id reply ≡ frame_for (record { connection = old; frame = x.0 }) reply
-      same = λ i. frame_unless (h.1.more i) old.id (h.0 i) (h.1.number i) reply
+      so : frame_unless r.more_to_come old.id n r.request_id reply ≡ frame_for (record { connection = old; frame = x.0 }) reply
+      so = λ i. frame_unless (h.1.more i) old.id (h.0 i) (h.1.number i) reply
 
--- a message that changes nothing wrote nothing
-pub one_quiet : (P : Type 0) (beside other : World → Refusal → Type 0) (weaker : (planned : World) (r : Refusal) → beside planned r → other planned r)
-    (old new : Connection) (front : Front) (n : ℕ) (r : Request) (w w' : World) (reply : Pairs) → IsTaken old front (takes.Call n r) new
-    → IsAnswer beside w old.id r w' reply
-    → ((read : Result Pairs BsonFault) → Gives bson_faults.Memory (λ d. d) r.body read → WroteNothing w read w' → P)
-    → ChangeNothing other w (call_at old front) → P
-one_quiet P beside other weaker old new (Ok None) n r w w' reply h a use_it quiet = absurd h
-one_quiet P beside other weaker old new (Err e) n r w w' reply h a use_it quiet = absurd h
-one_quiet P beside other weaker old new (Ok (Some x)) n r w w' reply h a use_it quiet =
-    use_it (body_of x.0) h.1.body (quiet w' reply (answers_weaker beside other weaker w _ _ w' reply (a (body_of x.0) h.1.body))).0
+-- a message that only reads
+pub one_reads : (P : Type 0) (old new : Connection) (front : Front) (n : ℕ) (r : Request) → IsTaken old front (takes.Call n r) new
+    → ((read : Result Pairs BsonFault) → Gives bson_faults.Memory (λ d. d) r.body read → BodyOnlyReads read → P)
+    → AllRead (call_at old front) → P
+one_reads P old new (Ok None) n r h use_it only = absurd h
+one_reads P old new (Err e) n r h use_it only = absurd h
+one_reads P old new (Ok (Some x)) n r h use_it only = use_it (body_of x.0) h.1.body only.0

@@ -1,6 +1,7 @@
 -- How the links are served, one after the other.
 use Rattle.std.proofs.Common.{◌≡◌, ℕ, zero, suc, ◌+◌, ◌<◌, List, [], ◌∷◌, ◌++◌, length, take, drop, get_or, set, refl, sym, ◌∙◌, ap, subst, arith, append_assoc}
 use Rattle.std.proofs.Common.{append-nil}
+use Rattle.std.proofs.Math.Path.{path_j, subst_refl}
 use Rattle.std.proofs.lemmas.List.{length-append, take_more, take-append-drop}
 use Rattle.std.specs.Prelude.{Bool, true, false, ◌&&◌, Option, Result, Ok, Err}
 use Rattle.bson.specs.Tree.{Pairs}
@@ -9,7 +10,7 @@ use Rattle.database_model.specs.Refusals.{refusal_reply}
 use Rattle.path.specs.declared.refusal.Refusal.{Refusal}
 use Rattle.op_msg.specs.Frame.{Frame}
 use Rattle.op_msg.specs.declared.fault.FrameFault.{FrameFault}
-use Rattle.server.specs.Turn.{Call, Runs, ChangeNothing, frames_of, frame_for, calls, call_at, front_of, connection_at, connections_after, taken_at}
+use Rattle.server.specs.Turn.{Call, Runs, WroteNone, AllRead, frames_of, frame_for, calls, call_at, front_of, connection_at, connections_after, taken_at}
 use Rattle.server.specs.Turn.{connections_taken, forget_all, refused_calls, refused_frames, faults, fault_at}
 use Rattle.server.specs.Taking.{Serves, refused_at, fault_in, faults_in, closed_by, closed_connections, fault_beside}
 use Rattle.server.specs.declared.connection.Connection.{Connection}
@@ -29,34 +30,52 @@ frames_on (x ∷ cs) ds (r ∷ rs) ss e =
     ap (λ (fs : List (ℕ × List ℕ)). frame_for x r ++ fs) (frames_on cs ds rs ss (omega (arith, e)))
     ∙ sym (append_assoc (frame_for x r) (frames_of cs rs) (frames_of ds ss))
 
--- calls that change nothing leave the collections as they are, and so do those after them
-pub quiet_runs : (beside : World → Refusal → Type 0) (cs ds : List Call) (a b : World) (rs : List Pairs) → Runs beside a cs rs b
-    → ChangeNothing beside a (cs ++ ds) → (b.collections ≡ a.collections) × ChangeNothing beside b ds
-quiet_runs beside [] ds a b [] h quiet = (ap (λ (w : World). w.collections) h, subst (λ (w : World). ChangeNothing beside w ds) (sym h) quiet)
-quiet_runs beside [] ds a b (r ∷ rs) h quiet = absurd h
-quiet_runs beside (x ∷ cs) ds a b [] h quiet = absurd h
-quiet_runs beside (x ∷ cs) ds a b (r ∷ rs) h quiet =
-    let one = quiet h.0 r h.1 in
-    let later = quiet_runs beside cs ds h.0 b rs h.2 one.1 in
-    (later.0 ∙ one.0.0, later.1)
+-- ---- calls of which none wrote anything
 
--- calls that change nothing, and those before them
-pub quiet_front : (beside : World → Refusal → Type 0) (cs ds : List Call) (a : World) → ChangeNothing beside a (cs ++ ds) → ChangeNothing beside a cs
-quiet_front beside [] ds a quiet = tt
-quiet_front beside (x ∷ cs) ds a quiet = λ mid reply h.
-    let one = quiet mid reply h in
-    (one.0, quiet_front beside cs ds mid one.1)
+module _ (beside : World → Refusal → Type 0) where
+  wrote_moved : (ds : List Call) (a b c : World) (ss : List Pairs) (is : b ≡ a) (k : Runs beside b ds ss c)
+      → WroteNone beside a ds ss c (subst (λ (w : World). Runs beside w ds ss c) is k) → WroteNone beside b ds ss c k
+  wrote_moved ds a b c ss is =
+      path_j
+      (λ (y : World) (p : b ≡ y). (k : Runs beside b ds ss c) → WroteNone beside y ds ss c (subst (λ (w : World). Runs beside w ds ss c) p k)
+      → WroteNone beside b ds ss c k)
+      (λ k. subst (WroteNone beside b ds ss c) (subst_refl (λ (w : World). Runs beside w ds ss c) k)) is
+
+  wrote_on : (cs ds : List Call) (a b c : World) (rs ss : List Pairs) (h : Runs beside a cs rs b) (k : Runs beside b ds ss c)
+      → WroteNone beside a (cs ++ ds) (rs ++ ss) c (runs_on beside cs ds a b c rs ss h k) → WroteNone beside a cs rs b h × WroteNone beside b ds ss c k
+  unfolding runs_on
+  wrote_on [] ds a b c [] ss h k none = (tt, wrote_moved ds a b c ss h k none)
+  wrote_on [] ds a b c (r ∷ rs) ss h k none = absurd h
+  wrote_on (x ∷ cs) ds a b c [] ss h k none = absurd h
+  wrote_on (x ∷ cs) ds a b c (r ∷ rs) ss h k none =
+      let later = wrote_on cs ds h.0 b c rs ss h.2 k none.1 in
+      ((none.0, later.0), later.1)
+
+-- of calls that only read, those of one connection
+read_both : (cs ds : List Call) → AllRead (cs ++ ds) → AllRead cs × AllRead ds
+read_both [] ds only = (tt, only)
+read_both (x ∷ cs) ds only = let later = read_both cs ds only.1 in ((only.0, later.0), later.1)
+
+pub read_at : (ls : List Connection) (i : ℕ) (d : Connection) → i < length ls → AllRead (calls ls)
+    → AllRead (call_at (get_or ls i d) (front_of (get_or ls i d)))
+read_at [] i d within only = absurd (omega (arith, within))
+read_at (l ∷ ls) zero d within only = (read_both (call_at l (front_of l)) (calls ls) only).0
+read_at (l ∷ ls) (suc i) d within only = read_at ls i d (omega (arith, within)) (read_both (call_at l (front_of l)) (calls ls) only).1
 
 both : (p q : Bool) → (p && q) ≡ true → (p ≡ true) × (q ≡ true)
 both true q e = (refl, e)
 both false q e = absurd cc
 
-pub serves_on : (word : Type 0) (beside : World → Refusal → Type 0) (cs ds : List Call) (a b c : World) (p q : Bool) (f g h : List (ℕ × List ℕ))
-    → Serves word beside cs a b p f g → Serves word beside ds b c q g h → Serves word beside (cs ++ ds) a c (p && q) f h
-serves_on word beside cs ds a b c p q f g h s t = record {
+pub serves_on : (word : Type 0) (beside : World → Refusal → Type 0) (first second same : Type 0) → (first → second → same)
+    → (cs ds : List Call) (a b c : World) (p q : Bool) (f g h : List (ℕ × List ℕ)) → Serves word beside first cs a b p f g
+    → Serves word beside second ds b c q g h → Serves word beside same (cs ++ ds) a c (p && q) f h
+serves_on word beside first second same join cs ds a b c p q f g h s t = record {
   replies = s.replies ++ t.replies;
   one_each = omega (arith, length-append s.replies t.replies, length-append cs ds, s.one_each, t.one_each);
   runs = λ k. runs_on beside cs ds a b c s.replies t.replies (s.runs k) (t.runs k);
+  wrote = λ k none.
+      let each = wrote_on beside cs ds a b c s.replies t.replies (s.runs k) (t.runs k) none in
+      join (s.wrote k each.0) (t.wrote k each.1);
   frames = λ e.
       let e2 = both p q e in
       t.frames e2.1 ∙ ap (λ (fs : List (ℕ × List ℕ)). fs ++ frames_of ds t.replies) (s.frames e2.0)

@@ -14,7 +14,7 @@ use Rattle.server.specs.ServerState.{ServerState, fed, ended}
 use Rattle.server.specs.Turn.{Out, Turns, TurnFails}
 use Rattle.server.specs.Moment.{Moment, TurnEnd, Instant, end_at, last_collections, last_moment, FollowsInTurn, FollowInOrder, HoldsEither, LeavesInOrder}
 use Rattle.server.specs.Causes.{IsCaused}
-use Rattle.server.specs.History.{Happens, RoomRanOut, turns_in}
+use Rattle.server.specs.History.{Happens, TakenBack, turns_in}
 use Rattle.server.specs.Addressed.{Addresses, Addressed, steps_done}
 use Rattle.server.specs.View.{state, frames_in}
 use Rattle.server.specs.Durable.{disk_history, is_stopped, IsRunning, IsSound, collections_of, clock_of, moment_of, instant_of, GoesSafely}
@@ -83,7 +83,7 @@ one_at_most (steps.Gone id) = omega arith
 one_at_most steps.Turn = omega arith
 
 pub one_turn : (first last : Instant) (out : Out)
-    → Turns (IsCaused first.moment last.moment) (RoomRanOut first.moment last.moment first.state) first.state out last.state
+    → Turns (IsCaused first.moment last.moment) (TakenBack first.moment last.moment) first.state out last.state
     → Happens first.moment first.state (steps.Turn ∷ []) out.replies (end_at last ∷ []) last.state
 one_turn first last out turns = (last.state, out, [], end_at last, [], turns, refl, sym (append-nil out.replies), refl, (refl, refl, refl))
 
@@ -447,7 +447,7 @@ module _ {D : Type 0} (history : D → History) (first : Core D) (all : List Ste
             lost = does.lost;
             happens = λ k. before new 1 does.adds (safe.on.kept k);
             turn = λ k. subst
-                (λ (m : Moment). Turns (IsCaused m (moment_of history last)) (RoomRanOut m (moment_of history last) (state now)) (state now) does.lost
+                (λ (m : Moment). Turns (IsCaused m (moment_of history last)) (TakenBack m (moment_of history last)) (state now) does.lost
                 (state last)) s.moment
                 (does.turn k);
             counted = refl;

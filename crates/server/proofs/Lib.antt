@@ -1,6 +1,7 @@
 pub mod CauseLemmas
 pub mod Refusing
 pub mod BodyAnswers
+pub mod TurnEnding
 pub mod TurnParts
 pub mod Images
 pub mod Order

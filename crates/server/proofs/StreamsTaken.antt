@@ -10,7 +10,7 @@ use Rattle.op_msg.proofs.Streams.{stays}
 use Rattle.server.specs.ServerState.{ServerState, add_bytes, are_ascending, ended, fed}
 use Rattle.server.specs.Moment.{Moment, TurnEnd}
 use Rattle.server.specs.Causes.{IsCaused}
-use Rattle.server.specs.History.{Happens, RoomRanOut}
+use Rattle.server.specs.History.{Happens, TakenBack}
 use Rattle.server.specs.Turn.{Out, Turns, front_of, front_if_open, connection_at, connection_after, connections_after}
 use Rattle.server.specs.Streams.{IsLeft, DoesNotEnd, TakesTheStream, bytes_from, connection_in, taken_from}
 use Rattle.server.specs.declared.connection.Connection.{Connection}
@@ -141,11 +141,11 @@ fed_alone id n chunk later c mid taken last is h false e =
     (h.0 ∙ ap (λ (x : Connection). taken_over x (events_for id later)) is_same, h.1 ∙ ap (λ (x : Connection). connection_over x (events_for id later)) is_same)
 
 -- the connections after a turn, done or undone
-turned : (beside : World → Refusal → Type 0) (no_room : Type 0) (state new : ServerState) (out : Out) → Turns beside no_room state out new
+turned : (beside : World → Refusal → Type 0) (undone : Refusal → Type 0) (state new : ServerState) (out : Out) → Turns beside undone state out new
     → new.connections ≡ connections_after state.connections
-turned beside no_room state new out (inl done) = ap (λ (s : ServerState). s.connections) done.leaves
-turned beside no_room state new out (inr (inl undone)) = ap (λ (s : ServerState). s.connections) undone.leaves
-turned beside no_room state new out (inr (inr (full, undone))) = ap (λ (s : ServerState). s.connections) undone.leaves
+turned beside undone state new out (inl done) = ap (λ (s : ServerState). s.connections) done.leaves
+turned beside undone state new out (inr (inl (why, back))) = ap (λ (s : ServerState). s.connections) back.leaves
+turned beside undone state new out (inr (inr (why, back))) = ap (λ (s : ServerState). s.connections) back.leaves
 
 alone : (id : ℕ) (at : Moment) (state : ServerState) (all : List Step) (given : List (ℕ × List ℕ)) (ends : List TurnEnd) (new : ServerState)
     (h : Happens at state all given ends new) → are_ascending state.connections ≡ true → DoesNotEnd id all
@@ -164,7 +164,7 @@ alone id at state (steps.Gone n ∷ later) given ends new h ascends unended =
     (rest.0 ∙ ap (λ (x : Connection). taken_over x (events_for id later)) same, rest.1 ∙ ap (λ (x : Connection). connection_over x (events_for id later)) same)
 alone id at state (steps.Turn ∷ later) given ends new h ascends unended =
     let mid = h.0 in
-    let after = turned (IsCaused at h.3.at) (RoomRanOut at h.3.at state) state mid h.1 h.5 in
+    let after = turned (IsCaused at h.3.at) (TakenBack at h.3.at) state mid h.1 h.5 in
     let rises : are_ascending mid.connections ≡ true = ap are_ascending after ∙ after_ascends state.connections ascends in
     let rest = alone id h.3.at mid later h.2 h.4 new h.9 rises unended in
     let same : connection_in mid.connections id ≡ connection_after (connection_in state.connections id) =

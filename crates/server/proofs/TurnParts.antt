@@ -13,9 +13,9 @@ use Rattle.server.specs.View.{state}
 use Rattle.server.specs.declared.connection.Connection.{Connection}
 use Rattle.server.specs.declared.turn.Core.{Core}
 
-module _ {D : Type 0} (word : Type 0) (beside : World → Refusal → Type 0) (no_room : Type 0) (core : Core D) (given : List (ℕ × List ℕ)) (mid : World)
+module _ {D : Type 0} (word : Type 0) (beside : World → Refusal → Type 0) (undone : Refusal → Type 0) (core : Core D) (given : List (ℕ × List ℕ)) (mid : World)
     (closed : List (ℕ × FrameFault)) (new : World) (left : List Connection)
-    (s : EndsTurn word beside no_room (world core.engine) core.connections.items given mid) (closes : closed ≡ faults core.connections.items)
+    (s : EndsTurn word beside undone (world core.engine) core.connections.items given mid) (closes : closed ≡ faults core.connections.items)
     (forgets : new ≡ forget_all mid closed)
     (go_on : left ≡ connections_after core.connections.items) where
   abbrev connections : List Connection
@@ -33,12 +33,32 @@ module _ {D : Type 0} (word : Type 0) (beside : World → Refusal → Type 0) (n
   leaves : (w : World) → mid ≡ w → after ≡ record { world = forget_all w (faults connections); connections = connections_after connections }
   leaves w e = λ i. record { world = (forgets ∙ (λ k. forget_all (e k) (closes k))) i; connections = go_on i }
 
-  pub turned : word → Turns beside no_room (state core) handed after
+  pub turned : word → Turns beside undone (state core) handed after
   turned k = ⊎_elim
       (λ done. inl (record { replies = s.replies; last = s.last; runs = s.runs k; hands_out = hands _ done.0; leaves = leaves _ done.1 }))
       (λ refused. inr (⊎_elim
-      (λ memory. inl (record { replies = s.replies; last = s.last; runs = s.runs k; hands_out = hands _ memory; leaves = leaves _ refused.1 }))
-      (λ room. inr (room.1 k, record { replies = s.replies; last = s.last; runs = s.runs k; hands_out = hands _ room.0; leaves = leaves _ refused.1 }))
+      (λ memory. inl (
+        memory.1 k,
+        record {
+          replies = s.replies;
+          last = s.last;
+          runs = s.runs k;
+          hands_out = hands _ memory.0;
+          leaves = leaves _ refused.1;
+          wrote = λ e. absurd cc;
+        },
+      ))
+      (λ room. inr (
+        room.0.1 k,
+        record {
+          replies = s.replies;
+          last = s.last;
+          runs = s.runs k;
+          hands_out = hands _ room.0.0;
+          leaves = leaves _ refused.1;
+          wrote = λ _. room.1 k;
+        },
+      ))
       refused.0))
       s.ends
 
@@ -47,8 +67,8 @@ module _ {D : Type 0} (word : Type 0) (beside : World → Refusal → Type 0) (n
   handed_out = ⊎_elim
       (λ done. record { replies = s.replies; one_each = s.one_each; is = hands _ done.0 })
       (λ refused. ⊎_elim
-      (λ memory. refused_out refusals.OutOfMemory memory)
-      (λ room. refused_out refusals.Full room.0)
+      (λ memory. refused_out refusals.OutOfMemory memory.0)
+      (λ room. refused_out refusals.Full room.0.0)
       refused.0)
       s.ends
     where

@@ -15,7 +15,7 @@ use Rattle.server.specs.ServerState.{ServerState, ended, fed}
 use Rattle.server.specs.Turn.{Call, Out, Runs, Turns, calls}
 use Rattle.server.specs.Causes.{IsCaused}
 use Rattle.server.specs.Moment.{Moment, TurnEnd}
-use Rattle.server.specs.History.{Happens, RoomRanOut}
+use Rattle.server.specs.History.{Happens, TakenBack}
 use Rattle.server.specs.declared.step.Step.{Step}
 use Rattle.server.specs.declared.step.Step.TheVariants as steps
 
@@ -37,13 +37,13 @@ batches_of_calls number beside world (c ∷ cs) (r ∷ rs) new h =
     batch_of_answer number beside world c.connection.id (body_of c.frame) h.0 r h.1
     ++ batches_of_calls number beside h.0 cs rs new h.2
 
-abbrev pub batches_of_turn : (number : ℕ) (beside : World → Refusal → Type 0) (no_room : Type 0)
-    (state : ServerState) (out : Out) (new : ServerState)
-    → Turns beside no_room state out new → List Pairs
-batches_of_turn number beside no_room state out new (inl done) =
+abbrev pub batches_of_turn : (number : ℕ) (beside : World → Refusal → Type 0)
+    (undone : Refusal → Type 0) (state : ServerState) (out : Out) (new : ServerState)
+    → Turns beside undone state out new → List Pairs
+batches_of_turn number beside undone state out new (inl done) =
     batches_of_calls number beside state.world (calls state.connections) done.replies done.last
     done.runs
-batches_of_turn number beside no_room state out new (inr undone) = []
+batches_of_turn number beside undone state out new (inr back) = []
 
 abbrev pub batches_in : (number : ℕ) (at : Moment) (state : ServerState) (all : List Step)
     (given : List (ℕ × List ℕ)) (ends : List TurnEnd) (new : ServerState)
@@ -54,7 +54,7 @@ batches_in number at state (steps.Bytes id chunk ∷ later) given ends new h =
 batches_in number at state (steps.Gone id ∷ later) given ends new h =
     batches_in number at (ended state id) later given ends new h
 batches_in number at state (steps.Turn ∷ later) given ends new h =
-    batches_of_turn number (IsCaused at h.3.at) (RoomRanOut at h.3.at state) state h.1 h.0 h.5
+    batches_of_turn number (IsCaused at h.3.at) (TakenBack at h.3.at) state h.1 h.0 h.5
     ++ batches_in number h.3.at h.0 later h.2 h.4 new h.9
 
 -- These batches and what the cursor has left, where it is open still, are what it had.

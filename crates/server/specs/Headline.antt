@@ -20,7 +20,7 @@ use Rattle.server.specs.Turn.{Out, Turns, TurnFails}
 use Rattle.server.specs.Moment.{TurnEnd, Instant, HasKeptWord, end_at, last_collections}
 use Rattle.server.specs.Moment.{last_moment, HoldsEither, FollowInOrder, LeavesInOrder}
 use Rattle.server.specs.Causes.{IsCaused}
-use Rattle.server.specs.History.{Happens, RoomRanOut, bytes_to, turns_in}
+use Rattle.server.specs.History.{Happens, TakenBack, bytes_to, turns_in}
 use Rattle.server.specs.View.{state, frames_in}
 use Rattle.server.specs.Addressed.{Addressed}
 use Rattle.server.specs.Durable.{disk_history, is_stopped, IsRunning, collections_of, clock_of}
@@ -54,7 +54,7 @@ pub record LosesTurn (first : Instant) (done : List Step) (given : List (ℕ × 
   pub lost : Out
   pub happens : HasKeptWord last → Happens first.moment first.state done given earlier before
   pub turn : HasKeptWord last → Turns (IsCaused (last_moment first.moment earlier) last.moment)
-      (RoomRanOut (last_moment first.moment earlier) last.moment before) before lost last.state
+      (TakenBack (last_moment first.moment earlier) last.moment) before lost last.state
   pub counted : ends ≡ earlier ++ end_at last ∷ []
 
 -- A history of these steps, and then one turn that handed out nothing, by its fault and whether the

@@ -4,25 +4,25 @@
 use Rattle.std.specs.Prelude.{◌≡◌, ◌⊎◌, ◌-◌, ◌^◌, ℕ, suc, ◌==◌, if◌then◌else◌, List, [], ◌∷◌}
 use Rattle.std.specs.Prelude.{◌++◌}
 use Rattle.server.specs.ServerState.{ServerState, fed, ended}
-use Rattle.database_model.specs.World.{World}
-use Rattle.server.specs.Turn.{Out, Turns, ChangeNothing, calls}
+use Rattle.path.specs.declared.refusal.Refusal.{Refusal}
+use Rattle.path.specs.declared.refusal.Refusal.TheVariants as refusals
+use Rattle.server.specs.Turn.{Out, Turns}
 use Rattle.server.specs.Moment.{Moment, TurnEnd}
-use Rattle.server.specs.Causes.{FoundNoPage, IsCaused, OfAnyCause}
-use Rattle.server.specs.declared.connection.Connection.{Connection}
+use Rattle.server.specs.Causes.{FoundNoPage, IsCaused}
 use Rattle.server.specs.declared.step.Step.{Step}
 use Rattle.server.specs.declared.step.Step.TheVariants as steps
 
 -- Between these moments a commit finds no greater generation, or no page was free, which is
--- counted; and not all answers that the messages of these connections may get leave nothing
--- written.
-abbrev pub FindsNoRoom : Moment → Moment → World → List Connection → Type 0
-FindsNoRoom old new world connections =
-    ((old.generation ≡ 2 ^ 64 - 1) ⊎ FoundNoPage old new)
-    × (ChangeNothing OfAnyCause world (calls connections) → ⊥)
+-- counted.
+abbrev pub FindsNoRoom : Moment → Moment → Type 0
+FindsNoRoom old new = (old.generation ≡ 2 ^ 64 - 1) ⊎ FoundNoPage old new
 
--- Why a turn is undone for want of room, by its first and its last moment and the state before it.
-abbrev pub RoomRanOut : Moment → Moment → ServerState → Type 0
-RoomRanOut old new state = FindsNoRoom old new state.world state.connections
+-- Why all of a turn is undone and refused so, by its first and its last moment: for want of memory,
+-- or of room by its cause. It commits nothing.
+abbrev pub TakenBack : Moment → Moment → Refusal → Type 0
+TakenBack old new refusals.OutOfMemory = new.generation ≡ old.generation
+TakenBack old new refusals.Full = (new.generation ≡ old.generation) × FindsNoRoom old new
+TakenBack old new other = ⊥
 
 -- From this moment and state on, after these steps the server may be this one, the frames that were
 -- handed out these, each with its connection, in order, and the turns' ends these.
@@ -36,7 +36,7 @@ Happens at state (steps.Gone id ∷ later) given ends new =
 Happens at state (steps.Turn ∷ later) given ends new =
     (mid : ServerState) × (out : Out) × (others : List (ℕ × List ℕ)) × (end : TurnEnd)
     × (more : List TurnEnd)
-    × Turns (IsCaused at end.at) (RoomRanOut at end.at state) state out mid
+    × Turns (IsCaused at end.at) (TakenBack at end.at) state out mid
     × (end.collections ≡ mid.world.collections)
     × (given ≡ out.replies ++ others) × (ends ≡ end ∷ more)
     × Happens end.at mid later others more new

@@ -20,5 +20,6 @@ pub mod InOrder
 pub mod Streams
 pub mod Batches
 pub mod Taking
+pub mod Messages
 pub mod Serving
 pub mod Room

@@ -4,7 +4,7 @@ use Rattle.std.specs.Global.{Global}
 use Rattle.server.specs.Turn.{Out, Turns, TurnFails}
 use Rattle.server.specs.Moment.{TurnEnd, Instant, HasKeptWord, end_at, last_moment}
 use Rattle.server.specs.Causes.{IsCaused}
-use Rattle.server.specs.History.{Happens, RoomRanOut, turns_in}
+use Rattle.server.specs.History.{Happens, TakenBack, turns_in}
 use Rattle.server.specs.Addressed.{Addresses}
 use Rattle.server.specs.View.{frames_in}
 use Rattle.server.specs.declared.step.Step.{Step}
@@ -40,7 +40,7 @@ pub record Loses (first : Instant) (step : Step) (old new : DriveOut)
   pub is : step ≡ steps.Turn
   pub lost : Out
   pub turn : HasKeptWord last → Turns (IsCaused first.moment last.moment)
-      (RoomRanOut first.moment last.moment first.state) first.state lost last.state
+      (TakenBack first.moment last.moment) first.state lost last.state
   pub adds : Adds [] 1 old new
 
 -- By the result, and whether the server had stopped before the step.

@@ -3,7 +3,7 @@ use Rattle.std.specs.Prelude.{◌≡◌, ◌⊎◌, ℕ, List, [], map}
 use Rattle.page.specs.History.{History, KeepsWord}
 use Rattle.server.specs.Turn.{Out, Turns, TurnFails, HandsOut}
 use Rattle.server.specs.Causes.{IsCaused}
-use Rattle.server.specs.History.{RoomRanOut}
+use Rattle.server.specs.History.{TakenBack}
 use Rattle.server.specs.View.{state}
 use Rattle.server.specs.Durable.{disk_history, moment_of, is_stopped}
 use Rattle.server.specs.declared.turn.Core.{Core}
@@ -15,7 +15,7 @@ pub record TurnGives {D : Type 0} (history : D → History) (old : Core D)
   pub out : Out
   pub turns : KeepsWord (disk_history history new)
       → Turns (IsCaused (moment_of history old) (moment_of history new))
-      (RoomRanOut (moment_of history old) (moment_of history new) (state old)) (state old)
+      (TakenBack (moment_of history old) (moment_of history new)) (state old)
       out (state new)
   -- on any disk: to whom its frames go
   pub hands_out : HandsOut (state old) out

@@ -16,8 +16,8 @@ use Rattle.database_model.specs.Refusals.{refusal_reply}
 use Rattle.database_model.specs.Step.{Answers}
 use Rattle.path.specs.declared.refusal.Refusal.{Refusal}
 use Rattle.path.specs.declared.refusal.Refusal.TheVariants as refusals
-use Rattle.server.specs.Turn.{Call, Runs, calls, call_at, frames_of, front_of, refused_calls}
-use Rattle.server.specs.Turn.{refused_frames, taken_at, next_number}
+use Rattle.server.specs.Turn.{Call, Runs, WroteNone, calls, call_at, frames_of, front_of}
+use Rattle.server.specs.Turn.{refused_calls, refused_frames, taken_at, next_number}
 use Rattle.server.specs.declared.connection.Connection.{Connection}
 use Rattle.server.specs.declared.connection.Taken.{Taken}
 use Rattle.server.specs.declared.connection.Taken.TheVariants as takes
@@ -78,12 +78,13 @@ IsTaken old (Ok (Some x)) (takes.Call number request) new =
 IsTaken old front other new = ⊥
 
 -- The calls were answered, one reply each, and at ok each frame was put at the end. While the word
--- is kept, they were answered so.
-pub record Serves (word : Type 0) (beside : World → Refusal → Type 0) (calls : List Call)
-    (old new : World) (ok : Bool) (given now : List (ℕ × List ℕ)) : Type 0 where
+-- is kept, they were answered so, and where none of them wrote anything, all is the same.
+pub record Serves (word : Type 0) (beside : World → Refusal → Type 0) (same : Type 0)
+    (calls : List Call) (old new : World) (ok : Bool) (given now : List (ℕ × List ℕ)) : Type 0 where
   pub replies : List Pairs
   pub one_each : length replies ≡ length calls
   pub runs : word → Runs beside old calls replies new
+  pub wrote : (k : word) → WroteNone beside old calls replies new (runs k) → same
   pub frames : ok ≡ true → now ≡ given ++ frames_of calls replies
 
 -- a request with this body, whatever frame it came in
@@ -92,19 +93,26 @@ IsAnswer beside old id request new reply =
     (read : Result Pairs BsonFault) → Gives bson_faults.Memory (λ d. d) request.body read
     → Answers beside old id read new reply
 
+-- the frames of a turn that is undone with this refusal, by its cause
+abbrev pub RefusesAll : Type 0 → (Refusal → Type 0) → List Connection → List (ℕ × List ℕ) → Refusal
+    → Type 0
+RefusesAll word undone connections given refusal =
+    (given ≡ refused_frames refusal connections) × (word → undone refusal)
+
 -- The messages of the connections ran. The turn kept what they changed and hands out these replies,
--- or it took back what they changed and hands out refusals: for want of room only by its cause.
+-- or it took back what they changed and hands out refusals, for want of memory or of room.
 -- What they were answered, and the cause, is said while the word is kept.
-pub record EndsTurn (word : Type 0) (beside : World → Refusal → Type 0) (no_room : Type 0)
-    (old : World) (connections : List Connection) (given : List (ℕ × List ℕ))
-    (new : World) : Type 0 where
+pub record EndsTurn (word : Type 0) (beside : World → Refusal → Type 0)
+    (undone : Refusal → Type 0) (old : World) (connections : List Connection)
+    (given : List (ℕ × List ℕ)) (new : World) : Type 0 where
   pub replies : List Pairs
   pub one_each : length replies ≡ length (calls connections)
   pub last : World
   pub runs : word → Runs beside old (calls connections) replies last
   pub ends : ((given ≡ frames_of (calls connections) replies) × (new ≡ after_commit last))
-      ⊎ (((given ≡ refused_frames refusals.OutOfMemory connections)
-      ⊎ ((given ≡ refused_frames refusals.Full connections) × (word → no_room)))
+      ⊎ ((RefusesAll word undone connections given refusals.OutOfMemory
+      ⊎ (RefusesAll word undone connections given refusals.Full
+      × ((k : word) → WroteNone beside old (calls connections) replies last (runs k) → ⊥)))
       × (new ≡ after_undo old.collections last))
 
 -- The messages of the connections ran, and the device failed when what they changed was to be made

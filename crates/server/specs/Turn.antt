@@ -15,6 +15,7 @@ use Rattle.op_msg.specs.declared.fault.FrameFault.{FrameFault}
 use Rattle.database_model.specs.World.{World, forget, after_commit, after_undo}
 use Rattle.database_model.specs.Refusals.{refusal_reply}
 use Rattle.database_model.specs.Step.{Answers, WroteNothing}
+use Rattle.engine.specs.Laws.{BodyOnlyReads}
 use Rattle.path.specs.declared.refusal.Refusal.{Refusal}
 use Rattle.path.specs.declared.refusal.Refusal.TheVariants as refusals
 use Rattle.server.specs.ServerState.{ServerState}
@@ -99,6 +100,14 @@ Runs beside world (c ∷ cs) (r ∷ rs) new =
     (mid : World) × Answers beside world c.connection.id (body_of c.frame) mid r
     × Runs beside mid cs rs new
 
+-- None of the messages that were answered so wrote anything.
+abbrev pub WroteNone : (beside : World → Refusal → Type 0) (old : World) (cs : List Call)
+    (replies : List Pairs) (new : World) → Runs beside old cs replies new → Type 0
+WroteNone beside old [] replies new h = Unit {0}
+WroteNone beside old (c ∷ cs) [] new h = Unit {0}
+WroteNone beside old (c ∷ cs) (r ∷ rs) new h =
+    WroteNothing old (body_of c.frame) h.0 × WroteNone beside h.0 cs rs new h.2
+
 -- However the messages are answered, none of them writes anything.
 abbrev pub ChangeNothing : (World → Refusal → Type 0) → World → List Call → Type 0
 ChangeNothing beside world [] = Unit {0}
@@ -108,6 +117,11 @@ ChangeNothing beside world (c ∷ cs) =
 
 abbrev pub ChangesNothing : (World → Refusal → Type 0) → ServerState → Type 0
 ChangesNothing beside state = ChangeNothing beside state.world (calls state.connections)
+
+-- Each message only reads, or is refused before it runs, as one that is no document is.
+abbrev pub AllRead : List Call → Type 0
+AllRead [] = Unit {0}
+AllRead (c ∷ cs) = BodyOnlyReads (body_of c.frame) × AllRead cs
 
 -- connections that a fault closed lose their cursors
 abbrev pub forget_all : World → List (ℕ × FrameFault) → World
@@ -170,7 +184,8 @@ pub record Done (beside : World → Refusal → Type 0) (state : ServerState) (o
     connections = connections_after state.connections;
   }
 
--- Undone: the state is the one before, and each reply is this refusal.
+-- Undone: the state is the one before, and each reply is this refusal: for want of room only where
+-- a message has written something.
 pub record Undone (beside : World → Refusal → Type 0) (state : ServerState) (refusal : Refusal)
     (out : Out)
     (new : ServerState) : Type 0 where
@@ -185,13 +200,16 @@ pub record Undone (beside : World → Refusal → Type 0) (state : ServerState) 
     world = forget_all (after_undo state.world.collections last) (faults state.connections);
     connections = connections_after state.connections;
   }
+  pub wrote : refusal ≡ refusals.Full
+      → WroteNone beside state.world (calls state.connections) replies last runs → ⊥
 
 -- A turn that answers: done, or undone for want of memory, or for want of room, by its cause.
-abbrev pub Turns : (World → Refusal → Type 0) → Type 0 → ServerState → Out → ServerState → Type 0
-Turns beside no_room state out new =
+abbrev pub Turns : (World → Refusal → Type 0) → (Refusal → Type 0) → ServerState → Out
+    → ServerState → Type 0
+Turns beside undone state out new =
     Done beside state out new
-    ⊎ (Undone beside state refusals.OutOfMemory out new
-    ⊎ (no_room × Undone beside state refusals.Full out new))
+    ⊎ ((undone refusals.OutOfMemory × Undone beside state refusals.OutOfMemory out new)
+    ⊎ (undone refusals.Full × Undone beside state refusals.Full out new))
 
 -- Cut: the messages are taken and ran, no reply is handed out, and no connection is closed.
 pub record Cut (beside : World → Refusal → Type 0) (state new : ServerState) : Type 0 where

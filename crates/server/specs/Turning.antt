@@ -1,14 +1,16 @@
 -- What the call of a turn gives, by its result.
 use Rattle.std.specs.Prelude.{◌≡◌, ◌≢◌, ◌⊎◌, ◌+◌, ◌<◌, true, [], Result, Err, IfOk, IfErr, OnOk}
+use Rattle.std.specs.Prelude.{OnErr}
 use Rattle.page.specs.History.{History, KeepsWord}
 use Rattle.page.specs.Crash.{GoesOn, LeavesOnly, LeavesNow}
 use Rattle.trusted_disk.specs.Trusting.{trusted_history}
 use Rattle.engine.specs.Continuing.{Continues}
 use Rattle.opening.specs.Holding.{Holds}
-use Rattle.server.specs.Turn.{calls, connections_after, HandsOut, Turns, TurnFails, ChangesNothing}
+use Rattle.server.specs.Turn.{calls, connections_after, AllRead, HandsOut, Turns, TurnFails}
+use Rattle.server.specs.Turn.{ChangesNothing}
 use Rattle.server.specs.Moment.{HoldsEither, FollowsInTurn}
 use Rattle.server.specs.Causes.{IsCaused, OfAnyCause}
-use Rattle.server.specs.History.{RoomRanOut}
+use Rattle.server.specs.History.{TakenBack}
 use Rattle.server.specs.View.{state, out_of}
 use Rattle.server.specs.Durable.{disk_history, is_stopped, IsRunning, IsSound}
 use Rattle.server.specs.Durable.{collections_of, moment_of}
@@ -23,7 +25,7 @@ pub record TakesTurn {D : Type 0} (history : D → History) (old : Core D)
   -- while the disk keeps its word, it is done, or undone; or it answers no message
   pub turns : IfOk result (λ out. KeepsWord (disk_history history new)
       → Turns (IsCaused (moment_of history old) (moment_of history new))
-      (RoomRanOut (moment_of history old) (moment_of history new) (state old)) (state old)
+      (TakenBack (moment_of history old) (moment_of history new)) (state old)
       (out_of out) (state new))
   -- on any disk: to whom its frames go, one for each message that is taken, and what it leaves of
   -- what came
@@ -59,9 +61,16 @@ pub record TakesTurn {D : Type 0} (history : D → History) (old : Core D)
   pub moment : FollowsInTurn (moment_of history old) (moment_of history new)
   pub commits : OnOk result ((collections_of new ≡ collections_of old)
       ⊎ ((moment_of history new).generation ≡ (moment_of history old).generation + 1))
+  -- where it answers no message, it has committed nothing
+  pub uncommitted : OnErr result
+      ((moment_of history new).generation ≡ (moment_of history old).generation)
   -- where it takes no message, it makes no call of the disk
   pub void : calls (state old).connections ≡ []
       → disk_history history new ≡ disk_history history old
   -- where its messages change nothing, it only reads the disk, and commits nothing
   pub quiet : KeepsWord (disk_history history new) → ChangesNothing OfAnyCause (state old)
+      → Continues (trusted_history history) old.engine new.engine
+  -- On any disk: where its messages only read, or are refused before they run, it commits nothing,
+  -- and doesn't stop the server.
+  pub reads : AllRead (calls (state old).connections)
       → Continues (trusted_history history) old.engine new.engine

@@ -1,15 +1,14 @@
 //! The messages of a turn, answered one after the other.
 
-ghost use Rattle.std.specs.Prelude.{◌≡◌, ◌≢◌, ◌⊎◌, ◌+◌, ◌<◌, [], IfOk, IfSome, IsSome, None, Some, true, false};
+ghost use Rattle.std.specs.Prelude.{◌≡◌, [], IfOk, true, false};
 ghost use Rattle.page.specs.History.{KeepsWord};
-ghost use Rattle.page.specs.Crash.{GoesOn, LeavesOnly, LeavesNow};
 ghost use Rattle.op_msg.specs.Request.{reply_bytes};
 ghost use Rattle.database_model.specs.World.{are_untouched};
 ghost use Rattle.replies.specs.View.{answer_of, IsSendable};
 ghost use Rattle.engine.specs.View.{world, turn_start, reply_of};
 ghost use Rattle.engine.specs.Continuing.{Continues};
-ghost use Rattle.engine.specs.Durable.{disk_history, generation, has_changes, is_stopped, IsRunning, IsSound};
-ghost use Rattle.opening.specs.Holding.{Holds};
+ghost use Rattle.engine.specs.Laws.{BodyOnlyReads};
+ghost use Rattle.engine.specs.Durable.{disk_history, has_changes, is_stopped, IsRunning, IsSound};
 ghost use Rattle.path.specs.declared.refusal.Refusal.TheVariants.{OutOfMemory};
 ghost use Rattle.std.specs.Prelude.{Result};
 ghost use Rattle.bson.specs.Tree.{Pairs};
@@ -17,12 +16,11 @@ ghost use Rattle.outcome.specs.Outcome.{Gives};
 ghost use Rattle.bson.specs.declared.fault.BsonFault.{BsonFault};
 ghost use Rattle.bson.specs.declared.fault.BsonFault.TheVariants as bson_faults;
 ghost use Rattle.database_model.specs.Step.{WroteNothing};
-ghost use Rattle.server.specs.Turn.{front_of, connections_taken, taken_at, call_at, calls, refused_frames, forget_all, ChangeNothing};
-ghost use Rattle.server.specs.Taking.{Serves, IsAnswer, EndsTurn, BreaksTurn};
+ghost use Rattle.server.specs.Turn.{front_of, connections_taken, taken_at, call_at, calls, refused_frames, forget_all, AllRead};
+ghost use Rattle.server.specs.Taking.{Serves, IsAnswer};
+ghost use Rattle.server.specs.Messages.{RunsMessages};
 ghost use Rattle.server.specs.View.{frames_in};
-ghost use Rattle.server.specs.Causes.{IsCaused, OfAnyCause};
-ghost use Rattle.server.specs.History.{FindsNoRoom};
-ghost use Rattle.server.specs.Moment.{FollowsInTurn};
+ghost use Rattle.server.specs.Causes.{IsCaused};
 ghost use Rattle.server.specs.Durable.{engine_moment};
 
 use crate::connection::{Connection, Taken, take_call};
@@ -86,6 +84,9 @@ fn answer<D: Disk>(engine: &mut Engine<D>, id: ConnId, request: &Request) -> Rep
         → Gives bson_faults.Memory (λ d. d) request.now.body read
         → WroteNothing (world engine.old) read (world engine.new)
         → has_changes engine.new ≡ has_changes engine.old }
+    ensures reads { (read : Result Pairs BsonFault)
+        → Gives bson_faults.Memory (λ d. d) request.now.body read → BodyOnlyReads read
+        → has_changes engine.new ≡ has_changes engine.old }
     ensures sendable { IsSendable (reply_of result) }
 {
     match &request.body {
@@ -108,13 +109,12 @@ fn serve_connection<D: Disk>(
     ensures running { is_stopped engine.new ≡ is_stopped engine.old }
     ensures serves { Serves (KeepsWord (disk_history D.history engine.new))
         (IsCaused (engine_moment D.history engine.old) (engine_moment D.history engine.new))
+        (has_changes engine.new ≡ has_changes engine.old)
         (call_at connection.old (front_of connection.old)) (world engine.old) (world engine.new)
         result (frames_in frames.old.items) (frames_in frames.new.items) }
     ensures connection { connection.new ≡ taken_at connection.old (front_of connection.old) }
     ensures turn_start { turn_start engine.new ≡ turn_start engine.old }
-    ensures quiet { KeepsWord (disk_history D.history engine.new)
-        → ChangeNothing OfAnyCause (world engine.old)
-        (call_at connection.old (front_of connection.old))
+    ensures reads { AllRead (call_at connection.old (front_of connection.old))
         → has_changes engine.new ≡ has_changes engine.old }
     ensures idle { call_at connection.old (front_of connection.old) ≡ []
         → engine.new ≡ engine.old }
@@ -146,12 +146,11 @@ fn serve_connections<D: Disk>(
     ensures running { is_stopped engine.new ≡ is_stopped engine.old }
     ensures serves { Serves (KeepsWord (disk_history D.history engine.new))
         (IsCaused (engine_moment D.history engine.old) (engine_moment D.history engine.new))
-        (calls connections.old) (world engine.old)
+        (has_changes engine.new ≡ has_changes engine.old) (calls connections.old) (world engine.old)
         (world engine.new) result (frames_in frames.old.items) (frames_in frames.new.items) }
     ensures connections { connections.new ≡ connections_taken connections.old }
     ensures turn_start { turn_start engine.new ≡ turn_start engine.old }
-    ensures quiet { KeepsWord (disk_history D.history engine.new)
-        → ChangeNothing OfAnyCause (world engine.old) (calls connections.old)
+    ensures reads { AllRead (calls connections.old)
         → has_changes engine.new ≡ has_changes engine.old }
     ensures idle { calls connections.old ≡ [] → engine.new ≡ engine.old }
 {
@@ -177,40 +176,8 @@ pub(crate) fn run_messages<D: Disk>(
     requires rests { has_changes engine.old ≡ false }
     requires refusals { frames_in refusals.items
         ≡ refused_frames OutOfMemory connections.old.items }
-    ensures sound { IsSound D.history engine.new }
-    ensures settles { IfSome result (λ given. EndsTurn
-        (KeepsWord (disk_history D.history engine.new))
-        (IsCaused (engine_moment D.history engine.old) (engine_moment D.history engine.new))
-        (FindsNoRoom (engine_moment D.history engine.old) (engine_moment D.history engine.new)
-        (world engine.old) connections.old.items)
-        (world engine.old) connections.old.items (frames_in given.items) (world engine.new)) }
-    ensures breaks { result ≡ None → KeepsWord (disk_history D.history engine.new)
-        → BreaksTurn
-        (IsCaused (engine_moment D.history engine.old) (engine_moment D.history engine.new))
-        (world engine.old) connections.old.items (world engine.new) }
-    ensures connections { connections.new.items ≡ connections_taken connections.old.items }
-    ensures idle { turn_start engine.new ≡ (world engine.new).collections }
-    ensures rests { has_changes engine.new ≡ false }
-    ensures rested { are_untouched (world engine.new).cursors ≡ true }
-    ensures on { GoesOn (disk_history D.history engine.old) (disk_history D.history engine.new) }
-    ensures any_moment { LeavesOnly (disk_history D.history engine.old) (disk_history D.history engine.new)
-        (λ image. Holds image (world engine.old).collections
-        ⊎ Holds image (world engine.new).collections) }
-    ensures running { IfSome result (λ _. is_stopped engine.new ≡ is_stopped engine.old) }
-    ensures stops { result ≡ None → is_stopped engine.new ≡ true }
-    ensures device { result ≡ None → KeepsWord (disk_history D.history engine.new)
-        → (disk_history D.history engine.old).failed_writes
-        < (disk_history D.history engine.new).failed_writes }
-    ensures moment { FollowsInTurn (engine_moment D.history engine.old)
-        (engine_moment D.history engine.new) }
-    ensures commits { IfSome result (λ _.
-        ((world engine.new).collections ≡ (world engine.old).collections)
-        ⊎ (generation engine.new ≡ generation engine.old + 1)) }
-    ensures quiet { KeepsWord (disk_history D.history engine.new)
-        → ChangeNothing OfAnyCause (world engine.old) (calls connections.old.items)
-        → Continues D.history engine.old engine.new }
-    ensures void { calls connections.old.items ≡ []
-        → disk_history D.history engine.new ≡ disk_history D.history engine.old }
+    ensures { RunsMessages D.history engine.old connections.old.items result engine.new
+        connections.new.items }
 {
     let mut replies = Vec::new(*connections.allocator());
     if !serve_connections(engine, connections, &mut replies) {

@@ -104,6 +104,14 @@ impl<D: Disk> Core<D> {
         *self.connections.allocator()
     }
 
+    /// Whether a write or a sync has failed. Nothing is committed any more then, and each turn answers
+    /// `Stopped`.
+    pub fn is_stopped(&self) -> bool
+        ensures { result ≡ is_stopped self.now }
+    {
+        self.engine.is_stopped()
+    }
+
     /// Takes bytes that came on a connection. The first ones open it. A connection that a fault of a frame
     /// closed answers `Closed` until `gone`, and the bytes are passed over.
     pub fn feed(&mut self, id: ConnId, bytes: &[u8]) -> Result<(), FeedFault>

@@ -7,6 +7,7 @@ use Rattle.bson.specs.declared.fault.BsonFault.TheVariants as bson_faults
 use Rattle.replies.proofs.SpelledSizes.{refusal-sendable}
 use Rattle.engine.specs.View.{world, reply_of}
 use Rattle.engine.specs.Durable.{file_of}
+use Rattle.engine.specs.Laws.{BodyOnlyReads}
 use Rattle.database_model.specs.Step.{Answers, WroteNothing}
 use Rattle.engine.specs.Writing.{FileCause}
 use Rattle.engine.proofs.Continuing.{continues_itself}
@@ -46,3 +47,8 @@ returns-in-Ok-clause-quiet g c = λ k read gives wrote.
     let same : read ≡ Ok c.in-Ok.document = subst (λ body. Gives bson_faults.Memory (λ d. d) body read) c.in-Ok.is gives in
     let nothing = subst (λ (r : Result Pairs BsonFault). WroteNothing (world c.args.engine.now) r (world c.execute.new.self)) same wrote in
     c.execute.ensures.has_changes k nothing
+
+pub returns-in-Ok-clause-reads : goal.returns-in-Ok-clause-reads
+returns-in-Ok-clause-reads g c = λ read gives only.
+    let same : read ≡ Ok c.in-Ok.document = subst (λ body. Gives bson_faults.Memory (λ d. d) body read) c.in-Ok.is gives in
+    c.execute.ensures.reads (subst BodyOnlyReads same only)

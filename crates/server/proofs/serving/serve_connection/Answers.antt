@@ -1,16 +1,15 @@
-use Rattle.std.proofs.Common.{◌≡◌, ℕ, List, [], ◌∷◌, ◌++◌, sym, ◌∙◌, ap, append-nil, rules}
+use Rattle.std.proofs.Common.{◌≡◌, ℕ, List, [], ◌∷◌, ◌++◌, sym, ◌∙◌, ap, append-nil, refl, rules}
 use Rattle.std.specs.Prelude.{Bool, true, false}
 use Rattle.engine.specs.View.{world, reply_of}
 use Rattle.page.specs.History.{KeepsWord}
 use Rattle.engine.specs.Durable.{disk_history, has_changes}
 use Rattle.engine.proofs.Continuing.{continues_itself}
-use Rattle.server.specs.Causes.{IsCaused, OfAnyCause}
+use Rattle.server.specs.Causes.{IsCaused}
 use Rattle.server.specs.Durable.{engine_moment}
-use Rattle.server.proofs.CauseLemmas.{any_cause}
 use Rattle.server.specs.Turn.{front_of, frame_unless}
 use Rattle.server.specs.View.{frames_in}
 use Rattle.server.proofs.Histories.{frames_append}
-use Rattle.server.proofs.ConnectionServed.{one_served, one_quiet, nothing_served, is_called, taken_link}
+use Rattle.server.proofs.ConnectionServed.{one_served, one_reads, nothing_served, is_called, taken_link}
 use Rattle.server.proofs.serving.serve_connection.Goals as goal
 
 pub returns-then-request-clause-serves : goal.returns-then-request-clause-serves
@@ -19,9 +18,10 @@ returns-then-request-clause-serves g c =
     let connection = c.args.connection.now in
     let r = c.in-Call.request in
     one_served (KeepsWord (disk_history g.D.Disk.history c.answer-reply.new.engine))
-    (IsCaused (engine_moment g.D.Disk.history c.args.engine.now) (engine_moment g.D.Disk.history c.answer-reply.new.engine)) connection
+    (IsCaused (engine_moment g.D.Disk.history c.args.engine.now) (engine_moment g.D.Disk.history c.answer-reply.new.engine))
+    (has_changes c.answer-reply.new.engine ≡ has_changes c.args.engine.now) connection
     c.take_call.new.connection (front_of connection) c.in-Call.number r (world c.args.engine.now) (world c.answer-reply.new.engine)
-    (reply_of c.answer-reply.result) true given given c.in-Call.ensures.taken c.answer-reply.ensures.answer
+    (reply_of c.answer-reply.result) true given given c.in-Call.ensures.taken c.answer-reply.ensures.answer c.answer-reply.ensures.quiet
     (λ e. sym (append-nil given)
     ∙ ap (λ (b : Bool). given ++ frame_unless b connection.id c.in-Call.number r.request_id (reply_of c.answer-reply.result)) (sym c.if-request.true))
 
@@ -30,9 +30,10 @@ returns-clause-serves g c =
     let given = frames_in c.args.frames.now.items in
     let connection = c.args.connection.now in
     one_served (KeepsWord (disk_history g.D.Disk.history c.answer-reply.new.engine))
-    (IsCaused (engine_moment g.D.Disk.history c.args.engine.now) (engine_moment g.D.Disk.history c.answer-reply.new.engine)) connection
+    (IsCaused (engine_moment g.D.Disk.history c.args.engine.now) (engine_moment g.D.Disk.history c.answer-reply.new.engine))
+    (has_changes c.answer-reply.new.engine ≡ has_changes c.args.engine.now) connection
     c.take_call.new.connection (front_of connection) c.in-Call.number c.in-Call.request (world c.args.engine.now) (world c.answer-reply.new.engine)
-    (reply_of c.answer-reply.result) false given given c.in-Call.ensures.taken c.answer-reply.ensures.answer
+    (reply_of c.answer-reply.result) false given given c.in-Call.ensures.taken c.answer-reply.ensures.answer c.answer-reply.ensures.quiet
     (λ e. absurd cc)
 
 pub returns-in-Ok-clause-serves : goal.returns-in-Ok-clause-serves
@@ -42,9 +43,10 @@ returns-in-Ok-clause-serves g c =
     let r = c.in-Call.request in
     let reply = reply_of c.answer-reply.result in
     one_served (KeepsWord (disk_history g.D.Disk.history c.answer-reply.new.engine))
-    (IsCaused (engine_moment g.D.Disk.history c.args.engine.now) (engine_moment g.D.Disk.history c.answer-reply.new.engine)) connection
+    (IsCaused (engine_moment g.D.Disk.history c.args.engine.now) (engine_moment g.D.Disk.history c.answer-reply.new.engine))
+    (has_changes c.answer-reply.new.engine ≡ has_changes c.args.engine.now) connection
     c.take_call.new.connection (front_of connection) c.in-Call.number r (world c.args.engine.now) (world c.answer-reply.new.engine) reply c.is_ok.result given
-    (frames_in c.push.new.self.items) c.in-Call.ensures.taken c.answer-reply.ensures.answer
+    (frames_in c.push.new.self.items) c.in-Call.ensures.taken c.answer-reply.ensures.answer c.answer-reply.ensures.quiet
     (λ e.
     let put : c.push.new.self.items ≡ c.args.frames.now.items ++ (connection.id, c.in-Ok.bytes) ∷ [] = search rules in
     ap frames_in put ∙ frames_append c.args.frames.now.items ((connection.id, c.in-Ok.bytes) ∷ [])
@@ -54,9 +56,10 @@ returns-in-Ok-clause-serves g c =
 pub returns-in_default-clause-serves : goal.returns-in_default-clause-serves
 returns-in_default-clause-serves g c =
     nothing_served (KeepsWord (disk_history g.D.Disk.history c.args.engine.now))
-    (IsCaused (engine_moment g.D.Disk.history c.args.engine.now) (engine_moment g.D.Disk.history c.args.engine.now)) c.args.connection.now
+    (IsCaused (engine_moment g.D.Disk.history c.args.engine.now) (engine_moment g.D.Disk.history c.args.engine.now))
+    (has_changes c.args.engine.now ≡ has_changes c.args.engine.now) c.args.connection.now
     c.take_call.new.connection (front_of c.args.connection.now) c.take_call.result (world c.args.engine.now)
-    (frames_in c.args.frames.now.items) c.take_call.ensures.taken c.in_default.not-Call
+    (frames_in c.args.frames.now.items) refl c.take_call.ensures.taken c.in_default.not-Call
 
 pub returns-in_default-clause-connection : goal.returns-in_default-clause-connection
 returns-in_default-clause-connection g c =
@@ -74,35 +77,23 @@ pub returns-clause-connection : goal.returns-clause-connection
 returns-clause-connection g c =
     taken_link c.args.connection.now c.take_call.new.connection (front_of c.args.connection.now) c.take_call.result c.take_call.ensures.taken
 
-pub returns-then-request-clause-quiet : goal.returns-then-request-clause-quiet
-returns-then-request-clause-quiet g c = λ k.
+pub returns-then-request-clause-reads : goal.returns-then-request-clause-reads
+returns-then-request-clause-reads g c =
     let connection = c.args.connection.now in
-    let old = engine_moment g.D.Disk.history c.args.engine.now in
-    let new = engine_moment g.D.Disk.history c.answer-reply.new.engine in
-    one_quiet (has_changes c.answer-reply.new.engine ≡ has_changes c.args.engine.now) (IsCaused old new) OfAnyCause
-    (any_cause old new) connection c.take_call.new.connection (front_of connection) c.in-Call.number c.in-Call.request (world c.args.engine.now)
-    (world c.answer-reply.new.engine) (reply_of c.answer-reply.result)
-    c.in-Call.ensures.taken (c.answer-reply.ensures.answer k) (c.answer-reply.ensures.quiet k)
+    one_reads (has_changes c.answer-reply.new.engine ≡ has_changes c.args.engine.now) connection c.take_call.new.connection (front_of connection)
+    c.in-Call.number c.in-Call.request c.in-Call.ensures.taken c.answer-reply.ensures.reads
 
-pub returns-clause-quiet : goal.returns-clause-quiet
-returns-clause-quiet g c = λ k.
+pub returns-in-Ok-clause-reads : goal.returns-in-Ok-clause-reads
+returns-in-Ok-clause-reads g c =
     let connection = c.args.connection.now in
-    let old = engine_moment g.D.Disk.history c.args.engine.now in
-    let new = engine_moment g.D.Disk.history c.answer-reply.new.engine in
-    one_quiet (has_changes c.answer-reply.new.engine ≡ has_changes c.args.engine.now) (IsCaused old new) OfAnyCause
-    (any_cause old new) connection c.take_call.new.connection (front_of connection) c.in-Call.number c.in-Call.request (world c.args.engine.now)
-    (world c.answer-reply.new.engine) (reply_of c.answer-reply.result)
-    c.in-Call.ensures.taken (c.answer-reply.ensures.answer k) (c.answer-reply.ensures.quiet k)
+    one_reads (has_changes c.answer-reply.new.engine ≡ has_changes c.args.engine.now) connection c.take_call.new.connection (front_of connection)
+    c.in-Call.number c.in-Call.request c.in-Call.ensures.taken c.answer-reply.ensures.reads
 
-pub returns-in-Ok-clause-quiet : goal.returns-in-Ok-clause-quiet
-returns-in-Ok-clause-quiet g c = λ k.
+pub returns-clause-reads : goal.returns-clause-reads
+returns-clause-reads g c =
     let connection = c.args.connection.now in
-    let old = engine_moment g.D.Disk.history c.args.engine.now in
-    let new = engine_moment g.D.Disk.history c.answer-reply.new.engine in
-    one_quiet (has_changes c.answer-reply.new.engine ≡ has_changes c.args.engine.now) (IsCaused old new) OfAnyCause
-    (any_cause old new) connection c.take_call.new.connection (front_of connection) c.in-Call.number c.in-Call.request (world c.args.engine.now)
-    (world c.answer-reply.new.engine) (reply_of c.answer-reply.result)
-    c.in-Call.ensures.taken (c.answer-reply.ensures.answer k) (c.answer-reply.ensures.quiet k)
+    one_reads (has_changes c.answer-reply.new.engine ≡ has_changes c.args.engine.now) connection c.take_call.new.connection (front_of connection)
+    c.in-Call.number c.in-Call.request c.in-Call.ensures.taken c.answer-reply.ensures.reads
 
 pub returns-in_default-clause-goes : goal.returns-in_default-clause-goes
 returns-in_default-clause-goes g c = continues_itself g.D.Disk.history c.args.engine.now

@@ -1,17 +1,17 @@
-use Rattle.std.proofs.Common.{◌≡◌, ℕ, suc, ◌+◌, List, ◌∷◌, ◌++◌, drop-cons, take, drop, set, get_or, ◌&&◌, sym, ◌∙◌, ap, subst, arith}
+use Rattle.std.proofs.Common.{◌≡◌, ℕ, suc, ◌+◌, List, ◌++◌, take, drop, set, get_or, ◌&&◌, sym, ◌∙◌, ap, subst, arith}
 use Rattle.engine.specs.View.{world}
 use Rattle.page.specs.History.{KeepsWord}
-use Rattle.engine.specs.Durable.{disk_history}
+use Rattle.engine.specs.Durable.{disk_history, has_changes}
 use Rattle.engine.proofs.Continuing.{continues_further}
-use Rattle.server.specs.Causes.{IsCaused, OfAnyCause}
+use Rattle.server.specs.Causes.{IsCaused}
 use Rattle.server.specs.Durable.{engine_moment}
 use Rattle.server.specs.Moment.{Moment, Follows}
-use Rattle.server.proofs.CauseLemmas.{follows_itself, goes_follows, caused_wider, any_cause, runs_weaker, serves_weaker}
-use Rattle.server.specs.Turn.{Call, calls, call_at, front_of, connections_taken, ChangeNothing}
+use Rattle.server.proofs.CauseLemmas.{follows_itself, goes_follows, caused_wider, serves_weaker}
+use Rattle.server.specs.Turn.{Call, calls, call_at, front_of, connections_taken, AllRead}
 use Rattle.server.specs.Taking.{Serves}
 use Rattle.server.specs.View.{frames_in}
 use Rattle.server.specs.declared.connection.Connection.{Connection}
-use Rattle.server.proofs.ConnectionsServed.{serves_on, calls_more, none_next, none_more, links_step, quiet_front, quiet_runs}
+use Rattle.server.proofs.ConnectionsServed.{serves_on, calls_more, none_next, none_more, links_step, read_at}
 use Rattle.server.proofs.serving.serve_connections.Goals as goal
 
 pub connections-preserved : goal.connections-preserved
@@ -32,6 +32,9 @@ connections-preserved g c =
     let before : Follows start middle = goes_follows history c.args.engine.now c.connections.engine inv.goes in
     let after : Follows middle end = goes_follows history c.connections.engine call.new.engine call.ensures.goes in
     let word_before : Type 0 = KeepsWord (disk_history history c.connections.engine) in
+    let changes_before : Type 0 = has_changes c.connections.engine ≡ has_changes c.args.engine.now in
+    let changes_then : Type 0 = has_changes call.new.engine ≡ has_changes c.connections.engine in
+    let changes : Type 0 = has_changes call.new.engine ≡ has_changes c.args.engine.now in
     let word_after : Type 0 = KeepsWord (disk_history history call.new.engine) in
     let more : calls (take i first) ++ call_at x (front_of x) ≡ calls (take (i + 1) first) =
     ap (λ (y : Connection). calls (take i first) ++ call_at y (front_of y)) s.same ∙ sym (calls_more first i x s.within) in
@@ -40,32 +43,24 @@ connections-preserved g c =
       goes = continues_further history c.args.engine.now c.connections.engine call.new.engine inv.goes call.ensures.goes;
       running = call.ensures.running ∙ inv.running;
       serves = subst
-          (λ (cs : List Call). Serves word_after (IsCaused start end) cs (world c.args.engine.now) (world call.new.engine) (c.connections.all && call.result)
-          (frames_in c.args.frames.now.items) (frames_in call.new.frames.items)) more
-          (serves_on word_after (IsCaused start end) (calls (take i first)) (call_at x (front_of x)) (world c.args.engine.now) (world c.connections.engine)
+          (λ (cs : List Call). Serves word_after (IsCaused start end) changes cs (world c.args.engine.now) (world call.new.engine)
+          (c.connections.all && call.result) (frames_in c.args.frames.now.items) (frames_in call.new.frames.items)) more
+          (serves_on word_after (IsCaused start end) changes_before changes_then changes (λ same then. then ∙ same)
+          (calls (take i first)) (call_at x (front_of x)) (world c.args.engine.now) (world c.connections.engine)
           (world call.new.engine) c.connections.all call.result (frames_in c.args.frames.now.items) (frames_in c.connections.frames.items)
           (frames_in call.new.frames.items)
           (serves_weaker (IsCaused start middle) (IsCaused start end)
-          (caused_wider start start middle end (follows_itself start) before after) word_after word_before call.ensures.goes.reads.on.kept
+          (caused_wider start start middle end (follows_itself start) before after) word_after word_before call.ensures.goes.reads.on.kept changes_before
           (calls (take i first)) (world c.args.engine.now) (world c.connections.engine) c.connections.all (frames_in c.args.frames.now.items)
           (frames_in c.connections.frames.items) inv.serves)
           (serves_weaker (IsCaused middle end) (IsCaused start end) (caused_wider start middle end end before after (follows_itself end)) word_after word_after
-          (λ k. k) (call_at x (front_of x)) (world c.connections.engine) (world call.new.engine) call.result (frames_in c.connections.frames.items)
+          (λ k. k) changes_then (call_at x (front_of x)) (world c.connections.engine) (world call.new.engine) call.result (frames_in c.connections.frames.items)
           (frames_in call.new.frames.items) call.ensures.serves));
       done = ap (λ (m : ℕ). take m (set c.connections.connections i call.new.connection)) next ∙ s.done
           ∙ ap (λ (m : ℕ). connections_taken (take m first)) (sym next);
       left = ap (λ (m : ℕ). drop m (set c.connections.connections i call.new.connection)) next ∙ s.left ∙ ap (λ (m : ℕ). drop m first) (sym next);
       turn_start = call.ensures.turn_start ∙ inv.turn_start;
       idle = λ none. call.ensures.idle (none_next (calls (take i first)) (call_at x (front_of x)) (none_more first (i + 1) none more)) ∙ inv.idle none;
-      quiet = λ k h.
-          let so_far = inv.quiet (call.ensures.goes.reads.on.kept k) h in
-          let served = call.ensures.serves in
-          let here : drop i first ≡ x ∷ drop (i + 1) first = drop-cons first i x s.within ∙ (λ j. sym s.same j ∷ drop (sym next j) first) in
-          let rest = subst (ChangeNothing OfAnyCause (world c.connections.engine)) (ap calls here) so_far.1 in
-          let ran = runs_weaker (IsCaused middle end) OfAnyCause (any_cause middle end) (call_at x (front_of x)) (world c.connections.engine) served.replies
-          (world call.new.engine) (served.runs k) in
-          let one = quiet_runs OfAnyCause (call_at x (front_of x)) (calls (drop (i + 1) first)) (world c.connections.engine)
-          (world call.new.engine) served.replies ran rest in
-          let same = call.ensures.quiet k (quiet_front OfAnyCause (call_at x (front_of x)) (calls (drop (i + 1) first)) (world c.connections.engine) rest) in
-          (same ∙ so_far.0, one.1);
+      reads = λ only. call.ensures.reads (subst (λ (y : Connection). AllRead (call_at y (front_of y))) (sym s.same) (read_at first i x s.within only))
+          ∙ inv.reads only;
     }

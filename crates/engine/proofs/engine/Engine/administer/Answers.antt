@@ -1,7 +1,23 @@
 use Rattle.std.proofs.Common.{sym, subst}
+use Rattle.std.specs.Prelude.{Ok}
+use Rattle.commands.specs.View.{command_read}
+use Rattle.commands.specs.declared.command.Command.{Command}
+use Rattle.engine.specs.Laws.{OnlyReads}
 use Rattle.replies.specs.View.{IsSendable}
 use Rattle.replies.proofs.SpelledSizes.{ping-sendable}
 use Rattle.engine.proofs.engine.Engine.administer.Goals as goal
 
 pub returns-in_ok-ping_reply-in-Ping-clause-sendable : goal.returns-in_ok-ping_reply-in-Ping-clause-sendable
 returns-in_ok-ping_reply-in-Ping-clause-sendable g c = subst IsSendable (sym c.in_ok-ping_reply-in-Ping.ensures) ping-sendable
+
+pub returns-in-Create-clause-reads : goal.returns-in-Create-clause-reads
+returns-in-Create-clause-reads g c only = absurd (subst (λ (x : Command). OnlyReads (Ok (command_read x))) c.in-Create.is only)
+
+pub returns-in-Drop-clause-reads : goal.returns-in-Drop-clause-reads
+returns-in-Drop-clause-reads g c only = absurd (subst (λ (x : Command). OnlyReads (Ok (command_read x))) c.in-Drop.is only)
+
+pub returns-in-CreateIndexes-clause-reads : goal.returns-in-CreateIndexes-clause-reads
+returns-in-CreateIndexes-clause-reads g c only = absurd (subst (λ (x : Command). OnlyReads (Ok (command_read x))) c.in-CreateIndexes.is only)
+
+pub returns-in-DropIndexes-clause-reads : goal.returns-in-DropIndexes-clause-reads
+returns-in-DropIndexes-clause-reads g c only = absurd (subst (λ (x : Command). OnlyReads (Ok (command_read x))) c.in-DropIndexes.is only)

@@ -1,5 +1,5 @@
 use Rattle.std.proofs.Common.{◌≡◌, Some, sym, ap, subst, ◌∙◌, rules}
-use Rattle.std.specs.Prelude.{unwrap_or}
+use Rattle.std.specs.Prelude.{Ok, unwrap_or}
 use Rattle.commands.specs.Command as commands
 use Rattle.commands.specs.Find as finds
 use Rattle.commands.specs.GetMore as mores
@@ -10,6 +10,7 @@ use Rattle.database_model.specs.Step.{run, ChangesNone}
 use Rattle.database_model.specs.Find.{run_find}
 use Rattle.database_model.specs.GetMore.{run_get_more}
 use Rattle.commands.specs.View.{command_read, find_read, get_more_read, update_read, aggregate_read}
+use Rattle.engine.specs.Laws.{OnlyReads}
 use Rattle.engine.specs.View.{world}
 use Rattle.commands.specs.declared.command.Command.{Command}
 use Rattle.engine.proofs.Running.{run_find-default, run_aggregate-default}
@@ -74,3 +75,12 @@ returns-in-Update-clause-has_changes g c = λ k unchanged none.
     let same : asked ≡ called = λ i. record { namespace = sym c.as_str-in-Update.ensures.value i; statements = sym c.deref-in-Update.ensures.value i } in
     c.update.ensures.has_changes k unchanged
     (subst (λ (u : updates.Update). ChangesNone w (commands.update u)) same (subst (λ (x : Command). ChangesNone w (command_read x)) c.in-Update.is none))
+
+pub returns-in-Insert-clause-reads : goal.returns-in-Insert-clause-reads
+returns-in-Insert-clause-reads g c only = absurd (subst (λ (x : Command). OnlyReads (Ok (command_read x))) c.in-Insert.is only)
+
+pub returns-in-Delete-clause-reads : goal.returns-in-Delete-clause-reads
+returns-in-Delete-clause-reads g c only = absurd (subst (λ (x : Command). OnlyReads (Ok (command_read x))) c.in-Delete.is only)
+
+pub returns-in-Update-clause-reads : goal.returns-in-Update-clause-reads
+returns-in-Update-clause-reads g c only = absurd (subst (λ (x : Command). OnlyReads (Ok (command_read x))) c.in-Update.is only)

@@ -4,22 +4,25 @@ use Rattle.engine.specs.View.{world}
 use Rattle.engine.specs.Durable.{disk_history}
 use Rattle.opening.specs.Holding.{Holds}
 use Rattle.server.specs.Causes.{IsCaused}
-use Rattle.server.specs.History.{RoomRanOut}
+use Rattle.server.specs.History.{TakenBack}
 use Rattle.server.specs.Moment.{Moment, FollowsInTurn}
 use Rattle.page.specs.History.{KeepsWord}
 use Rattle.trusted_disk.specs.Trusting.{trusted_history}
 use Rattle.database_model.specs.World.{World}
+use Rattle.engine.specs.Continuing.{Continues}
 use Rattle.engine.proofs.Continuing.{continues_further, continues_itself, continues_still}
 use Rattle.server.specs.Durable.{engine_moment, moment_of, is_stopped}
 use Rattle.server.specs.declared.turn.TurnFault.TheVariants as turns
 use Rattle.server.specs.Turn.{Cut, TurnFails, Runs, calls, faults, forget_all, connections_taken}
 use Rattle.server.specs.declared.connection.Connection.{Connection}
-use Rattle.server.specs.Taking.{EndsTurn, closed_connections, faults_in}
+use Rattle.path.specs.declared.refusal.Refusal.{Refusal}
+use Rattle.path.specs.declared.refusal.Refusal.TheVariants as refusals
+use Rattle.server.specs.Taking.{EndsTurn, RefusesAll, closed_connections, faults_in}
 use Rattle.server.specs.View.{state, frames_in}
 use Rattle.server.specs.ServerState.{ServerState, are_ascending}
 use Rattle.server.proofs.Ascending.{taken_ascends, after_ascends}
 use Rattle.server.proofs.Images.{engine_holds, stays, forgotten, forget_all_state}
-use Rattle.server.proofs.CauseLemmas.{in_turn_itself}
+use Rattle.server.proofs.CauseLemmas.{in_turn_itself, runs_weaker, wrote_weaker}
 use Rattle.server.proofs.ConnectionsServed.{all_closed}
 use Rattle.server.proofs.Refusing.{whole}
 use Rattle.server.proofs.TurnParts.{turned, handed_out}
@@ -30,20 +33,34 @@ stopped_not b stopped runs = absurd cc
 
 -- a turn that was ended, a moment after which nothing was done
 ends_after : (before word : Type 0) → (word → before)
-    → (no_room : Moment → Type 0) (world_was : World) (connections : List Connection) (given : List (ℕ × List ℕ)) (left : World) (start end later : Moment)
+    → (undone : Moment → Refusal → Type 0) (world_was : World) (connections : List Connection) (given : List (ℕ × List ℕ)) (left : World)
+    (start end later : Moment)
     → end ≡ later
-    → EndsTurn before (IsCaused start end) (no_room end) world_was connections given left
-    → EndsTurn word (IsCaused start later) (no_room later) world_was connections given left
-ends_after before word kept no_room world_was connections given left start end later same s = record {
+    → EndsTurn before (IsCaused start end) (undone end) world_was connections given left
+    → EndsTurn word (IsCaused start later) (undone later) world_was connections given left
+ends_after before word kept undone world_was connections given left start end later same s = record {
   replies = s.replies;
   one_each = s.one_each;
   last = s.last;
-  runs = λ k. subst (λ (m : Moment). Runs (IsCaused start m) world_was (calls connections) s.replies s.last) same (s.runs (kept k));
+  runs = λ k. runs_weaker (IsCaused start end) (IsCaused start later) wider (calls connections) world_was s.replies s.last (s.runs (kept k));
   ends = ⊎_elim
       (λ done. inl done)
-      (λ refused. inr (⊎_elim (λ memory. inl memory) (λ room. inr (room.0, λ k. subst no_room same (room.1 (kept k)))) refused.0, refused.1))
+      (λ refused. inr (
+        ⊎_elim (λ memory. inl (later_on refusals.OutOfMemory memory)) (λ room. inr (
+          later_on refusals.Full room.0,
+          λ k none. room.1 (kept k)
+              (wrote_weaker (IsCaused start end) (IsCaused start later) wider (calls connections) world_was s.replies s.last (s.runs (kept k)) none),
+        )) refused.0,
+        refused.1,
+      ))
       s.ends;
 }
+  where
+    wider : (planned : World) (r : Refusal) → IsCaused start end planned r → IsCaused start later planned r
+    wider planned r = subst (λ (m : Moment). IsCaused start m planned r) same
+
+    later_on : (r : Refusal) → RefusesAll before (undone end) connections given r → RefusesAll word (undone later) connections given r
+    later_on r refused = (refused.0, λ k. subst (λ (m : Moment). undone m r) same (refused.1 (kept k)))
 
 pub returns-then-is_stopped : goal.returns-then-is_stopped
 returns-then-is_stopped g c = record {
@@ -64,6 +81,8 @@ returns-then-is_stopped g c = record {
   commits = tt;
   void = λ _. refl;
   quiet = λ _ _. continues_itself (trusted_history g.D.Disk.history) c.args.self.now.engine;
+  uncommitted = refl;
+  reads = λ _. continues_itself (trusted_history g.D.Disk.history) c.args.self.now.engine;
 }
 
 pub returns-in_err-refusals : goal.returns-in_err-refusals
@@ -87,6 +106,8 @@ returns-in_err-refusals g c = record {
   commits = search rules;
   void = λ _. refl;
   quiet = λ _ _. continues_itself (trusted_history g.D.Disk.history) c.args.self.now.engine;
+  uncommitted = search rules;
+  reads = λ _. continues_itself (trusted_history g.D.Disk.history) c.args.self.now.engine;
 }
 
 pub returns-in_default : goal.returns-in_default
@@ -101,7 +122,7 @@ returns-in_default g c =
         idle = ran.idle;
         rested = ran.rested;
         rests = ran.rests;
-        ascending = ap are_ascending ran.connections ∙ taken_ascends core.connections.items c.requires.sound.ascending;
+        ascending = ap are_ascending ran.taken ∙ taken_ascends core.connections.items c.requires.sound.ascending;
       };
       turns = search rules;
       hands_out = tt;
@@ -114,7 +135,7 @@ returns-in_default g c =
             replies = broke.replies;
             last = broke.last;
             runs = broke.runs;
-            leaves = λ i. record { world = broke.ends i; connections = ran.connections i };
+            leaves = λ i. record { world = broke.ends i; connections = ran.taken i };
           } in
           subst (λ (b : Bool). TurnFails kept (IsCaused old new) (state core) turns.Stopped b after) (sym runs) cut;
       untouched = λ e. absurd cc;
@@ -129,6 +150,8 @@ returns-in_default g c =
       commits = tt;
       void = ran.void;
       quiet = ran.quiet;
+      uncommitted = c.in_default.ensures.cut refl;
+      reads = ran.reads;
     }
 
 pub returns : goal.returns
@@ -152,10 +175,14 @@ returns g c =
     let frames = frames_in c.in-Some.replies.items in
     let settles =
     ends_after (KeepsWord (disk_history history c.run_messages.new.engine)) word (subst KeepsWord forgot.disk)
-    (λ (m : Moment). RoomRanOut old m (state core))
+    (TakenBack old)
     (world core.engine) connections frames (world c.run_messages.new.engine) old
     (engine_moment history c.run_messages.new.engine) new
     (sym forgot.moment) c.in-Some.ensures.settles in
+    let behind : Continues history core.engine c.run_messages.new.engine → Continues history core.engine c.forget_closed.new.engine =
+    λ goes. continues_further history core.engine c.run_messages.new.engine c.forget_closed.new.engine goes
+    (continues_still history c.run_messages.new.engine c.forget_closed.new.engine forgot.disk forgot.running
+    (ap (λ (m : Moment). m.generation) forgot.moment) (ap (λ (m : Moment). m.full_takes) forgot.moment)) in
     record {
       sound = record {
         engine = forgot.sound;
@@ -164,9 +191,9 @@ returns g c =
         rests = forgot.has_changes ∙ ran.rests;
         ascending = ap are_ascending left ∙ after_ascends connections c.requires.sound.ascending;
       };
-      turns = λ k. turned word (IsCaused old new) (RoomRanOut old new (state core)) core frames (world c.run_messages.new.engine) prepared.closed.items
+      turns = λ k. turned word (IsCaused old new) (TakenBack old new) core frames (world c.run_messages.new.engine) prepared.closed.items
           (world c.forget_closed.new.engine) _ settles closes forgets left k;
-      hands_out = handed_out word (IsCaused old new) (RoomRanOut old new (state core)) core frames (world c.run_messages.new.engine) prepared.closed.items
+      hands_out = handed_out word (IsCaused old new) (TakenBack old new) core frames (world c.run_messages.new.engine) prepared.closed.items
           (world c.forget_closed.new.engine) _ settles closes forgets left;
       leaves = left;
       fails = search rules;
@@ -185,8 +212,7 @@ returns g c =
           (λ committed. inr (ap (λ (m : Moment). m.generation) forgot.moment ∙ committed))
           c.in-Some.ensures.commits;
       void = λ none. forgot.disk ∙ ran.void none;
-      quiet = λ k nothing. continues_further history core.engine c.run_messages.new.engine c.forget_closed.new.engine
-          (ran.quiet (subst KeepsWord forgot.disk k) nothing)
-          (continues_still history c.run_messages.new.engine c.forget_closed.new.engine forgot.disk forgot.running
-          (ap (λ (m : Moment). m.generation) forgot.moment) (ap (λ (m : Moment). m.full_takes) forgot.moment));
+      quiet = λ k nothing. behind (ran.quiet (subst KeepsWord forgot.disk k) nothing);
+      uncommitted = tt;
+      reads = λ only. behind (ran.reads only);
     }
