@@ -11,3 +11,5 @@ pub mod TurningLemmas
 mod OneSocketLemmas
 mod UnreadLemmas
 mod RoundLemmas
+mod ServedLemmas
+mod RunningLemmas
