@@ -12,4 +12,7 @@ mod OneSocketLemmas
 mod UnreadLemmas
 mod RoundLemmas
 mod ServedLemmas
+mod SocketsLemmas
+mod AwaitingLemmas
+mod FollowingLemmas
 mod RunningLemmas

@@ -1,7 +1,6 @@
 -- What becomes of the messages of one socket.
 use Rattle.std.proofs.Common.{◌≡◌, ◌⊎◌, ℕ, true, false, List, [], ◌∷◌, ◌++◌, Option, Some, None, Ok, Err, refl, sym, ap, subst, ◌∙◌, inl, inr, append-nil}
 use Rattle.std.specs.Prelude.{Bool, Result, Vec, option_map, option_to_list}
-use Rattle.std.specs.Global.{Global}
 use Rattle.bson.specs.Tree.{Pairs}
 use Rattle.page.specs.History.{History}
 use Rattle.driver_messages.specs.Cutting.{Arrival, Begins as Stands}
@@ -22,13 +21,12 @@ use Rattle.server.specs.Turn.{next_number}
 use Rattle.front.specs.Replying.{Begins, Follows, GoesOn, HasAnswer, IsClosed, TakesReply, WaitsOrCloses, closed, question_by, resting, to_ask, told}
 use Rattle.front.specs.OneSocket.{waiting}
 use Rattle.front.specs.Served.{Worked, standing, answer_behind, messages_of, number_behind, last_number, answers_of, AreReplies, AllAreReplies, IsReplyTo}
-use Rattle.front.specs.Served.{HaveEnded, IsAt, IsWorkedOn, Stand, IsServed}
+use Rattle.front.specs.Served.{HaveEnded, IsWorkedOn, Stand, IsServed}
 use Rattle.front.specs.Serving.{fed, fresh}
 use Rattle.front.specs.declared.job.Job.{Job}
 use Rattle.front.specs.declared.job.Question.{Question}
-use Rattle.front.specs.declared.job.Stage.{Stage}
-use Rattle.front.specs.declared.job.Stage.TheVariants as stages
 use Rattle.front.specs.declared.socket.Socket.{Socket}
+use Rattle.front.proofs.TyingLemmas.{some_is}
 
 -- ---- one more
 
@@ -46,7 +44,7 @@ stands_fed bytes messages rest chunk h =
     let came : List Arrival = record { chunk = bytes; messages = messages } ∷ record { chunk = chunk; messages = [] } ∷ [] in
     subst (λ (c : List ℕ). Stands (bytes ++ c) messages (rest ++ chunk)) (append-nil chunk)
     (subst (λ (ms : List Message). Stands (bytes ++ (chunk ++ [])) ms (rest ++ chunk)) (append-nil messages)
-    (taken_in_order came (rest ++ chunk) (rest, h, rest ++ chunk, refl, refl)))
+    (taken_in_order came (rest ++ chunk) (rest, h, (rest ++ chunk, refl, refl))))
 
 -- ---- how they stand
 
@@ -69,7 +67,7 @@ stand_ended true (w ∷ earlier) h = h.1
 
 -- ---- frames
 
-abbrev ready : {Z : Type 0} → Option (Vec ℕ Z) → Option (List ℕ)
+abbrev pub ready : {Z : Type 0} → Option (Vec ℕ Z) → Option (List ℕ)
 ready answer = option_map (λ v. v.items) answer
 
 asks_unframed : (step : Step) (question : Question) (form : Form) (number request : ℕ) → question_by step ≡ Some question
@@ -81,8 +79,9 @@ asks_unframed (steps.Fail reply) question form number request e = absurd cc
 asks_unframed steps.Silent question form number request e = absurd cc
 
 pub asked_as : (step : Step) (question : Question) → question_by step ≡ Some question → asked_by step ≡ Some question.command
-asked_as (steps.Ask command) question e = ap (λ (q : Question). Some q.command) cc
-asked_as (steps.AskOwner id command) question e = ap (λ (q : Question). Some q.command) cc
+asked_as (steps.Ask command) question e = ap (λ (q : Question). Some q.command) (some_is (record { cursor = None; command = command }) question e)
+asked_as (steps.AskOwner id command) question e =
+    ap (λ (q : Question). Some q.command) (some_is (record { cursor = Some id; command = command }) question e)
 asked_as (steps.Reply reply) question e = absurd cc
 asked_as (steps.Fail reply) question e = absurd cc
 asked_as steps.Silent question e = absurd cc
@@ -176,7 +175,7 @@ module _ {D : Type 0} (history : D → History) where
       ends_answered frame is e out same = record {
         rest = rest;
         begins = begins;
-        waits = λ open. ap (λ (s : Socket). s.incoming) same ∙ waits (sym (ap (λ (s : Socket). s.is_over) same) ∙ open);
+        waits = λ unclosed. ap (λ (s : Socket). s.incoming) same ∙ waits (sym (ap (λ (s : Socket). s.is_over) same) ∙ unclosed);
         replies = replies;
         stand = subst (λ (j : Option Job). Stand j new.is_over (w ∷ earlier)) (sym job) (stand_ended new.is_over (w ∷ earlier) (e, ended));
         answers = ap (λ (f : Option (List ℕ)). given ++ option_to_list f) (out ∙ sym is)
@@ -204,7 +203,7 @@ module _ {D : Type 0} (history : D → History) where
   story_closed bytes given worked s new h (inl is) = subst (Story bytes given worked) (sym is) (record {
     rest = h.rest;
     begins = h.begins;
-    waits = λ open. absurd cc;
+    waits = λ unclosed. absurd cc;
     replies = h.replies;
     stand = stand_over s.job s.is_over worked h.stand;
     answers = h.answers;
@@ -214,7 +213,7 @@ module _ {D : Type 0} (history : D → History) where
   story_closed bytes given worked s new h (inr is) = subst (Story bytes given worked) (sym is) (record {
     rest = h.rest;
     begins = h.begins;
-    waits = λ open. absurd cc;
+    waits = λ unclosed. absurd cc;
     replies = h.replies;
     stand = stand_left s.job s.is_over worked h.stand;
     answers = h.answers;
@@ -228,7 +227,7 @@ module _ {D : Type 0} (history : D → History) where
   lost bytes given worked s left h = record {
     rest = h.rest;
     begins = h.begins;
-    waits = λ open. absurd cc;
+    waits = λ unclosed. absurd cc;
     replies = h.replies;
     stand = stand_over s.job s.is_over worked h.stand;
     answers = h.answers;
@@ -258,11 +257,11 @@ module _ {D : Type 0} (history : D → History) where
   begun_one : (bytes : List ℕ) (given : List (List ℕ)) (worked : List Worked) (info : ServerInfo) (s new : Socket) (x : Message × List ℕ)
       → Story bytes given worked s → s.answer ≡ None → s.is_over ≡ false → s.job ≡ None → next_message s.incoming ≡ Ok (Some x)
       → Follows (record s { incoming = x.1 }) x.0.form x.0.number (begun info x.0) new → Begun bytes given worked s new
-  begun_one bytes given worked info s new x h none open free next follows = record {
+  begun_one bytes given worked info s new x h none unclosed free next follows = record {
     after = w ∷ worked;
     story = goes_on bytes given w worked (record s { incoming = x.1 }) new x.1
         (stands_one bytes (messages_of worked) h.rest x.0 x.1 h.begins
-        (subst (λ (b : List ℕ). next_message b ≡ Ok (Some x)) (h.waits open) next))
+        (subst (λ (b : List ℕ). next_message b ≡ Ok (Some x)) (h.waits unclosed) next))
         (λ still. refl) (tt, h.replies) ended free none (sym (none_given given s none) ∙ h.answers) h.numbered follows;
     same = inr free;
   }
@@ -272,7 +271,7 @@ module _ {D : Type 0} (history : D → History) where
 
       ended : HaveEnded worked
       ended =
-          subst (λ (b : Bool). Stand None b worked) open (subst (λ (j : Option Job). Stand j s.is_over worked) free h.stand)
+          subst (λ (b : Bool). Stand None b worked) unclosed (subst (λ (j : Option Job). Stand j s.is_over worked) free h.stand)
 
   pub story_begins : (bytes : List ℕ) (given : List (List ℕ)) (worked : List Worked) (info : ServerInfo) (s new : Socket)
       → Story bytes given worked s → s.answer ≡ None → Begins info s s.is_over s.job (next_message s.incoming) new → Begun bytes given worked s new
@@ -375,7 +374,7 @@ module _ {D : Type 0} (history : D → History) where
   story_fresh = record {
     rest = [];
     begins = refl;
-    waits = λ open. refl;
+    waits = λ unclosed. refl;
     replies = tt;
     stand = tt;
     answers = refl;
@@ -388,7 +387,7 @@ module _ {D : Type 0} (history : D → History) where
   story_fed bytes given worked s chunk h = record {
     rest = h.rest ++ chunk;
     begins = stands_fed bytes (messages_of worked) h.rest chunk h.begins;
-    waits = λ open. ap (λ (b : List ℕ). b ++ chunk) (h.waits open);
+    waits = λ unclosed. ap (λ (b : List ℕ). b ++ chunk) (h.waits unclosed);
     replies = h.replies;
     stand = h.stand;
     answers = h.answers;

@@ -1,7 +1,7 @@
 -- A front over any list of steps: bytes come on sockets, turns are made, sockets end. A socket gets
 -- what its own bytes and the server's replies make, whatever comes on other sockets, in whatever
 -- chunks its bytes come, and whenever turns are made.
-use Rattle.std.specs.Prelude.{◌≡◌, ◌×◌, ℕ, ◌==◌, if◌then◌else◌, List, [], ◌∷◌, ◌++◌}
+use Rattle.std.specs.Prelude.{◌≡◌, ℕ, ◌==◌, if◌then◌else◌, List, [], ◌∷◌, ◌++◌}
 use Rattle.std.specs.Prelude.{slice_index_or}
 use Rattle.page.specs.History.{History}
 use Rattle.server.specs.Streams.{bytes_from, DoesNotEnd}

@@ -2,7 +2,7 @@
 -- it, one after the other; for each the server is asked what crate drivers says, by what the server
 -- replied before; and what is handed out are the answers that these replies make, in the order of
 -- the messages, one of each that wants one.
-use Rattle.std.specs.Prelude.{◌≡◌, ◌×◌, ◌⊎◌, ℕ, Bool, true, false, List, [], ◌∷◌, ◌++◌, drop}
+use Rattle.std.specs.Prelude.{◌≡◌, ◌⊎◌, ℕ, Bool, true, false, List, [], ◌∷◌, ◌++◌, drop}
 use Rattle.std.specs.Prelude.{Option, Some, None, option_to_list, Ok}
 use Rattle.std.specs.List.{Contains}
 use Rattle.bson.specs.Tree.{Pairs}

@@ -136,11 +136,11 @@ pub record GoesOnWithOne (numbers : List ℕ) (before : List Socket) (first next
   pub alone : AsksAlone before one
   pub again : next ≡ first
 
--- What a turn asks: of some sockets, of each once and as it was before it, what their messages want,
--- on the connections that are lent, and nothing else on any. Each of them waits, or goes on with a message
--- during which nobody else may ask. Whoever waits is one of them, or is kept waiting. All others
--- are as they were. The socket of its first number is served, if it waits and a connection is at
--- rest, unless such a message goes on.
+-- What a turn asks: of some sockets, of each once and as it was before it, what their messages
+-- want, on the connections that are lent, and nothing else on any. Each of them waits, or goes on
+-- with a message during which nobody else may ask. Whoever waits is one of them, or is kept
+-- waiting. All others are as they were. The socket of its first number is served, if it waits and a
+-- connection is at rest, unless such a message goes on.
 pub record AsksInTurn (before after : List Socket) (first next : ℕ) (old new : Desk) : Type 0 where
   pub time : ℕ
   pub numbers : List ℕ

@@ -201,6 +201,7 @@ impl<C: Clock + Drop, D: Disk + Drop> Front<C, D> {
         ensures ends { EndsSome self.old self.new }
     {
         'cursors: for times in 0..MOST_ENDS {
+            // the number is for the proof, which counts the cursors by it
             let _ = times;
             let Ok(ended) = end_cursor(&mut self.core, &mut self.lending, &self.cursors) else {
                 return;

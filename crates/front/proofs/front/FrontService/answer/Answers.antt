@@ -30,8 +30,8 @@ returns-clause-answered g c = record {
     hands_out = hands_out c.make_turn.new.self.sockets.len c.make_turn.new.self.sockets.items c.deref_mut.result.now c.give_answers.new.sockets _ _
         c.deref_mut.ensures.value c.deref_mut.ensures.len c.give_answers.ensures.answered refl (ap (closed_from 0) c.deref.ensures.value);
     sound = (
-        (c.end_cursors.ensures.sound, c.end_cursors.ensures.tied, c.end_cursors.ensures.stands),
-        (c.ask_all.ensures.sound, c.ask_all.ensures.tied, c.ask_all.ensures.stands),
+      (c.end_cursors.ensures.sound, c.end_cursors.ensures.tied, c.end_cursors.ensures.stands),
+      (c.ask_all.ensures.sound, c.ask_all.ensures.tied, c.ask_all.ensures.stands),
     );
     running = c.ask_all.ensures.running;
     rest = refl;
