@@ -3,4 +3,4 @@ mod SectionLemmas
 mod WholeDoubleLemmas
 mod WithIntegersLemmas
 mod LengthLaws
-mod CuttingLaws
+pub mod CuttingLaws

@@ -1,5 +1,5 @@
 mod CleaningLemmas
-mod HoldingLemmas
+mod InPlaceLemmas
 mod AskingLaws
 mod StatementLaws
 mod PlanLaws

@@ -67,7 +67,7 @@ IgnoredMakesNoDifference = (info : ServerInfo) (command : List ℕ) (value : Tre
     ≡ done info (pair command value (append before behind))
 
 -- A field of an index or of a statement that has a rule and isn't refused makes no difference to
--- what is refused of it, nor to what is asked.
+-- what is refused of that one, nor to what is kept of it to be asked.
 abbrev pub IgnoredInEntries : Type 0
 IgnoredInEntries = (whose : Whose) (before : Pairs) (name : List ℕ) (t : Tree) (behind : Pairs)
     → is_kept whose name ≡ false → field_fault whose name t ≡ None

@@ -8,7 +8,7 @@ mod distinct;
 mod explaining;
 mod framing;
 mod handshake;
-mod holding;
+mod in_place;
 pub mod laws;
 mod modifying;
 mod options;

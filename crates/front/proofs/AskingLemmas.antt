@@ -30,6 +30,7 @@ asked_wanted socket q w old new before after asks (inr h) = inr (record {
   of = h.of;
   rest = h.rest;
   lent = h.lent;
+  there = h.there;
   asked = h.asked;
 })
 

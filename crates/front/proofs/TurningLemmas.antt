@@ -13,7 +13,7 @@ use Rattle.front.specs.Alone.{is_alone}
 use Rattle.front.specs.Asking.{wanted, AsksWanted}
 use Rattle.front.specs.Serving.{OthersStay, fresh, waits}
 use Rattle.front.specs.OneSocket.{RunsOut, Seat, Serves}
-use Rattle.front.specs.Turning.{after_ids, info_of, seat_at, Desk, Does, ServesOne, AreServed, AsksAlone, AsksInTurn, GoesOnWithOne, Waits}
+use Rattle.front.specs.Turning.{after_ids, info_of, seat_at, Desk, Does, ServesOne, AreServed, AsksAlone, AsksInTurn, EachOnce, GoesOnWithOne, Waits}
 use Rattle.front.specs.declared.lending.Loan.{Loan}
 use Rattle.front.specs.declared.open_cursors.OpenCursor.{OpenCursor}
 use Rattle.front.specs.declared.socket.Socket.{Socket}
@@ -125,6 +125,7 @@ served_left ss now later time (n ∷ ns) a b same h = (
 pub record HaveServed (before now : List Socket) (first count step time : ℕ) (old new : Desk) : Type 0 where
   pub numbers : List ℕ
   pub served : AreServed before now time numbers old new
+  pub once : EachOnce numbers
   pub came : (n : ℕ) → Contains numbers n → (s : ℕ) × (s < step) × (n ≡ (first + s) % count)
   pub only : (n : ℕ) → Contains numbers n → Waits before n
   pub all : (s : ℕ) (any : Socket) → s < step → waits (get_or before ((first + s) % count) any) ≡ true → Contains numbers ((first + s) % count)
@@ -134,6 +135,7 @@ pub served_none : (ss : List Socket) (first count time : ℕ) (d : Desk) → Hav
 served_none ss first count time d = record {
   numbers = [];
   served = refl;
+  once = tt;
   came = λ n h. absurd (omega (arith, h.1));
   only = λ n h. absurd (omega (arith, h.1));
   all = λ s any h e. absurd (omega (arith, h));
@@ -155,6 +157,7 @@ pub served_past : (ss now : List Socket) (first count step time : ℕ) (old new 
 served_past ss now first count step time old new s fits many within is quiet h same = record {
   numbers = h.numbers;
   served = h.served;
+  once = h.once;
   came = λ n c. let k = h.came n c in (k.0, omega (arith, k.1), k.2);
   only = h.only;
   all = λ k any less e. at k any e (last_or_before k step less);
@@ -184,6 +187,17 @@ contains_last ns n = Contains-append_right ns (n ∷ []) n (0, omega arith, refl
 some_same : (x y : ℕ) → Some x ≡ Some y → x ≡ y
 some_same x y e = cc
 
+contains_behind : (n : ℕ) (ns : List ℕ) (m : ℕ) → Contains ns m → Contains (n ∷ ns) m
+contains_behind n ns m c = Contains-append_right (n ∷ []) ns m c
+
+once_more : (ns : List ℕ) (n : ℕ) → EachOnce ns → (Contains ns n → ⊥) → EachOnce (ns ++ n ∷ [])
+once_more [] n h no = (λ c. absurd (omega (arith, c.1)), tt)
+once_more (m ∷ ms) n h no = (λ c. not_again (Contains-append_cases ms (n ∷ []) m c), once_more ms n h.1 (λ c. no (contains_behind m ms n c)))
+  where
+    not_again : Contains ms m ⊎ Contains (n ∷ []) m → ⊥
+    not_again (inl c) = h.0 c
+    not_again (inr c) = no (0, omega arith, last_is n m c)
+
 -- one more is served
 pub served_more : (ss now later : List Socket) (first count step time : ℕ) (old mid new : Desk) (s : Socket) → count ≡ length ss → length now ≡ length ss
     → step < count → s ≡ get_or now ((first + step) % count) s → waits s ≡ true → HaveServed ss now first count step time old mid
@@ -194,6 +208,7 @@ served_more ss now later first count step time old mid new s fits many within is
   numbers = h.numbers ++ i ∷ [];
   served = served_on ss later time h.numbers (i ∷ []) old mid new (served_left ss now later time h.numbers old mid still h.served)
       (new, as_was ss now later time i mid new same one, refl);
+  once = once_more h.numbers i h.once (λ c. let k = h.came i c in apart first k.0 step count k.1 within k.2);
   came = λ n c. came n (Contains-append_cases h.numbers (i ∷ []) n c);
   only = λ n c. which n (Contains-append_cases h.numbers (i ∷ []) n c);
   all = λ k any less e. at k any e (last_or_before k step less);
@@ -268,6 +283,7 @@ turn_whole ss now given first count step time next old new from stays fits whole
   time = time;
   numbers = h.numbers;
   served = h.served;
+  once = h.once;
   only = λ n c. inl (h.only n c);
   all = λ n any within e. inl (all n any within e);
   others = h.others;
@@ -298,6 +314,7 @@ turn_full ss now given first count step time next old new s from goes fits many 
   time = time;
   numbers = h.numbers;
   served = h.served;
+  once = h.once;
   only = λ n c. inl (h.only n c);
   all = λ n any inside e. inr (inl full);
   others = h.others;
@@ -338,6 +355,7 @@ turn_last ss now later given first count step time next old mid new s from goes 
   time = time;
   numbers = more.numbers;
   served = more.served;
+  once = more.once;
   only = λ n c. inl (more.only n c);
   all = λ n any within e. inr (inr (i, contains_last h.numbers i, inr alone));
   others = more.others;
@@ -359,6 +377,7 @@ turn_alone ss later given next time n old new stays stay one alone = record {
   time = time;
   numbers = n ∷ [];
   served = (new, one, refl);
+  once = (λ c. absurd (omega (arith, c.1)), tt);
   only = λ m c. inr (subst (AsksAlone ss) (sym (last_is n m c)) alone);
   all = λ m any within e. inr (inr (n, contains_last [] n, inl alone));
   others = λ m any no. stay.others m any (λ e. no (subst (Contains (n ∷ [])) (sym (some_same m n e)) (contains_last [] n)));

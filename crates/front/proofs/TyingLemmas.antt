@@ -24,13 +24,13 @@ same_or_not (suc m) (suc n) = step (same_or_not m n)
     step (inl e) = inl (ap suc e)
     step (inr apart) = inr (λ e. apart cc)
 
-some_is : {X : Type 0} → (x y : X) → Some x ≡ Some y → x ≡ y
+pub some_is : {X : Type 0} → (x y : X) → Some x ≡ Some y → x ≡ y
 some_is x y e = cc
 
 -- ---- who borrows after a change of the loans
 
 -- after a loan: as before, or it is the loan's
-borrower_after : (loans : List (Option Loan)) (id : ℕ) (loan : Loan) (k m : ℕ) → borrower (loan_at (set loans id (Some loan)) k) ≡ Some m
+pub borrower_after : (loans : List (Option Loan)) (id : ℕ) (loan : Loan) (k m : ℕ) → borrower (loan_at (set loans id (Some loan)) k) ≡ Some m
     → ((k ≡ id) × (loan.socket ≡ Some m)) ⊎ (borrower (loan_at loans k) ≡ Some m)
 borrower_after [] id loan k m e = inr e
 borrower_after (x ∷ xs) zero loan zero m e = inl (refl, e)
@@ -44,7 +44,7 @@ borrower_after (x ∷ xs) (suc id) loan (suc k) m e = step (borrower_after xs id
     step (inr h) = inr h
 
 -- after a connection came back: as before, of another connection
-borrower_left : (loans : List (Option Loan)) (owner k m : ℕ) → borrower (loan_at (set loans owner None) k) ≡ Some m
+pub borrower_left : (loans : List (Option Loan)) (owner k m : ℕ) → borrower (loan_at (set loans owner None) k) ≡ Some m
     → (k ≢ owner) × (borrower (loan_at loans k) ≡ Some m)
 borrower_left [] owner k m e = absurd cc
 borrower_left (x ∷ xs) zero zero m e = absurd cc
@@ -65,7 +65,7 @@ left_is n m (Some other) e = at (other == n) refl e
         let apart : other ≢ n = grind (arith, nat_tests) in
         (λ f. apart (some_is other m e ∙ f), e)
 
-borrower_ended : (loans : List (Option Loan)) (n k m : ℕ) → borrower (loan_at (map (after_end n) loans) k) ≡ Some m
+pub borrower_ended : (loans : List (Option Loan)) (n k m : ℕ) → borrower (loan_at (map (after_end n) loans) k) ≡ Some m
     → (m ≢ n) × (borrower (loan_at loans k) ≡ Some m)
 borrower_ended [] n k m e = absurd cc
 borrower_ended (None ∷ xs) n zero m e = absurd cc

@@ -36,7 +36,7 @@ use Rattle.front.proofs.TyingLemmas.{same_or_not}
 
 -- ---- a question comes
 
-holds_more : (c : Connection) (bytes : List ℕ) → Holds [] c → Holds bytes (add_bytes c c.fault bytes)
+pub holds_more : (c : Connection) (bytes : List ℕ) → Holds [] c → Holds bytes (add_bytes c c.fault bytes)
 holds_more c bytes h = record {
   is = ap (λ (f : Option FrameFault). (add_bytes c f bytes).frames) h.faultless ∙ ap (λ (before : List ℕ). before ++ bytes) h.is;
   faultless = ap (λ (f : Option FrameFault). (add_bytes c f bytes).fault) h.faultless ∙ h.faultless;

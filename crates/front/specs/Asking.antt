@@ -80,6 +80,7 @@ pub record AsksOn (socket : Option ℕ) (what : Option Pairs) (old new : List (O
   pub of : loan.socket ≡ socket
   pub rest : loan_at old id ≡ None
   pub lent : new ≡ slice_set old id (Some loan)
+  pub there : loan_at new id ≡ Some loan
   pub asked : IsAskedOn before id command after
 
 -- Nothing is lent, and nothing came on any connection; or what is wanted is asked on the one that

@@ -1,8 +1,20 @@
 -- What a front hands out, of which sockets.
 use Rattle.std.specs.Prelude.{◌≡◌, ℕ, ◌+◌, Bool, if◌then◌else◌, List, [], ◌∷◌, ◌++◌, map, slice_set}
 use Rattle.std.specs.Prelude.{slice_index_or, length, max, ◌<◌, ◌≤◌, Option, Some, None, Vec}
-use Rattle.front.specs.declared.socket.Socket.{Socket}
+use Rattle.page.specs.History.{History}
+use Rattle.front.specs.Alone.{StandsAlone}
+use Rattle.front.specs.Lending.{after_end}
 use Rattle.front.specs.Serving.{fed, fresh, HaveGrown}
+use Rattle.front.specs.Tying.{AreTied}
+use Rattle.front.specs.Unread.{IsBehind}
+use Rattle.front.specs.declared.front.Front.{Front}
+use Rattle.front.specs.declared.socket.Socket.{Socket}
+
+-- What holds of a front between two calls.
+abbrev pub IsFrontSound : {C D : Type 0} → (D → History) → Front C D → Type 0
+IsFrontSound history front = IsBehind history front.lending.loans front.core
+    × AreTied front.lending.loans front.sockets.items
+    × StandsAlone front.alone front.sockets.items
 
 abbrev pub frame_to : {Z : Type 0} → ℕ → Option (Vec ℕ Z) → List (ℕ × List ℕ)
 frame_to i None = []
@@ -42,6 +54,18 @@ pub record IsFed (old : List Socket) (i : ℕ) (bytes : List ℕ) (new : List So
   pub most : length there ≤ max (length old) (i + 1)
   pub fed : (any : Socket) → new ≡ slice_set there i (fed (slice_index_or there i any) bytes)
 
+-- Nothing else has changed of the front.
+pub record TakesBytes {C D : Type 0} (old : Front C D) (i : ℕ) (bytes : List ℕ)
+    (new : Front C D) : Type 0 where
+  pub fed : IsFed old.sockets.items i bytes new.sockets.items
+  pub rest : new ≡ record old { sockets = new.sockets }
+
 -- The socket of this number has ended: nothing of it is left.
 abbrev pub IsEnded : List Socket → ℕ → List Socket → Type 0
 IsEnded old i new = new ≡ slice_set old i fresh
+
+-- What was lent to it is lent to none, and nothing comes to the server.
+pub record Forgets {C D : Type 0} (old : Front C D) (i : ℕ) (new : Front C D) : Type 0 where
+  pub ended : IsEnded old.sockets.items i new.sockets.items
+  pub loans : new.lending.loans ≡ map (after_end i) old.lending.loans
+  pub core : new.core ≡ old.core

@@ -11,3 +11,5 @@ pub mod Cursors
 pub mod OneSocket
 pub mod Unread
 pub mod Rounds
+pub mod Served
+pub mod Running

@@ -1,18 +1,20 @@
 -- A turn of a front, whole: cursors are ended whose sockets have ended, the sockets' messages are
 -- asked, the server makes a turn, what it replies goes to the messages, and the answers that are
 -- ready are handed out.
-use Rattle.std.specs.Prelude.{◌≡◌, ◌⊎◌, ◌≤◌, ℕ, zero, suc, List, [], ◌∷◌, slice_set, None}
+use Rattle.std.specs.Prelude.{◌≡◌, ◌≢◌, ◌⊎◌, ◌≤◌, ℕ, zero, suc, List, [], ◌∷◌, slice_set, None}
 use Rattle.std.specs.Prelude.{Option, Result, Ok, Err}
 use Rattle.page.specs.History.{History}
+use Rattle.server.specs.Durable.{is_stopped}
 use Rattle.server.specs.ServerState.{ServerState, ended}
 use Rattle.server.specs.Turning.{TakesTurn}
 use Rattle.server.specs.View.{out_of, state}
 use Rattle.server.specs.declared.turn.Core.{Core}
 use Rattle.server.specs.declared.turn.TurnFault.{TurnFault}
+use Rattle.server.specs.declared.turn.TurnFault.TheVariants as turn_faults
 use Rattle.server.specs.declared.turn.TurnOut.{TurnOut}
 use Rattle.front.specs.Asking.{EndsOne}
 use Rattle.front.specs.Cursors.{first_to_end}
-use Rattle.front.specs.Fronting.{HandsOut}
+use Rattle.front.specs.Fronting.{HandsOut, IsFrontSound}
 use Rattle.front.specs.Lending.{loan_at, borrower}
 use Rattle.front.specs.Replying.{Becomes, IsClosed, TakesFrame}
 use Rattle.front.specs.Serving.{OthersStay}
@@ -90,9 +92,10 @@ OnlyTakes old new = new ≡ record old {
   cursors = new.cursors;
 }
 
--- The server makes a turn, and what it replies is taken.
+-- The server makes a turn, in which it doesn't stop, and what it replies is taken.
 pub record MakesTurn {C D : Type 0} (history : D → History) (old new : Front C D) : Type 0 where
   pub result : Result TurnOut TurnFault
+  pub goes_on : result ≢ Err turn_faults.Stopped
   pub after : Core D
   pub turns : TakesTurn history old.core result after
   pub takes : TakesAll result (record (floor old) { server = state after }) (floor new)
@@ -110,4 +113,7 @@ pub record IsRound {C D : Type 0} (history : D → History) (old : Front C D)
   pub turned : Front C D
   pub turns : MakesTurn history asked turned
   pub hands_out : HandsOut turned.sockets.items replies closed new.sockets.items
+  -- until the server's turn the front is sound behind each part, and asking doesn't stop the server
+  pub sound : IsFrontSound history ended × IsFrontSound history asked
+  pub running : is_stopped asked.core ≡ is_stopped ended.core
   pub rest : new ≡ record turned { sockets = new.sockets }

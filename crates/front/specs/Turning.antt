@@ -84,6 +84,11 @@ AreServed before after time (n ∷ later) old new =
     (between : Desk) × ServesOne before after time n old between
     × AreServed before after time later between new
 
+-- each of these numbers stands there once
+abbrev pub EachOnce : List ℕ → Type 0
+EachOnce [] = Unit {0}
+EachOnce (n ∷ later) = (Contains later n → ⊥) × EachOnce later
+
 -- ---- of which sockets
 
 abbrev pub Waits : List Socket → ℕ → Type 0
@@ -131,15 +136,16 @@ pub record GoesOnWithOne (numbers : List ℕ) (before : List Socket) (first next
   pub alone : AsksAlone before one
   pub again : next ≡ first
 
--- What a turn asks: of some sockets, as they were before it, what their messages want, on the
--- connections that are lent, and nothing else on any. Each of them waits, or goes on with a message
--- during which nobody else may ask. Whoever waits is one of them, or is kept waiting. All others
--- are as they were. The socket of its first number is served, if it waits and a connection is at
--- rest, unless such a message goes on.
+-- What a turn asks: of some sockets, of each once and as it was before it, what their messages
+-- want, on the connections that are lent, and nothing else on any. Each of them waits, or goes on
+-- with a message during which nobody else may ask. Whoever waits is one of them, or is kept
+-- waiting. All others are as they were. The socket of its first number is served, if it waits and a
+-- connection is at rest, unless such a message goes on.
 pub record AsksInTurn (before after : List Socket) (first next : ℕ) (old new : Desk) : Type 0 where
   pub time : ℕ
   pub numbers : List ℕ
   pub served : AreServed before after time numbers old new
+  pub once : EachOnce numbers
   pub only : (n : ℕ) → Contains numbers n → Waits before n ⊎ AsksAlone before n
   pub all : (n : ℕ) (any : Socket) → n < length before → waits (slice_index_or before n any) ≡ true
       → Contains numbers n ⊎ IsKeptWaiting numbers before after new

@@ -41,6 +41,7 @@ pub(crate) fn ask<D: Disk>(
     ensures nothing { OnErr result (state core.new ≡ state core.old) }
     ensures long { result ≡ Err NotAsked.Long → is_long command.now ≡ true }
 {
+    // so that its bytes are known to be read as this command again
     let _lawful = command.pairs();
     if command.encoded_len() > MOST_BYTES {
         return Err(NotAsked::Long);

@@ -1,6 +1,6 @@
 //! Sockets of drivers before a server.
 
-ghost use Rattle.server.specs.Durable.{IsSound};
+ghost use Rattle.server.specs.Durable.{is_stopped, IsSound};
 ghost use Rattle.server.specs.View.{frames_in, state};
 ghost use Rattle.front.specs.Turning.{desk, AsksAlone, AsksInTurn, ServesOne};
 ghost use Rattle.std.specs.Prelude.{◌≡◌, ◌+◌, ◌<◌, ◌≤◌, ◌^◌, [], OnOk, true, false, None, Some, length, map, max};
@@ -98,6 +98,7 @@ impl<C: Clock + Drop, D: Disk + Drop> Front<C, D> {
         ensures between { NobodyBetween self.old.lending.loans self.old.sockets.items
             self.new.lending.loans self.new.sockets.items }
         ensures free { result ≡ true → self.new.alone ≡ None }
+        ensures running { is_stopped self.new.core ≡ is_stopped self.old.core }
         ensures others { OthersStay self.old.sockets.items (Some number) self.new.sockets.items }
         ensures alone { result ≡ false → AsksAlone self.new.sockets.items number }
         ensures first { self.new.first ≡ self.old.first }
@@ -136,6 +137,7 @@ impl<C: Clock + Drop, D: Disk + Drop> Front<C, D> {
             self.new.sockets.items }
         ensures same { result ≡ false → desk self.new ≡ desk self.old }
         ensures first { self.new.first ≡ self.old.first }
+        ensures running { is_stopped self.new.core ≡ is_stopped self.old.core }
         ensures asks { result ≡ true → AsksInTurn self.old.sockets.items self.new.sockets.items
             self.old.first self.new.first (desk self.old) (desk self.new) }
     {
@@ -162,6 +164,7 @@ impl<C: Clock + Drop, D: Disk + Drop> Front<C, D> {
         ensures stands { StandsAlone self.new.alone self.new.sockets.items }
         ensures between { NobodyBetween self.old.lending.loans self.old.sockets.items
             self.new.lending.loans self.new.sockets.items }
+        ensures running { is_stopped self.new.core ≡ is_stopped self.old.core }
         ensures asks { AsksInTurn self.old.sockets.items self.new.sockets.items self.old.first
             self.new.first (desk self.old) (desk self.new) }
     {
@@ -198,6 +201,7 @@ impl<C: Clock + Drop, D: Disk + Drop> Front<C, D> {
         ensures ends { EndsSome self.old self.new }
     {
         'cursors: for times in 0..MOST_ENDS {
+            // the number is for the proof, which counts the cursors by it
             let _ = times;
             let Ok(ended) = end_cursor(&mut self.core, &mut self.lending, &self.cursors) else {
                 return;
@@ -256,28 +260,20 @@ impl<C: Clock + Drop, D: Disk + Drop> Front<C, D> {
 }
 
 impl<C: Clock + Drop, D: Disk + Drop> Service for Front<C, D> {
-    ghost use Rattle.front.specs.Unread.{IsBehind};
-    ghost use Rattle.std.specs.Prelude.{◌≡◌, map, slice_set};
-    ghost use Rattle.front.specs.Lending.{after_end};
-    ghost use Rattle.front.specs.Serving.{fresh};
-    ghost use Rattle.front.specs.Tying.{AreTied};
-    ghost use Rattle.front.specs.Alone.{StandsAlone};
-    ghost use Rattle.front.specs.Fronting.{IsFed, IsEnded};
+    ghost use Rattle.front.specs.Fronting.{Forgets, IsFrontSound, TakesBytes};
     ghost use Rattle.front.specs.Rounds.{IsRound};
 
     ghost PLACES = { 1024 };
 
     const PLACES: usize = PLACES;
 
-    ghost is_sound = { λ front. IsBehind D.history front.lending.loans front.core
-        × AreTied front.lending.loans front.sockets.items
-        × StandsAlone front.alone front.sockets.items };
+    ghost is_sound = { λ front. IsFrontSound D.history front };
 
-    ghost is_fed = { λ old i bytes new. IsFed old.sockets.items i bytes new.sockets.items };
+    ghost is_fed = { λ old i bytes new. TakesBytes old i bytes new };
 
     ghost is_answered = { λ old replies closed new. IsRound D.history old replies closed new };
 
-    ghost is_ended = { λ old i new. IsEnded old.sockets.items i new.sockets.items };
+    ghost is_ended = { λ old i new. Forgets old i new };
 
     fn take_bytes(&mut self, connection: usize, bytes: &[u8]) -> Result<(), NotTaken> {
         let alloc = self.core.allocator();

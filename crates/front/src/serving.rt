@@ -4,6 +4,7 @@ ghost use Rattle.std.specs.Prelude.{◌≡◌, ◌⊎◌, ◌&&◌, true, false,
 ghost use Rattle.std.specs.Prelude.{IfSome, IfOk, OnOk, OnErr, is_some, drop, slice_set};
 ghost use Rattle.std.specs.Prelude.{if◌then◌else◌};
 ghost use Rattle.std.specs.List.{list_any};
+ghost use Rattle.server.specs.Durable.{is_stopped};
 ghost use Rattle.server.specs.ServerState.{ended};
 ghost use Rattle.server.specs.View.{state};
 ghost use Rattle.op_msg.specs.Request.{document_in};
@@ -87,6 +88,7 @@ fn ask_question<D: Disk>(
 ) -> Result<(), NoMemory>
     requires sound { IsBehind D.history lending.old.loans core.old }
     ensures sound { IsBehind D.history lending.new.loans core.new }
+    ensures running { is_stopped core.new ≡ is_stopped core.old }
     ensures lends { Lends (Some number) lending.old.loans lending.new.loans }
     ensures asks { Asks number lending.old.loans lending.new.loans socket.old socket.new }
     ensures alone { has_begun socket.new ≡ true → is_alone socket.old ≡ true }
@@ -137,6 +139,7 @@ pub(crate) fn serve_socket<D: Disk>(
 ) -> Result<(), NoMemory>
     requires sound { IsBehind D.history lending.old.loans core.old }
     ensures sound { IsBehind D.history lending.new.loans core.new }
+    ensures running { is_stopped core.new ≡ is_stopped core.old }
     ensures lends { Lends (Some number) lending.old.loans lending.new.loans }
     ensures asks { Asks number lending.old.loans lending.new.loans socket.old socket.new }
     ensures begins { has_begun socket.old ≡ false → has_begun socket.new ≡ true

@@ -7,7 +7,7 @@ use Rattle.bson.specs.Tree.{Tree, scalar, null, Pairs}
 use Rattle.bson.specs.View.{tree}
 use Rattle.drivers.specs.Cleaning.{kept_array, with_kept}
 use Rattle.drivers.proofs.CleaningLemmas.{array-levels}
-use Rattle.drivers.proofs.HoldingLemmas.{not_there, found_there}
+use Rattle.drivers.proofs.InPlaceLemmas.{not_there, found_there}
 use Rattle.drivers.proofs.cleaning.keep_under.Goals as goal
 
 pub returns-in_default : goal.returns-in_default

@@ -1,4 +1,5 @@
 use Rattle.std.proofs.Common.{◌≡◌, ◌≤◌, ◌<◌, ◌+◌, ◌%◌, ℕ, None, get_or, length}
+use Rattle.server.specs.Durable.{is_stopped}
 use Rattle.front.specs.Alone.{StandsAlone}
 use Rattle.front.specs.Turning.{desk}
 use Rattle.front.specs.Tying.{AreTied}
@@ -13,6 +14,7 @@ invariant-sockets g l = record {
   tied : AreTied l.self.lending.loans l.self.sockets.items;
   free : l.self.alone ≡ None;
   stands : StandsAlone None l.self.sockets.items;
+  running : is_stopped l.self.core ≡ is_stopped l.initial.self.core;
   as_many : length l.self.sockets.items ≡ length l.initial.self.sockets.items;
   all_of : l.count ≡ length l.initial.self.sockets.items;
   first : l.self.first ≡ l.initial.self.first;

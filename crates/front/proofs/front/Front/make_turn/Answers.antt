@@ -26,6 +26,7 @@ returns-in-Ok-clause-turns g c =
     let before = c.args.self.now in
     record {
       result = Ok c.in-Ok.turn;
+      goes_on = λ e. absurd cc;
       after = c.turn.new.self;
       turns = c.in-Ok.ensures;
       takes = (

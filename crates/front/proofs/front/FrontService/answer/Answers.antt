@@ -29,6 +29,11 @@ returns-clause-answered g c = record {
     turns = when_ok c.make_turn.result (sym c.is_err.ensures.value ∙ c.if-is_err.false) c.make_turn.ensures.turns;
     hands_out = hands_out c.make_turn.new.self.sockets.len c.make_turn.new.self.sockets.items c.deref_mut.result.now c.give_answers.new.sockets _ _
         c.deref_mut.ensures.value c.deref_mut.ensures.len c.give_answers.ensures.answered refl (ap (closed_from 0) c.deref.ensures.value);
+    sound = (
+      (c.end_cursors.ensures.sound, c.end_cursors.ensures.tied, c.end_cursors.ensures.stands),
+      (c.ask_all.ensures.sound, c.ask_all.ensures.tied, c.ask_all.ensures.stands),
+    );
+    running = c.ask_all.ensures.running;
     rest = refl;
   };
   hands = c.give_answers.ensures.hands;

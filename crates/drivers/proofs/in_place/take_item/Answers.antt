@@ -1,7 +1,7 @@
 use Rattle.std.proofs.Common.{arith}
 use Rattle.bson.specs.View.{tree}
-use Rattle.drivers.proofs.HoldingLemmas.{item_at-levels}
-use Rattle.drivers.proofs.holding.take_item.Goals as goal
+use Rattle.drivers.proofs.InPlaceLemmas.{item_at-levels}
+use Rattle.drivers.proofs.in_place.take_item.Goals as goal
 
 pub returns-clause-levels : goal.returns-clause-levels
 returns-clause-levels c =

@@ -1,0 +1,49 @@
+-- A front over any list of steps: bytes come on sockets, turns are made, sockets end. A socket gets
+-- what its own bytes and the server's replies make, whatever comes on other sockets, in whatever
+-- chunks its bytes come, and whenever turns are made.
+use Rattle.std.specs.Prelude.{◌≡◌, ℕ, ◌==◌, if◌then◌else◌, List, [], ◌∷◌, ◌++◌}
+use Rattle.std.specs.Prelude.{slice_index_or}
+use Rattle.page.specs.History.{History}
+use Rattle.server.specs.Streams.{bytes_from, DoesNotEnd}
+use Rattle.server.specs.declared.step.Step.{Step}
+use Rattle.server.specs.declared.step.Step.TheVariants as steps
+use Rattle.front.specs.Fronting.{Forgets, IsFrontSound, TakesBytes}
+use Rattle.front.specs.Rounds.{IsRound}
+use Rattle.front.specs.Served.{IsServed}
+use Rattle.front.specs.Serving.{fresh}
+use Rattle.front.specs.declared.front.Front.{Front}
+use Rattle.front.specs.declared.socket.Socket.{Socket}
+
+-- From one front to another, which is sound behind each step, and these frames are handed out, each
+-- with the number of its socket, in order.
+abbrev pub Runs : {C D : Type 0} → (D → History) → Front C D → List Step → List (ℕ × List ℕ)
+    → Front C D → Type 0
+Runs history front [] given last = (given ≡ []) × (last ≡ front)
+Runs {C} {D} history front (steps.Bytes n chunk ∷ later) given last =
+    (next : Front C D) × TakesBytes front n chunk.items next × IsFrontSound history next
+    × Runs history next later given last
+Runs {C} {D} history front (steps.Gone n ∷ later) given last =
+    (next : Front C D) × Forgets front n next × IsFrontSound history next
+    × Runs history next later given last
+Runs {C} {D} history front (steps.Turn ∷ later) given last =
+    (next : Front C D) × (replies : List (ℕ × List ℕ)) × (closed : List ℕ)
+    × (others : List (ℕ × List ℕ)) × IsRound history front replies closed next
+    × IsFrontSound history next × (given ≡ replies ++ others)
+    × Runs history next later others last
+
+-- the socket of a number, or one of which nothing has come
+abbrev pub socket_in : {C D : Type 0} → Front C D → ℕ → Socket
+socket_in front n = slice_index_or front.sockets.items n fresh
+
+-- the frames for a socket
+abbrev pub frames_to : ℕ → List (ℕ × List ℕ) → List (List ℕ)
+frames_to n [] = []
+frames_to n (f ∷ fs) = if f.0 == n then f.1 ∷ frames_to n fs else frames_to n fs
+
+-- From a front on in which nothing of a socket has come, over steps in which it doesn't end.
+abbrev pub ServesEachSocket : (C : Type 0) {D : Type 0} → (D → History) → Type 0
+ServesEachSocket C {D} history = (n : ℕ) (first : Front C D) (all : List Step)
+    (given : List (ℕ × List ℕ)) (last : Front C D)
+    → IsFrontSound history first → socket_in first n ≡ fresh → DoesNotEnd n all
+    → Runs history first all given last
+    → IsServed history (bytes_from n all) (frames_to n given) (socket_in last n)
