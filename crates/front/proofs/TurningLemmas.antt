@@ -191,12 +191,12 @@ contains_behind : (n : ℕ) (ns : List ℕ) (m : ℕ) → Contains ns m → Cont
 contains_behind n ns m c = Contains-append_right (n ∷ []) ns m c
 
 once_more : (ns : List ℕ) (n : ℕ) → EachOnce ns → (Contains ns n → ⊥) → EachOnce (ns ++ n ∷ [])
-once_more [] n h no = (λ c. absurd (omega (arith, c.1)), tt)
-once_more (m ∷ ms) n h no = (λ c. not_again (Contains-append_cases ms (n ∷ []) m c), once_more ms n h.1 (λ c. no (contains_behind m ms n c)))
+once_more [] n h never_in = (λ c. absurd (omega (arith, c.1)), tt)
+once_more (m ∷ ms) n h never_in = (λ c. not_again (Contains-append_cases ms (n ∷ []) m c), once_more ms n h.1 (λ c. never_in (contains_behind m ms n c)))
   where
     not_again : Contains ms m ⊎ Contains (n ∷ []) m → ⊥
     not_again (inl c) = h.0 c
-    not_again (inr c) = no (0, omega arith, last_is n m c)
+    not_again (inr c) = never_in (0, omega arith, last_is n m c)
 
 -- one more is served
 pub served_more : (ss now later : List Socket) (first count step time : ℕ) (old mid new : Desk) (s : Socket) → count ≡ length ss → length now ≡ length ss

@@ -1,4 +1,5 @@
 use Rattle.std.proofs.Common.{rules, ℕ, Option, ◌∙◌, length, refl, sym, subst, arith}
+use Rattle.server.specs.Durable.{is_stopped}
 use Rattle.front.specs.Alone.{StandsAlone}
 use Rattle.front.proofs.AloneLemmas.{between_turn}
 use Rattle.front.proofs.TurningLemmas.{later_stay, served_more, served_none, served_past, turn_behind, turn_full, turn_last, turn_whole}
@@ -43,7 +44,7 @@ sockets-init g c =
       tied = c.ask_alone.ensures.tied;
       free = none.free;
       stands = subst (λ (a : Option ℕ). StandsAlone a c.ask_alone.new.self.sockets.items) none.free c.ask_alone.ensures.stands;
-      running = c.ask_alone.ensures.running;
+      running = refl {a = is_stopped c.ask_alone.new.self.core};
       as_many = refl {a = length c.ask_alone.new.self.sockets.items};
       all_of = search rules;
       first = refl;

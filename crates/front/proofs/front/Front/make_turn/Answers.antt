@@ -1,5 +1,6 @@
-use Rattle.std.proofs.Common.{sym, subst}
-use Rattle.std.specs.Prelude.{Ok}
+use Rattle.std.proofs.Common.{rules, refl, sym, subst}
+use Rattle.std.specs.Prelude.{Ok, Err}
+use Rattle.server.specs.declared.turn.TurnFault.TheVariants as turn_faults
 use Rattle.server.specs.View.{frames_in, state}
 use Rattle.front.specs.Rounds.{TakesEach, floor}
 use Rattle.front.specs.Unread.{HaveReplies}
@@ -37,3 +38,13 @@ returns-in-Ok-clause-turns g c =
       );
       rest = c.take_replies.ensures.only;
     }
+
+pub returns-in-Err-Memory-clause-turns : goal.returns-in-Err-Memory-clause-turns
+returns-in-Err-Memory-clause-turns g c = record {
+  result = Err turn_faults.Memory;
+  goes_on = λ e. absurd cc;
+  after = c.turn.new.self;
+  turns = search rules;
+  takes = refl;
+  rest = refl;
+}
