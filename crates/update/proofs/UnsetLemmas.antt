@@ -1,5 +1,6 @@
 -- Taking fields away one after the other leaves the pairs whose names aren't among the marks.
-use Rattle.std.proofs.Common.{◌≡◌, ◌≢◌, ℕ, zero, suc, Bool, true, false, List, [], ◌∷◌, take, drop, map, Option, Some, None, Result, Ok, Err, refl, sym, ap, subst, ◌∙◌}
+use Rattle.std.proofs.Common.{◌≡◌, ◌≢◌, ℕ, zero, suc, Bool, true, false, List, [], ◌∷◌, take, drop, map}
+use Rattle.std.proofs.Common.{Option, Some, None, Result, Ok, Err, refl, sym, ap, subst, ◌∙◌}
 use Rattle.std.specs.Prelude.{◌&&◌, if◌then◌else◌, not, filter}
 use Rattle.std.specs.List.{list_all}
 use Rattle.std.specs.Option.{is_some}
@@ -97,7 +98,8 @@ module _ (marks : Pairs) (name : List ℕ) (u : Tree) where
 ok : Pairs → Result Pairs Refusal
 ok ps = Ok ps
 
-one_unset : (path : Path) (action : Action) → is_field_unset (record { path = path; action = action }) ≡ true → (name : List ℕ) × (path ≡ name ∷ []) × (action ≡ unset)
+one_unset : (path : Path) (action : Action) → is_field_unset (record { path = path; action = action }) ≡ true
+    → (name : List ℕ) × (path ≡ name ∷ []) × (action ≡ unset)
 one_unset [] unset e = absurd cc
 one_unset (name ∷ []) unset e = (name, refl, refl)
 one_unset (name ∷ other ∷ rest) unset e = absurd cc
@@ -127,7 +129,8 @@ unset_first path action es marks ps e h later =
     let more : Pairs = put marks one.0 (scalar null) in
     let rest = later more in
     let mark : set_at path (scalar null) marks ≡ ok more = ap (λ (p : Path). set_at p (scalar null) marks) one.1 in
-    let cut_one : apply_edits (record { path = path; action = action } ∷ es) (unmarked marks ps) ≡ if_ok (ok (cut_field (cut_off []) one.0 (unmarked marks ps))) (apply_edits es) =
+    let cut_one : apply_edits (record { path = path; action = action } ∷ es) (unmarked marks ps)
+    ≡ if_ok (ok (cut_field (cut_off []) one.0 (unmarked marks ps))) (apply_edits es) =
     λ i. apply_edits (record { path = one.1 i; action = one.2 i } ∷ es) (unmarked marks ps) in
     record {
       new = rest.new;
@@ -161,10 +164,12 @@ module _ (n : ℕ) (cs run behind : List Change) (ps : Pairs) (planned : Result 
   parts = after_run n cs ps ∙ (λ i. if_ok (apply_edits (map edit_of (sym front i)) ps) (apply_edits (map edit_of (sym back i))))
 
   pub behind_run : (qs : Pairs) → apply_edits (map edit_of run) ps ≡ Ok qs → apply_edits (map edit_of behind) qs ≡ planned
-  behind_run qs made = goes_on (apply_edits (map edit_of run) ps) (apply_edits (map edit_of behind)) (apply_edits (map edit_of cs) ps) planned qs parts made so_far
+  behind_run qs made =
+      goes_on (apply_edits (map edit_of run) ps) (apply_edits (map edit_of behind)) (apply_edits (map edit_of cs) ps) planned qs parts made so_far
 
   pub refused_run : (e : Refusal) → apply_edits (map edit_of run) ps ≡ Err e → planned ≡ Err e
-  refused_run e made = stops (apply_edits (map edit_of run) ps) (apply_edits (map edit_of behind)) (apply_edits (map edit_of cs) ps) planned e parts made so_far
+  refused_run e made =
+      stops (apply_edits (map edit_of run) ps) (apply_edits (map edit_of behind)) (apply_edits (map edit_of cs) ps) planned e parts made so_far
 
 -- ---- the pairs that are kept
 
