@@ -39,7 +39,7 @@ impl Document {
     pub fn copy(&self) -> Result<Document, NoMemory>
         ensures { IfOk result (λ d. d ≡ self.now) }
     {
-        let mut pairs = Vec::new(*self.pairs.allocator());
+        let mut pairs = Vec::with_capacity(*self.pairs.allocator(), self.pairs.len())?;
         'pairs: for pair in &self.pairs {
             let name = pair.name.copy()?;
             let value = pair.value.copy()?;
@@ -59,7 +59,7 @@ impl Array {
     pub fn copy(&self) -> Result<Array, NoMemory>
         ensures { IfOk result (λ a. a ≡ self.now) }
     {
-        let mut items = Vec::new(*self.items.allocator());
+        let mut items = Vec::with_capacity(*self.items.allocator(), self.items.len())?;
         'items: for item in &self.items {
             let item = item.copy()?;
             items.push(item)?;

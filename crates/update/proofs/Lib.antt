@@ -2,3 +2,4 @@ pub mod StepLemmas
 pub mod IdLemmas
 pub mod ArrayLemmas
 pub mod EditPathLemmas
+pub mod UnsetLemmas

@@ -13,6 +13,7 @@ pub mod RefusalLaws
 pub mod Renames
 pub mod Replacements
 pub mod Stored
+pub mod Unsets
 pub mod Update
 pub mod UpdateCode
 pub mod UpdateLaws

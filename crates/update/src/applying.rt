@@ -10,18 +10,30 @@ use crate::edit::{Edit, Form, Update};
 use crate::operators::apply_action;
 use crate::replacements::replace;
 use crate::stored::{id_first, stored_fault};
+use crate::unsets::{count_field_unsets, unset_fields};
 use bson::Document;
 use path::Refusal;
 use std::alloc::Global;
 
-/// The edits, in the order written.
+/// How many edits are many: fewer fields are taken away one after the other.
+const MANY: usize = 16;
+
+/// The edits, in the order written, of which many that take away a field of the document are done at once.
 fn apply_edits(alloc: Global, edits: &[Edit], document: Document) -> Result<Document, Refusal>
     ensures { Gives Refusal.OutOfMemory (λ d. d) result
         (apply_edits (map edit_of edits.now) document) }
 {
     let mut document = document;
-    'edits: for edit in edits {
-        document = apply_action(alloc, document, &edit.path, &edit.action)?;
+    let mut rest = edits;
+    'runs: while let [edit, others @ ..] = rest {
+        let (unsets, behind) = rest.split_at(count_field_unsets(rest));
+        if unsets.len() < MANY {
+            document = apply_action(alloc, document, &edit.path, &edit.action)?;
+            rest = others;
+        } else {
+            document = unset_fields(alloc, unsets, document)?;
+            rest = behind;
+        }
     }
     Ok(document)
 }
