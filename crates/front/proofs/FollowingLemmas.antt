@@ -5,7 +5,6 @@ use Rattle.std.specs.Prelude.{Bool, is_none}
 use Rattle.std.specs.List.{Contains}
 use Rattle.std.proofs.lemmas.List.Elements.{Contains-append_right}
 use Rattle.bson.specs.Tree.{Pairs}
-use Rattle.page.specs.History.{History}
 use Rattle.driver_messages.specs.Incoming.{next_message}
 use Rattle.drivers.specs.declared.server_info.ServerInfo.{ServerInfo}
 use Rattle.server.specs.ServerState.{ServerState}
@@ -16,7 +15,7 @@ use Rattle.front.specs.Lending.{borrower, is_at_rest, loan_at}
 use Rattle.front.specs.OneSocket.{Asking, AsksBy, AsksFor, AsksOrRefuses, AsksUnless, Seat, connection_for, is_held, is_long, loan_of, pending}
 use Rattle.front.specs.Replying.{Begins, long_reply}
 use Rattle.front.specs.Rounds.{EndsEach}
-use Rattle.front.specs.Served.{IsAt, IsReplyTo, Stand, Worked, standing}
+use Rattle.front.specs.Served.{IsAt, IsReplyTo, ServerTurn, Stand, Worked, standing}
 use Rattle.front.specs.Serving.{fresh}
 use Rattle.front.specs.Turning.{AreServed, Desk, Does, EachOnce, info_of, seat_at}
 use Rattle.front.specs.Tying.{is_asked}
@@ -33,11 +32,11 @@ use Rattle.front.proofs.ServedLemmas.{story_replied, story_waits}
 use Rattle.front.proofs.TyingLemmas.{same_or_not, some_is}
 use Rattle.front.proofs.AwaitingLemmas.{Awaits, IsFree, awaits_its_own, awaits_nothing, awaits_still, for_one_at_rest, free_still, hold_on}
 
-module _ {D : Type 0} (history : D → History) (n : ℕ) where
+module _ {D : Type 0} (turns : List (ServerTurn D)) (n : ℕ) where
   -- A socket between the parts of a turn.
   pub record Follows (bytes : List ℕ) (given : List (List ℕ)) (loans : List (Option Loan)) (connections : List Connection) (s : Socket) : Type 0 where
     pub worked : List Worked
-    pub story : Story history bytes given worked s
+    pub story : Story turns n bytes given worked s
     pub awaits : Awaits n loans connections (asked_now worked)
 
   -- ---- cursors are ended
@@ -124,8 +123,8 @@ module _ {D : Type 0} (history : D → History) (n : ℕ) where
       at : (long : Bool) → is_long question.command ≡ long → AsksOrRefuses long n id question old new
           → Follows bytes given new.loans new.server.connections new.socket
       at true l refused =
-          let replied = story_replied history bytes given k.worked old.socket new.socket long_reply k.story
-          (subst (λ (q : Option Pairs). IsReplyTo history q long_reply) (sym now) (inl (l, refl))) refused.told in
+          let replied = story_replied turns n bytes given k.worked old.socket new.socket long_reply k.story
+          (subst (λ (q : Option Pairs). IsReplyTo turns n q long_reply) (sym now) (inl (l, refl))) refused.told in
           record {
             worked = replied.after;
             story = replied.story;
@@ -134,7 +133,7 @@ module _ {D : Type 0} (history : D → History) (n : ℕ) where
           }
       at false l asked = record {
         worked = k.worked;
-        story = subst (Story history bytes given k.worked) (sym asked.waits) (story_asked history bytes given k.worked old.socket k.story);
+        story = subst (Story turns n bytes given k.worked) (sym asked.waits) (story_asked turns n bytes given k.worked old.socket k.story);
         awaits = subst (Awaits n new.loans new.server.connections) (sym now)
             (awaits_its_own n old.loans new.loans old.server new.server id (loan_of n question) question.command
             (at_rest_is old.loans id (for_one_at_rest old.loans cursors question id e)) asked.lent asked.asked.came h none);
@@ -168,8 +167,8 @@ module _ {D : Type 0} (history : D → History) (n : ℕ) where
     awaits = at one.same;
   }
     where
-      one : Begun history bytes given k.worked s begun
-      one = story_begins history bytes given k.worked info s begun k.story none b
+      one : Begun turns n bytes given k.worked s begun
+      one = story_begins turns n bytes given k.worked info s begun k.story none b
 
       at : (one.after ≡ k.worked) ⊎ (s.job ≡ None) → Awaits n loans connections (asked_now one.after)
       at (inl same) = subst (λ (ws : List Worked). Awaits n loans connections (asked_now ws)) (sym same) k.awaits
@@ -185,14 +184,14 @@ module _ {D : Type 0} (history : D → History) (n : ℕ) where
   serves bytes given info cursors old new k none h free (inr (inl d)) =
       subst (λ (x : Seat). Follows bytes given x.loans x.server.connections new.socket) (sym d.rest) (record {
         worked = k.worked;
-        story = story_waits history bytes given k.worked old.socket new.socket (next_message old.socket.incoming) k.story d.socket;
+        story = story_waits turns n bytes given k.worked old.socket new.socket (next_message old.socket.incoming) k.story d.socket;
         awaits = k.awaits;
       })
   serves bytes given info cursors old new k none h free (inr (inr d)) =
       let one = begins bytes given info old.loans old.server.connections old.socket d.begun k none free d.begins in
       subst (λ (x : Seat). Follows bytes given x.loans x.server.connections new.socket) (sym d.closes.rest) (record {
         worked = one.worked;
-        story = story_closed history bytes given one.worked d.begun new.socket one.story d.closes.socket;
+        story = story_closed turns n bytes given one.worked d.begun new.socket one.story d.closes.socket;
         awaits = one.awaits;
       })
 

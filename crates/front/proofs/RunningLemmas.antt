@@ -26,8 +26,8 @@ use Rattle.front.specs.Fronting.{answered, Forgets, HandsOut, IsFrontSound, Take
 use Rattle.front.specs.Lending.{borrower, loan_at}
 use Rattle.front.specs.Replying.{Becomes, IsClosed, TakesDocument}
 use Rattle.front.specs.Rounds.{Floor, IsRound, MakesTurn, TakesAll, TakesEach, TakesOne, floor}
-use Rattle.front.specs.Running.{Runs, frames_to, socket_in}
-use Rattle.front.specs.Served.{IsReplyTo, IsServed}
+use Rattle.front.specs.Running.{Runs, frames_to, socket_in, turn_of, turns_of}
+use Rattle.front.specs.Served.{IsReplyTo, IsServed, ServerTurn}
 use Rattle.front.specs.Serving.{fed, fresh}
 use Rattle.front.specs.Turning.{desk}
 use Rattle.front.specs.Tying.{AreTied, is_asked}
@@ -42,21 +42,25 @@ use Rattle.front.proofs.SocketsLemmas.{answered_at, frames_both, frames_of_one, 
 use Rattle.front.proofs.AwaitingLemmas.{IsFree, awaits_nothing, borrows}
 use Rattle.front.proofs.FollowingLemmas.{Follows, begins, comes_to, ends_each}
 
-module _ {D : Type 0} (history : D → History) (n : ℕ) where
+module _ {D : Type 0} (history : D → History) (turns : List (ServerTurn D)) (n : ℕ) where
   -- ---- the server's replies are taken
 
-  module _ (start after : Core D) (out : TurnOut) (turn : TakesTurn history start (Ok out) after) where
+  module _ (turn : ServerTurn D) (made : Contains turns turn) (out : TurnOut) (answers : turn.result ≡ Ok out) where
+    abbrev WasLent : ℕ → Type 0
+    WasLent id = borrower (loan_at turn.loans id) ≡ Some n
+
     came_back : (bytes : List ℕ) (given : List (List ℕ)) (id : ℕ) (frame : List ℕ) (reply : Pairs) (loans : List (Option Loan)) (s : Socket)
-        → (k : Follows history n bytes given loans (state start).connections s) → borrower (loan_at loans id) ≡ Some n
-        → Contains (out_of out).replies (id, frame) → document_in (drop 21 frame) ≡ Ok reply → IsReplyTo history (asked_now k.worked) reply
-    came_back bytes given id frame reply loans s k lent there reads =
+        → (k : Follows turns n bytes given loans (state turn.old).connections s) → borrower (loan_at loans id) ≡ Some n → WasLent id
+        → Contains (out_of out).replies (id, frame) → document_in (drop 21 frame) ≡ Ok reply → IsReplyTo turns n (asked_now k.worked) reply
+    came_back bytes given id frame reply loans s k lent was there reads =
         let its = k.awaits id lent in
-        subst (λ (q : Option Pairs). IsReplyTo history q reply) (sym its.1) (inr (record {
-          old = start;
-          out = out;
-          new = after;
+        subst (λ (q : Option Pairs). IsReplyTo turns n q reply) (sym its.1) (inr (record {
           turn = turn;
+          made = made;
+          out = out;
+          answered = answers;
           id = id;
+          lent = was;
           stood = its.2;
           frame = frame;
           replied = there;
@@ -71,10 +75,10 @@ module _ {D : Type 0} (history : D → History) (n : ℕ) where
     left loans later owner id is e = borrower_left loans owner id n (ap (λ (ls : List (Option Loan)). borrower (loan_at ls id)) (sym is) ∙ e)
 
     takes_its : (bytes : List ℕ) (given : List (List ℕ)) (id : ℕ) (frame : List ℕ) (old new : Floor) → TakesOne id frame old new
-        → Contains (out_of out).replies (id, frame) → borrower (loan_at old.loans id) ≡ Some n → n < length old.sockets → IsOnce old.loans
-        → Follows history n bytes given old.loans (state start).connections (get_or old.sockets n fresh)
-        → Follows history n bytes given new.loans (state start).connections (get_or new.sockets n fresh)
-    takes_its bytes given id frame old new h there lent inside once k = at h.takes
+        → Contains (out_of out).replies (id, frame) → borrower (loan_at old.loans id) ≡ Some n → WasLent id → n < length old.sockets → IsOnce old.loans
+        → Follows turns n bytes given old.loans (state turn.old).connections (get_or old.sockets n fresh)
+        → Follows turns n bytes given new.loans (state turn.old).connections (get_or new.sockets n fresh)
+    takes_its bytes given id frame old new h there lent was inside once k = at h.takes
       where
         none : (other : ℕ) → borrower (loan_at new.loans other) ≡ Some n → ⊥
         none other e =
@@ -87,35 +91,35 @@ module _ {D : Type 0} (history : D → History) (n : ℕ) where
         t : Socket
         t = get_or new.sockets n fresh
 
-        replied : TakesDocument frame s t → Follows history n bytes given new.loans (state start).connections t
+        replied : TakesDocument frame s t → Follows turns n bytes given new.loans (state turn.old).connections t
         replied d =
-            let one = story_replied history bytes given k.worked s t d.0 k.story
-            (came_back bytes given id frame d.0 old.loans s k lent there d.1) d.2 in
+            let one = story_replied turns n bytes given k.worked s t d.0 k.story
+            (came_back bytes given id frame d.0 old.loans s k lent was there d.1) d.2 in
             record {
               worked = one.after;
               story = one.story;
-              awaits = awaits_nothing n new.loans (state start).connections (asked_now one.after) none;
+              awaits = awaits_nothing n new.loans (state turn.old).connections (asked_now one.after) none;
             }
 
-        over : IsClosed s t → Follows history n bytes given new.loans (state start).connections t
+        over : IsClosed s t → Follows turns n bytes given new.loans (state turn.old).connections t
         over c = record {
           worked = k.worked;
-          story = story_closed history bytes given k.worked s t k.story c;
-          awaits = awaits_nothing n new.loans (state start).connections (asked_now k.worked) none;
+          story = story_closed turns n bytes given k.worked s t k.story c;
+          awaits = awaits_nothing n new.loans (state turn.old).connections (asked_now k.worked) none;
         }
 
         at : (Becomes old.sockets (borrower (loan_at old.loans id)) (TakesDocument frame) new.sockets × (new.server ≡ old.server))
             ⊎ (Becomes old.sockets (borrower (loan_at old.loans id)) IsClosed new.sockets
             × ((new.server ≡ old.server) ⊎ (new.server ≡ ended old.server id)))
-            → Follows history n bytes given new.loans (state start).connections t
+            → Follows turns n bytes given new.loans (state turn.old).connections t
         at (inl d) = replied (d.0 n fresh lent inside)
         at (inr d) = over (d.0 n fresh lent inside)
 
     takes_another : (bytes : List ℕ) (given : List (List ℕ)) (id : ℕ) (frame : List ℕ) (old new : Floor) → TakesOne id frame old new
-        → Some n ≢ borrower (loan_at old.loans id) → Follows history n bytes given old.loans (state start).connections (get_or old.sockets n fresh)
-        → Follows history n bytes given new.loans (state start).connections (get_or new.sockets n fresh)
+        → Some n ≢ borrower (loan_at old.loans id) → Follows turns n bytes given old.loans (state turn.old).connections (get_or old.sockets n fresh)
+        → Follows turns n bytes given new.loans (state turn.old).connections (get_or new.sockets n fresh)
     takes_another bytes given id frame old new h other k =
-        subst (Follows history n bytes given new.loans (state start).connections) (sym (h.others.others n fresh other)) (record {
+        subst (Follows turns n bytes given new.loans (state turn.old).connections) (sym (h.others.others n fresh other)) (record {
           worked = k.worked;
           story = k.story;
           awaits = λ i e. k.awaits i (left old.loans new.loans id i h.rest e).1;
@@ -123,24 +127,26 @@ module _ {D : Type 0} (history : D → History) (n : ℕ) where
 
     takes_each : (bytes : List ℕ) (given : List (List ℕ)) (replies : List (ℕ × List ℕ)) (old new : Floor)
         → ((r : ℕ × List ℕ) → Contains replies r → Contains (out_of out).replies r) → TakesEach replies old new
+        → ((id : ℕ) → borrower (loan_at old.loans id) ≡ Some n → WasLent id)
         → ((id : ℕ) → borrower (loan_at old.loans id) ≡ Some n → n < length old.sockets) → IsOnce old.loans
-        → Follows history n bytes given old.loans (state start).connections (get_or old.sockets n fresh)
-        → Replied history bytes given (get_or new.sockets n fresh)
-    takes_each bytes given [] old new all h there once k =
-        let last : Follows history n bytes given old.loans (state start).connections (get_or new.sockets n fresh) =
-        subst (Follows history n bytes given old.loans (state start).connections) (ap (λ (f : Floor). get_or f.sockets n fresh) (sym h)) k in
+        → Follows turns n bytes given old.loans (state turn.old).connections (get_or old.sockets n fresh)
+        → Replied turns n bytes given (get_or new.sockets n fresh)
+    takes_each bytes given [] old new all h was there once k =
+        let last : Follows turns n bytes given old.loans (state turn.old).connections (get_or new.sockets n fresh) =
+        subst (Follows turns n bytes given old.loans (state turn.old).connections) (ap (λ (f : Floor). get_or f.sockets n fresh) (sym h)) k in
         record { after = last.worked; story = last.story }
-    takes_each bytes given (r ∷ rs) old new all h there once k =
+    takes_each bytes given (r ∷ rs) old new all h was there once k =
         takes_each bytes given rs h.0 new (λ x c. all x (Contains-append_right (r ∷ []) rs x c)) h.2
+        (λ id e. was id (left old.loans h.0.loans r.0 id h.1.rest e).1)
         (λ id e. subst (λ (len : ℕ). n < len) (sym h.1.others.length) (there id (left old.loans h.0.loans r.0 id h.1.rest e).1))
         (λ id other e f.
         once id other (left old.loans h.0.loans r.0 id h.1.rest e).1 (left old.loans h.0.loans r.0 other h.1.rest f).1)
         (at (borrows (borrower (loan_at old.loans r.0)) n))
       where
         at : (borrower (loan_at old.loans r.0) ≡ Some n) ⊎ (Some n ≢ borrower (loan_at old.loans r.0))
-            → Follows history n bytes given h.0.loans (state start).connections (get_or h.0.sockets n fresh)
+            → Follows turns n bytes given h.0.loans (state turn.old).connections (get_or h.0.sockets n fresh)
         at (inl lent) =
-            takes_its bytes given r.0 r.1 old h.0 h.1 (all r (0, omega arith, refl)) lent (there r.0 lent) once k
+            takes_its bytes given r.0 r.1 old h.0 h.1 (all r (0, omega arith, refl)) lent (was r.0 lent) (there r.0 lent) once k
         at (inr other) = takes_another bytes given r.0 r.1 old h.0 h.1 other k
 
   -- ---- the server makes a turn
@@ -153,42 +159,46 @@ module _ {D : Type 0} (history : D → History) (n : ℕ) where
       at false e = e
 
   turned : {C : Type 0} (bytes : List ℕ) (given : List (List ℕ)) (old new : Front C D) → AreTied old.lending.loans old.sockets.items
-      → MakesTurn history old new → Follows history n bytes given old.lending.loans (state old.core).connections (socket_in old n)
-      → Follows history n bytes given new.lending.loans (state new.core).connections (socket_in new n)
-  turned bytes given old new tied h k = at h.result h.goes_on h.after h.turns h.takes
+      → (h : MakesTurn history old new) → Contains turns (turn_of history old new h)
+      → Follows turns n bytes given old.lending.loans (state old.core).connections (socket_in old n)
+      → Follows turns n bytes given new.lending.loans (state new.core).connections (socket_in new n)
+  turned bytes given old new tied h made k = at h.result refl h.goes_on h.turns h.takes
     where
-      at : (r : Result TurnOut TurnFault) → r ≢ Err turn_faults.Stopped → (after : Core D) → TakesTurn history old.core r after
-          → TakesAll r (record (floor old) { server = state after }) (floor new)
-          → Follows history n bytes given new.lending.loans (state new.core).connections (socket_in new n)
-      at (Ok out) on after t takes =
-          let all = takes_each old.core after out t bytes given (out_of out).replies (record (floor old) { server = state after }) (floor new)
-          (λ r c. c) takes.1 (λ id e. tied.there id n e) (λ id other e f. tied.once id other n e f) k in
+      turn : ServerTurn D
+      turn = turn_of history old new h
+
+      at : (r : Result TurnOut TurnFault) → turn.result ≡ r → r ≢ Err turn_faults.Stopped → TakesTurn history old.core r h.after
+          → TakesAll r (record (floor old) { server = state h.after }) (floor new)
+          → Follows turns n bytes given new.lending.loans (state new.core).connections (socket_in new n)
+      at (Ok out) is on t takes =
+          let all = takes_each turn made out is bytes given (out_of out).replies (record (floor old) { server = state h.after }) (floor new)
+          (λ r c. c) takes.1 (λ id e. e) (λ id e. tied.there id n e) (λ id other e f. tied.once id other n e f) k in
           record {
             worked = all.after;
             story = all.story;
             awaits = awaits_nothing n new.lending.loans (state new.core).connections (asked_now all.after)
                 (λ id e. let never : None ≡ Some n = sym (ap borrower (takes.2 id)) ∙ e in absurd cc);
           }
-      at (Err turn_faults.Memory) on after t takes =
+      at (Err turn_faults.Memory) is on t takes =
           let same : floor new ≡ floor old = takes ∙ ap (λ (c : Core D). record (floor old) { server = state c }) (t.untouched refl) in
-          subst (λ (f : Floor). Follows history n bytes given f.loans f.server.connections (get_or f.sockets n fresh)) (sym same) k
-      at (Err turn_faults.Stopped) on after t takes = absurd (on refl)
+          subst (λ (f : Floor). Follows turns n bytes given f.loans f.server.connections (get_or f.sockets n fresh)) (sym same) k
+      at (Err turn_faults.Stopped) is on t takes = absurd (on refl)
 
   -- ---- the answers are handed out
 
   pub record Between {C : Type 0} (bytes : List ℕ) (given : List (List ℕ)) (front : Front C D) : Type 0 where
-    pub follows : Follows history n bytes given front.lending.loans (state front.core).connections (socket_in front n)
+    pub follows : Follows turns n bytes given front.lending.loans (state front.core).connections (socket_in front n)
     pub none : (socket_in front n).answer ≡ None
 
   handed_out : {C : Type 0} (bytes : List ℕ) (given : List (List ℕ)) (old new : Front C D) (replies : List (ℕ × List ℕ)) (closed : List ℕ)
       → HandsOut old.sockets.items replies closed new.sockets.items → new ≡ record old { sockets = new.sockets }
-      → Follows history n bytes given old.lending.loans (state old.core).connections (socket_in old n)
+      → Follows turns n bytes given old.lending.loans (state old.core).connections (socket_in old n)
       → Between bytes (given ++ frames_to n replies) new
   handed_out {C} bytes given old new replies closed h rest k =
       subst (λ (fs : List (List ℕ)). Between bytes (given ++ fs) new) (sym (ap (frames_to n) h.answers ∙ frames_of_one old.sockets.items n))
       (record {
-        follows = subst (Follows history n bytes (given ++ its) new.lending.loans (state new.core).connections) (sym there)
-            (subst (λ (f : Front C D). Follows history n bytes (given ++ its) f.lending.loans (state f.core).connections (answered s)) (sym rest) (record {
+        follows = subst (Follows turns n bytes (given ++ its) new.lending.loans (state new.core).connections) (sym there)
+            (subst (λ (f : Front C D). Follows turns n bytes (given ++ its) f.lending.loans (state f.core).connections (answered s)) (sym rest) (record {
               worked = k.worked;
               story = record {
                 rest = k.story.rest;
@@ -217,20 +227,21 @@ module _ {D : Type 0} (history : D → History) (n : ℕ) where
   -- ---- a turn, whole
 
   rounds : {C : Type 0} (bytes : List ℕ) (given : List (List ℕ)) (old new : Front C D) (replies : List (ℕ × List ℕ)) (closed : List ℕ)
-      → IsRound history old replies closed new → Between bytes given old → Between bytes (given ++ frames_to n replies) new
-  rounds {C} bytes given old new replies closed h k =
+      → (h : IsRound history old replies closed new) → Contains turns (turn_of history h.asked h.turned h.turns) → Between bytes given old
+      → Between bytes (given ++ frames_to n replies) new
+  rounds {C} bytes given old new replies closed h made k =
       handed_out bytes given h.turned new replies closed h.hands_out h.rest
-      (turned bytes given h.asked h.turned h.sound.1.1 h.turns
-      (comes_to history n h.ended.sockets.items h.asked.sockets.items h.asks.time h.asks.numbers bytes given (desk h.ended) (desk h.asked)
+      (turned bytes given h.asked h.turned h.sound.1.1 h.turns made
+      (comes_to turns n h.ended.sockets.items h.asked.sockets.items h.asks.time h.asks.numbers bytes given (desk h.ended) (desk h.asked)
       h.asks.served h.asks.once
       (λ never_in. h.asks.others n fresh never_in) none holds free ended))
     where
       same : socket_in h.ended n ≡ socket_in old n
       same = ap (λ (f : Front C D). socket_in f n) h.ends.rest
 
-      ended : Follows history n bytes given h.ended.lending.loans (state h.ended.core).connections (socket_in h.ended n)
-      ended = ends_each history n h.ends.times bytes given (socket_in h.ended n) (desk old) (desk h.ended) h.ends.each
-          (subst (Follows history n bytes given old.lending.loans (state old.core).connections) (sym same) k.follows)
+      ended : Follows turns n bytes given h.ended.lending.loans (state h.ended.core).connections (socket_in h.ended n)
+      ended = ends_each turns n h.ends.times bytes given (socket_in h.ended n) (desk old) (desk h.ended) h.ends.each
+          (subst (Follows turns n bytes given old.lending.loans (state old.core).connections) (sym same) k.follows)
 
       none : (socket_in h.ended n).answer ≡ None
       none = ap (λ (s : Socket). s.answer) same ∙ k.none
@@ -253,9 +264,9 @@ module _ {D : Type 0} (history : D → History) (n : ℕ) where
       now : get_or new.sockets.items n fresh ≡ get_or (set h.fed.there m (fed (get_or h.fed.there m fresh) chunk)) n fresh
       now = ap (λ (ss : List Socket). get_or ss n fresh) (h.fed.fed fresh)
 
-      moved : (b : List ℕ) (s : Socket) → Follows history n b given old.lending.loans (state old.core).connections s
-          → Follows history n b given new.lending.loans (state new.core).connections s
-      moved b s f = subst (λ (x : Front C D). Follows history n b given x.lending.loans (state x.core).connections s) (sym h.rest) f
+      moved : (b : List ℕ) (s : Socket) → Follows turns n b given old.lending.loans (state old.core).connections s
+          → Follows turns n b given new.lending.loans (state new.core).connections s
+      moved b s f = subst (λ (x : Front C D). Follows turns n b given x.lending.loans (state x.core).connections s) (sym h.rest) f
 
       its : m ≡ n → Between (bytes ++ chunk) given new
       its e =
@@ -264,10 +275,10 @@ module _ {D : Type 0} (history : D → History) (n : ℕ) where
           ∙ get_or-set_same h.fed.there n (fed (get_or h.fed.there n fresh) chunk) fresh (subst (λ (i : ℕ). i < length h.fed.there) e h.fed.within)
           ∙ ap (λ (s : Socket). fed s chunk) there in
           record {
-            follows = subst (Follows history n (bytes ++ chunk) given new.lending.loans (state new.core).connections) (sym is)
+            follows = subst (Follows turns n (bytes ++ chunk) given new.lending.loans (state new.core).connections) (sym is)
                 (moved (bytes ++ chunk) (fed (socket_in old n) chunk) (record {
                   worked = k.follows.worked;
-                  story = story_fed history bytes given k.follows.worked (socket_in old n) chunk k.follows.story;
+                  story = story_fed turns n bytes given k.follows.worked (socket_in old n) chunk k.follows.story;
                   awaits = k.follows.awaits;
                 }));
             none = ap (λ (s : Socket). s.answer) is ∙ k.none;
@@ -278,7 +289,7 @@ module _ {D : Type 0} (history : D → History) (n : ℕ) where
           let is : socket_in new n ≡ socket_in old n =
           now ∙ get_or-set_other h.fed.there m n (fed (get_or h.fed.there m fresh) chunk) fresh (λ e. apart (sym e)) ∙ there in
           record {
-            follows = subst (Follows history n bytes given new.lending.loans (state new.core).connections) (sym is) (moved bytes (socket_in old n) k.follows);
+            follows = subst (Follows turns n bytes given new.lending.loans (state new.core).connections) (sym is) (moved bytes (socket_in old n) k.follows);
             none = ap (λ (s : Socket). s.answer) is ∙ k.none;
           }
 
@@ -293,7 +304,7 @@ module _ {D : Type 0} (history : D → History) (n : ℕ) where
   forgotten : {C : Type 0} (m : ℕ) (bytes : List ℕ) (given : List (List ℕ)) (old new : Front C D) → m ≢ n → Forgets old m new
       → Between bytes given old → Between bytes given new
   forgotten m bytes given old new apart h k = record {
-    follows = subst (Follows history n bytes given new.lending.loans (state new.core).connections) (sym is) (record {
+    follows = subst (Follows turns n bytes given new.lending.loans (state new.core).connections) (sym is) (record {
       worked = k.follows.worked;
       story = k.follows.story;
       awaits = λ id e.
@@ -310,35 +321,41 @@ module _ {D : Type 0} (history : D → History) (n : ℕ) where
   -- ---- all steps
 
   runs : {C : Type 0} (all : List Step) (bytes : List ℕ) (given : List (List ℕ)) (front : Front C D) (others : List (ℕ × List ℕ)) (last : Front C D)
-      → DoesNotEnd n all → Runs history front all others last → Between bytes given front
+      → DoesNotEnd n all → (h : Runs history front all others last)
+      → ((t : ServerTurn D) → Contains (turns_of history front all others last h) t → Contains turns t) → Between bytes given front
       → Between (bytes ++ bytes_from n all) (given ++ frames_to n others) last
-  runs {C} [] bytes given front others last stays h k =
+  runs {C} [] bytes given front others last stays h its k =
       subst (λ (f : Front C D). Between (bytes ++ []) (given ++ frames_to n others) f) (sym h.1)
       (subst (λ (fs : List (ℕ × List ℕ)). Between (bytes ++ []) (given ++ frames_to n fs) front) (sym h.0)
       (subst (λ (b : List ℕ). Between b (given ++ []) front) (sym (append-nil bytes))
       (subst (λ (g : List (List ℕ)). Between bytes g front) (sym (append-nil given)) k)))
-  runs (steps.Bytes m chunk ∷ later) bytes given front others last stays h k =
+  runs (steps.Bytes m chunk ∷ later) bytes given front others last stays h its k =
       subst (λ (b : List ℕ). Between b (given ++ frames_to n others) last) (with_chunk (m == n) bytes chunk.items (bytes_from n later))
-      (runs later (if m == n then bytes ++ chunk.items else bytes) given h.0 others last stays h.3 (fed_on m chunk.items bytes given front h.0 h.1 k))
-  runs (steps.Gone m ∷ later) bytes given front others last stays h k =
-      runs later bytes given h.0 others last stays.1 h.3 (forgotten m bytes given front h.0 stays.0 h.1 k)
-  runs (steps.Turn ∷ later) bytes given front others last stays h k =
+      (runs later (if m == n then bytes ++ chunk.items else bytes) given h.0 others last stays h.3 its (fed_on m chunk.items bytes given front h.0 h.1 k))
+  runs (steps.Gone m ∷ later) bytes given front others last stays h its k =
+      runs later bytes given h.0 others last stays.1 h.3 its (forgotten m bytes given front h.0 stays.0 h.1 k)
+  runs (steps.Turn ∷ later) bytes given front others last stays h its k =
       subst (λ (g : List (List ℕ)). Between (bytes ++ bytes_from n later) g last)
       (append_assoc given (frames_to n h.1) (frames_to n h.3)
       ∙ ap (λ (fs : List (List ℕ)). given ++ fs) (sym (ap (frames_to n) h.6 ∙ frames_both n h.1 h.3)))
-      (runs later bytes (given ++ frames_to n h.1) h.0 h.3 last stays h.7 (rounds bytes given front h.0 h.1 h.2 h.4 k))
+      (runs later bytes (given ++ frames_to n h.1) h.0 h.3 last stays h.7
+      (λ t c. its t (Contains-append_right (turn_of history h.4.asked h.4.turned h.4.turns ∷ []) (turns_of history h.0 later h.3 last h.7) t c))
+      (rounds bytes given front h.0 h.1 h.2 h.4 (its (turn_of history h.4.asked h.4.turned h.4.turns) (0, omega arith, refl)) k))
 
-  pub serves_each_socket : (C : Type 0) (first : Front C D) (all : List Step) (given : List (ℕ × List ℕ)) (last : Front C D)
-      → IsFrontSound history first → socket_in first n ≡ fresh → DoesNotEnd n all → Runs history first all given last
-      → IsServed history (bytes_from n all) (frames_to n given) (socket_in last n)
-  serves_each_socket C first all given last sound new stays h =
-      let end = runs all [] [] first given last stays h (record {
-        follows = subst (Follows history n [] [] first.lending.loans (state first.core).connections) (sym new) (record {
-          worked = [];
-          story = story_fresh history;
-          awaits = awaits_nothing n first.lending.loans (state first.core).connections None
-              (λ id e. absurd (true≢false (sym (sound.1.asked id n fresh e) ∙ ap (λ (s : Socket). is_asked s.job) new)));
-        });
-        none = ap (λ (s : Socket). s.answer) new;
-      }) in
-      is_served history (bytes_from n all) (frames_to n given) end.follows.worked (socket_in last n) end.follows.story end.none
+pub serves_each_socket : (C : Type 0) {D : Type 0} (history : D → History) (n : ℕ) (first : Front C D) (all : List Step) (given : List (ℕ × List ℕ))
+    (last : Front C D) → IsFrontSound history first → socket_in first n ≡ fresh → DoesNotEnd n all → (h : Runs history first all given last)
+    → IsServed (turns_of history first all given last h) n (bytes_from n all) (frames_to n given) (socket_in last n)
+serves_each_socket C {D} history n first all given last sound new stays h =
+    let end = runs history turns n all [] [] first given last stays h (λ t c. c) (record {
+      follows = subst (Follows turns n [] [] first.lending.loans (state first.core).connections) (sym new) (record {
+        worked = [];
+        story = story_fresh turns n;
+        awaits = awaits_nothing n first.lending.loans (state first.core).connections None
+            (λ id e. absurd (true≢false (sym (sound.1.asked id n fresh e) ∙ ap (λ (s : Socket). is_asked s.job) new)));
+      });
+      none = ap (λ (s : Socket). s.answer) new;
+    }) in
+    is_served turns n (bytes_from n all) (frames_to n given) end.follows.worked (socket_in last n) end.follows.story end.none
+  where
+    turns : List (ServerTurn D)
+    turns = turns_of history first all given last h

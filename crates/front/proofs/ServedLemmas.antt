@@ -2,7 +2,6 @@
 use Rattle.std.proofs.Common.{◌≡◌, ◌⊎◌, ℕ, true, false, List, [], ◌∷◌, ◌++◌, Option, Some, None, Ok, Err, refl, sym, ap, subst, ◌∙◌, inl, inr, append-nil}
 use Rattle.std.specs.Prelude.{Bool, Result, Vec, option_map, option_to_list}
 use Rattle.bson.specs.Tree.{Pairs}
-use Rattle.page.specs.History.{History}
 use Rattle.driver_messages.specs.Cutting.{Arrival, Begins as Stands}
 use Rattle.driver_messages.specs.Incoming.{next_message}
 use Rattle.driver_messages.specs.declared.message.Form.{Form}
@@ -21,7 +20,7 @@ use Rattle.server.specs.Turn.{next_number}
 use Rattle.front.specs.Replying.{Begins, Follows, GoesOn, HasAnswer, IsClosed, TakesReply, WaitsOrCloses, closed, question_by, resting, to_ask, told}
 use Rattle.front.specs.OneSocket.{waiting}
 use Rattle.front.specs.Served.{Worked, standing, answer_behind, messages_of, number_behind, last_number, answers_of, AreReplies, AllAreReplies, IsReplyTo}
-use Rattle.front.specs.Served.{HaveEnded, IsWorkedOn, Stand, IsServed}
+use Rattle.front.specs.Served.{HaveEnded, IsWorkedOn, Stand, IsServed, ServerTurn}
 use Rattle.front.specs.Serving.{fed, fresh}
 use Rattle.front.specs.declared.job.Job.{Job}
 use Rattle.front.specs.declared.job.Question.{Question}
@@ -91,9 +90,9 @@ abbrev pub asked_now : List Worked → Option Pairs
 asked_now [] = None
 asked_now (w ∷ earlier) = asked_by (standing w).1
 
-module _ {D : Type 0} (history : D → History) where
-  replies_more : (x : Plan × Step) (replies : List Pairs) (reply : Pairs) → AreReplies history x replies
-      → IsReplyTo history (asked_by (after_replies x replies).1) reply → AreReplies history x (replies ++ reply ∷ [])
+module _ {D : Type 0} (turns : List (ServerTurn D)) (n : ℕ) where
+  replies_more : (x : Plan × Step) (replies : List Pairs) (reply : Pairs) → AreReplies turns n x replies
+      → IsReplyTo turns n (asked_by (after_replies x replies).1) reply → AreReplies turns n x (replies ++ reply ∷ [])
   replies_more x [] reply h one = (one, tt)
   replies_more x (r ∷ rs) reply h one = (h.0, replies_more (answered x.0 r) rs reply h.1 one)
 
@@ -102,7 +101,7 @@ module _ {D : Type 0} (history : D → History) where
     pub rest : List ℕ
     pub begins : Stands bytes (messages_of worked) rest
     pub waits : s.is_over ≡ false → s.incoming ≡ rest
-    pub replies : AllAreReplies history worked
+    pub replies : AllAreReplies turns n worked
     pub stand : Stand s.job s.is_over worked
     pub answers : given ++ option_to_list (ready s.answer) ≡ answers_of worked
     pub numbered : s.last_reply ≡ last_number worked
@@ -114,7 +113,7 @@ module _ {D : Type 0} (history : D → History) where
   -- ---- a message goes on
 
   pub goes_on : (bytes : List ℕ) (given : List (List ℕ)) (w : Worked) (earlier : List Worked) (old new : Socket) (rest : List ℕ)
-      → Stands bytes (messages_of (w ∷ earlier)) rest → (old.is_over ≡ false → old.incoming ≡ rest) → AllAreReplies history (w ∷ earlier)
+      → Stands bytes (messages_of (w ∷ earlier)) rest → (old.is_over ≡ false → old.incoming ≡ rest) → AllAreReplies turns n (w ∷ earlier)
       → HaveEnded earlier → old.job ≡ None → old.answer ≡ None → given ≡ answers_of earlier → old.last_reply ≡ last_number earlier
       → Follows old w.message.form w.message.number (standing w) new → Story bytes given (w ∷ earlier) new
   goes_on bytes given w earlier old new rest begins waits replies ended free none answers numbered follows = at (question_by step) refl follows
@@ -320,7 +319,7 @@ module _ {D : Type 0} (history : D → History) where
 
   reply_to : (bytes : List ℕ) (given : List (List ℕ)) (w : Worked) (earlier : List Worked) (s new : Socket) (job : Job) (reply : Pairs)
       → Story bytes given (w ∷ earlier) s → s.answer ≡ None → IsWorkedOn w job → HaveEnded earlier
-      → IsReplyTo history (asked_by (standing w).1) reply → Follows (resting s) job.form job.number (answered job.plan reply) new
+      → IsReplyTo turns n (asked_by (standing w).1) reply → Follows (resting s) job.form job.number (answered job.plan reply) new
       → Replied bytes given new
   reply_to bytes given w earlier s new job reply h none is ended one follows = record {
     after = next ∷ earlier;
@@ -355,11 +354,11 @@ module _ {D : Type 0} (history : D → History) where
   free_or s job e (inr none) = none
 
   pub story_replied : (bytes : List ℕ) (given : List (List ℕ)) (worked : List Worked) (s new : Socket) (reply : Pairs)
-      → Story bytes given worked s → IsReplyTo history (asked_now worked) reply → TakesReply s s.job reply new → Replied bytes given new
+      → Story bytes given worked s → IsReplyTo turns n (asked_now worked) reply → TakesReply s s.job reply new → Replied bytes given new
   story_replied bytes given worked s new reply h one takes = at s.job refl takes worked h one h.stand
     where
       at : (job : Option Job) → s.job ≡ job → TakesReply s job reply new → (ws : List Worked) → Story bytes given ws s
-          → IsReplyTo history (asked_now ws) reply → Stand s.job s.is_over ws → Replied bytes given new
+          → IsReplyTo turns n (asked_now ws) reply → Stand s.job s.is_over ws → Replied bytes given new
       at None e t ws k one stand =
           let same : resting s ≡ s = λ i. record s { job = sym e i } in
           record { after = ws; story = subst (Story bytes given ws) (sym (t ∙ same)) k }
@@ -396,7 +395,7 @@ module _ {D : Type 0} (history : D → History) where
   }
 
   pub is_served : (bytes : List ℕ) (given : List (List ℕ)) (worked : List Worked) (s : Socket) → Story bytes given worked s → s.answer ≡ None
-      → IsServed history bytes given s
+      → IsServed turns n bytes given s
   is_served bytes given worked s h none = record {
     worked = worked;
     rest = h.rest;

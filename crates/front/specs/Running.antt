@@ -8,8 +8,8 @@ use Rattle.server.specs.Streams.{bytes_from, DoesNotEnd}
 use Rattle.server.specs.declared.step.Step.{Step}
 use Rattle.server.specs.declared.step.Step.TheVariants as steps
 use Rattle.front.specs.Fronting.{Forgets, IsFrontSound, TakesBytes}
-use Rattle.front.specs.Rounds.{IsRound}
-use Rattle.front.specs.Served.{IsServed}
+use Rattle.front.specs.Rounds.{IsRound, MakesTurn}
+use Rattle.front.specs.Served.{IsServed, ServerTurn}
 use Rattle.front.specs.Serving.{fresh}
 use Rattle.front.specs.declared.front.Front.{Front}
 use Rattle.front.specs.declared.socket.Socket.{Socket}
@@ -31,6 +31,28 @@ Runs {C} {D} history front (steps.Turn ∷ later) given last =
     × IsFrontSound history next × (given ≡ replies ++ others)
     × Runs history next later others last
 
+-- the server's turn of a round, and those of all steps, in order
+abbrev pub turn_of : {C D : Type 0} (history : D → History) (old new : Front C D)
+    → MakesTurn history old new → ServerTurn D
+turn_of history old new turn = record {
+  loans = old.lending.loans;
+  old = old.core;
+  result = turn.result;
+  new = turn.after;
+}
+
+abbrev pub turns_of : {C D : Type 0} (history : D → History) (front : Front C D) (all : List Step)
+    (given : List (ℕ × List ℕ)) (last : Front C D) → Runs history front all given last
+    → List (ServerTurn D)
+turns_of history front [] given last runs = []
+turns_of history front (steps.Bytes n chunk ∷ later) given last runs =
+    turns_of history runs.0 later given last runs.3
+turns_of history front (steps.Gone n ∷ later) given last runs =
+    turns_of history runs.0 later given last runs.3
+turns_of history front (steps.Turn ∷ later) given last runs =
+    turn_of history runs.4.asked runs.4.turned runs.4.turns
+    ∷ turns_of history runs.0 later runs.3 last runs.7
+
 -- the socket of a number, or one of which nothing has come
 abbrev pub socket_in : {C D : Type 0} → Front C D → ℕ → Socket
 socket_in front n = slice_index_or front.sockets.items n fresh
@@ -40,10 +62,12 @@ abbrev pub frames_to : ℕ → List (ℕ × List ℕ) → List (List ℕ)
 frames_to n [] = []
 frames_to n (f ∷ fs) = if f.0 == n then f.1 ∷ frames_to n fs else frames_to n fs
 
--- From a front on in which nothing of a socket has come, over steps in which it doesn't end.
+-- From a front on in which nothing of a socket has come, over steps in which it doesn't end: each
+-- reply is of a turn of this front's server, for a connection that was lent to this socket.
 abbrev pub ServesEachSocket : (C : Type 0) {D : Type 0} → (D → History) → Type 0
 ServesEachSocket C {D} history = (n : ℕ) (first : Front C D) (all : List Step)
     (given : List (ℕ × List ℕ)) (last : Front C D)
     → IsFrontSound history first → socket_in first n ≡ fresh → DoesNotEnd n all
-    → Runs history first all given last
-    → IsServed history (bytes_from n all) (frames_to n given) (socket_in last n)
+    → (runs : Runs history first all given last)
+    → IsServed (turns_of history first all given last runs) n (bytes_from n all)
+    (frames_to n given) (socket_in last n)

@@ -3,11 +3,10 @@
 -- replied before; and what is handed out are the answers that these replies make, in the order of
 -- the messages, one of each that wants one.
 use Rattle.std.specs.Prelude.{◌≡◌, ◌⊎◌, ℕ, Bool, true, false, List, [], ◌∷◌, ◌++◌, drop}
-use Rattle.std.specs.Prelude.{Option, Some, None, option_to_list, Ok}
+use Rattle.std.specs.Prelude.{Option, Result, Some, None, option_to_list, Ok}
 use Rattle.std.specs.List.{Contains}
 use Rattle.bson.specs.Tree.{Pairs}
 use Rattle.op_msg.specs.Request.{document_in}
-use Rattle.page.specs.History.{History}
 use Rattle.driver_messages.specs.Cutting.{Begins}
 use Rattle.driver_messages.specs.declared.message.Message.{Message}
 use Rattle.drivers.specs.Answering.{answered}
@@ -19,11 +18,12 @@ use Rattle.drivers.specs.declared.server_info.ServerInfo.{ServerInfo}
 use Rattle.drivers.specs.declared.step.Step.{Step}
 use Rattle.server.specs.Streams.{connection_in}
 use Rattle.server.specs.Turn.{next_number}
-use Rattle.server.specs.Turning.{TakesTurn}
 use Rattle.server.specs.View.{out_of, state}
 use Rattle.server.specs.declared.turn.Core.{Core}
+use Rattle.server.specs.declared.turn.TurnFault.{TurnFault}
 use Rattle.server.specs.declared.turn.TurnOut.{TurnOut}
 use Rattle.front.specs.Asking.{question_bytes}
+use Rattle.front.specs.Lending.{borrower, loan_at}
 use Rattle.front.specs.OneSocket.{is_long}
 use Rattle.front.specs.Replying.{long_reply, question_by, told}
 use Rattle.front.specs.Unread.{Holds}
@@ -31,6 +31,7 @@ use Rattle.front.specs.declared.job.Job.{Job}
 use Rattle.front.specs.declared.job.Question.{Question}
 use Rattle.front.specs.declared.job.Stage.{Stage}
 use Rattle.front.specs.declared.job.Stage.TheVariants as stages
+use Rattle.front.specs.declared.lending.Loan.{Loan}
 use Rattle.front.specs.declared.socket.Socket.{Socket}
 
 -- ---- a message of a socket
@@ -75,35 +76,46 @@ answers_of (w ∷ earlier) =
 
 -- ---- what was asked, and the replies
 
--- In a turn of the server this question stood alone on a connection, and what the turn handed out
--- for that connection has this document.
-pub record CameBack {D : Type 0} (history : D → History) (question reply : Pairs) : Type 0 where
+-- A turn of the server: what its connections were lent for, the server before it, what came of it,
+-- and the server behind it.
+pub record ServerTurn (D : Type 0) : Type 0 where
+  pub loans : List (Option Loan)
   pub old : Core D
-  pub out : TurnOut
+  pub result : Result TurnOut TurnFault
   pub new : Core D
-  pub turn : TakesTurn history old (Ok out) new
+
+-- In one of these turns this question stood alone on a connection that was lent to the socket of
+-- this number, and what the turn handed out for that connection has this document.
+pub record CameBack {D : Type 0} (turns : List (ServerTurn D)) (n : ℕ)
+    (question reply : Pairs) : Type 0 where
+  pub turn : ServerTurn D
+  pub made : Contains turns turn
+  pub out : TurnOut
+  pub answered : turn.result ≡ Ok out
   pub id : ℕ
-  pub stood : Holds (question_bytes question) (connection_in (state old).connections id)
+  pub lent : borrower (loan_at turn.loans id) ≡ Some n
+  pub stood : Holds (question_bytes question) (connection_in (state turn.old).connections id)
   pub frame : List ℕ
   pub replied : Contains (out_of out).replies (id, frame)
   pub reads : document_in (drop 21 frame) ≡ Ok reply
 
 -- Where a question has no room in a message, the refusal that says so takes a reply's place.
-abbrev pub IsReplyTo : {D : Type 0} → (D → History) → Option Pairs → Pairs → Type 0
-IsReplyTo history None reply = ⊥
-IsReplyTo history (Some question) reply =
-    ((is_long question ≡ true) × (reply ≡ long_reply)) ⊎ CameBack history question reply
+abbrev pub IsReplyTo : {D : Type 0} → List (ServerTurn D) → ℕ → Option Pairs → Pairs → Type 0
+IsReplyTo turns n None reply = ⊥
+IsReplyTo turns n (Some question) reply =
+    ((is_long question ≡ true) × (reply ≡ long_reply)) ⊎ CameBack turns n question reply
 
 -- Each is a reply to what was asked then.
-abbrev pub AreReplies : {D : Type 0} → (D → History) → Plan × Step → List Pairs → Type 0
-AreReplies history x [] = Unit {0}
-AreReplies history x (reply ∷ later) =
-    IsReplyTo history (asked_by x.1) reply × AreReplies history (answered x.0 reply) later
+abbrev pub AreReplies : {D : Type 0} → List (ServerTurn D) → ℕ → Plan × Step → List Pairs
+    → Type 0
+AreReplies turns n x [] = Unit {0}
+AreReplies turns n x (reply ∷ later) =
+    IsReplyTo turns n (asked_by x.1) reply × AreReplies turns n (answered x.0 reply) later
 
-abbrev pub AllAreReplies : {D : Type 0} → (D → History) → List Worked → Type 0
-AllAreReplies history [] = Unit {0}
-AllAreReplies history (w ∷ earlier) =
-    AreReplies history (begun w.info w.message) w.replies × AllAreReplies history earlier
+abbrev pub AllAreReplies : {D : Type 0} → List (ServerTurn D) → ℕ → List Worked → Type 0
+AllAreReplies turns n [] = Unit {0}
+AllAreReplies turns n (w ∷ earlier) =
+    AreReplies turns n (begun w.info w.message) w.replies × AllAreReplies turns n earlier
 
 -- ---- where they stand
 
@@ -135,16 +147,17 @@ Stand None false worked = HaveEnded worked
 Stand None true [] = Unit {0}
 Stand None true (w ∷ earlier) = HaveEnded earlier
 
--- A socket on which these bytes came, and for which these frames were handed out.
-pub record IsServed {D : Type 0} (history : D → History) (bytes : List ℕ) (given : List (List ℕ))
-    (socket : Socket) : Type 0 where
+-- The socket of this number, on which these bytes came, and for which these frames were handed out,
+-- where these were the server's turns.
+pub record IsServed {D : Type 0} (turns : List (ServerTurn D)) (n : ℕ) (bytes : List ℕ)
+    (given : List (List ℕ)) (socket : Socket) : Type 0 where
   pub worked : List Worked
   -- its messages stand at the front of the bytes, and what follows them waits, unless it is to be
   -- closed
   pub rest : List ℕ
   pub begins : Begins bytes (messages_of worked) rest
   pub waits : socket.is_over ≡ false → socket.incoming ≡ rest
-  pub replies : AllAreReplies history worked
+  pub replies : AllAreReplies turns n worked
   pub stand : Stand socket.job socket.is_over worked
   pub answers : given ≡ answers_of worked
   pub numbered : socket.last_reply ≡ last_number worked
