@@ -37,12 +37,14 @@ use Rattle.driver_replies.specs.Fields.{long}
 use Rattle.driver_replies.specs.Tallies.{code_in, no_tally, refused, with_counts, with_list, with_reply, write_reply}
 use Rattle.driver_replies.specs.WriteErrors.{refused_statement}
 use Rattle.driver_replies.specs.Writes.{batch_of, field_of, is_update, statements_in, write_of, is_upsert, needs_id}
-use Rattle.drivers.specs.Answering.{answered, answered_by, statement_step, whole_step, widened}
+use Rattle.drivers.specs.Answering.{answered, answered_by, plan_for, statement_step, whole_step, widened}
+use Rattle.drivers.specs.Laws.{AreOfCommand}
 use Rattle.drivers.specs.declared.plan.Plan.{Plan}
 use Rattle.drivers.specs.declared.plan.Wait.{Wait}
 use Rattle.drivers.specs.declared.plan.Wait.TheVariants as waits
 use Rattle.drivers.specs.declared.step.Step.TheVariants as steps
 use Rattle.drivers.specs.Starting.{unheard}
+use Rattle.drivers.proofs.StatementLaws.{asks_same_statements}
 use Rattle.bulk_writes.specs.AskedLaws.{AnsweredAlike, asked_each, heard}
 use Rattle.bulk_writes.specs.InTurn.{delete_one, insert_one, run_in_turn, update_one}
 use Rattle.bulk_writes.specs.Laws.{n_reply, ones, taken_in, total_reply}
@@ -458,11 +460,29 @@ module _ (world new : World) (connection : ℕ) (ordered : Bool) (ids : FreshIds
       at false false true f g h k = so_named writes.Delete write (codes "delete") name k h (λ l e. delete_answered l.lawful.3 e)
       at false false false f g h k = absurd cc
 
-pub answered_alike : AnsweredAlike
-answered_alike world new connection write ordered ids name t ps c reply plan batch is lawful spells held ran made waits_so =
+write_alike : (world new : World) (connection : ℕ) (write : Write) (ordered : Bool) (ids : FreshIds) (name : List ℕ) (t : Tree) (ps : Pairs) (c : Command)
+    (reply : Pairs) (plan : Plan) (batch : Batch) → write_of name ≡ Some write → IsDocument (pair name t ps) → command_of (pair name t ps) ≡ Ok c
+    → All IsHeld world.collections → run world connection c ≡ Ok (new, reply) → batch_of write ordered ids (pair name t ps) ≡ batch
+    → plan.wait ≡ waits.Batch batch
+    → asked_each (items_len batch.left) connection (world, statement_step plan batch) ≡ heard (step world connection (Ok (pair name t ps))) plan
+write_alike world new connection write ordered ids name t ps c reply plan batch is lawful spells held ran made waits_so =
     let whole : step world connection (Ok (pair name t ps)) ≡ (new, ok_reply reply) =
     ap (λ (x : Result Command Refusal). answered_with world (x >>= (λ command. run world connection command))) spells ∙ ap (answered_with world) ran in
     let same = by_name world new connection ordered ids t ps c reply ran plan write name held is lawful spells
     (waits_so ∙ ap (λ (b : Batch). waits.Batch b) (sym made)) in
     ap (λ (b : Batch). asked_each (items_len b.left) connection (world, statement_step plan b)) (sym made) ∙ same
     ∙ sym (ap (λ (x : World × Pairs). heard x plan) whole)
+
+pub answered_alike : AnsweredAlike
+answered_alike world new connection info more body command batch c reply asked waits_for =
+    at command (asks_same_statements info more body command batch asked waits_for)
+  where
+    plan : Plan
+    plan = plan_for info.ids more body
+
+    at : (ps : Pairs) → AreOfCommand info.ids ps batch → IsDocument ps → command_of ps ≡ Ok c → All IsHeld world.collections
+        → run world connection c ≡ Ok (new, reply)
+        → asked_each (items_len batch.left) connection (world, statement_step plan batch) ≡ heard (step world connection (Ok ps)) plan
+    at no_pairs is lawful spells held ran = let never = is.named in absurd cc
+    at (pair name t ps) is lawful spells held ran =
+        write_alike world new connection batch.write is.ordered info.ids name t ps c reply plan batch is.named lawful spells held ran is.made waits_for

@@ -1,6 +1,6 @@
 mod CleaningLemmas
 mod InPlaceLemmas
 mod AskingLaws
-mod StatementLaws
+pub mod StatementLaws
 mod PlanLaws
 mod AskedLaws

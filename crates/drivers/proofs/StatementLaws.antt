@@ -5,10 +5,10 @@ use Rattle.std.specs.Str.{bytes_eq}
 use Rattle.std.proofs.lemmas.Slice.Eq.{bytes_eq-Decides}
 use Rattle.bson.specs.Edits.{items_len, put}
 use Rattle.bson.specs.Lookup.{lookup}
-use Rattle.bson.specs.Tree.{Tree, Pairs, no_pairs, pair, Items}
+use Rattle.bson.specs.Tree.{Tree, scalar, document, array, Pairs, no_pairs, pair, Items}
 use Rattle.driver_replies.specs.Cursors.{ids_of}
 use Rattle.driver_replies.specs.Distinct.{distinct_of}
-use Rattle.driver_replies.specs.NewIds.{with_new_ids}
+use Rattle.driver_replies.specs.NewIds.{insert_with_ids, with_ids, with_new_ids}
 use Rattle.driver_replies.specs.Writes.{write_of, field_of, is_alone, is_ordered_in, batch_of}
 use Rattle.driver_replies.specs.declared.batch.Batch.{Batch}
 use Rattle.driver_replies.specs.declared.distinct.Distinct.{Distinct}
@@ -151,11 +151,26 @@ question info body command write named asked =
     ∙ unless info.ids (first_refused askeds.Write body) body command
     (sym (ap (λ (x : Option Command). do_command x (name_of body) info body) is.forwarded) ∙ asked)
 
+ids_name : (ids : FreshIds) (write : Option Write) (ps : Pairs) → name_of (with_new_ids ids write ps) ≡ name_of ps
+ids_name ids None ps = refl
+ids_name ids (Some writes.Update) ps = refl
+ids_name ids (Some writes.Delete) ps = refl
+ids_name ids (Some writes.Insert) ps = at (lookup ps (codes "documents")) refl
+  where
+    at : (x : Option Tree) → lookup ps (codes "documents") ≡ x → name_of (insert_with_ids ids x ps) ≡ name_of ps
+    at None e = refl
+    at (Some (scalar s)) e = refl
+    at (Some (document d)) e = refl
+    at (Some (array ts)) e = put_name ps (codes "documents") (array ts) (array (with_ids ids ts)) e
+
 pub asks_same_statements : AsksSameStatements
 asks_same_statements info more body command batch asked waits_for =
     let found = of_write info.ids body batch (write_of (name_of body)) refl (last info.ids body batch waits_for) in
     let write = found.0 in
     let is = found.1 in
+    let same = question info body command write is.named asked in
     let whole : batch_of write is.ordered info.ids command ≡ batch =
-    sym (ap (batch_of write is.ordered info.ids) (question info body command write is.named asked)) ∙ is.same in
-    subst (AreOfCommand command) whole (record { left = refl; body = refl })
+    sym (ap (batch_of write is.ordered info.ids) same) ∙ is.same in
+    let named : name_of command ≡ name_of body =
+    sym (ap name_of same) ∙ ids_name info.ids (Some write) (kept askeds.Write body) ∙ same_name body (asked_write (name_of body) write is.named).stays in
+    subst (AreOfCommand info.ids command) whole (record { named = ap write_of named ∙ is.named; ordered = is.ordered; made = refl })

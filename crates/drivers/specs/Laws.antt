@@ -1,9 +1,7 @@
 -- Laws of what is asked of the database.
 use Rattle.std.specs.Prelude.{◌≡◌, ℕ, Bool, false, is_none, List, Option, Some, None}
-use Rattle.bson.specs.Edits.{cut}
-use Rattle.bson.specs.Lookup.{lookup}
 use Rattle.bson.specs.Tree.{Tree, document, Pairs, pair, append}
-use Rattle.driver_replies.specs.Writes.{field_of, statements_in}
+use Rattle.driver_replies.specs.Writes.{batch_of, write_of}
 use Rattle.driver_replies.specs.declared.batch.Batch.{Batch}
 use Rattle.drivers.specs.Cleaning.{is_kept, field_fault, entry_fault, kept_entry, first_refused}
 use Rattle.drivers.specs.Cleaning.{kept}
@@ -45,16 +43,18 @@ abbrev pub AsksOwnFields : Type 0
 AsksOwnFields = (info : ServerInfo) (body question : Pairs)
     → asked_by (done info body) ≡ Some question → Asks info.ids body question
 
--- What is kept of a write, where its statements may be asked one by one, is the command that was
--- asked first, with its statements: so the documents of an insert have the `_id`s that they had.
-pub record AreOfCommand (command : Pairs) (batch : Batch) : Type 0 where
-  pub left : batch.left ≡ statements_in (lookup command (field_of batch.write))
-  pub body : batch.body ≡ cut command (field_of batch.write)
+-- What is kept of a write, where its statements may be asked one by one, is made of the command
+-- that was asked first, which is a write under the same name: so the documents of an insert have
+-- the `_id`s that they had.
+pub record AreOfCommand (ids : FreshIds) (command : Pairs) (batch : Batch) : Type 0 where
+  pub named : write_of (name_of command) ≡ Some batch.write
+  pub ordered : Bool
+  pub made : batch_of batch.write ordered ids command ≡ batch
 
 abbrev pub AsksSameStatements : Type 0
 AsksSameStatements = (info : ServerInfo) (more : Bool) (body command : Pairs) (batch : Batch)
     → done info body ≡ steps.Ask command → (plan_for info.ids more body).wait ≡ waits.Batch batch
-    → AreOfCommand command batch
+    → AreOfCommand info.ids command batch
 
 -- A field behind the command's name that has a rule and isn't refused makes no difference to what
 -- is done first.

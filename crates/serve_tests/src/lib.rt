@@ -1,4 +1,4 @@
-//! Tests of `server` over what no script plays: sockets of this machine, and disks that are looked into or written by hand.
+//! Tests of `server` over what no script plays: disks that are looked into or written by hand.
 #![tactic(auto)]
 
 #[cfg(test)]
@@ -7,5 +7,3 @@ mod disks;
 mod exchanges;
 #[cfg(test)]
 mod indexed_disks;
-#[cfg(test)]
-mod streams;
