@@ -26,6 +26,7 @@ use Rattle.path.specs.declared.refusal.Refusal.TheVariants as refusals
 use Rattle.pinned_cursors.specs.Tied.{AreTied}
 use Rattle.pinned_cursors.specs.Turns.{OnlyPins, Releases}
 use Rattle.engine.specs.Continuing.{Continues}
+use Rattle.engine.specs.Laws.{ForMemory}
 use Rattle.engine.proofs.Continuing.{continues_still}
 use Rattle.engine.proofs.LawfulSteps.{Good, good_run}
 
@@ -99,6 +100,12 @@ pub answers_refused : {D : Type 0} (history : D → History) (old new : Engine D
     ⊎ RefusedBeside (FileCause history (file_of old) (file_of new)) (world old) (answered (world old) planned).0 (world new) (refusal_reply e)
 answers_refused history old new planned e (same, inl is) = inl ((λ i. (same i, refusal_reply e)) ∙ ap (answered (world old)) (sym is))
 answers_refused history old new planned e (same, inr cause) = inr (record { refusal = e; cause = cause; same = same; says = refl })
+
+-- what memory alone refuses
+pub refused_for_memory : (w new : World) (planned : Result (World × Pairs) Refusal) (e : Refusal) → Runs w planned new (Err e)
+    → ((new, refusal_reply e) ≡ answered w planned) ⊎ RefusedBeside ForMemory w (answered w planned).0 new (refusal_reply e)
+refused_for_memory w new planned refusals.OutOfMemory runs = inr (record { refusal = refusals.OutOfMemory; cause = refl; same = runs.0; says = refl })
+refused_for_memory w new planned e runs = inl ((λ i. (runs.0 i, refusal_reply e)) ∙ ap (answered w) (sym (runs.1 (λ h. absurd cc))))
 
 -- ---- commands that ask the file for pins at most
 

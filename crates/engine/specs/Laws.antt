@@ -8,6 +8,7 @@ use Rattle.collections.specs.Calls.{IsOfFile}
 use Rattle.database_model.specs.Lawful.{IsLawful}
 use Rattle.opening.specs.Holding.{Holds}
 use Rattle.path.specs.declared.refusal.Refusal.{Refusal}
+use Rattle.path.specs.declared.refusal.Refusal.TheVariants as refusals
 use Rattle.commands.specs.Command.{Command, ping, insert, find, count, delete, update, aggregate}
 use Rattle.commands.specs.Command.{create, drop, list_collections, create_indexes, drop_indexes}
 use Rattle.commands.specs.Command.{list_indexes, explain, command_of, get_more, kill_cursors, hello}
@@ -56,6 +57,22 @@ OnlyReads (Err e) = Unit {0}
 abbrev pub BodyOnlyReads : Result Pairs BsonFault → Type 0
 BodyOnlyReads (Ok body) = OnlyReads (command_of body)
 BodyOnlyReads (Err fault) = Unit {0}
+
+-- A command that asks for no collection, or one that is refused before it runs: what it is answered
+-- depends on no disk.
+abbrev pub NeedsNoDisk : Result Command Refusal → Type 0
+NeedsNoDisk (Ok ping) = Unit {0}
+NeedsNoDisk (Ok hello) = Unit {0}
+NeedsNoDisk (Ok other) = ⊥
+NeedsNoDisk (Err e) = Unit {0}
+
+abbrev pub BodyNeedsNoDisk : Result Pairs BsonFault → Type 0
+BodyNeedsNoDisk (Ok body) = NeedsNoDisk (command_of body)
+BodyNeedsNoDisk (Err fault) = Unit {0}
+
+-- it comes beside the definition's answer only where memory runs out
+abbrev pub ForMemory : World → Refusal → Type 0
+ForMemory planned e = e ≡ refusals.OutOfMemory
 
 -- however such a command is answered, the collections stay as they are
 abbrev pub ReadsChangeNothing : Type 0

@@ -8,13 +8,13 @@ ghost use Rattle.collections.specs.Opening.{HasLimit};
 ghost use Rattle.cursors.specs.Changes.{all_at_rest};
 ghost use Rattle.engine.specs.Committing.{Commits};
 ghost use Rattle.engine.specs.Continuing.{Continues};
-ghost use Rattle.engine.specs.Laws.{BodyOnlyReads, OnlyReads};
+ghost use Rattle.engine.specs.Laws.{BodyNeedsNoDisk, BodyOnlyReads, ForMemory, NeedsNoDisk, OnlyReads};
 ghost use Rattle.engine.specs.Opening.{IsOpened};
 ghost use Rattle.opening.specs.Refusing.{IsRefused};
 ghost use Rattle.pinned_cursors.specs.Tied.{AreTied};
 ghost use Rattle.engine.specs.Performing.{IsAdministrative, Performs};
 ghost use Rattle.database_model.specs.World.{are_untouched, after_commit, after_undo, forget};
-ghost use Rattle.replies.specs.View.{answer_of, outcome_of, IsSendable};
+ghost use Rattle.replies.specs.View.{answer_of, outcome_of, IsSendable, Runs};
 ghost use Rattle.engine.specs.View.{world, turn_start, reply_of, IsRefusal};
 ghost use Rattle.commands.specs.Command.{IsBounded};
 ghost use Rattle.commands.specs.View.{command_read};
@@ -105,6 +105,9 @@ impl<D: Disk> Engine<D> {
             → WroteNothing (world self.old) (Ok body.now) (world self.new)
             → has_changes self.new ≡ has_changes self.old }
         ensures reads { BodyOnlyReads (Ok body.now) → has_changes self.new ≡ has_changes self.old }
+        ensures sure { BodyNeedsNoDisk (Ok body.now) → Runs (world self.old)
+            (read_and_run (world self.old) connection body.now) (world self.new)
+            (outcome_of result) }
         ensures sendable { IfOk result (λ a. IsSendable (answer_of a)) }
     {
         match Command::read(self.alloc, body) {
@@ -130,6 +133,9 @@ impl<D: Disk> Engine<D> {
             → has_changes self.new ≡ has_changes self.old }
         ensures reads { OnlyReads (Ok (command_read command.now))
             → has_changes self.new ≡ has_changes self.old }
+        ensures sure { NeedsNoDisk (Ok (command_read command.now)) → Runs (world self.old)
+            (run (world self.old) connection (command_read command.now)) (world self.new)
+            (outcome_of result) }
         ensures sendable { IfOk result (λ a. IsSendable (answer_of a)) }
     {
         match command {
@@ -170,6 +176,9 @@ impl<D: Disk> Engine<D> {
             → has_changes self.new ≡ has_changes self.old }
         ensures reads { OnlyReads (Ok (command_read command.now))
             → has_changes self.new ≡ has_changes self.old }
+        ensures sure { NeedsNoDisk (Ok (command_read command.now)) → Runs (world self.old)
+            (run (world self.old) connection (command_read command.now)) (world self.new)
+            (outcome_of result) }
         ensures sendable { IfOk result (λ a. IsSendable (answer_of a)) }
     {
         match command {
@@ -191,7 +200,8 @@ impl<D: Disk> Engine<D> {
     }
 
     /// Runs a command and answers it. `OutOfMemory` comes in place of another answer where a growth was refused,
-    /// `StorageFailed` where the device failed, and `Full` where no page of the file is free.
+    /// `StorageFailed` where the device failed, and `Full` where no page of the file is free. A command that asks for no
+    /// collection is answered so on any disk.
     pub fn execute(&mut self, connection: ConnId, body: &Document) -> Reply
         requires sound { IsSound D.history self.old }
         ensures sound { IsSound D.history self.new }
@@ -206,6 +216,8 @@ impl<D: Disk> Engine<D> {
             → WroteNothing (world self.old) (Ok body.now) (world self.new)
             → has_changes self.new ≡ has_changes self.old }
         ensures reads { BodyOnlyReads (Ok body.now) → has_changes self.new ≡ has_changes self.old }
+        ensures sure { BodyNeedsNoDisk (Ok body.now) → Answers ForMemory (world self.old) connection
+            (Ok body.now) (world self.new) (reply_of result) }
         ensures sendable { IsSendable (reply_of result) }
     {
         match self.run(connection, body) {

@@ -140,6 +140,7 @@ module _ (beside other : World → Refusal → Type 0) (weaker : (planned : Worl
     runs = λ k. runs_weaker cs old s.replies new (s.runs (kept k));
     wrote = λ k none. s.wrote (kept k) (wrote_weaker cs old s.replies new (s.runs (kept k)) none);
     frames = s.frames;
+    anyhow = s.anyhow;
   }
 
 -- ---- what the engine's calls do to the moment

@@ -13,7 +13,7 @@ use Rattle.engine.specs.Laws.{BodyOnlyReads}
 use Rattle.outcome.specs.Outcome.{Gives}
 use Rattle.bson.specs.declared.fault.BsonFault.{BsonFault}
 use Rattle.bson.specs.declared.fault.BsonFault.TheVariants as bson_faults
-use Rattle.server.specs.Turn.{frame_unless, frame_for, call_at, taken_at, AllRead}
+use Rattle.server.specs.Turn.{frame_unless, frame_for, call_at, taken_at, AllRead, AnswersOnAnyDisk}
 use Rattle.server.specs.Taking.{IsTaken, IsAnswer, Serves}
 use Rattle.server.specs.declared.connection.Connection.{Connection}
 use Rattle.server.specs.declared.connection.Taken.{Taken}
@@ -39,7 +39,14 @@ is_called old new (Ok (Some x)) n r h none = absurd cc
 module _ (word : Type 0) (beside : World → Refusal → Type 0) (same : Type 0) (old new : Connection) where
   nothing : (w : World) (given : List (ℕ × List ℕ)) → same → Serves word beside same [] w w true given given
   nothing w given stays =
-      record { replies = []; one_each = refl; runs = λ k. refl; wrote = λ k n. stays; frames = λ e. sym (append-nil given) }
+      record {
+        replies = [];
+        one_each = refl;
+        runs = λ k. refl;
+        wrote = λ k n. stays;
+        frames = λ e. sym (append-nil given);
+        anyhow = refl;
+      }
 
   pub nothing_served : (front : Front) (t : Taken) (w : World) (given : List (ℕ × List ℕ)) → same → IsTaken old front t new
       → ((n : ℕ) (r : Request) → t ≡ takes.Call n r → ⊥) → Serves word beside same (call_at old front) w w true given given
@@ -52,15 +59,17 @@ module _ (word : Type 0) (beside : World → Refusal → Type 0) (same : Type 0)
       → IsTaken old front (takes.Call n r) new
       → (word → IsAnswer beside w old.id r w' reply)
       → (word → (read : Result Pairs BsonFault) → Gives bson_faults.Memory (λ d. d) r.body read → WroteNothing w read w' → same)
+      → ((read : Result Pairs BsonFault) → Gives bson_faults.Memory (λ d. d) r.body read → AnswersOnAnyDisk w old.id read w' reply)
       → (ok ≡ true → now ≡ given ++ frame_unless r.more_to_come old.id n r.request_id reply)
       → Serves word beside same (call_at old front) w w' ok given now
-  one_served (Ok None) n r w w' reply ok given now h a q f = absurd h
-  one_served (Err e) n r w w' reply ok given now h a q f = absurd h
-  one_served (Ok (Some x)) n r w w' reply ok given now h a q f = record {
+  one_served (Ok None) n r w w' reply ok given now h a q any f = absurd h
+  one_served (Err e) n r w w' reply ok given now h a q any f = absurd h
+  one_served (Ok (Some x)) n r w w' reply ok given now h a q any f = record {
     replies = reply ∷ [];
     one_each = refl;
     runs = λ k. (w', a k (body_of x.0) h.1.body, refl);
     wrote = λ k none. q k (body_of x.0) h.1.body none.0;
+    anyhow = (w', any (body_of x.0) h.1.body, refl);
     frames = λ e. f e ∙ ap (λ (fs : List (ℕ × List ℕ)). given ++ fs) (so ∙ sym (append-nil (frame_for (record { connection = old; frame = x.0 }) reply)));
   }
     where

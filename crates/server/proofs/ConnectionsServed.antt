@@ -10,7 +10,7 @@ use Rattle.database_model.specs.Refusals.{refusal_reply}
 use Rattle.path.specs.declared.refusal.Refusal.{Refusal}
 use Rattle.op_msg.specs.Frame.{Frame}
 use Rattle.op_msg.specs.declared.fault.FrameFault.{FrameFault}
-use Rattle.server.specs.Turn.{Call, Runs, WroteNone, AllRead, frames_of, frame_for, calls, call_at, front_of, connection_at, connections_after, taken_at}
+use Rattle.server.specs.Turn.{Call, Runs, RunsOnAnyDisk, WroteNone, AllRead, frames_of, frame_for, calls, call_at, front_of, connection_at, connections_after, taken_at}
 use Rattle.server.specs.Turn.{connections_taken, forget_all, refused_calls, refused_frames, faults, fault_at}
 use Rattle.server.specs.Taking.{Serves, refused_at, fault_in, faults_in, closed_by, closed_connections, fault_beside}
 use Rattle.server.specs.declared.connection.Connection.{Connection}
@@ -21,6 +21,13 @@ runs_on beside [] ds a b c [] ss h k = subst (λ (w : World). Runs beside w ds s
 runs_on beside [] ds a b c (r ∷ rs) ss h k = absurd h
 runs_on beside (x ∷ cs) ds a b c [] ss h k = absurd h
 runs_on beside (x ∷ cs) ds a b c (r ∷ rs) ss h k = (h.0, h.1, runs_on beside cs ds h.0 b c rs ss h.2 k)
+
+runs_anyhow : (cs ds : List Call) (a b c : World) (rs ss : List Pairs) → RunsOnAnyDisk a cs rs b → RunsOnAnyDisk b ds ss c
+    → RunsOnAnyDisk a (cs ++ ds) (rs ++ ss) c
+runs_anyhow [] ds a b c [] ss h k = subst (λ (w : World). RunsOnAnyDisk w ds ss c) h k
+runs_anyhow [] ds a b c (r ∷ rs) ss h k = absurd h
+runs_anyhow (x ∷ cs) ds a b c [] ss h k = absurd h
+runs_anyhow (x ∷ cs) ds a b c (r ∷ rs) ss h k = (h.0, h.1, runs_anyhow cs ds h.0 b c rs ss h.2 k)
 
 frames_on : (cs ds : List Call) (rs ss : List Pairs) → length rs ≡ length cs → frames_of (cs ++ ds) (rs ++ ss) ≡ frames_of cs rs ++ frames_of ds ss
 frames_on [] ds [] ss e = refl
@@ -81,6 +88,7 @@ serves_on word beside first second same join cs ds a b c p q f g h s t = record 
       t.frames e2.1 ∙ ap (λ (fs : List (ℕ × List ℕ)). fs ++ frames_of ds t.replies) (s.frames e2.0)
       ∙ append_assoc f (frames_of cs s.replies) (frames_of ds t.replies)
       ∙ ap (λ (fs : List (ℕ × List ℕ)). f ++ fs) (sym (frames_on cs ds s.replies t.replies s.one_each));
+  anyhow = runs_anyhow cs ds a b c s.replies t.replies s.anyhow t.anyhow;
 }
 
 -- the refusals of calls, one each

@@ -112,6 +112,7 @@ module _ {D : Type 0} (history : D → History) (old mid new : Engine D) (b : Be
         settles = record {
           replies = s.serves.replies;
           one_each = s.serves.one_each;
+          anyhow = s.serves.anyhow;
           last = world mid;
           runs = ran after;
           ends = inr (inl (are, λ k. version ∙ s.goes.version), back_to back);
@@ -162,6 +163,7 @@ module _ {D : Type 0} (history : D → History) (old mid new : Engine D) (b : Be
     settles = record {
       replies = s.serves.replies;
       one_each = s.serves.one_each;
+      anyhow = s.serves.anyhow;
       last = world mid;
       runs = ran (after (Ok tt) c);
       ends = inl (are ∙ s.serves.frames fine ∙ ap (λ (fs : Frames). fs ++ frames_of (calls connections) s.serves.replies) none, c.done);
@@ -192,6 +194,7 @@ module _ {D : Type 0} (history : D → History) (old mid new : Engine D) (b : Be
     settles = record {
       replies = s.serves.replies;
       one_each = s.serves.one_each;
+      anyhow = s.serves.anyhow;
       last = world mid;
       runs = ran (after (Err faults.Memory) c);
       ends = inr (inl (are, λ k. c.version ∙ s.goes.version), back_to (c.memory refl));
@@ -233,6 +236,7 @@ module _ {D : Type 0} (history : D → History) (old mid new : Engine D) (b : Be
     settles = record {
       replies = s.serves.replies;
       one_each = s.serves.one_each;
+      anyhow = s.serves.anyhow;
       last = world mid;
       runs = ran (after (Err faults.Full) c);
       ends = inr (inr ((are, no_room_cause c), room_wrote c), back_to ((c.full refl).0));

@@ -1,12 +1,12 @@
 -- A turn, put together from its parts.
-use Rattle.std.proofs.Common.{◌≡◌, inl, inr, ⊎_elim, ℕ, List, ◌∙◌}
+use Rattle.std.proofs.Common.{◌≡◌, inl, inr, ⊎_elim, ℕ, List, refl, ap, ◌∙◌}
 use Rattle.database_model.specs.World.{World}
 use Rattle.engine.specs.View.{world}
 use Rattle.path.specs.declared.refusal.Refusal.{Refusal}
 use Rattle.op_msg.specs.declared.fault.FrameFault.{FrameFault}
 use Rattle.server.specs.ServerState.{ServerState}
 use Rattle.path.specs.declared.refusal.Refusal.TheVariants as refusals
-use Rattle.server.specs.Turn.{Out, Turns, HandsOut, calls, faults, forget_all, connections_after, refused_calls, refused_frames}
+use Rattle.server.specs.Turn.{Out, Turns, HandsOut, RunsAndHandsOut, calls, faults, forget_all, connections_after, refused_calls, refused_frames}
 use Rattle.server.proofs.ConnectionsServed.{refused_each}
 use Rattle.server.specs.Taking.{EndsTurn}
 use Rattle.server.specs.View.{state}
@@ -74,3 +74,21 @@ module _ {D : Type 0} (word : Type 0) (beside : World → Refusal → Type 0) (u
     where
       refused_out : (r : Refusal) → given ≡ refused_frames r connections → HandsOut (state core) handed
       refused_out r is = record { replies = refused_calls r (calls connections); one_each = refused_each r (calls connections); is = hands _ is }
+
+  -- what the messages are answered, and what the turn leaves, on any disk
+  pub runs_and_hands_out : RunsAndHandsOut (state core) handed after
+  runs_and_hands_out = record {
+    replies = s.replies;
+    last = s.last;
+    runs = s.anyhow;
+    ends = ⊎_elim
+        (λ done. inl (done.0, forgets_all _ done.1))
+        (λ refused. inr (⊎_elim
+        (λ memory. (refusals.OutOfMemory, inl refl, memory.0, forgets_all _ refused.1))
+        (λ room. (refusals.Full, inr refl, room.0.0, forgets_all _ refused.1))
+        refused.0))
+        s.ends;
+  }
+    where
+      forgets_all : (w : World) → mid ≡ w → new ≡ forget_all w (faults connections)
+      forgets_all w e = ap (λ (x : ServerState). x.world) (leaves w e)

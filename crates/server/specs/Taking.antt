@@ -17,7 +17,7 @@ use Rattle.database_model.specs.Step.{Answers}
 use Rattle.path.specs.declared.refusal.Refusal.{Refusal}
 use Rattle.path.specs.declared.refusal.Refusal.TheVariants as refusals
 use Rattle.server.specs.Turn.{Call, Runs, WroteNone, calls, call_at, frames_of, front_of}
-use Rattle.server.specs.Turn.{refused_calls, refused_frames, taken_at, next_number}
+use Rattle.server.specs.Turn.{refused_calls, refused_frames, taken_at, next_number, RunsOnAnyDisk}
 use Rattle.server.specs.declared.connection.Connection.{Connection}
 use Rattle.server.specs.declared.connection.Taken.{Taken}
 use Rattle.server.specs.declared.connection.Taken.TheVariants as takes
@@ -86,6 +86,7 @@ pub record Serves (word : Type 0) (beside : World → Refusal → Type 0) (same 
   pub runs : word → Runs beside old calls replies new
   pub wrote : (k : word) → WroteNone beside old calls replies new (runs k) → same
   pub frames : ok ≡ true → now ≡ given ++ frames_of calls replies
+  pub anyhow : RunsOnAnyDisk old calls replies new
 
 -- a request with this body, whatever frame it came in
 abbrev pub IsAnswer : (World → Refusal → Type 0) → World → ℕ → Request → World → Pairs → Type 0
@@ -109,6 +110,7 @@ pub record EndsTurn (word : Type 0) (beside : World → Refusal → Type 0)
   pub one_each : length replies ≡ length (calls connections)
   pub last : World
   pub runs : word → Runs beside old (calls connections) replies last
+  pub anyhow : RunsOnAnyDisk old (calls connections) replies last
   pub ends : ((given ≡ frames_of (calls connections) replies) × (new ≡ after_commit last))
       ⊎ ((RefusesAll word undone connections given refusals.OutOfMemory
       ⊎ (RefusesAll word undone connections given refusals.Full

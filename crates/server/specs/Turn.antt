@@ -7,15 +7,16 @@
 -- handed out, and no connection is closed. A message with moreToCome gets no reply, and replies
 -- that are handed out are numbered 1, 2, 3 and so on for each connection.
 use Rattle.std.specs.Prelude.{◌≡◌, ◌⊎◌, ℕ, ◌+◌, Bool, true, false, nat_lt, if◌then◌else◌, List, []}
-use Rattle.std.specs.Prelude.{◌∷◌, ◌++◌, length, Result, Ok, Err, Option, Some, None}
+use Rattle.std.specs.Prelude.{◌∷◌, ◌++◌, length, Result, Ok, Err, Option, Some, None, OnErr}
 use Rattle.bson.specs.Tree.{Pairs}
+use Rattle.bson.specs.declared.fault.BsonFault.{BsonFault}
 use Rattle.op_msg.specs.Frame.{Frame, front}
 use Rattle.op_msg.specs.Request.{body_of, reply_bytes, is_waiting}
 use Rattle.op_msg.specs.declared.fault.FrameFault.{FrameFault}
 use Rattle.database_model.specs.World.{World, forget, after_commit, after_undo}
 use Rattle.database_model.specs.Refusals.{refusal_reply}
 use Rattle.database_model.specs.Step.{Answers, WroteNothing}
-use Rattle.engine.specs.Laws.{BodyOnlyReads}
+use Rattle.engine.specs.Laws.{BodyNeedsNoDisk, BodyOnlyReads, ForMemory}
 use Rattle.path.specs.declared.refusal.Refusal.{Refusal}
 use Rattle.path.specs.declared.refusal.Refusal.TheVariants as refusals
 use Rattle.server.specs.ServerState.{ServerState}
@@ -100,6 +101,33 @@ Runs beside world (c ∷ cs) (r ∷ rs) new =
     (mid : World) × Answers beside world c.connection.id (body_of c.frame) mid r
     × Runs beside mid cs rs new
 
+-- ---- on any disk
+
+-- the document that tells what a command came to
+abbrev pub told : Result Pairs Refusal → Pairs
+told (Ok reply) = reply
+told (Err e) = refusal_reply e
+
+-- A message is answered, whatever the disk gives: a refusal leaves the world as it was; and one that
+-- asks for no collection gets the definition's answer, unless memory runs out.
+pub record AnswersOnAnyDisk (world : World) (connection : ℕ) (body : Result Pairs BsonFault)
+    (new : World) (reply : Pairs) : Type 0 where
+  pub outcome : Result Pairs Refusal
+  pub says : reply ≡ told outcome
+  pub refused : OnErr outcome (new ≡ world)
+  pub sure : BodyNeedsNoDisk body → Answers ForMemory world connection body new reply
+
+-- The calls are answered so, one after the other.
+abbrev pub RunsOnAnyDisk : World → List Call → List Pairs → World → Type 0
+RunsOnAnyDisk world [] [] new = new ≡ world
+RunsOnAnyDisk world [] (r ∷ rs) new = ⊥
+RunsOnAnyDisk world (c ∷ cs) [] new = ⊥
+RunsOnAnyDisk world (c ∷ cs) (r ∷ rs) new =
+    (mid : World) × AnswersOnAnyDisk world c.connection.id (body_of c.frame) mid r
+    × RunsOnAnyDisk mid cs rs new
+
+-- ---- what is written
+
 -- None of the messages that were answered so wrote anything.
 abbrev pub WroteNone : (beside : World → Refusal → Type 0) (old : World) (cs : List Call)
     (replies : List Pairs) (new : World) → Runs beside old cs replies new → Type 0
@@ -144,6 +172,26 @@ pub record HandsOut (state : ServerState) (out : Out) : Type 0 where
     closed = faults state.connections;
   }
 
+-- each call's reply in a turn that is undone
+abbrev pub refused_calls : Refusal → List Call → List Pairs
+refused_calls refusal [] = []
+refused_calls refusal (c ∷ cs) = refusal_reply refusal ∷ refused_calls refusal cs
+
+-- The messages of a turn are answered one after the other, whatever the disk gives. What they did is
+-- kept, and the frames have their answers; or it is taken back, and each frame has this refusal.
+pub record RunsAndHandsOut (state : ServerState) (out : Out) (new : ServerState) : Type 0 where
+  pub replies : List Pairs
+  pub last : World
+  pub runs : RunsOnAnyDisk state.world (calls state.connections) replies last
+  pub ends : ((out.replies ≡ frames_of (calls state.connections) replies)
+      × (new.world ≡ forget_all (after_commit last) (faults state.connections)))
+      ⊎ ((refusal : Refusal)
+      × ((refusal ≡ refusals.OutOfMemory) ⊎ (refusal ≡ refusals.Full))
+      × (out.replies
+      ≡ frames_of (calls state.connections) (refused_calls refusal (calls state.connections)))
+      × (new.world
+      ≡ forget_all (after_undo state.world.collections last) (faults state.connections)))
+
 -- the connections after the turn
 abbrev pub connections_after : List Connection → List Connection
 connections_after [] = []
@@ -158,11 +206,6 @@ taken_at connection (Err fault) = connection
 abbrev pub connections_taken : List Connection → List Connection
 connections_taken [] = []
 connections_taken (l ∷ ls) = taken_at l (front_of l) ∷ connections_taken ls
-
--- each call's reply in a turn that is undone
-abbrev pub refused_calls : Refusal → List Call → List Pairs
-refused_calls refusal [] = []
-refused_calls refusal (c ∷ cs) = refusal_reply refusal ∷ refused_calls refusal cs
 
 -- the frames of a turn that is undone
 abbrev pub refused_frames : Refusal → List Connection → List (ℕ × List ℕ)

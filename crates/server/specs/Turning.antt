@@ -6,8 +6,8 @@ use Rattle.page.specs.Crash.{GoesOn, LeavesOnly, LeavesNow}
 use Rattle.trusted_disk.specs.Trusting.{trusted_history}
 use Rattle.engine.specs.Continuing.{Continues}
 use Rattle.opening.specs.Holding.{Holds}
-use Rattle.server.specs.Turn.{calls, connections_after, AllRead, HandsOut, Turns, TurnFails}
-use Rattle.server.specs.Turn.{ChangesNothing}
+use Rattle.server.specs.Turn.{calls, connections_after, AllRead, HandsOut, RunsAndHandsOut, Turns}
+use Rattle.server.specs.Turn.{ChangesNothing, TurnFails}
 use Rattle.server.specs.Moment.{HoldsEither, FollowsInTurn}
 use Rattle.server.specs.Causes.{IsCaused, OfAnyCause}
 use Rattle.server.specs.History.{TakenBack}
@@ -30,6 +30,9 @@ pub record TakesTurn {D : Type 0} (history : D → History) (old : Core D)
   -- on any disk: to whom its frames go, one for each message that is taken, and what it leaves of
   -- what came
   pub hands_out : IfOk result (λ out. HandsOut (state old) (out_of out))
+  -- on any disk: that each message is answered behind the one before it, of which one that is
+  -- refused leaves the world as it was, and one that asks for no collection is answered as defined
+  pub answers : IfOk result (λ out. RunsAndHandsOut (state old) (out_of out) (state new))
   pub leaves : OnOk result
       ((state new).connections ≡ connections_after (state old).connections)
   pub fails : IfErr result (λ fault.

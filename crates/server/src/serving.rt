@@ -16,7 +16,7 @@ ghost use Rattle.outcome.specs.Outcome.{Gives};
 ghost use Rattle.bson.specs.declared.fault.BsonFault.{BsonFault};
 ghost use Rattle.bson.specs.declared.fault.BsonFault.TheVariants as bson_faults;
 ghost use Rattle.database_model.specs.Step.{WroteNothing};
-ghost use Rattle.server.specs.Turn.{front_of, connections_taken, taken_at, call_at, calls, refused_frames, forget_all, AllRead};
+ghost use Rattle.server.specs.Turn.{AnswersOnAnyDisk, front_of, connections_taken, taken_at, call_at, calls, refused_frames, forget_all, AllRead};
 ghost use Rattle.server.specs.Taking.{Serves, IsAnswer};
 ghost use Rattle.server.specs.Messages.{RunsMessages};
 ghost use Rattle.server.specs.View.{frames_in};
@@ -87,6 +87,9 @@ fn answer<D: Disk>(engine: &mut Engine<D>, id: ConnId, request: &Request) -> Rep
     ensures reads { (read : Result Pairs BsonFault)
         → Gives bson_faults.Memory (λ d. d) request.now.body read → BodyOnlyReads read
         → has_changes engine.new ≡ has_changes engine.old }
+    ensures anyhow { (read : Result Pairs BsonFault)
+        → Gives bson_faults.Memory (λ d. d) request.now.body read
+        → AnswersOnAnyDisk (world engine.old) id read (world engine.new) (reply_of result) }
     ensures sendable { IsSendable (reply_of result) }
 {
     match &request.body {

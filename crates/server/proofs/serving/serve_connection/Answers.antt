@@ -22,6 +22,7 @@ returns-then-request-clause-serves g c =
     (has_changes c.answer-reply.new.engine ≡ has_changes c.args.engine.now) connection
     c.take_call.new.connection (front_of connection) c.in-Call.number r (world c.args.engine.now) (world c.answer-reply.new.engine)
     (reply_of c.answer-reply.result) true given given c.in-Call.ensures.taken c.answer-reply.ensures.answer c.answer-reply.ensures.quiet
+    c.answer-reply.ensures.anyhow
     (λ e. sym (append-nil given)
     ∙ ap (λ (b : Bool). given ++ frame_unless b connection.id c.in-Call.number r.request_id (reply_of c.answer-reply.result)) (sym c.if-request.true))
 
@@ -34,6 +35,7 @@ returns-clause-serves g c =
     (has_changes c.answer-reply.new.engine ≡ has_changes c.args.engine.now) connection
     c.take_call.new.connection (front_of connection) c.in-Call.number c.in-Call.request (world c.args.engine.now) (world c.answer-reply.new.engine)
     (reply_of c.answer-reply.result) false given given c.in-Call.ensures.taken c.answer-reply.ensures.answer c.answer-reply.ensures.quiet
+    c.answer-reply.ensures.anyhow
     (λ e. absurd cc)
 
 pub returns-in-Ok-clause-serves : goal.returns-in-Ok-clause-serves
@@ -47,6 +49,7 @@ returns-in-Ok-clause-serves g c =
     (has_changes c.answer-reply.new.engine ≡ has_changes c.args.engine.now) connection
     c.take_call.new.connection (front_of connection) c.in-Call.number r (world c.args.engine.now) (world c.answer-reply.new.engine) reply c.is_ok.result given
     (frames_in c.push.new.self.items) c.in-Call.ensures.taken c.answer-reply.ensures.answer c.answer-reply.ensures.quiet
+    c.answer-reply.ensures.anyhow
     (λ e.
     let put : c.push.new.self.items ≡ c.args.frames.now.items ++ (connection.id, c.in-Ok.bytes) ∷ [] = search rules in
     ap frames_in put ∙ frames_append c.args.frames.now.items ((connection.id, c.in-Ok.bytes) ∷ [])

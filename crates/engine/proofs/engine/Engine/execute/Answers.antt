@@ -3,7 +3,7 @@ use Rattle.database_model.specs.Step.{read_and_run}
 use Rattle.replies.specs.View.{answer_of}
 use Rattle.engine.specs.View.{world}
 use Rattle.replies.proofs.SpelledSizes.{refusal-sendable}
-use Rattle.engine.proofs.Sound.{answers_done, answers_refused}
+use Rattle.engine.proofs.Sound.{answers_done, answers_refused, refused_for_memory}
 use Rattle.engine.proofs.engine.Engine.execute.Goals as goal
 
 pub returns-in-Ok-clause-answers : goal.returns-in-Ok-clause-answers
@@ -27,3 +27,13 @@ returns-in-Ok-clause-refused g c refusal = absurd refusal
 
 pub returns-in-Err-clause-refused : goal.returns-in-Err-clause-refused
 returns-in-Err-clause-refused g c refusal = (c.in-Err.ensures.performs.left, c.in-Err.ensures.performs.refused)
+
+pub returns-in-Ok-clause-sure : goal.returns-in-Ok-clause-sure
+returns-in-Ok-clause-sure g c none =
+    let old = world c.args.self.now in
+    inl (answers_done old (world c.run.new.self) (read_and_run old c.args.connection c.args.body.now) (answer_of c.in-Ok.answer) (c.in-Ok.ensures.sure none))
+
+pub returns-in-Err-clause-sure : goal.returns-in-Err-clause-sure
+returns-in-Err-clause-sure g c none =
+    let old = world c.args.self.now in
+    refused_for_memory old (world c.run.new.self) (read_and_run old c.args.connection c.args.body.now) c.in-Err.refusal (c.in-Err.ensures.sure none)

@@ -10,7 +10,7 @@ use Rattle.database_model.specs.Step.{run, ChangesNone}
 use Rattle.database_model.specs.Find.{run_find}
 use Rattle.database_model.specs.GetMore.{run_get_more}
 use Rattle.commands.specs.View.{command_read, find_read, get_more_read, update_read, aggregate_read}
-use Rattle.engine.specs.Laws.{OnlyReads}
+use Rattle.engine.specs.Laws.{NeedsNoDisk, OnlyReads}
 use Rattle.engine.specs.View.{world}
 use Rattle.commands.specs.declared.command.Command.{Command}
 use Rattle.engine.proofs.Running.{run_find-default, run_aggregate-default}
@@ -84,3 +84,27 @@ returns-in-Delete-clause-reads g c only = absurd (subst (λ (x : Command). OnlyR
 
 pub returns-in-Update-clause-reads : goal.returns-in-Update-clause-reads
 returns-in-Update-clause-reads g c only = absurd (subst (λ (x : Command). OnlyReads (Ok (command_read x))) c.in-Update.is only)
+
+pub returns-in-Insert-clause-sure : goal.returns-in-Insert-clause-sure
+returns-in-Insert-clause-sure g c none = absurd (subst (λ (x : Command). NeedsNoDisk (Ok (command_read x))) c.in-Insert.is none)
+
+pub returns-in-Find-clause-sure : goal.returns-in-Find-clause-sure
+returns-in-Find-clause-sure g c none = absurd (subst (λ (x : Command). NeedsNoDisk (Ok (command_read x))) c.in-Find.is none)
+
+pub returns-in-GetMore-clause-sure : goal.returns-in-GetMore-clause-sure
+returns-in-GetMore-clause-sure g c none = absurd (subst (λ (x : Command). NeedsNoDisk (Ok (command_read x))) c.in-GetMore.is none)
+
+pub returns-in-KillCursors-clause-sure : goal.returns-in-KillCursors-clause-sure
+returns-in-KillCursors-clause-sure g c none = absurd (subst (λ (x : Command). NeedsNoDisk (Ok (command_read x))) c.in-KillCursors.is none)
+
+pub returns-in-Count-clause-sure : goal.returns-in-Count-clause-sure
+returns-in-Count-clause-sure g c none = absurd (subst (λ (x : Command). NeedsNoDisk (Ok (command_read x))) c.in-Count.is none)
+
+pub returns-in-Delete-clause-sure : goal.returns-in-Delete-clause-sure
+returns-in-Delete-clause-sure g c none = absurd (subst (λ (x : Command). NeedsNoDisk (Ok (command_read x))) c.in-Delete.is none)
+
+pub returns-in-Update-clause-sure : goal.returns-in-Update-clause-sure
+returns-in-Update-clause-sure g c none = absurd (subst (λ (x : Command). NeedsNoDisk (Ok (command_read x))) c.in-Update.is none)
+
+pub returns-in-Aggregate-clause-sure : goal.returns-in-Aggregate-clause-sure
+returns-in-Aggregate-clause-sure g c none = absurd (subst (λ (x : Command). NeedsNoDisk (Ok (command_read x))) c.in-Aggregate.is none)

@@ -25,7 +25,7 @@ use Rattle.server.proofs.Images.{engine_holds, stays, forgotten, forget_all_stat
 use Rattle.server.proofs.CauseLemmas.{in_turn_itself, runs_weaker, wrote_weaker}
 use Rattle.server.proofs.ConnectionsServed.{all_closed}
 use Rattle.server.proofs.Refusing.{whole}
-use Rattle.server.proofs.TurnParts.{turned, handed_out}
+use Rattle.server.proofs.TurnParts.{turned, handed_out, runs_and_hands_out}
 use Rattle.server.proofs.turn.Core.turn.Goals as goal
 
 stopped_not : (b : Bool) → b ≡ true → b ≡ false → ⊥
@@ -41,6 +41,7 @@ ends_after : (before word : Type 0) → (word → before)
 ends_after before word kept undone world_was connections given left start end later same s = record {
   replies = s.replies;
   one_each = s.one_each;
+  anyhow = s.anyhow;
   last = s.last;
   runs = λ k. runs_weaker (IsCaused start end) (IsCaused start later) wider (calls connections) world_was s.replies s.last (s.runs (kept k));
   ends = ⊎_elim
@@ -67,6 +68,7 @@ returns-then-is_stopped g c = record {
   sound = search rules;
   turns = search rules;
   hands_out = tt;
+  answers = tt;
   leaves = tt;
   fails = search rules;
   untouched = λ e. absurd cc;
@@ -90,6 +92,7 @@ returns-in_err-refusals g c = record {
   sound = search rules;
   turns = search rules;
   hands_out = search rules;
+  answers = search rules;
   leaves = search rules;
   fails = search rules;
   untouched = λ _. refl;
@@ -126,6 +129,7 @@ returns-in_default g c =
       };
       turns = search rules;
       hands_out = tt;
+      answers = tt;
       leaves = tt;
       fails = let old : Moment = engine_moment history core.engine in
           let new : Moment = engine_moment history c.run_messages.new.engine in
@@ -194,6 +198,8 @@ returns g c =
       turns = λ k. turned word (IsCaused old new) (TakenBack old new) core frames (world c.run_messages.new.engine) prepared.closed.items
           (world c.forget_closed.new.engine) _ settles closes forgets left k;
       hands_out = handed_out word (IsCaused old new) (TakenBack old new) core frames (world c.run_messages.new.engine) prepared.closed.items
+          (world c.forget_closed.new.engine) _ settles closes forgets left;
+      answers = runs_and_hands_out word (IsCaused old new) (TakenBack old new) core frames (world c.run_messages.new.engine) prepared.closed.items
           (world c.forget_closed.new.engine) _ settles closes forgets left;
       leaves = left;
       fails = search rules;
