@@ -13,7 +13,7 @@ use Rattle.engine.specs.Continuing.{Continues}
 use Rattle.engine.proofs.Continuing.{continues_further, continues_itself, continues_still}
 use Rattle.server.specs.Durable.{engine_moment, moment_of, is_stopped}
 use Rattle.server.specs.declared.turn.TurnFault.TheVariants as turns
-use Rattle.server.specs.Turn.{Cut, TurnFails, Runs, calls, faults, forget_all, connections_taken}
+use Rattle.server.specs.Turn.{Cut, TurnFails, calls, faults, forget_all, connections_taken}
 use Rattle.server.specs.declared.connection.Connection.{Connection}
 use Rattle.path.specs.declared.refusal.Refusal.{Refusal}
 use Rattle.path.specs.declared.refusal.Refusal.TheVariants as refusals
