@@ -64,6 +64,11 @@ fn are_front(count: usize, most: usize, are_all: bool) -> bool
     are_all || most <= count
 }
 
+/// Whether these `_id`s may lead to so many documents, or to all.
+fn may_suffice(read: &FirstIds, most: usize) -> bool {
+    are_front(read.ids.len(), most, read.are_all)
+}
+
 /// The first documents that match a filter, up to so many, in the order of the sort in which these `_id`s were read; None where they
 /// lead to fewer and more could be read.
 fn looked_up_first<D: Disk>(
@@ -83,6 +88,9 @@ fn looked_up_first<D: Disk>(
 {
     if file.is_stopped() {
         return Err(Refusal::StorageFailed);
+    }
+    if !may_suffice(read, most) {
+        return Ok(None);
     }
     let mut found = Vec::new(alloc);
     'ids: for id in &read.ids {

@@ -1,4 +1,4 @@
-use Rattle.std.proofs.Common.{◌≡◌, ◌+◌, ◌++◌, [], ⊎_elim, ℕ, List, Option, Some, Vec, Global, length, drop, take, sym, ap, subst, arith}
+use Rattle.std.proofs.Common.{◌≡◌, ◌+◌, ◌++◌, [], ⊎_elim, ℕ, List, Option, None, Some, Vec, Global, length, drop, take, sym, ap, subst, arith}
 use Rattle.std.specs.Prelude.{IfSome}
 use Rattle.std.specs.List.{filter}
 use Rattle.std.proofs.lemmas.List.{drop_all}
@@ -13,6 +13,7 @@ use Rattle.planner.specs.IdLaws.{found_by, with_found}
 use Rattle.queries.specs.ByIndex.{LeadInOrder}
 use Rattle.queries.proofs.ByOrderLemmas.{AreInFront, full_front, none_in_front, one_in_front, told_in_order, whole_front}
 use Rattle.queries.proofs.LookingUpLemmas.{answered, begins_so, ends, fails, looks_one, next_text}
+use Rattle.queries.proofs.ReadingLemmas.{reads_none}
 use Rattle.queries.proofs.WalkingLemmas.{asks_stopped}
 use Rattle.queries.proofs.by_order.looked_up_first.Goals as goal
 
@@ -24,6 +25,14 @@ returns-then-is_stopped-clause-reads g c = λ sort.
     asks_stopped g.D.Disk.history (LeadInOrder c.args.number rs sort read.are_all texts)
     (λ now of (found : Option (Vec Pairs Global)). IfSome found (λ v. v.items ≡ take c.args.most (order sort (matching rs of.documents)))) c.args.file.now
     (sym c.if-is_stopped.ensures)
+
+pub returns-then-not-may_suffice-clause-reads : goal.returns-then-not-may_suffice-clause-reads
+returns-then-not-may_suffice-clause-reads g c = λ sort.
+    let rs = c.args.filter.now in
+    let read = c.args.read.now in
+    reads_none g.D.Disk.history (LeadInOrder c.args.number rs sort read.are_all (texts_of read.ids.items))
+    (λ now of (found : Option (Vec Pairs Global)). IfSome found (λ v. v.items ≡ take c.args.most (order sort (matching rs of.documents)))) c.args.file.now None
+    (sym c.if-is_stopped.ensures) (λ now state of asked. tt)
 
 pub ids-init : goal.ids-init
 ids-init g c =
