@@ -27,12 +27,13 @@ static bool is_duplicate(const bson_error_t *error)
     return error->domain == MONGOC_ERROR_SERVER && error->code == MONGOC_ERROR_DUPLICATE_KEY;
 }
 
-/* How many documents a filter gives, the greatest number first, in batches of this size. It is -1 where the cursor tells a fault. */
-static int find(mongoc_collection_t *people, const bson_t *filter, int batch, bson_error_t *error)
+/* How many documents a filter gives, the greatest number first, in batches of this size. */
+static int count(mongoc_collection_t *people, const bson_t *filter, int batch)
 {
     bson_t *options = BCON_NEW("batchSize", BCON_INT32(batch), "sort", "{", "_id", BCON_INT32(-1), "}");
     mongoc_cursor_t *cursor = mongoc_collection_find_with_opts(people, filter, options, NULL);
     const bson_t *document;
+    bson_error_t error;
     int64_t before = INT64_MAX;
     int count = 0;
     while (mongoc_cursor_next(cursor, &document)) {
@@ -40,18 +41,9 @@ static int find(mongoc_collection_t *people, const bson_t *filter, int batch, bs
         before = number_at(document, "_id");
         count++;
     }
-    if (mongoc_cursor_error(cursor, error))
-        count = -1;
+    expect(!mongoc_cursor_error(cursor, &error), error.message);
     mongoc_cursor_destroy(cursor);
     bson_destroy(options);
-    return count;
-}
-
-static int count(mongoc_collection_t *people, const bson_t *filter, int batch)
-{
-    bson_error_t error;
-    int count = find(people, filter, batch, &error);
-    expect(count >= 0, "a find failed");
     return count;
 }
 
@@ -229,18 +221,13 @@ static void pool(mongoc_client_pool_t *pool)
     }
 }
 
-/* What was written in the rounds before is there, by the same client, which may tell faults of its sockets first; and more is written. */
+/* What was written in the rounds before is found by the same client, whose driver asks anew where the socket has ended; and more is written. */
 static void killed(mongoc_collection_t *people)
 {
     bson_error_t error;
     bson_t *all = bson_new();
     for (int written = 0; is_asked_again(); written += 10) {
-        int found = -1;
-        for (int faults = 0; faults < 5 && found < 0; faults++) {
-            found = find(people, all, 7, &error);
-            expect(found >= 0 || error.domain == MONGOC_ERROR_STREAM || error.domain == MONGOC_ERROR_SERVER_SELECTION, error.message);
-        }
-        expect(found == written, "what was written isn't there");
+        expect(count(people, all, 7) == written, "what was written isn't there");
         mongoc_bulk_operation_t *bulk = mongoc_collection_create_bulk_operation_with_opts(people, NULL);
         for (int n = written; n < written + 10; n++) {
             bson_t *document = BCON_NEW("_id", BCON_INT32(n));

@@ -18,7 +18,6 @@ import (
 	"go.mongodb.org/mongo-driver/bson/primitive"
 	"go.mongodb.org/mongo-driver/mongo"
 	"go.mongodb.org/mongo-driver/mongo/options"
-	"go.mongodb.org/mongo-driver/x/mongo/driver/topology"
 )
 
 var ctx, _ = context.WithTimeout(context.Background(), 40*time.Second)
@@ -193,7 +192,7 @@ func rounds(work func(round int)) {
 func pool(people *mongo.Collection) {
 	rounds(func(round int) {
 		var all sync.WaitGroup
-		for n := 100 * round; n < 100*round+100; n++ {
+		for _, n := range from(100*round, 100*round+99) {
 			all.Add(1)
 			go func(n int) {
 				done(people.InsertOne(ctx, numbered{n}))
@@ -205,29 +204,12 @@ func pool(people *mongo.Collection) {
 	})
 }
 
-// killed finds what was written in the rounds before, by the same client, which may tell faults of its sockets first; and writes more.
+// killed finds what was written in the rounds before, by the same client, whose driver asks anew where the socket has ended; and writes more.
 func killed(people *mongo.Collection) {
 	rounds(func(round int) {
-		var found []numbered
-		for faults := 0; ; faults++ {
-			cursor, fault := people.Find(ctx, bson.M{}, options.Find().SetSort(bson.M{"_id": 1}).SetBatchSize(7))
-			if fault == nil {
-				fault = cursor.All(ctx, &found)
-			}
-			if fault == nil {
-				break
-			}
-			var unselected topology.ServerSelectionError
-			if faults == 4 || !mongo.IsNetworkError(fault) && !errors.As(fault, &unselected) {
-				log.Panic(fault)
-			}
-		}
-		expect(len(found), 10*round)
+		expect(ids(people.Find(ctx, bson.M{}, options.Find().SetSort(bson.M{"_id": 1}).SetBatchSize(7))), from(0, 10*round-1))
 		var more []any
-		for n, document := range found {
-			expect(document.ID, n)
-		}
-		for n := 10 * round; n < 10*round+10; n++ {
+		for _, n := range from(10*round, 10*round+9) {
 			more = append(more, numbered{n})
 		}
 		expect(len(done(people.InsertMany(ctx, more)).InsertedIDs), 10)

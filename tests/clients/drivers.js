@@ -1,6 +1,6 @@
 // A client of MongoDB's driver for Node. Use: nodejs drivers.js PORT session|pool|killed     It ends with 0 only if all answers are as expected.
 // `pool` and `killed` say `ready`, and do a round of their work for each line that they read (class Rounds in drivers.py).
-const { MongoClient, MongoError, MongoBulkWriteError, MongoNetworkError, MongoServerSelectionError, ObjectId } = require("mongodb");
+const { MongoClient, MongoError, MongoBulkWriteError, ObjectId } = require("mongodb");
 const assert = require("assert");
 const readline = require("readline");
 
@@ -59,18 +59,11 @@ async function pool(people, db) {
   await rounds((round) => Promise.all(from(100 * round, 100 * round + 100).map(write)));
 }
 
-// What was written in the rounds before is there, by the same client, which may tell faults of its sockets first; and more is written.
+// What was written in the rounds before is found by the same client, whose driver opens another socket where one has ended; and more is written.
 async function killed(people) {
-  async function found(faults) {
-    try {
-      return await people.find().sort({ _id: 1 }).batchSize(7).toArray();
-    } catch (fault) {
-      if (faults == 4 || !(fault instanceof MongoNetworkError || fault instanceof MongoServerSelectionError)) throw fault;
-      return found(faults + 1);
-    }
-  }
   await rounds(async (round) => {
-    assert.deepStrictEqual((await found(0)).map((d) => d._id), from(0, 10 * round));
+    const found = await people.find().sort({ _id: 1 }).batchSize(7).toArray();
+    assert.deepStrictEqual(found.map((d) => d._id), from(0, 10 * round));
     const written = from(10 * round, 10 * round + 10).map((n) => ({ _id: n }));
     assert.strictEqual((await people.insertMany(written)).insertedCount, 10);
   });

@@ -2,7 +2,7 @@
 // A client of MongoDB's driver for PHP (the extension). Use: php drivers.php PORT session|pool|killed     It ends with 0 only if all answers are as
 // expected. `pool` and `killed` say `ready`, and do a round of their work for each line that they read (class Rounds in drivers.py).
 use MongoDB\BSON\ObjectId;
-use MongoDB\Driver\Exception\{BulkWriteException, CommandException, ConnectionException};
+use MongoDB\Driver\Exception\{BulkWriteException, CommandException};
 use MongoDB\Driver\{BulkWrite, Command, Manager, Query, WriteResult};
 
 function expect($answer, $wanted): void
@@ -172,22 +172,13 @@ function pool(): void
     });
 }
 
-/** All numbers, by a client that may tell some faults of its sockets first. */
-function found_at_last(Manager $client, int $faults = 0): array
-{
-    try {
-        return array_column(found($client, [], ["sort" => ["_id" => 1], "batchSize" => 7]), "_id");
-    } catch (ConnectionException $fault) {
-        return $faults < 4 ? found_at_last($client, $faults + 1) : throw $fault;
-    }
-}
-
-/** What was written in the rounds before is there, by the same client; and more is written. */
+/** What was written in the rounds before is found by the same client, whose driver asks anew where the socket has ended; and more is written. */
 function killed(): void
 {
     $client = connected();
     rounds(function ($round) use ($client) {
-        expect(found_at_last($client), $round ? range(0, 10 * $round - 1) : []);
+        $numbers = array_column(found($client, [], ["sort" => ["_id" => 1], "batchSize" => 7]), "_id");
+        expect($numbers, $round ? range(0, 10 * $round - 1) : []);
         expect(written($client, inserts(...range(10 * $round, 10 * $round + 9)))->getInsertedCount(), 10);
     });
 }

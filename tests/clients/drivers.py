@@ -15,6 +15,7 @@ FOLDER = tempfile.mkdtemp(prefix="drivers.")
 PATIENCE = 20.0
 AFTER = ReturnDocument.AFTER
 PROCESSES = []
+signal.alarm(int(os.environ.get("SECONDS_AT_MOST", 110)))  # also while it looks which drivers there are
 
 
 class Server:
@@ -679,8 +680,8 @@ class Driver:
             raise AssertionError(ran.stdout + ran.stderr)
 
     def pool(self, _):
-        """A hundred sockets of one program. While the server sleeps, each of the hundred has a message that waits for it; in the
-        first round most of these open their sockets. Drivers that have no pool ask one socket after the other."""
+        """A hundred sockets of one program. While the server is stopped, each of the hundred has a message that waits for it: in the
+        first round those that open most of the sockets, then those of the driver's user. Drivers without a pool ask by one after the other."""
         server = Server(f"{self.language}_pool.docpage")
         with self.rounds(server, "pool") as rounds:
             for _ in range(2):
@@ -756,7 +757,6 @@ def main():
     most = resource.getrlimit(resource.RLIMIT_NOFILE)[1]
     resource.setrlimit(resource.RLIMIT_NOFILE, (most if most < 4_096 else 4_096, most))  # the server's too, which inherits it
     signal.signal(signal.SIGALRM, end)
-    signal.alarm(int(os.environ.get("SECONDS_AT_MOST", 90)))
     server = Server("main.docpage")
     for case in chosen:
         try:

@@ -81,15 +81,10 @@ def pool(people)
   end
 end
 
-# What was written in the rounds before is there, by the same client, which may tell faults of its sockets first; and more is written.
+# What was written in the rounds before is found by the same client, whose driver asks anew where the socket has ended; and more is written.
 def killed(people)
   rounds do |round|
-    faults = 0
-    begin
-      expect(people.find.sort(_id: 1).batch_size(7).map { |d| d["_id"] }, (0...10 * round).to_a)
-    rescue Mongo::Error::SocketError, Mongo::Error::NoServerAvailable
-      (faults += 1) < 5 ? retry : raise
-    end
+    expect(people.find.sort(_id: 1).batch_size(7).map { |d| d["_id"] }, (0...10 * round).to_a)
     expect(people.insert_many((10 * round...10 * round + 10).map { |n| { _id: n } }).inserted_count, 10)
   end
 end
