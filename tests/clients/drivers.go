@@ -1,13 +1,17 @@
-// A session of MongoDB's driver for Go. Use: GO111MODULE=off GOPATH=/usr/share/gocode go run drivers.go PORT
-// It ends with 0 only if all answers are as expected.
+// A client of MongoDB's driver for Go. Use: GO111MODULE=off GOPATH=/usr/share/gocode go run drivers.go PORT session|pool|killed
+// It ends with 0 only if all answers are as expected. `pool` and `killed` say `ready`, and do a round of their work for each line that they read
+// (class Rounds in drivers.py).
 package main
 
 import (
+	"bufio"
 	"context"
 	"errors"
+	"fmt"
 	"log"
 	"os"
 	"reflect"
+	"sync"
 	"time"
 
 	"go.mongodb.org/mongo-driver/bson"
@@ -16,7 +20,7 @@ import (
 	"go.mongodb.org/mongo-driver/mongo/options"
 )
 
-var ctx, _ = context.WithTimeout(context.Background(), 20*time.Second)
+var ctx, _ = context.WithTimeout(context.Background(), 40*time.Second)
 
 func expect(answer, wanted any) {
 	if !reflect.DeepEqual(answer, wanted) {
@@ -168,13 +172,57 @@ func ends(people *mongo.Collection) {
 	expect(done(people.CountDocuments(ctx, bson.M{})), int64(0))
 }
 
-func main() {
-	address := options.Client().ApplyURI("mongodb://127.0.0.1:" + os.Args[1]).SetServerSelectionTimeout(5 * time.Second)
-	client := done(mongo.Connect(ctx, address))
-	expect(client.Ping(ctx, nil), nil)
-	people := client.Database("go").Collection("people")
+func session(people *mongo.Collection) {
 	for _, part := range []func(*mongo.Collection){writesAndFinds, duplicates, bulks, changes, indexes, aggregates, ends} {
 		part(people)
 	}
+}
+
+// rounds does the work of each round, which a line begins, with the round's number.
+func rounds(work func(round int)) {
+	fmt.Println("ready")
+	lines := bufio.NewScanner(os.Stdin)
+	for round := 0; lines.Scan(); round++ {
+		work(round)
+		fmt.Println("ready")
+	}
+}
+
+// pool has each of a hundred goroutines write a document and find it, by a pool of a hundred sockets.
+func pool(people *mongo.Collection) {
+	rounds(func(round int) {
+		var all sync.WaitGroup
+		for _, n := range from(100*round, 100*round+99) {
+			all.Add(1)
+			go func(n int) {
+				done(people.InsertOne(ctx, numbered{n}))
+				expect(ids(people.Find(ctx, numbered{n})), []int{n})
+				all.Done()
+			}(n)
+		}
+		all.Wait()
+	})
+}
+
+// killed finds what was written in the rounds before, by the same client, whose driver asks anew where the socket has ended; and writes more.
+func killed(people *mongo.Collection) {
+	rounds(func(round int) {
+		expect(ids(people.Find(ctx, bson.M{}, options.Find().SetSort(bson.M{"_id": 1}).SetBatchSize(7))), from(0, 10*round-1))
+		var more []any
+		for _, n := range from(10*round, 10*round+9) {
+			more = append(more, numbered{n})
+		}
+		expect(len(done(people.InsertMany(ctx, more)).InsertedIDs), 10)
+	})
+}
+
+func main() {
+	address := options.Client().ApplyURI("mongodb://127.0.0.1:" + os.Args[1]).SetServerSelectionTimeout(5 * time.Second)
+	// by itself it opens two sockets at a time
+	address.SetMaxPoolSize(100).SetMaxConnecting(100).SetHeartbeatInterval(time.Minute)
+	client := done(mongo.Connect(ctx, address))
+	expect(client.Ping(ctx, nil), nil)
+	parts := map[string]func(*mongo.Collection){"session": session, "pool": pool, "killed": killed}
+	parts[os.Args[2]](client.Database("go").Collection("people"))
 	expect(client.Disconnect(ctx), nil)
 }

@@ -1,5 +1,6 @@
 <?php
-// A session of MongoDB's driver for PHP (the extension). Use: php drivers.php PORT     It ends with 0 only if all answers are as expected.
+// A client of MongoDB's driver for PHP (the extension). Use: php drivers.php PORT session|pool|killed     It ends with 0 only if all answers are as
+// expected. `pool` and `killed` say `ready`, and do a round of their work for each line that they read (class Rounds in drivers.py).
 use MongoDB\BSON\ObjectId;
 use MongoDB\Driver\Exception\{BulkWriteException, CommandException};
 use MongoDB\Driver\{BulkWrite, Command, Manager, Query, WriteResult};
@@ -134,7 +135,52 @@ function ends(Manager $client): void
     expect(found($client, []), []);
 }
 
-$client = new Manager("mongodb://127.0.0.1:$argv[1]", ["serverSelectionTimeoutMS" => 5000]);
-foreach (["writes_and_finds", "duplicates", "changes", "indexes", "aggregates", "ends"] as $part) {
-    $part($client);
+function connected(): Manager
+{
+    global $argv;
+    // those that are made alike share one client of the C driver, but for this option
+    return new Manager("mongodb://127.0.0.1:$argv[1]", ["serverSelectionTimeoutMS" => 5000], ["disableClientPersistence" => true]);
 }
+
+function session(): void
+{
+    $client = connected();
+    foreach (["writes_and_finds", "duplicates", "changes", "indexes", "aggregates", "ends"] as $part) {
+        $part($client);
+    }
+}
+
+/** Does the work of each round, which a line begins, with the round's number. */
+function rounds(callable $work): void
+{
+    echo "ready\n";
+    for ($round = 0; fgets(STDIN) !== false; $round++) {
+        $work($round);
+        echo "ready\n";
+    }
+}
+
+/** This driver has no pool, a client has one socket: a hundred clients each write a document and find it, one after the other. */
+function pool(): void
+{
+    $all = array_map(fn() => connected(), range(0, 99));
+    rounds(function ($round) use ($all) {
+        foreach ($all as $i => $client) {
+            expect(written($client, inserts(100 * $round + $i))->getInsertedCount(), 1);
+            expect(array_column(found($client, ["_id" => 100 * $round + $i]), "_id"), [100 * $round + $i]);
+        }
+    });
+}
+
+/** What was written in the rounds before is found by the same client, whose driver asks anew where the socket has ended; and more is written. */
+function killed(): void
+{
+    $client = connected();
+    rounds(function ($round) use ($client) {
+        $numbers = array_column(found($client, [], ["sort" => ["_id" => 1], "batchSize" => 7]), "_id");
+        expect($numbers, $round ? range(0, 10 * $round - 1) : []);
+        expect(written($client, inserts(...range(10 * $round, 10 * $round + 9)))->getInsertedCount(), 10);
+    });
+}
+
+["session" => session(...), "pool" => pool(...), "killed" => killed(...)][$argv[2]]();

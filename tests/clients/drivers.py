@@ -1,7 +1,7 @@
 """Drives `docpage listen --drivers` by pymongo, and by those of the drivers for Ruby, Perl, Node, C, PHP and Go that are installed.
 Usage: drivers.py PROGRAM [CASE ..]
 Every wait has an end, and so has the whole. The last line is `N passed, M failed`."""
-import os, resource, shutil, signal, socket, struct, subprocess, sys, tempfile, threading, traceback
+import os, resource, shutil, signal, socket, struct, subprocess, sys, tempfile, threading, time, traceback
 
 import bson
 import pymongo
@@ -15,6 +15,7 @@ FOLDER = tempfile.mkdtemp(prefix="drivers.")
 PATIENCE = 20.0
 AFTER = ReturnDocument.AFTER
 PROCESSES = []
+signal.alarm(int(os.environ.get("SECONDS_AT_MOST", 110)))  # also while it looks which drivers there are
 
 
 class Server:
@@ -24,8 +25,8 @@ class Server:
         self.file = os.path.join(FOLDER, name)
         self.start()
 
-    def start(self):
-        words = [PROGRAM, "listen", self.file, "--port", "0", "--drivers"]
+    def start(self, port=0):
+        words = [PROGRAM, "listen", self.file, "--port", str(port), "--drivers"]
         self.process = subprocess.Popen(words, stdout=subprocess.PIPE, stderr=subprocess.PIPE)
         PROCESSES.append(self.process)
         line = self.process.stdout.readline().decode()
@@ -609,29 +610,130 @@ def killed(server):
     server.kill()
 
 
-def other_driver(language, probe, words, patience=PATIENCE):
-    """The session of another driver, by a program of its own: where that driver is installed."""
-    def case(server):
-        ran = subprocess.run(words + [str(server.port)], stdin=subprocess.DEVNULL, capture_output=True, text=True, timeout=patience)
+def sockets(server, of_unread=False):
+    """How many sockets to a server are open, or how many of these have bytes that it has not read (/proc/net/tcp)."""
+    with open("/proc/net/tcp") as table:
+        rows = [row.split() for row in table][1:]
+    here = [row for row in rows if row[1] == f"0100007F:{server.port:04X}" and row[3] == "01"]
+    return len([row for row in here if not (of_unread and row[4].endswith(":00000000"))])
+
+
+class Rounds:
+    """A client's program that says `ready`, and does a round of its work for each line that it is sent before it says so again."""
+
+    def __init__(self, words, patience):
+        self.patience, self.said = patience, tempfile.TemporaryFile()
+        self.process = subprocess.Popen(words, stdin=subprocess.PIPE, stdout=subprocess.PIPE, stderr=self.said)
+        PROCESSES.append(self.process)
+
+    def begin(self):
+        self.process.stdin.write(b"round\n")
+        self.process.stdin.flush()
+
+    def ready(self):
+        timer = threading.Timer(self.patience, self.process.kill)
+        timer.start()
+        line = self.process.stdout.readline()
+        timer.cancel()
+        if line != b"ready\n":
+            self.said.seek(0)
+            raise AssertionError(f"{line!r}, and not that it is ready\n{self.said.read().decode()}")
+
+    def end(self):
+        self.process.stdin.close()
+        expect((self.process.wait(self.patience), self.process.stdout.read()), (0, b""))
+
+    def __enter__(self):
+        return self
+
+    def __exit__(self, *_):
+        self.process.kill()
+        self.process.wait(PATIENCE)
+
+
+class Driver:
+    """Another driver, by a client's program of its own, which takes the port and the part that it is to do: where that driver is installed."""
+
+    def __init__(self, language, probe, words, patience=PATIENCE, has_pool=True):
+        self.language, self.words, self.patience, self.has_pool = language, words, patience, has_pool
+        self.is_there = bool(shutil.which(probe[0])) and not subprocess.run(probe, stdin=subprocess.DEVNULL, capture_output=True).returncode
+
+    def cases(self):
+        for part, suffix in ((self.session, ""), (self.pool, "_pool"), (self.killed, "_killed")):
+            case = lambda server, part=part: part(server)
+            case.__name__ = self.language + suffix
+            yield case
+
+    def rounds(self, server, part):
+        return Rounds(self.words + [str(server.port), part], self.patience)
+
+    def expect_written(self, server, count):
+        """The documents that the client's program wrote, each once and no other."""
+        client = server.client()
+        expect([d["_id"] for d in client[self.language].people.find().sort("_id")], list(range(count)))
+        client.close()
+
+    def session(self, server):
+        ran = subprocess.run(self.words + [str(server.port), "session"], stdin=subprocess.DEVNULL, capture_output=True, text=True,
+                             timeout=self.patience)
         if ran.returncode:
             raise AssertionError(ran.stdout + ran.stderr)
 
-    case.__name__ = language
-    case.is_there = subprocess.run(probe, stdin=subprocess.DEVNULL, capture_output=True).returncode == 0 if shutil.which(probe[0]) else False
-    return case
+    def pool(self, _):
+        """A hundred sockets of one program. While the server is stopped, each of the hundred has a message that waits for it: in the
+        first round those that open most of the sockets, then those of the driver's user. Drivers without a pool ask by one after the other."""
+        server = Server(f"{self.language}_pool.docpage")
+        with self.rounds(server, "pool") as rounds:
+            for _ in range(2):
+                rounds.ready()
+                if self.has_pool:
+                    server.process.send_signal(signal.SIGSTOP)
+                try:
+                    rounds.begin()
+                    self.wait_for_100(server)
+                finally:
+                    server.process.send_signal(signal.SIGCONT)
+            rounds.ready()
+            if not self.has_pool:
+                expect(sockets(server), 100)
+            rounds.end()
+        self.expect_written(server, 200)
+        server.kill()
+
+    def wait_for_100(self, server):
+        end = time.monotonic() + self.patience
+        while self.has_pool and sockets(server, of_unread=True) != 100:
+            if time.monotonic() > end:
+                raise AssertionError(f"{sockets(server, of_unread=True)} of {sockets(server)} sockets wait for an answer, and not 100")
+            time.sleep(0.01)
+
+    def killed(self, _):
+        """The server is killed once a write is acknowledged, and another one opens the file: the same client goes on by itself."""
+        server = Server(f"{self.language}_killed.docpage")
+        with self.rounds(server, "killed") as rounds:
+            rounds.ready()
+            for _ in range(3):
+                rounds.begin()
+                rounds.ready()
+                server.kill()
+                server.start(server.port)
+            rounds.end()
+        self.expect_written(server, 30)
+        server.kill()
 
 
 HERE = os.path.dirname(os.path.abspath(__file__))
-COMPILE = f"cc -o {FOLDER}/session {HERE}/drivers.c $(pkg-config --cflags --libs libmongoc-1.0)"
+COMPILE = f"cc -pthread -o {FOLDER}/session {HERE}/drivers.c $(pkg-config --cflags --libs libmongoc-1.0)"
 NODE = ["env", "NODE_PATH=/usr/share/nodejs", "nodejs"]
 GO = ["env", "GO111MODULE=off", "GOPATH=/usr/share/gocode", "go"]
-OTHERS = [other_driver("ruby", ["ruby", "-rmongo", "-e", "1"], ["ruby", f"{HERE}/drivers.rb"]),
-          other_driver("perl", ["perl", "-MMongoDB", "-e", "1"], ["perl", f"{HERE}/drivers.pl"]),
-          other_driver("node", NODE + ["-e", "require('mongodb')"], NODE + [f"{HERE}/drivers.js"]),
-          other_driver("c", ["sh", "-c", COMPILE], [f"{FOLDER}/session"]),
-          other_driver("php", ["php", "-r", "exit(extension_loaded('mongodb') ? 0 : 1);"], ["php", f"{HERE}/drivers.php"]),
+RUN_GO = ["sh", "-c", f"{' '.join(GO)} build -o {FOLDER}/session.go {HERE}/drivers.go && exec {FOLDER}/session.go \"$@\"", "go"]
+OTHERS = [Driver("ruby", ["ruby", "-rmongo", "-e", "1"], ["ruby", f"{HERE}/drivers.rb"]),
+          Driver("perl", ["perl", "-MMongoDB", "-e", "1"], ["perl", f"{HERE}/drivers.pl"], has_pool=False),
+          Driver("node", NODE + ["-e", "require('mongodb')"], NODE + [f"{HERE}/drivers.js"]),
+          Driver("c", ["sh", "-c", COMPILE], [f"{FOLDER}/session"]),
+          Driver("php", ["php", "-r", "exit(extension_loaded('mongodb') ? 0 : 1);"], ["php", f"{HERE}/drivers.php"], has_pool=False),
           # it is compiled first, and at the first time the driver too, which takes twenty seconds
-          other_driver("go", GO + ["list", "go.mongodb.org/mongo-driver/mongo"], GO + ["run", f"{HERE}/drivers.go"], 2 * PATIENCE)]
+          Driver("go", GO + ["list", "go.mongodb.org/mongo-driver/mongo"], RUN_GO, 2 * PATIENCE)]
 
 CASES = [handshake, inserts, raw_inserts, finds, cursors, abandoned_cursors, updates, statement_fields, batches, upserts, modifications, deletes, counts, distincts, indexes,
          collections, refusals, whole_doubles, unacknowledged, pool, clients, idle_sockets, killed]
@@ -640,8 +742,8 @@ CASES = [handshake, inserts, raw_inserts, finds, cursors, abandoned_cursors, upd
 def main():
     for other in OTHERS:
         if not other.is_there:
-            print(f"{other.__name__}: its driver is not there, so it was not tried", flush=True)
-    chosen = [case for case in CASES + [other for other in OTHERS if other.is_there]
+            print(f"{other.language}: its driver is not there, so it was not tried", flush=True)
+    chosen = [case for case in CASES + [case for other in OTHERS if other.is_there for case in other.cases()]
               if not sys.argv[2:] or case.__name__ in sys.argv[2:]]
     passed = []
 
@@ -655,7 +757,6 @@ def main():
     most = resource.getrlimit(resource.RLIMIT_NOFILE)[1]
     resource.setrlimit(resource.RLIMIT_NOFILE, (most if most < 4_096 else 4_096, most))  # the server's too, which inherits it
     signal.signal(signal.SIGALRM, end)
-    signal.alarm(int(os.environ.get("SECONDS_AT_MOST", 90)))
     server = Server("main.docpage")
     for case in chosen:
         try:
