@@ -13,11 +13,12 @@ use Rattle.collections.proofs.LawLemmas as laws
 use Rattle.collections.proofs.StandingLemmas.{stopped_same}
 use Rattle.engine.specs.Durable.{disk_history, file_of, IsSound}
 use Rattle.opening.specs.Known.{Known}
+use Rattle.cursors.specs.Held.{table_of}
 use Rattle.pinned_cursors.proofs.TurnTied.{tied_on}
 use Rattle.engine.specs.Looking.{LeavesAll, OnlyReads}
 use Rattle.engine.specs.Performing.{DoesPlanned, DoesReading}
 use Rattle.engine.specs.Trying.{Tries}
-use Rattle.engine.specs.View.{world}
+use Rattle.engine.specs.View.{world, world_of}
 use Rattle.engine.specs.declared.engine.Engine.{Engine}
 use Rattle.bson.specs.Tree.{Pairs}
 use Rattle.database_model.specs.World.{World}
@@ -59,6 +60,9 @@ module _ {D : Type 0} (history : D → History) where
     cursors = later.cursors ∙ first.cursors;
     changes = later.changes ∙ first.changes;
   }
+
+  pub world_left : (old new : Engine D) → LeavesAll history old new → world new ≡ world old
+  world_left old new leaves = λ i. world_of (leaves.told i) (table_of (leaves.cursors i))
 
   pub leaves_all : (old new : Engine D) → OnlyReads history old new → LeavesAll history old new
   leaves_all old new reads =
