@@ -69,7 +69,8 @@ module _ {D : Type 0} (history : D → History) (name : List ℕ) (q : Query) (o
 
   -- it is there, and these are its indexes
   pub explain_done : (home : Catalogued) → Looks history (IsCatalogueOf name) (Ok (Some home)) old mid → (plan : Plan)
-      → plan ≡ choose q.filter q.sort home.indexes.items → (d : Pairs) → d ≡ ok_reply (explain_reply (explain_text plan)) → PerformsReading history run (Ok d) old mid
+      → plan ≡ choose q.filter q.sort home.indexes.items → (d : Pairs) → d ≡ ok_reply (explain_reply (explain_text plan))
+      → PerformsReading history run (Ok d) old mid
   explain_done home first plan chosen d said_so =
       performs_read history old mid run (Ok d) first.reads (λ k.
       let t = has_home (world old).collections name home (first.answers k) in

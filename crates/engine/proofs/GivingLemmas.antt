@@ -42,7 +42,8 @@ module _ {D : Type 0} (history : D → History) (old mid new : Engine D) (reads 
   pub gives_behind : (connection : ℕ) (name : List ℕ) (ds : List Pairs) (most : ℕ) (planned : Result (World × Pairs) Refusal) (r : Result Pairs Refusal)
       → length name ≤ 255 → All IsWithin ds
       → Runs (world mid) (first_batch (world mid) connection name ds (batch_of most ds)) (world new) r
-      → (KeepsWord (disk_history history mid) → first_batch (world old) connection name ds (batch_of most ds) ≡ planned) → PerformsReading history planned r old new
+      → (KeepsWord (disk_history history mid) → first_batch (world old) connection name ds (batch_of most ds) ≡ planned)
+      → PerformsReading history planned r old new
   gives_behind connection name ds most planned r short within runs same =
       let there : Result (World × Pairs) Refusal = first_batch (world mid) connection name ds (batch_of most ds) in
       let lawful : IsLawful (world new) =

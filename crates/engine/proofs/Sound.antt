@@ -121,16 +121,16 @@ module _ {D : Type 0} (history : D → History) (old new : Engine D) (planned : 
       → OnErr r (world new ≡ world old) → PerformsReading history planned r old new
   performs_tied r h goes state unchanged tied told changes lawful does left = record {
     performs = record {
-    sound = keeps_sound history old new h (subst (λ (k : Known). HasState history new.file (turn_start old) k.now) (sym told) state)
-        (subst (λ (b : Bool). AreTied b history new.file new.cursors.list) (sym changes) tied)
-        (ap (λ (k : Known). k.start) told) lawful
-        (λ rests. ap (λ (k : Known). k.start) told ∙ h.quiet (sym changes ∙ rests) ∙ sym (ap (λ (k : Known). k.now) told))
-        (λ running rests. ap (λ (t : Bool × ℕ). t.0) unchanged ∙ h.unchanged (sym goes.running ∙ running) (sym changes ∙ rests));
-    goes = goes;
-    start = ap (λ (k : Known). k.start) told;
-    does = λ k. does_any history old new planned r (does k);
-    left = left;
-    refused = either r;
+      sound = keeps_sound history old new h (subst (λ (k : Known). HasState history new.file (turn_start old) k.now) (sym told) state)
+          (subst (λ (b : Bool). AreTied b history new.file new.cursors.list) (sym changes) tied)
+          (ap (λ (k : Known). k.start) told) lawful
+          (λ rests. ap (λ (k : Known). k.start) told ∙ h.quiet (sym changes ∙ rests) ∙ sym (ap (λ (k : Known). k.now) told))
+          (λ running rests. ap (λ (t : Bool × ℕ). t.0) unchanged ∙ h.unchanged (sym goes.running ∙ running) (sym changes ∙ rests));
+      goes = goes;
+      start = ap (λ (k : Known). k.start) told;
+      does = λ k. does_any history old new planned r (does k);
+      left = left;
+      refused = either r;
     };
     changes = changes;
     takes = ap (λ (t : Bool × ℕ). t.1) unchanged;

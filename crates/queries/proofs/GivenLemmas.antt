@@ -240,6 +240,7 @@ module _ {D A X Y : Type 0} (history : D → History) (version : Version) (Is : 
     answers = λ k now has asked so. or_cause r now asked (on now asked so (reads.answers k now has asked so));
   }
     where
-      or_cause : (s : Result Y Refusal) (now : List Collection) (asked : A) → OrMemory (Q now asked) s → MatchResult s (Q now asked) (HasReadCause history old new)
+      or_cause : (s : Result Y Refusal) (now : List Collection) (asked : A) → OrMemory (Q now asked) s
+          → MatchResult s (Q now asked) (HasReadCause history old new)
       or_cause (Ok y) now asked right = right
       or_cause (Err e) now asked is = inl is
