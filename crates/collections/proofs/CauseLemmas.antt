@@ -20,7 +20,7 @@ module _ {D : Type 0} (history : D → History) where
   any_cause a b e (inl memory) = inl memory
   any_cause a b e (inr failed) = inr (inl failed)
 
-  -- a read isn't refused because no page is free
+  -- that no page is free is none of these
   pub read_not_full : (a b : State D) (e : Refusal) → HasReadCause history a b e → e ≢ refusals.Full
   read_not_full a b e (inl is) full = let both = sym is ∙ full in cc
   read_not_full a b e (inr (is, failed)) full = let both = sym is ∙ full in cc
