@@ -13,18 +13,18 @@ use Rattle.entries.specs.State.{Collection}
 use Rattle.index.specs.View.{texts_of}
 use Rattle.entries.specs.StateEntries.{Spells}
 use Rattle.entries.proofs.SpelledLaws.{spelled_once}
-use Rattle.collections.specs.Calls.{GoesFrom, Reads}
+use Rattle.collections.specs.Calls.{GoesFrom, IsUnchanged, Reads}
 use Rattle.collections.specs.OtherKeys.{TellsOf, any_other_key, is_taken}
 use Rattle.collections.specs.Standing.{HasState, IsTurnOf}
 use Rattle.collections.specs.State.{State}
-use Rattle.collections.specs.View.{disk_history, is_changed, is_stopped}
-use Rattle.collections.proofs.CauseLemmas.{cause_from, word_before}
+use Rattle.collections.specs.View.{disk_history, is_stopped}
+use Rattle.collections.proofs.CauseLemmas.{read_cause_from, word_before}
 use Rattle.collections.proofs.LawLemmas.{goes_from_itself, goes_further}
 
 -- Looks were taken that change nothing, and the test comes to the one that is left.
 pub record LooksOn {D : Type 0} (history : D → History) (edits : List Edit) (test rest : List Entry → Bool) (old new : State D) : Type 0 where
   pub on : GoesFrom history old new
-  pub unchanged : is_changed new ≡ is_changed old
+  pub unchanged : IsUnchanged history old new
   pub same : (start now : List Collection) → HasState history old start now → HasState history new start now
   pub left : KeepsWord (disk_history history new) → (start now : List Collection) → HasState history old start now → (entries : List Entry) → Spells entries now
       → test (change edits entries) ≡ rest (change edits entries)
@@ -79,7 +79,7 @@ module _ {D : Type 0} (history : D → History) (edits : List Edit) (test : List
       on = goes_further history old mid new far.on reads.on;
       unchanged = reads.unchanged ∙ far.unchanged;
       same = λ start now has. reads.same start now (far.same start now has);
-      answers = λ k start now has. cause_from history old mid new far.on (word_before history mid new reads.on k) e
+      answers = λ k start now has. read_cause_from history old mid new far.on (word_before history mid new reads.on k) e
           (reads.answers k start now (far.same start now has));
     }
 
@@ -102,7 +102,7 @@ module _ {D : Type 0} (history : D → History) (edits : List Edit) (test : List
 
   pub looks_stopped : (old : State D) → is_stopped old ≡ true → Reads history (TellsOf test edits) (Err refusals.StorageFailed) old old
   looks_stopped old stopped =
-      record { on = goes_from_itself history old; unchanged = refl; same = λ start now has. has; answers = λ k start now has. inr (inl (refl, inl stopped)) }
+      record { on = goes_from_itself history old; unchanged = refl; same = λ start now has. has; answers = λ k start now has. inr (refl, inl stopped) }
 
 -- ---- keys and indexes, one after the other
 

@@ -1,8 +1,9 @@
 -- Reads of the tree below a root page, and what they are to a turn and to a version.
 use Rattle.std.proofs.Common.{◌≡◌, ℕ, false, true, List, refl, sym, ◌∙◌, subst, inl, inr}
-use Rattle.std.specs.Prelude.{Bool, Result, Ok, Err, IsErrAnd, MatchResult}
+use Rattle.std.specs.Prelude.{Bool, Result, Ok, Err, IfErr, IsErrAnd, MatchResult}
 use Rattle.page.specs.History.{History, KeepsWord}
 use Rattle.btree.specs.Keys.{Entry}
+use Rattle.btree.specs.Reading.{IsNotFull}
 use Rattle.btree.specs.Store.{HasCause as HasTreeCause}
 use Rattle.btree.specs.declared.pages.TreeFault.{TreeFault}
 use Rattle.btree.proofs.StoreLemmas.{grows_itself}
@@ -13,14 +14,14 @@ use Rattle.pager.specs.View.{store_of}
 use Rattle.pager.specs.declared.version.Version.{Version}
 use Rattle.entries.specs.State.{Collection}
 use Rattle.collections.specs.Below.{HasBelow, IsNothing, ReadsBelow}
-use Rattle.collections.specs.Calls.{HasCause, Reads}
+use Rattle.collections.specs.Calls.{HasReadCause, Reads}
 use Rattle.collections.specs.Reading.{IsInTree, LooksUp, OrMemory, ReadsOf}
 use Rattle.collections.specs.Standing.{HasState, IsTurnOf}
 use Rattle.collections.specs.State.{State}
 use Rattle.collections.specs.Versions.{HasVersion, ReadsVersion}
 use Rattle.collections.specs.View.{disk_history, is_stopped}
 use Rattle.collections.proofs.CauseLemmas.{word_before}
-use Rattle.collections.proofs.ReadingLemmas.{AnswersAs, cause_there, stays_there, unchanged_there}
+use Rattle.collections.proofs.ReadingLemmas.{AnswersAs, read_cause_there, stays_there, unchanged_there}
 
 -- ---- before anything is read
 
@@ -39,8 +40,8 @@ module _ {D A X : Type 0} (history : D → History) (root : ℕ) (Is : List Coll
     on = grows_itself (store_of history old.pager);
     unchanged = refl;
     same = λ start now has. has;
-    stopped = λ so. inr (inl (refl, inl so));
-    answers = λ k collections has asked so. inr (inl (refl, inl stopped));
+    stopped = λ so. inr (refl, inl so);
+    answers = λ k collections has asked so. inr (refl, inl stopped);
   }
 
 -- ---- a look at the tree
@@ -56,17 +57,19 @@ module _ {D A X : Type 0} (history : D → History) (root : ℕ) (Is : List Coll
     unchanged = unchanged_there history P old pager result looks;
     same = stays_there history P old pager result looks;
     stopped = λ stopped. let both : true ≡ false = sym stopped ∙ running in absurd cc;
-    answers = λ k collections has asked so. answer collections has result r as_read (looks.yields has.pages has.entries has.holds k);
+    answers = λ k collections has asked so. answer collections has result r as_read looks.full (looks.yields has.pages has.entries has.holds k);
   }
     where
       answer : (collections : List Collection) (has : HasBelow history old root collections) (result : Result X TreeFault) (r : Result X Refusal)
-          → AnswersAs result r → MatchResult result (P has.entries) (HasTreeCause (store_of history old.pager) (store_of history pager))
-          → MatchResult r (IsInTree P collections) (HasCause history old new)
-      answer collections has (Ok x) (Ok y) same right =
+          → AnswersAs result r → IfErr result IsNotFull
+          → MatchResult result (P has.entries) (HasTreeCause (store_of history old.pager) (store_of history pager))
+          → MatchResult r (IsInTree P collections) (HasReadCause history old new)
+      answer collections has (Ok x) (Ok y) same full right =
           record { entries = has.entries; spells = has.spells; state = has.state; right = subst (P has.entries) same right }
-      answer collections has (Ok x) (Err e) same right = absurd same
-      answer collections has (Err f) (Ok y) same cause = absurd same
-      answer collections has (Err f) (Err e) same cause = subst (HasCause history old new) (sym same) (cause_there history P old pager result looks f cause)
+      answer collections has (Ok x) (Err e) same full right = absurd same
+      answer collections has (Err f) (Ok y) same full cause = absurd same
+      answer collections has (Err f) (Err e) same full cause =
+          subst (HasReadCause history old new) (sym same) (read_cause_there history P old pager result looks f full cause)
 
 -- ---- what is made of an answer
 
@@ -97,7 +100,7 @@ module _ {D A B X Y : Type 0} (history : D → History) (root : ℕ) (IsFirst : 
         or_cause (Q collections asked) r (f.2 (reads.answers k collections has f.0 f.1));
   }
     where
-      or_cause : (IsRight : Y → Type 0) (r : Result Y Refusal) → OrMemory IsRight r → MatchResult r IsRight (HasCause history old new)
+      or_cause : (IsRight : Y → Type 0) (r : Result Y Refusal) → OrMemory IsRight r → MatchResult r IsRight (HasReadCause history old new)
       or_cause IsRight (Ok y) right = right
       or_cause IsRight (Err e) is = inl is
 
@@ -122,7 +125,7 @@ below_asked history root Is P Q old new r reads on = record {
   same = reads.same;
   stopped = reads.stopped;
   answers = λ k collections has asked so.
-      answered (P collections) (Q collections asked) (HasCause history old new) r (λ x right. on collections asked x so right)
+      answered (P collections) (Q collections asked) (HasReadCause history old new) r (λ x right. on collections asked x so right)
       (reads.answers k collections has tt tt);
 }
 
@@ -141,13 +144,13 @@ module _ {D A X : Type 0} (history : D → History) (Is : List Collection → A 
     (r : Result X Refusal) (root : ℕ) (reads : ReadsBelow history root Is P r old new) where
   -- what has stopped was refused, and else the turn's tree has the collections of now
   of_turn : root ≡ old.root → KeepsWord (disk_history history new) → (start now : List Collection) → HasState history old start now → (asked : A)
-      → Is now asked → (R : X → Type 0) → (is_stopped old ≡ false → (x : X) → P now asked x → R x) → MatchResult r R (HasCause history old new)
+      → Is now asked → (R : X → Type 0) → (is_stopped old ≡ false → (x : X) → P now asked x → R x) → MatchResult r R (HasReadCause history old new)
   of_turn is k start now has asked so R on = by_stop (is_stopped old) refl
     where
-      by_stop : (b : Bool) → is_stopped old ≡ b → MatchResult r R (HasCause history old new)
-      by_stop true stopped = refused_so R (HasCause history old new) r (reads.stopped stopped)
+      by_stop : (b : Bool) → is_stopped old ≡ b → MatchResult r R (HasReadCause history old new)
+      by_stop true stopped = refused_so R (HasReadCause history old new) r (reads.stopped stopped)
       by_stop false running =
-          answered (P now asked) R (HasCause history old new) r (on running)
+          answered (P now asked) R (HasReadCause history old new) r (on running)
           (reads.answers k now (subst (λ (page : ℕ). HasBelow history old page now) (sym is)
           (turn_has history old start now (has running (word_before history old new reads.on k)))) asked so)
 
@@ -174,7 +177,7 @@ module _ {D A X : Type 0} (history : D → History) (Is : List Collection → A 
       unchanged = reads.unchanged;
       same = reads.same;
       answers = λ k collections has asked so.
-          answered (P collections asked) (Q collections asked) (HasCause history old new) r (on collections has asked so)
+          answered (P collections asked) (Q collections asked) (HasReadCause history old new) r (on collections has asked so)
           (reads.answers k collections (subst (λ (page : ℕ). HasBelow history old page collections) (sym is)
           (version_has history old version collections (word_before history old new reads.on k) has)) asked so);
     }

@@ -32,7 +32,7 @@ use Rattle.collections.specs.Entries.{AreNextEntries, HasEntries, ReadsTree, ent
 use Rattle.collections.specs.Reading.{LooksUp}
 use Rattle.collections.specs.State.{State}
 use Rattle.collections.specs.View.{is_stopped, pages_of}
-use Rattle.collections.proofs.ReadingLemmas.{AnswersAs, cause_there, room_there, stays_there, unchanged_there}
+use Rattle.collections.proofs.ReadingLemmas.{AnswersAs, cause_there, room_there, stays_there, changed_there}
 
 -- ---- the keys of a tree rise
 
@@ -209,7 +209,7 @@ module _ {D X : Type 0} (history : D → History) (P Q : List Entry → X → Ty
   pub tree_there : (r : Result X Refusal) → AnswersAs result r → ReadsTree history Q r old new
   tree_there r as_read = record {
     on = looks.grows;
-    unchanged = unchanged_there history P old pager result looks;
+    unchanged = changed_there history P old pager result looks;
     same = stays_there history P old pager result looks;
     takes = looks.takes;
     room = room_there result r as_read looks.full;

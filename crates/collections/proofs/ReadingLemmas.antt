@@ -22,7 +22,7 @@ use Rattle.pager.specs.State.{State as PagerState}
 use Rattle.pager.specs.View.{store_of}
 use Rattle.entries.specs.State.{Collection}
 use Rattle.collections.specs.Applying.{refusal_of}
-use Rattle.collections.specs.Calls.{HasCause, Reads}
+use Rattle.collections.specs.Calls.{HasCause, HasReadCause, IsUnchanged, Reads}
 use Rattle.collections.specs.Entries.{IsNotForRoom, ReadsEntries}
 use Rattle.collections.specs.Reading.{LooksUp, OrMemory, ReadsOf}
 use Rattle.collections.specs.Standing.{HasState}
@@ -47,7 +47,7 @@ module _ {D X : Type 0} (history : D → History) (Q : List Collection → X →
     on = grows_itself (store_of history old.pager);
     unchanged = refl;
     same = λ start now has. has;
-    answers = λ k start now has. inr (inl (refl, inl stopped));
+    answers = λ k start now has. inr (refl, inl stopped);
   }
 
 module _ {D A X : Type 0} (history : D → History) (Is : List Collection → A → Type 0) (Q : List Collection → A → X → Type 0) (old : State D) where
@@ -97,8 +97,11 @@ module _ {D X : Type 0} {root : ℕ} (history : D → History) (IsRight : List E
   abbrev new : State D
   new = record old { pager = pager }
 
-  pub unchanged_there : is_changed new ≡ is_changed old
-  unchanged_there = ap (λ (tree : ℕ). not (old.root == tree)) (tree_same history old.pager pager looks.grows.stays)
+  pub changed_there : is_changed new ≡ is_changed old
+  changed_there = ap (λ (tree : ℕ). not (old.root == tree)) (tree_same history old.pager pager looks.grows.stays)
+
+  pub unchanged_there : IsUnchanged history old new
+  unchanged_there i = (changed_there i, looks.takes i)
 
   pub stays_there : (start now : List Collection) → HasState history old start now → HasState history new start now
   stays_there start now = state_stays history old new start now looks.grows refl (λ k. (looks.same k).made) (λ k. (looks.same k).retired)
@@ -111,6 +114,16 @@ module _ {D X : Type 0} {root : ℕ} (history : D → History) (IsRight : List E
   cause_there faults.Number cause = absurd cause
   cause_there faults.Order cause = absurd cause
   cause_there faults.Length cause = absurd cause
+
+  pub read_cause_there : (e : TreeFault) → IsNotFull e → HasTreeCause (store_of history old.pager) (store_of history pager) e
+      → HasReadCause history old new (refusal_of e)
+  read_cause_there faults.Memory other cause = inl refl
+  read_cause_there faults.Device other cause = inr (refl, inr cause)
+  read_cause_there faults.Full other cause = absurd other
+  read_cause_there faults.Kind other cause = absurd cause
+  read_cause_there faults.Number other cause = absurd cause
+  read_cause_there faults.Order other cause = absurd cause
+  read_cause_there faults.Length other cause = absurd cause
 
 -- ---- all entries
 
@@ -150,7 +163,7 @@ module _ {D : Type 0} (history : D → History) (old : State D) (pager : PagerSt
   pub entries_there : (r : Result (Vec OwnEntry) Refusal) → AnswersAs result r → ReadsEntries history r old there
   entries_there r as_read = record {
     on = looks.grows;
-    unchanged = unchanged_there history (λ entries all. map entry_in all.items ≡ entries) old pager result looks;
+    unchanged = changed_there history (λ entries all. map entry_in all.items ≡ entries) old pager result looks;
     same = stays_there history (λ entries all. map entry_in all.items ≡ entries) old pager result looks;
     takes = looks.takes;
     room = room_there result r as_read looks.full;
@@ -214,12 +227,12 @@ module _ {D X Y : Type 0} (history : D → History) (P : List Collection → X �
     answers = λ k start now has. or_cause (Q now) r (on now (reads.answers k start now has));
   }
     where
-      or_cause : (IsRight : Y → Type 0) (r : Result Y Refusal) → OrMemory IsRight r → MatchResult r IsRight (HasCause history old new)
+      or_cause : (IsRight : Y → Type 0) (r : Result Y Refusal) → OrMemory IsRight r → MatchResult r IsRight (HasReadCause history old new)
       or_cause IsRight (Ok y) right = right
       or_cause IsRight (Err e) is = inl is
 
 module _ {D A Y : Type 0} (history : D → History) (Is : List Collection → A → Type 0) (Q : List Collection → A → Y → Type 0) (old new : State D) where
-  or_cause_of : (IsRight : Y → Type 0) (r : Result Y Refusal) → OrMemory IsRight r → MatchResult r IsRight (HasCause history old new)
+  or_cause_of : (IsRight : Y → Type 0) (r : Result Y Refusal) → OrMemory IsRight r → MatchResult r IsRight (HasReadCause history old new)
   or_cause_of IsRight (Ok y) right = right
   or_cause_of IsRight (Err e) is = inl is
 
@@ -261,7 +274,7 @@ module _ {D A X : Type 0} (history : D → History) (Is : List Collection → A 
     answers = λ k start now has asked so. either (P now) (Q now asked) r (λ x p. on now asked x so p) (reads.answers k start now has);
   }
     where
-      either : (P Q : X → Type 0) (r : Result X Refusal) → ((x : X) → P x → Q x) → MatchResult r P (HasCause history old new)
-          → MatchResult r Q (HasCause history old new)
+      either : (P Q : X → Type 0) (r : Result X Refusal) → ((x : X) → P x → Q x) → MatchResult r P (HasReadCause history old new)
+          → MatchResult r Q (HasReadCause history old new)
       either P Q (Ok x) on p = on x p
       either P Q (Err e) on cause = cause

@@ -7,10 +7,10 @@ use Rattle.path.specs.declared.refusal.Refusal.{Refusal}
 use Rattle.entries.specs.LawfulState.{IsLawfulState}
 use Rattle.entries.specs.State.{Collection}
 use Rattle.entries.specs.StateEntries.{Spells}
-use Rattle.collections.specs.Calls.{GoesFrom, HasCause}
+use Rattle.collections.specs.Calls.{GoesFrom, HasReadCause, IsUnchanged}
 use Rattle.collections.specs.Standing.{HasState}
 use Rattle.collections.specs.State.{State}
-use Rattle.collections.specs.View.{disk_history, is_changed, is_stopped, pages_of}
+use Rattle.collections.specs.View.{disk_history, is_stopped, pages_of}
 
 -- The tree below the page has these collections: its entries spell them.
 pub record HasBelow {D : Type 0} (history : D → History) (c : State D) (root : ℕ)
@@ -32,11 +32,11 @@ pub record ReadsBelow {D A X : Type 0} (history : D → History) (root : ℕ)
     (Is : List Collection → A → Type 0) (IsRight : List Collection → A → X → Type 0)
     (result : Result X Refusal) (old new : State D) : Type 0 where
   pub on : GoesFrom history old new
-  pub unchanged : is_changed new ≡ is_changed old
+  pub unchanged : IsUnchanged history old new
   pub same : (start now : List Collection) → HasState history old start now
       → HasState history new start now
   -- what has stopped refuses
-  pub stopped : is_stopped old ≡ true → IsErrAnd result (HasCause history old new)
+  pub stopped : is_stopped old ≡ true → IsErrAnd result (HasReadCause history old new)
   pub answers : KeepsWord (disk_history history new) → (collections : List Collection)
       → HasBelow history old root collections → (asked : A) → Is collections asked
-      → MatchResult result (IsRight collections asked) (HasCause history old new)
+      → MatchResult result (IsRight collections asked) (HasReadCause history old new)

@@ -1,6 +1,6 @@
 -- What calls of the collections give, and why they refuse.
-use Rattle.std.specs.Prelude.{◌≡◌, ◌⊎◌, ◌<◌, ◌≤◌, true, List, [], length, Result, IfErr, OnErr}
-use Rattle.std.specs.Prelude.{MatchResult}
+use Rattle.std.specs.Prelude.{◌≡◌, ◌⊎◌, ℕ, ◌<◌, ◌≤◌, Bool, true, List, [], length, Result, IfErr}
+use Rattle.std.specs.Prelude.{OnErr, MatchResult}
 use Rattle.page.specs.History.{History, KeepsWord}
 use Rattle.btree.specs.Keys.{Entry, Edit}
 use Rattle.btree.specs.Store.{Grows, HasNoPage}
@@ -22,6 +22,13 @@ abbrev pub HasFailed : {D : Type 0} → (D → History) → State D → State D 
 HasFailed history old new = (is_stopped old ≡ true)
     ⊎ ((disk_history history old).failures < (disk_history history new).failures)
 
+-- Why a call that only reads was refused: memory ran out, or the device failed. It asks for no
+-- page, so that none is free is no cause.
+abbrev pub HasReadCause : {D : Type 0} → (D → History) → State D → State D
+    → Refusal → Type 0
+HasReadCause history old new e = (e ≡ refusals.OutOfMemory)
+    ⊎ ((e ≡ refusals.StorageFailed) × HasFailed history old new)
+
 -- Why a call was refused that isn't refused by what it asks for: memory ran out, the device failed,
 -- or no page was free.
 abbrev pub HasCause : {D : Type 0} → (D → History) → State D → State D
@@ -32,17 +39,26 @@ HasCause history old new e = (e ≡ refusals.OutOfMemory)
 
 -- ---- reading
 
+-- whether the turn's tree is another than the committed one, and how often a page was asked for and
+-- none was free
+abbrev pub turn_so_far : {D : Type 0} → (D → History) → State D → Bool × ℕ
+turn_so_far history c = (is_changed c, (pages_of history c).full_takes)
+
+-- The turn changed nothing and asked for no page: both are as before.
+abbrev pub IsUnchanged : {D : Type 0} → (D → History) → State D → State D → Type 0
+IsUnchanged history old new = turn_so_far history new ≡ turn_so_far history old
+
 -- A call that reads: nothing of the turn changes, and while the disk keeps its word, the answer is
 -- right for the collections, or the refusal has its cause.
 pub record Reads {D X : Type 0} (history : D → History) (IsRight : List Collection → X → Type 0)
     (result : Result X Refusal) (old new : State D) : Type 0 where
   pub on : GoesFrom history old new
-  pub unchanged : is_changed new ≡ is_changed old
+  pub unchanged : IsUnchanged history old new
   pub same : (start now : List Collection) → HasState history old start now
       → HasState history new start now
   pub answers : KeepsWord (disk_history history new) → (start now : List Collection)
       → HasState history old start now
-      → MatchResult result (IsRight now) (HasCause history old new)
+      → MatchResult result (IsRight now) (HasReadCause history old new)
 
 -- ---- writing
 

@@ -1,12 +1,14 @@
 -- What follows where collections have a state.
-use Rattle.std.specs.Prelude.{◌≡◌, ℕ, false, List, [], replicate}
+use Rattle.std.specs.Prelude.{◌≡◌, ◌≢◌, ℕ, false, List, [], replicate}
 use Rattle.page.specs.History.{History, KeepsWord}
 use Rattle.page.specs.Crash.{LeavesNow}
 use Rattle.roots.specs.declared.counting.PageCounts.{PageCounts}
 use Rattle.entries.specs.State.{Collection}
 use Rattle.pager.specs.declared.version.Version.{Version}
+use Rattle.path.specs.declared.refusal.Refusal.{Refusal}
+use Rattle.path.specs.declared.refusal.Refusal.TheVariants as refusals
 use Rattle.collections.specs.State.{State}
-use Rattle.collections.specs.Calls.{GoesFrom}
+use Rattle.collections.specs.Calls.{GoesFrom, HasCause, HasReadCause}
 use Rattle.collections.specs.Counting.{HasCounts}
 use Rattle.collections.specs.Holding.{Holds}
 use Rattle.collections.specs.Standing.{HasState}
@@ -59,3 +61,8 @@ GoesFromItself {D = D} history = (c : State D) → GoesFrom history c c
 abbrev pub GoesFurther : {D : Type 0} → (D → History) → Type 0
 GoesFurther {D = D} history = (a b c : State D)
     → GoesFrom history a b → GoesFrom history b c → GoesFrom history a c
+
+-- What refuses a call that only reads is a cause of any call's, and never that no page is free.
+abbrev pub ReadsFindRoom : {D : Type 0} → (D → History) → Type 0
+ReadsFindRoom {D = D} history = (old new : State D) (e : Refusal)
+    → HasReadCause history old new e → (e ≢ refusals.Full) × HasCause history old new e

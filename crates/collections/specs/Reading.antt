@@ -30,10 +30,10 @@ use Rattle.entries.specs.declared.catalogue_reading.Catalogued.{Catalogued}
 use Rattle.pager.specs.State.{State as PagerState}
 use Rattle.pager.specs.View.{pager_history, store_of}
 use Rattle.collections.specs.declared.reading.Name.{Name}
-use Rattle.collections.specs.Calls.{GoesFrom, HasCause}
+use Rattle.collections.specs.Calls.{GoesFrom, HasReadCause, IsUnchanged}
 use Rattle.collections.specs.Standing.{HasState}
 use Rattle.collections.specs.State.{State}
-use Rattle.collections.specs.View.{disk_history, is_changed}
+use Rattle.collections.specs.View.{disk_history}
 
 -- ---- what the tree has
 
@@ -122,12 +122,12 @@ pub record ReadsOf {D A X : Type 0} (history : D → History) (Is : List Collect
     (IsRight : List Collection → A → X → Type 0) (result : Result X Refusal)
     (old new : State D) : Type 0 where
   pub on : GoesFrom history old new
-  pub unchanged : is_changed new ≡ is_changed old
+  pub unchanged : IsUnchanged history old new
   pub same : (start now : List Collection) → HasState history old start now
       → HasState history new start now
   pub answers : KeepsWord (disk_history history new) → (start now : List Collection)
       → HasState history old start now → (asked : A) → Is now asked
-      → MatchResult result (IsRight now asked) (HasCause history old new)
+      → MatchResult result (IsRight now asked) (HasReadCause history old new)
 
 -- an `_id` in a collection
 pub record Place : Type 0 where

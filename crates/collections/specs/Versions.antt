@@ -12,7 +12,7 @@ use Rattle.pager.specs.declared.version.Version.{Version}
 use Rattle.path.specs.declared.refusal.Refusal.{Refusal}
 use Rattle.roots.specs.declared.store.CommitFault.{CommitFault}
 use Rattle.roots.specs.declared.store.CommitFault.TheVariants as faults
-use Rattle.collections.specs.Calls.{GoesFrom, HasCause}
+use Rattle.collections.specs.Calls.{GoesFrom, HasReadCause, IsUnchanged}
 use Rattle.collections.specs.Marks.{IsMarkOf, IsUntouched}
 use Rattle.collections.specs.Standing.{HasState}
 use Rattle.collections.specs.State.{State}
@@ -143,9 +143,9 @@ pub record ReadsVersion {D A X : Type 0} (history : D → History) (version : Ve
     (Is : List Collection → A → Type 0) (IsRight : List Collection → A → X → Type 0)
     (result : Result X Refusal) (old new : State D) : Type 0 where
   pub on : GoesFrom history old new
-  pub unchanged : is_changed new ≡ is_changed old
+  pub unchanged : IsUnchanged history old new
   pub same : (start now : List Collection) → HasState history old start now
       → HasState history new start now
   pub answers : KeepsWord (disk_history history new) → (collections : List Collection)
       → HasVersion history old version collections → (asked : A) → Is collections asked
-      → MatchResult result (IsRight collections asked) (HasCause history old new)
+      → MatchResult result (IsRight collections asked) (HasReadCause history old new)

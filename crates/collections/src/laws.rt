@@ -1,6 +1,6 @@
 //! Laws of turns, each the contract of a function that does nothing.
 
-ghost use Rattle.collections.specs.Laws.{GoesFromItself, GoesFurther, HasOneCount, HasOneState, HasOneVersion, HoldsOne, LeavesStart, RestsAtStart, ZerosHoldNothing};
+ghost use Rattle.collections.specs.Laws.{GoesFromItself, GoesFurther, HasOneCount, HasOneState, HasOneVersion, HoldsOne, LeavesStart, ReadsFindRoom, RestsAtStart, ZerosHoldNothing};
 ghost use Rattle.collections.specs.Trusting.{TrustingKeepsState};
 ghost use Rattle.collections.specs.Versions.{PinsStay, SinceStartStays, VersionsStay};
 
@@ -44,6 +44,11 @@ pub fn goes_from_itself<D: Disk>()
 /// What goes on from where a turn has come goes on from where it was.
 pub fn goes_further<D: Disk>()
     ensures { GoesFurther D.history }
+{}
+
+/// What only reads is never refused because no page is free.
+pub fn reads_find_room<D: Disk>()
+    ensures { ReadsFindRoom D.history }
 {}
 
 /// A state that collections have where something is true they have on a disk whose word counts only there.

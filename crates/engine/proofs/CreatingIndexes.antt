@@ -180,7 +180,7 @@ module _ {D : Type 0} (history : D → History) (name : List ℕ) (ns : List New
 
   pub put_stopped : is_stopped old ≡ true → Makes history (Plan (world old).collections) (Err refusals.StorageFailed) old old
   put_stopped stopped =
-      makes_none history (Plan (world old).collections) old old refusals.StorageFailed (reads_none history old h) (λ k. inr (inr (inl (refl, inl stopped))))
+      makes_none history (Plan (world old).collections) old old refusals.StorageFailed (reads_none history old h) (λ k. inr (inr (refl, inl stopped)))
 
   pub put_nothing : p.is_new ≡ false → p.after ≤ p.before → Makes history (Plan (world old).collections) (Ok tt) old old
   put_nothing is_old few = record {
@@ -281,7 +281,7 @@ module _ {D : Type 0} (history : D → History) (name : List ℕ) (ns : List New
 
   module _ (p : PlannedIndexes) (tried : Tried (Ok p)) where
     pub create_without_memory : (e : Refusal) → e ≡ refusals.OutOfMemory → Performs history run (Err e) old mid
-    create_without_memory e is = performs_memory history old mid run e is tried.reads
+    create_without_memory e is = (performs_memory history old mid run e is tried.reads).performs
 
     pub planned_mid : KeepsWord (disk_history history mid) → ArePlanned (world mid).collections name ns p
     planned_mid k = subst (λ (cs : List Collection). ArePlanned cs name ns p) (sym (now_same history old mid tried.reads)) (tried.answers k)

@@ -73,7 +73,7 @@ module _ {D : Type 0} (history : D → History) (old : Engine D) (h : IsSound hi
   NotesAt home_after after r new = Notes history name (HasOtherIndexes (world old).collections name) (drop_at at) home home_after before after r old new
 
   pub at_stopped : is_stopped old ≡ true → NotesAt home before (Err refusals.StorageFailed) old
-  at_stopped stopped = record { reads = reads_none history old h; answers = λ k c noted so. inr (inr (inl (refl, inl stopped))) }
+  at_stopped stopped = record { reads = reads_none history old h; answers = λ k c noted so. inr (inr (refl, inl stopped)) }
 
   module _ (running : IsRunning old) (i : Definition) (within : at < length home.indexes.items) (here : i ≡ get_or home.indexes.items at i) (mid : List Edit)
       (last : Engine D) where
@@ -394,7 +394,7 @@ module _ {D : Type 0} (history : D → History) (name : List ℕ) (away : Droppe
         inl (dropped_there (world old).collections name away t.collection t.found (Err e) (ap (left_by away) t.catalogued.indexed ∙ refused))))
 
     pub unlisted_without_memory : (e : Refusal) → e ≡ refusals.OutOfMemory → Performs history run (Err e) old mid
-    unlisted_without_memory e is = performs_memory history old mid run e is first.reads
+    unlisted_without_memory e is = (performs_memory history old mid run e is first.reads).performs
 
     module _ (new : Engine D) where
       abbrev Behind : Result (Unit {0}) Refusal → Type 0

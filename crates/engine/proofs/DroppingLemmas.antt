@@ -186,7 +186,7 @@ module _ {D : Type 0} (history : D → History) (home : Catalogued) (before : Li
   Empties after r new = LooksOf history (IsFilled home before) (λ now c _. IsLeft now c after []) r old new
 
   pub emptied_stopped : IsSound history old → is_stopped old ≡ true → Empties before (Err refusals.StorageFailed) old
-  emptied_stopped h stopped = record { reads = reads_none history old h; answers = λ k c is. inr (inl (refl, inl stopped)) }
+  emptied_stopped h stopped = record { reads = reads_none history old h; answers = λ k c is. inr (refl, inl stopped) }
 
   pub emptied_without_memory : IsSound history old → Empties before (Err refusals.OutOfMemory) old
   emptied_without_memory h = record { reads = reads_none history old h; answers = λ k c is. inl refl }

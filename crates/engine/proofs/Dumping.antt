@@ -6,7 +6,7 @@ use Rattle.bson.specs.Tree.{Pairs}
 use Rattle.page.specs.History.{History}
 use Rattle.path.specs.declared.refusal.Refusal.{Refusal}
 use Rattle.entries.specs.State.{Collection, find_collection}
-use Rattle.collections.specs.Calls.{HasCause}
+use Rattle.collections.specs.Calls.{HasReadCause}
 use Rattle.collections.specs.Standing.{HasState}
 use Rattle.collections.specs.View.{is_stopped}
 use Rattle.collections.specs.Walk.{BeginsWalk, IsWalk, StepsOn}
@@ -29,11 +29,10 @@ missing_so (Some c) is = absurd cc
 
 module _ {D : Type 0} (history : D → History) (old new : Engine D) where
   -- the cause of a refusal to read is one of its fault
-  pub fault_cause : (IsMissing : Type 0) (e : Refusal) → HasCause history (file_of old) (file_of new) e
+  pub fault_cause : (IsMissing : Type 0) (e : Refusal) → HasReadCause history (file_of old) (file_of new) e
       → HasFaultCause history IsMissing old new (check_fault e)
   fault_cause IsMissing e (inl is) = subst (λ (e : Refusal). HasFaultCause history IsMissing old new (check_fault e)) (sym is) tt
-  fault_cause IsMissing e (inr (inl (is, failed))) = subst (λ (e : Refusal). HasFaultCause history IsMissing old new (check_fault e)) (sym is) failed
-  fault_cause IsMissing e (inr (inr (is, full))) = subst (λ (e : Refusal). HasFaultCause history IsMissing old new (check_fault e)) (sym is) tt
+  fault_cause IsMissing e (inr (is, failed)) = subst (λ (e : Refusal). HasFaultCause history IsMissing old new (check_fault e)) (sym is) failed
 
   -- ---- the next documents
 

@@ -8,7 +8,7 @@ use Rattle.value_order.specs.KeyText.{tree_text}
 use Rattle.btree.specs.Keys.{Edit, change, value_at}
 use Rattle.path.specs.declared.refusal.Refusal.{Refusal}
 use Rattle.path.specs.declared.refusal.Refusal.TheVariants as refusals
-use Rattle.collections.specs.Calls.{HasCause, Reads}
+use Rattle.collections.specs.Calls.{HasReadCause, Reads}
 use Rattle.collections.specs.OtherKeys.{TellsDocument, TellsOf, is_taken}
 use Rattle.collections.specs.State.{State}
 use Rattle.index.specs.Definition.{Definition}
@@ -56,8 +56,8 @@ module _ {D : Type 0} (history : D → History) (old : Engine D) (h : IsSound hi
       where
         told : (q : Result Bool Refusal) (x : Beside) → IsBeside home edits text keyed cs x
             → MatchResult q (TellsOf (is_taken home.number text home.indexes.items (map (λ ks. texts_of ks.items) keyed.keys.items)) edits cs)
-            (HasCause history old.file file)
-            → MatchResult q (TellsTaken keyed cs x) (HasCause history old.file file)
+            (HasReadCause history old.file file)
+            → MatchResult q (TellsTaken keyed cs x) (HasReadCause history old.file file)
         told (Ok b) x is p = record {
           told = p.right
               ∙ ap (λ (t : List ℕ). is_taken home.number t home.indexes.items (map (λ ks. texts_of ks.items) keyed.keys.items) (change edits p.entries))
@@ -103,8 +103,8 @@ module _ {D : Type 0} (history : D → History) (old : Engine D) (h : IsSound hi
       }
         where
           told : (q : Result Bool Refusal) (x : Beside) → IsBeside home edits text keyed cs x → KeepsWord (disk_history history mid)
-              → MatchResult q (TellsTaken keyed cs x) (HasCause history file new.file)
-              → MatchResult q (TellsDuplicate true keyed cs x) (HasCause history old.file new.file)
+              → MatchResult q (TellsTaken keyed cs x) (HasReadCause history file new.file)
+              → MatchResult q (TellsDuplicate true keyed cs x) (HasReadCause history old.file new.file)
           told (Ok b) x is k right =
               let missing = id_read false (read.answers k old.told.value.start cs h.file) x is in
               record {
@@ -116,8 +116,8 @@ module _ {D : Type 0} (history : D → History) (old : Engine D) (h : IsSound hi
   pub duplicate_of_keys : (r : Result Bool Refusal) (new : Engine D) → Asks (TellsTaken keyed) r new → Asks (TellsDuplicate false keyed) r new
   duplicate_of_keys r new looks = record { reads = looks.reads; answers = λ k x is. told r x (looks.answers k x is) }
     where
-      told : (q : Result Bool Refusal) (x : Beside) → MatchResult q (TellsTaken keyed cs x) (HasCause history (file_of old) (file_of new))
-          → MatchResult q (TellsDuplicate false keyed cs x) (HasCause history (file_of old) (file_of new))
+      told : (q : Result Bool Refusal) (x : Beside) → MatchResult q (TellsTaken keyed cs x) (HasReadCause history (file_of old) (file_of new))
+          → MatchResult q (TellsDuplicate false keyed cs x) (HasReadCause history (file_of old) (file_of new))
       told (Ok b) x right = record { told = right.told; lawful = right.lawful }
       told (Err e) x cause = cause
 
@@ -169,7 +169,7 @@ module _ {D : Type 0} (history : D → History) (old : Engine D) (name : List �
       abbrev Answered : Result Bool Refusal → Collection → Type 0
       Answered q c =
           MatchResult q (TellsDuplicate is_new keyed (world old).collections (record { name = name; collection = c }))
-          (HasCause history (file_of old) (file_of new))
+          (HasReadCause history (file_of old) (file_of new))
 
       answer : (q : Result Bool Refusal) → r ≡ q → KeepsWord (disk_history history new) → (c : Collection)
           → AreNoted (world old).collections name home before c → Answered q c

@@ -25,14 +25,14 @@ use Rattle.opening.specs.FileOpening.{HasFault, LoadsFile}
 use Rattle.opening.specs.Judging.{MakesNone, bare, listed_of}
 use Rattle.database_model.specs.Lawful.{IsStored}
 use Rattle.opening.specs.Loading.{named_as, progress_of}
-use Rattle.engine.specs.Looking.{OnlyReads}
+use Rattle.engine.specs.Looking.{LeavesAll}
 use Rattle.engine.specs.View.{turn_start, world}
 use Rattle.engine.specs.declared.check_fault.CheckFault.TheVariants as faults
 use Rattle.engine.specs.declared.checking.Counts.{Counts}
 use Rattle.engine.specs.declared.engine.Engine.{Engine}
 use Rattle.opening.specs.declared.loading.Loading.{Loading}
 use Rattle.opening.proofs.FileEntries.{made_spell}
-use Rattle.engine.proofs.OnlyReading.{failed_from, reads_file, reads_none, reads_on, word_before}
+use Rattle.engine.proofs.OnlyReading.{failed_from, leaves_all, leaves_file, leaves_on, reads_none, word_before}
 use Rattle.opening.proofs.RefusingLemmas.{none_unmade}
 
 -- ---- what the catalogue tells
@@ -47,7 +47,7 @@ bare_indexes (c ∷ cs) = ap (λ (n : ℕ). 1 + length c.indexes + n) (bare_inde
 module _ {D : Type 0} (history : D → History) (old : Engine D) (sound : IsSound history old) where
   -- it had stopped
   pub check_stopped : is_stopped (file_of old) ≡ true → ChecksFile history (Err faults.Device) old old
-  check_stopped stopped = record { only = reads_none history old sound; answers = λ k. inl stopped }
+  check_stopped stopped = record { only = leaves_all history old old (reads_none history old sound); answers = λ k. inl stopped }
 
   module _ (running : is_stopped (file_of old) ≡ false) (mid : State D) where
     -- its pages weren't counted
@@ -61,7 +61,7 @@ module _ {D : Type 0} (history : D → History) (old : Engine D) (sound : IsSoun
     pub check_uncounted : (fault : OpenFault) → CountsPages history (Err fault) old.file mid
         → ChecksFile history (Err (reading_fault fault)) old (record old { file = mid })
     check_uncounted fault counted = record {
-      only = reads_file history old mid sound counted.on counted.unchanged counted.same;
+      only = leaves_file history old mid sound counted.on counted.unchanged counted.same;
       answers = λ k. count_cause fault (counted.answers k (turn_start old) (world old).collections sound.file);
     }
 
@@ -72,8 +72,8 @@ module _ {D : Type 0} (history : D → History) (old : Engine D) (sound : IsSoun
       abbrev after : Engine D
       after = record old { file = new }
 
-      first : OnlyReads history old between
-      first = reads_file history old mid sound counted.on counted.unchanged counted.same
+      first : LeavesAll history old between
+      first = leaves_file history old mid sound counted.on counted.unchanged counted.same
 
       -- what the tree has while the entries are read
       turn_there : KeepsWord (disk_history history between) → IsTurnOf history mid (turn_start old) (world old).collections
@@ -86,9 +86,9 @@ module _ {D : Type 0} (history : D → History) (old : Engine D) (sound : IsSoun
       stored : All (λ (c : Collection). All IsStored c.documents) (world old).collections
       stored = λ i c below. (sound.lawful.kept i c below).lawful.stored
 
-      only_reads : (r : Result Loading OpenFault) (last : List Collection) → LoadsFile history r last mid new → OnlyReads history old after
+      only_reads : (r : Result Loading OpenFault) (last : List Collection) → LoadsFile history r last mid new → LeavesAll history old after
       only_reads r last loads =
-          reads_on history old between after first (reads_file history between new first.sound loads.judges.read.on loads.judges.read.unchanged
+          leaves_on history old between after first (leaves_file history between new first.sound loads.judges.read.on loads.judges.read.unchanged
           loads.judges.read.same)
 
       word_mid : (r : Result Loading OpenFault) (last : List Collection) → LoadsFile history r last mid new → KeepsWord (disk_history history after)

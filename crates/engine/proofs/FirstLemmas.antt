@@ -11,7 +11,7 @@ use Rattle.page.specs.History.{History, KeepsWord}
 use Rattle.path.specs.declared.refusal.Refusal.{Refusal}
 use Rattle.path.specs.declared.refusal.Refusal.TheVariants as refusals
 use Rattle.projection.specs.Projection.{project}
-use Rattle.collections.specs.Calls.{HasCause}
+use Rattle.collections.specs.Calls.{HasReadCause}
 use Rattle.collections.specs.State.{State}
 use Rattle.cursors.specs.Held.{Held, cursors_of, listed, table_of}
 use Rattle.database_model.specs.Cursors.{batch_of, first_batch}
@@ -25,13 +25,12 @@ use Rattle.index.specs.View.{texts_of}
 use Rattle.pinned_cursors.specs.First.{GivesFirst, IsFirstGiven}
 use Rattle.pinned_cursors.specs.Opening.{IsLeftOf}
 use Rattle.queries.specs.Listed.{id_text_of}
-use Rattle.queries.proofs.ReadingLemmas.{of_file}
 use Rattle.replies.specs.FirstBatch.{IsFirstBatch, IsNoBatch}
 use Rattle.replies.specs.View.{with_ok}
 use Rattle.sort.specs.Sort.{order}
 use Rattle.statements.proofs.Numbers.{found_kept}
 use Rattle.engine.specs.Durable.{IsSound, disk_history}
-use Rattle.engine.specs.Performing.{DoesPlanned, Performs}
+use Rattle.engine.specs.Performing.{DoesReading, PerformsReading}
 use Rattle.engine.specs.View.{world, world_of}
 use Rattle.engine.specs.Walking.{AreIdsAsked}
 use Rattle.engine.specs.declared.engine.Engine.{Engine}
@@ -98,12 +97,12 @@ module _ {D : Type 0} (history : D → History) (old : Engine D) (h : IsSound hi
     -- a refusal that memory ran out, or that no cursor may be opened, is as planned or has its cause
     does : (r : Result Pairs Refusal) → OnErr r (held ≡ old.cursors)
         → MatchResult r (IsFirstGiven connection name gs most old.cursors held)
-        (λ e. HasCause history old.file file e ⊎ IsNoBatch (table_of old.cursors) connection gs most e) → DoesPlanned history planned r old new
+        (λ e. HasReadCause history old.file file e ⊎ IsNoBatch (table_of old.cursors) connection gs most e) → DoesReading history planned r old new
     does (Ok reply) same given = given_so reply given
     does (Err e) same (inl cause) =
-        (ap (λ (t : Held). world_of old.told.value (table_of t)) same, inr (of_file history old.file file e cause, λ k. inl cause))
+        (ap (λ (t : Held). world_of old.told.value (table_of t)) same, inr cause)
     does (Err e) same (inr (inl memory)) =
-        (ap (λ (t : Held). world_of old.told.value (table_of t)) same, inr (inl memory, λ k. inl (inl memory)))
+        (ap (λ (t : Held). world_of old.told.value (table_of t)) same, inr (inl memory))
     does (Err e) same (inr (inr many)) = (
       ap (λ (t : Held). world_of old.told.value (table_of t)) same,
       inl (sym (run_find-is w connection name q most gs refl)
@@ -120,7 +119,7 @@ module _ {D : Type 0} (history : D → History) (old : Engine D) (h : IsSound hi
     pub performs_first : (r : Result Pairs Refusal)
         → GivesFirst history connection name home.number q.projection (listed texts) gs most r old.file file old.cursors held
         → (AreLawfulCursors (cursors_of old.cursors) → AreLawfulCursors (cursors_of held))
-        → (KeepsWord (disk_history history old) → AreIdsAsked (world old).collections name home q texts) → Performs history planned r old new
+        → (KeepsWord (disk_history history old) → AreIdsAsked (world old).collections name home q texts) → PerformsReading history planned r old new
     performs_first r gives lawful there =
         let pinned : Engine D = record old { file = gives.pinned } in
         let read : Engine D = record old { file = gives.goes.read } in
@@ -135,6 +134,6 @@ module _ {D : Type 0} (history : D → History) (old : Engine D) (h : IsSound hi
         let now = old.told.value.now in
         performs_tied history old new planned r h goes
         (pins.state start now (gives.goes.same start now (first.state start now h.file)))
-        (pins.unchanged ∙ gives.goes.unchanged ∙ first.unchanged)
+        ((λ i. (pins.unchanged i, pins.takes i)) ∙ gives.goes.unchanged ∙ (λ i. (first.unchanged i, first.takes i)))
         (gives.tied (λ k. left_of_list (there k)) old.is_changed h.unchanged h.tied) refl refl (record { collections = h.lawful; cursors = lawful h.cursors })
         (λ k. does r gives.err (gives.answers k (left_of_list (there (goes.reads.on.kept k))))) (same_world r gives.err)

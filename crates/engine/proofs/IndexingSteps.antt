@@ -50,7 +50,7 @@ module _ {D : Type 0} (history : D → History) (old : Engine D) (h : IsSound hi
       Notes history name (HasDocumentsOf (world old).collections name) (λ c. with_new_index c n) home home_after before after r old new
 
   pub index_stopped : is_stopped old ≡ true → NotesIt home before (Err refusals.StorageFailed) old
-  index_stopped stopped = record { reads = reads_none history old h; answers = λ k c noted so. inr (inr (inl (refl, inl stopped))) }
+  index_stopped stopped = record { reads = reads_none history old h; answers = λ k c noted so. inr (inr (refl, inl stopped)) }
 
   pub index_there : is_there home.indexes.items n ≡ true → NotesIt home before (Ok tt) old
   index_there there = record {

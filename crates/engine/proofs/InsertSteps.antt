@@ -10,7 +10,7 @@ use Rattle.btree.specs.Keys.{Edit}
 use Rattle.path.specs.declared.refusal.Refusal.{Refusal}
 use Rattle.path.specs.declared.refusal.Refusal.TheVariants as refusals
 use Rattle.commands.specs.View.{documents_at}
-use Rattle.collections.specs.Calls.{HasCause}
+use Rattle.collections.specs.Calls.{HasReadCause}
 use Rattle.collections.specs.Reading.{IsWithinLimits, catalogued_in, catalogued_of}
 use Rattle.update.specs.Stored.{id_first}
 use Rattle.entries.specs.Documents.{AddsCollection}
@@ -138,9 +138,9 @@ module _ {D : Type 0} (history : D → History) (name : List ℕ) (home : Catalo
     where
       told : (q : Result (Unit {0}) Refusal) (c : Collection)
           → MatchResult q (λ _. HasNoted (world old).collections name home_after after (entering None d c))
-          (λ e. (entering None d c ≡ Err e) ⊎ HasCause history (file_of old) (file_of new) e)
+          (λ e. (entering None d c ≡ Err e) ⊎ HasReadCause history (file_of old) (file_of new) e)
           → MatchResult q (λ _. HasNoted (world old).collections name home_after after (insert_one c ps))
-          (λ e. (insert_one c ps ≡ Err e) ⊎ HasCause history (file_of old) (file_of new) e)
+          (λ e. (insert_one c ps ≡ Err e) ⊎ HasReadCause history (file_of old) (file_of new) e)
       told (Ok u) c has = subst (HasNoted (world old).collections name home_after after) (enters_checked c ps d passed is) has
       told (Err e) c (inl refused) = inl (sym (enters_checked c ps d passed is) ∙ refused)
       told (Err e) c (inr cause) = inr cause

@@ -1,41 +1,38 @@
 -- What was read of the file was read of the engine, and how calls add up that follow one another.
-use Rattle.std.proofs.Common.{◌≡◌, inl, inr, List, Result, Ok, Err, refl, ap, subst, sym, ◌∙◌}
+use Rattle.std.proofs.Common.{◌≡◌, inl, inr, ℕ, List, Result, Ok, Err, refl, ap, subst, sym, ◌∙◌}
 use Rattle.std.specs.Prelude.{MatchResult, OnErr}
 use Rattle.bson.specs.Tree.{Pairs}
 use Rattle.page.specs.History.{History, KeepsWord}
 use Rattle.path.specs.declared.refusal.Refusal.{Refusal}
 use Rattle.path.specs.declared.refusal.Refusal.TheVariants as refusals
 use Rattle.entries.specs.State.{Collection}
-use Rattle.collections.specs.Calls.{GoesFrom, HasCause, Reads}
+use Rattle.collections.specs.Calls.{GoesFrom, HasReadCause, IsUnchanged, Reads}
 use Rattle.collections.specs.Reading.{ReadsOf}
 use Rattle.collections.specs.Standing.{HasState}
 use Rattle.std.specs.Prelude.{Bool}
-use Rattle.collections.specs.View.{disk_history, is_changed}
+use Rattle.collections.specs.View.{disk_history}
 use Rattle.collections.proofs.StandingLemmas.{stopped_same}
-use Rattle.engine.specs.Continuing.{Continues}
 use Rattle.engine.specs.Durable.{file_of, has_changes, IsSound}
 use Rattle.opening.specs.Known.{Known}
 use Rattle.database_model.specs.Lawful.{IsLawfulState, AreLawfulCursors}
 use Rattle.engine.specs.Looking.{Looks, LooksOf, OnlyReads}
-use Rattle.engine.specs.Performing.{DoesPlanned, Performs}
-use Rattle.database_model.specs.Step.{answered}
+use Rattle.engine.specs.Performing.{DoesReading, PerformsReading}
 use Rattle.replies.specs.View.{with_ok}
 use Rattle.engine.specs.View.{world, world_of, turn_start}
 use Rattle.database_model.specs.World.{World}
 use Rattle.cursors.specs.Held.{Held, cursors_of, table_of}
 use Rattle.pinned_cursors.specs.Tied.{AreTied}
 use Rattle.pinned_cursors.proofs.TurnTied.{tied_on}
-use Rattle.engine.specs.Writing.{FileCause}
 use Rattle.engine.specs.declared.engine.Engine.{Engine}
-use Rattle.queries.proofs.ReadingLemmas.{goes_itself, goes_on, of_file, widen_before, word_before}
+use Rattle.queries.proofs.ReadingLemmas.{goes_itself, goes_on, widen_before, word_before}
 use Rattle.engine.proofs.Continuing.{continues_further, continues_of}
-use Rattle.engine.proofs.OnlyReading.{write_cause_from}
+use Rattle.engine.proofs.OnlyReading.{cause_from, does_any}
 
 -- ---- what was read of the file
 
 module _ {D : Type 0} (history : D → History) (old new : Engine D) (h : IsSound history old) (told : new.told.value ≡ old.told.value)
     (cursors : new.cursors ≡ old.cursors) (changes : has_changes new ≡ has_changes old) where
-  pub reads_so : GoesFrom history (file_of old) (file_of new) → is_changed (file_of new) ≡ is_changed (file_of old)
+  pub reads_so : GoesFrom history (file_of old) (file_of new) → IsUnchanged history (file_of old) (file_of new)
       → ((start now : List Collection) → HasState history (file_of old) start now → HasState history (file_of new) start now) → OnlyReads history old new
   reads_so goes unchanged same = record {
     sound = record {
@@ -44,7 +41,7 @@ module _ {D : Type 0} (history : D → History) (old new : Engine D) (h : IsSoun
       before = subst (λ (t : Known). IsLawfulState t.start) (sym told) h.before;
       quiet = λ rests. ap (λ (t : Known). t.start) told ∙ h.quiet (sym changes ∙ rests) ∙ sym (ap (λ (t : Known). t.now) told);
       file = subst (λ (t : Known). HasState history (file_of new) t.start t.now) (sym told) (same (turn_start old) (world old).collections h.file);
-      unchanged = λ running rests. unchanged
+      unchanged = λ running rests. ap (λ (t : Bool × ℕ). t.0) unchanged
           ∙ h.unchanged (sym (stopped_same history (file_of old).pager (file_of new).pager goes.stays) ∙ running) (sym changes ∙ rests);
       tied = subst (λ (b : Bool). AreTied b history (file_of new) new.cursors.list) (sym changes)
           (subst (λ (held : Held). AreTied (has_changes old) history (file_of new) held.list) (sym cursors)
@@ -54,6 +51,7 @@ module _ {D : Type 0} (history : D → History) (old new : Engine D) (h : IsSoun
     told = told;
     cursors = cursors;
     changes = changes;
+    takes = ap (λ (t : Bool × ℕ). t.1) unchanged;
   }
 
   pub looks_so : {X : Type 0} (Q : List Collection → X → Type 0) (r : Result X Refusal) → Reads history Q r (file_of old) (file_of new)
@@ -93,6 +91,7 @@ reads_trans history a b c first second = record {
   told = second.told ∙ first.told;
   cursors = second.cursors ∙ first.cursors;
   changes = second.changes ∙ first.changes;
+  takes = second.takes ∙ first.takes;
 }
 
 module _ {D X : Type 0} (history : D → History) (P : List Collection → X → Type 0) (old new : Engine D) where
@@ -122,74 +121,71 @@ module _ {D X A Y : Type 0} (history : D → History) (P : List Collection → X
     reads = reads_trans history a b c first.reads second.reads;
     answers = λ k.
         let then = ask (first.answers (word_before history (file_of b) (file_of c) second.reads.goes k)) in
-        let there = subst (λ (now : List Collection). (asked : A) → Is now asked → MatchResult r (Q now asked) (HasCause history (file_of b) (file_of c)))
+        let there = subst (λ (now : List Collection). (asked : A) → Is now asked → MatchResult r (Q now asked) (HasReadCause history (file_of b) (file_of c)))
         (collections_same history a b first.reads) (second.answers k) in
         either k r then (there then.asked then.is);
   }
     where
       either : KeepsWord (disk_history history (file_of c)) → (r : Result Y Refusal) (then : IsAsked (world a).collections)
-          → MatchResult r (Q (world a).collections then.asked) (HasCause history (file_of b) (file_of c))
-          → MatchResult r (R (world a).collections) (HasCause history (file_of a) (file_of c))
+          → MatchResult r (Q (world a).collections then.asked) (HasReadCause history (file_of b) (file_of c))
+          → MatchResult r (R (world a).collections) (HasReadCause history (file_of a) (file_of c))
       either k (Ok y) then right = then.right y right
       either k (Err e) then cause = widen_before history (file_of a) (file_of b) (file_of c) first.reads.goes second.reads.goes k e cause
 
 -- ---- what a command does that reads first
 
 module _ {D : Type 0} (history : D → History) (old new : Engine D) (planned : Result (World × Pairs) Refusal) where
-  -- it was refused, by a cause of its own
-  pub performs_refused : (e : Refusal) → OnlyReads history old new
-      → (KeepsWord (disk_history history (file_of new)) → HasCause history (file_of old) (file_of new) e) → Performs history planned (Err e) old new
-  performs_refused e reads cause = record {
-    sound = reads.sound;
-    goes = continues_of history old new reads.goes;
-    start = start_same history old new reads;
-    does = λ k. (world_same history old new reads, inr (of_file history (file_of old) (file_of new) e (cause k), λ k. inl (cause k)));
-    left = world_same history old new reads;
-    refused = reads.changes;
-  }
-
   -- all of it was reading
   pub performs_read : (r : Result Pairs Refusal) → OnlyReads history old new
-      → (KeepsWord (disk_history history (file_of new)) → DoesPlanned history planned r old new) → Performs history planned r old new
+      → (KeepsWord (disk_history history (file_of new)) → DoesReading history planned r old new) → PerformsReading history planned r old new
   performs_read r reads does = record {
-    sound = reads.sound;
-    goes = continues_of history old new reads.goes;
-    start = start_same history old new reads;
+    performs = record {
+      sound = reads.sound;
+      goes = continues_of history old new reads.goes;
+      start = start_same history old new reads;
+      does = λ k. does_any history old new planned r (does k);
+      left = on_err r (world_same history old new reads);
+      refused = on_err r reads.changes;
+    };
+    changes = reads.changes;
+    takes = reads.takes;
     does = does;
-    left = on_err r (world_same history old new reads);
-    refused = on_err r reads.changes;
   }
     where
       on_err : {P : Type 0} (x : Result Pairs Refusal) → P → OnErr x P
       on_err (Ok reply) it = tt
       on_err (Err e) it = it
 
+  -- it was refused, by a cause of its own
+  pub performs_refused : (e : Refusal) → OnlyReads history old new
+      → (KeepsWord (disk_history history (file_of new)) → HasReadCause history (file_of old) (file_of new) e) → PerformsReading history planned (Err e) old new
+  performs_refused e reads cause = performs_read (Err e) reads (λ k. (world_same history old new reads, inr (cause k)))
+
 pub performs_memory : {D : Type 0} (history : D → History) (old new : Engine D) (planned : Result (World × Pairs) Refusal) (e : Refusal)
-    → e ≡ refusals.OutOfMemory → OnlyReads history old new → Performs history planned (Err e) old new
+    → e ≡ refusals.OutOfMemory → OnlyReads history old new → PerformsReading history planned (Err e) old new
 performs_memory history old new planned e is reads = performs_refused history old new planned e reads (λ k. inl is)
 
 -- What was done behind what was read, where it was planned of the same world.
 module _ {D : Type 0} (history : D → History) (old mid new : Engine D) (reads : OnlyReads history old mid)
     (there planned : Result (World × Pairs) Refusal) where
-  -- the cause of what came behind, from the beginning
-  cause_wider : (e : Refusal) → Continues history mid new → FileCause history (file_of mid) (file_of new) (answered (world mid) there).0 e
-      → FileCause history (file_of old) (file_of new) (answered (world mid) there).0 e
-  cause_wider e goes (kind, why) = (
-    kind,
-    λ k. write_cause_from history (file_of old) (file_of mid) (file_of new) reads.goes (goes.reads.on.kept k)
-        (answered (world mid) there).0.collections e (why k),
-  )
-
-  pub performs_behind : (r : Result Pairs Refusal) → Performs history there r mid new → (KeepsWord (disk_history history (file_of new)) → there ≡ planned)
-      → Performs history planned r old new
-  performs_behind r done same = record {
-    sound = done.sound;
-    goes = continues_further history old mid new (continues_of history old mid reads.goes) done.goes;
-    start = done.start ∙ start_same history old mid reads;
-    does = λ k. either r (same k) (done.does k);
-    left = unchanged r done.left;
-    refused = kept r done.refused;
-  }
+  pub performs_behind : (r : Result Pairs Refusal) → PerformsReading history there r mid new
+      → (KeepsWord (disk_history history (file_of new)) → there ≡ planned) → PerformsReading history planned r old new
+  performs_behind r done same =
+      let does : KeepsWord (disk_history history (file_of new)) → DoesReading history planned r old new =
+      λ k. either r (same k) (done.performs.goes.reads.on.kept k) (done.does k) in
+      record {
+        performs = record {
+          sound = done.performs.sound;
+          goes = continues_further history old mid new (continues_of history old mid reads.goes) done.performs.goes;
+          start = done.performs.start ∙ start_same history old mid reads;
+          does = λ k. does_any history old new planned r (does k);
+          left = unchanged r done.performs.left;
+          refused = kept r done.performs.refused;
+        };
+        changes = done.changes ∙ reads.changes;
+        takes = done.takes ∙ reads.takes;
+        does = does;
+      }
     where
       unchanged : (x : Result Pairs Refusal) → OnErr x (world new ≡ world mid) → OnErr x (world new ≡ world old)
       unchanged (Ok reply) h = tt
@@ -199,11 +195,11 @@ module _ {D : Type 0} (history : D → History) (old mid new : Engine D) (reads 
       kept (Ok reply) h = tt
       kept (Err e) h = h ∙ reads.changes
 
-      either : (x : Result Pairs Refusal) → there ≡ planned → DoesPlanned history there x mid new → DoesPlanned history planned x old new
-      either (Ok reply) is does = ap with_ok (sym is) ∙ does
-      either (Err e) is (unchanged, inl refused) = (unchanged ∙ world_same history old mid reads, inl (sym is ∙ refused))
-      either (Err e) is (unchanged, inr cause) = (
+      either : (x : Result Pairs Refusal) → there ≡ planned → KeepsWord (disk_history history (file_of mid)) → DoesReading history there x mid new
+          → DoesReading history planned x old new
+      either (Ok reply) is k does = ap with_ok (sym is) ∙ does
+      either (Err e) is k (unchanged, inl refused) = (unchanged ∙ world_same history old mid reads, inl (sym is ∙ refused))
+      either (Err e) is k (unchanged, inr cause) = (
         unchanged ∙ world_same history old mid reads,
-        inr (subst (λ (w : World). FileCause history (file_of old) (file_of new) w e) ((λ i. (answered (world_same history old mid reads i) (is i)).0))
-            (cause_wider e done.goes cause)),
+        inr (cause_from history (file_of old) (file_of mid) (file_of new) reads.goes k e cause),
       )

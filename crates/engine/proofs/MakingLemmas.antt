@@ -9,7 +9,8 @@ use Rattle.btree.specs.Keys.{Edit}
 use Rattle.entries.specs.LawfulState.{IsLawfulState}
 use Rattle.entries.specs.State.{Collection}
 use Rattle.entries.specs.StateEntries.{Leads}
-use Rattle.collections.specs.Calls.{HasCause, HasWriteCause, IsOfFile}
+use Rattle.collections.specs.Calls.{HasReadCause, HasWriteCause, IsOfFile}
+use Rattle.collections.proofs.CauseLemmas.{any_cause, write_cause_from}
 use Rattle.collections.proofs.LawLemmas as laws
 use Rattle.engine.specs.Durable.{disk_history, file_of, IsRunning, IsSound}
 use Rattle.opening.specs.Known.{Known}
@@ -24,7 +25,7 @@ use Rattle.database_model.specs.World.{World}
 use Rattle.engine.specs.Writing.{FileCause, Makes, planned_or, Writes}
 use Rattle.engine.specs.declared.engine.Engine.{Engine}
 use Rattle.engine.proofs.Continuing.{continues_itself, continues_of}
-use Rattle.engine.proofs.OnlyReading.{now_same, word_before, write_cause_from}
+use Rattle.engine.proofs.OnlyReading.{now_same, word_before}
 
 -- what is refused by the file is one of its refusals
 of_cause : {D : Type 0} (history : D → History) (after : List Collection) (old new : Engine D) (e : Refusal)
@@ -52,13 +53,13 @@ module _ {D : Type 0} (history : D → History) where
 
   -- it was refused before anything was written
   pub makes_none : (planned : Result (List Collection) Refusal) (old new : Engine D) (e : Refusal) → OnlyReads history old new
-      → (KeepsWord (disk_history history new) → (planned ≡ Err e) ⊎ HasCause history (file_of old) (file_of new) e) → Makes history planned (Err e) old new
+      → (KeepsWord (disk_history history new) → (planned ≡ Err e) ⊎ HasReadCause history (file_of old) (file_of new) e) → Makes history planned (Err e) old new
   makes_none planned old new e reads why = record {
     sound = reads.sound;
     goes = reads.goes;
     start = ap (λ (k : Known). k.start) reads.told;
     cursors = reads.cursors;
-    does = λ k. (now_same history old new reads, elim (why k) [ inl is ↦ inl is | inr cause ↦ inr (inl cause) ]);
+    does = λ k. (now_same history old new reads, elim (why k) [ inl is ↦ inl is | inr cause ↦ inr (inl (any_cause history old.file new.file e cause)) ]);
     left = now_same history old new reads;
     refused = reads.changes;
   }

@@ -10,7 +10,7 @@ use Rattle.page.specs.History.{History, KeepsWord}
 use Rattle.path.specs.declared.refusal.Refusal.{Refusal}
 use Rattle.path.specs.declared.refusal.Refusal.TheVariants as refusals
 use Rattle.commands.specs.Update.{UpdateStatement, IsRead}
-use Rattle.collections.specs.Calls.{HasCause}
+use Rattle.collections.specs.Calls.{HasReadCause}
 use Rattle.entries.specs.State.{Collection, find_collection}
 use Rattle.engine.specs.Durable.{disk_history, file_of, IsSound}
 use Rattle.engine.specs.Looking.{Looks, LooksOf, OnlyReads}
@@ -93,8 +93,8 @@ module _ {D : Type 0} (history : D → History) (name : List ℕ) (ss : List Upd
 
       at : (q : Result Meant Refusal) → find_collection now name ≡ None → KeepsWord (disk_history history last)
           → MatchResult q (MeansIn None (world mid).collections ss)
-          (λ e. IsFullWithout (world mid).collections ss e ⊎ HasCause history (file_of mid) (file_of last) e)
-          → MatchResult q (IsMeant now name ss) (λ e. IsFullFor now name ss e ⊎ HasCause history (file_of old) (file_of last) e)
+          (λ e. IsFullWithout (world mid).collections ss e ⊎ HasReadCause history (file_of mid) (file_of last) e)
+          → MatchResult q (IsMeant now name ss) (λ e. IsFullFor now name ss e ⊎ HasReadCause history (file_of old) (file_of last) e)
       at (Ok m) none k right =
           subst (λ (o : Option Collection). MeansIn o now ss m) (sym none) (subst (λ (cs : List Collection). MeansIn None cs ss m) same right)
       at (Err e) none k (inl full) = inl (none, subst (λ (cs : List Collection). IsFullWithout cs ss e) same full)

@@ -1,12 +1,12 @@
 -- A cursor gives its next documents.
-use Rattle.std.proofs.Common.{◌≡◌, inr, inl, ℕ, List, Some, Result, Ok, Err, refl, sym, ap, ◌∙◌}
+use Rattle.std.proofs.Common.{◌≡◌, inr, ℕ, List, Some, Result, Ok, Err, refl, sym, ap, ◌∙◌}
 use Rattle.std.specs.Prelude.{MatchResult, OnErr, codes}
 use Rattle.std.specs.List.{position}
 use Rattle.bson.specs.Tree.{Pairs}
 use Rattle.commands.specs.GetMore.{GetMore}
 use Rattle.page.specs.History.{History}
 use Rattle.path.specs.declared.refusal.Refusal.{Refusal}
-use Rattle.collections.specs.Calls.{HasCause}
+use Rattle.collections.specs.Calls.{HasReadCause}
 use Rattle.collections.specs.State.{State}
 use Rattle.cursors.specs.Held.{Held, cursors_of, table_of}
 use Rattle.cursors.specs.TableLaws.{cursor_in_table}
@@ -16,10 +16,9 @@ use Rattle.database_model.specs.Lawful.{AreLawfulCursors}
 use Rattle.database_model.specs.Refusals.{ok_reply}
 use Rattle.database_model.specs.World.{Cursor, CursorTable, World}
 use Rattle.pinned_cursors.specs.Batches.{GivesNext, IsGivenNext}
-use Rattle.queries.proofs.ReadingLemmas.{of_file}
 use Rattle.replies.specs.View.{with_ok}
 use Rattle.engine.specs.Durable.{IsSound}
-use Rattle.engine.specs.Performing.{DoesPlanned, Performs}
+use Rattle.engine.specs.Performing.{DoesReading, PerformsReading}
 use Rattle.engine.specs.View.{world, world_of}
 use Rattle.engine.specs.declared.engine.Engine.{Engine}
 use Rattle.engine.proofs.Continuing.{continues_further, continues_of, continues_still}
@@ -51,17 +50,17 @@ module _ {D : Type 0} (history : D → History) (old : Engine D) (h : IsSound hi
       ∙ (λ i. let r : Result (World × Pairs) Refusal = Ok (world_of old.told.value (sym left i), sym says i) in r)
 
   does : (r : Result Pairs Refusal) → OnErr r (held ≡ old.cursors)
-      → MatchResult r (IsGivenNext at c.namespace c.batch_size old.cursors held) (HasCause history old.file file) → DoesPlanned history planned r old new
+      → MatchResult r (IsGivenNext at c.namespace c.batch_size old.cursors held) (HasReadCause history old.file file) → DoesReading history planned r old new
   does (Ok reply) same given = given_so reply given
   does (Err e) same cause =
-      (ap (λ (t : Held). world_of old.told.value (table_of t)) same, inr (of_file history old.file file e cause, λ k. inl cause))
+      (ap (λ (t : Held). world_of old.told.value (table_of t)) same, inr cause)
 
   same_world : (r : Result Pairs Refusal) → OnErr r (held ≡ old.cursors) → OnErr r (world new ≡ world old)
   same_world (Ok reply) same = tt
   same_world (Err e) same = ap (λ (t : Held). world_of old.told.value (table_of t)) same
 
   pub performs_next : (r : Result Pairs Refusal) → GivesNext history at c.namespace c.batch_size r old.file file old.cursors held
-      → (AreLawfulCursors cs → AreLawfulCursors (cursors_of held)) → Performs history planned r old new
+      → (AreLawfulCursors cs → AreLawfulCursors (cursors_of held)) → PerformsReading history planned r old new
   performs_next r gives lawful =
       let mid = read_then gives.goes.read in
       let pins = gives.goes.pins in
@@ -69,5 +68,5 @@ module _ {D : Type 0} (history : D → History) (old : Engine D) (h : IsSound hi
       (continues_further history old mid new (continues_of history old mid gives.goes.on)
       (continues_still history mid new pins.untouched.disk pins.untouched.stopped pins.untouched.version pins.takes))
       (pins.state old.told.value.start old.told.value.now (gives.goes.same old.told.value.start old.told.value.now h.file))
-      (pins.unchanged ∙ gives.goes.unchanged) (gives.tied old.is_changed h.tied) refl refl (record { collections = h.lawful; cursors = lawful h.cursors })
-      (λ k. does r gives.err (gives.answers k old.is_changed h.tied)) (same_world r gives.err)
+      ((λ i. (pins.unchanged i, pins.takes i)) ∙ gives.goes.unchanged) (gives.tied old.is_changed h.tied) refl refl
+      (record { collections = h.lawful; cursors = lawful h.cursors }) (λ k. does r gives.err (gives.answers k old.is_changed h.tied)) (same_world r gives.err)

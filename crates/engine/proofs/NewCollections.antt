@@ -6,7 +6,7 @@ use Rattle.page.specs.History.{History, KeepsWord}
 use Rattle.path.specs.declared.refusal.Refusal.{Refusal}
 use Rattle.path.specs.declared.refusal.Refusal.TheVariants as refusals
 use Rattle.btree.specs.Keys.{Edit}
-use Rattle.collections.specs.Calls.{HasCause}
+use Rattle.collections.specs.Calls.{HasReadCause}
 use Rattle.entries.specs.Documents.{AddsCollection}
 use Rattle.entries.specs.LawfulState.{IsLawfulState}
 use Rattle.entries.specs.State.{Collection, empty_collection, find_collection, put_collection, uses}
@@ -91,7 +91,7 @@ module _ {D : Type 0} (history : D → History) (name : List ℕ) (old mid : Eng
 
     -- there are too many, or the file gave no number
     pub not_new : (e : Refusal) → NewTries (Err e) → KeepsWord (disk_history history last)
-        → ((find_collection (world old).collections name ≡ None) × IsTooMany (world old).collections e) ⊎ HasCause history (file_of old) (file_of last) e
+        → ((find_collection (world old).collections name ≡ None) × IsTooMany (world old).collections e) ⊎ HasReadCause history (file_of old) (file_of last) e
     not_new e second k = elim (second.answers k) [
       | inl many ↦ inl (is_missing second.reads k, subst (λ (cs : List Collection). IsTooMany cs e) (now_same history old mid first.reads) many)
       | inr cause ↦ inr (cause_from history old.file mid.file last.file first.reads.goes (word_before history mid.file last.file second.reads.goes k) e cause)

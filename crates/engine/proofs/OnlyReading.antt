@@ -1,38 +1,42 @@
 -- Steps that only read, one after the other.
-use Rattle.std.proofs.Common.{◌≡◌, ◌⊎◌, inl, inr, List, Result, Ok, Err, refl, sym, ap, ◌∙◌, arith}
+use Rattle.std.proofs.Common.{◌≡◌, ◌⊎◌, inl, inr, ℕ, Bool, List, Result, Ok, Err, refl, sym, ap, ◌∙◌, arith}
 use Rattle.std.specs.Prelude.{MatchResult}
 use Rattle.page.specs.History.{History, KeepsWord}
-use Rattle.btree.specs.Store.{HasNoPage}
 use Rattle.path.specs.declared.refusal.Refusal.{Refusal}
 use Rattle.entries.specs.State.{Collection}
-use Rattle.collections.specs.Calls.{GoesFrom, HasCause, HasFailed, HasWriteCause}
+use Rattle.collections.specs.Calls.{GoesFrom, HasFailed, HasReadCause, IsUnchanged}
 use Rattle.collections.specs.Standing.{HasState}
 use Rattle.collections.specs.State.{State}
 use Rattle.collections.specs.View as views
-use Rattle.collections.specs.View.{pages_of}
+use Rattle.collections.proofs.CauseLemmas.{any_cause}
 use Rattle.collections.proofs.LawLemmas as laws
 use Rattle.collections.proofs.StandingLemmas.{stopped_same}
 use Rattle.engine.specs.Durable.{disk_history, file_of, IsSound}
 use Rattle.opening.specs.Known.{Known}
+use Rattle.cursors.specs.Held.{table_of}
 use Rattle.pinned_cursors.proofs.TurnTied.{tied_on}
-use Rattle.engine.specs.Looking.{OnlyReads}
+use Rattle.engine.specs.Looking.{LeavesAll, OnlyReads}
+use Rattle.engine.specs.Performing.{DoesPlanned, DoesReading}
 use Rattle.engine.specs.Trying.{Tries}
-use Rattle.engine.specs.View.{world}
+use Rattle.engine.specs.View.{world, world_of}
 use Rattle.engine.specs.declared.engine.Engine.{Engine}
+use Rattle.bson.specs.Tree.{Pairs}
+use Rattle.database_model.specs.World.{World}
+use Rattle.queries.proofs.ReadingLemmas.{of_file}
 
 module _ {D : Type 0} (history : D → History) where
   -- ---- what was read
 
   -- nothing was
   pub reads_none : (old : Engine D) → IsSound history old → OnlyReads history old old
-  reads_none old h = record { sound = h; goes = laws.goes_from_itself history old.file; told = refl; cursors = refl; changes = refl }
+  reads_none old h = record { sound = h; goes = laws.goes_from_itself history old.file; told = refl; cursors = refl; changes = refl; takes = refl }
 
-  -- the file was
-  pub reads_file : (old : Engine D) (file : State D) → IsSound history old → GoesFrom history old.file file
+  -- the file went on with the same collections
+  pub leaves_file : (old : Engine D) (file : State D) → IsSound history old → GoesFrom history old.file file
       → views.is_changed file ≡ views.is_changed old.file → ((start now : List Collection) → HasState history old.file start now → HasState history file
       start now)
-      → OnlyReads history old (record old { file = file })
-  reads_file old file h goes unchanged same = record {
+      → LeavesAll history old (record old { file = file })
+  leaves_file old file h goes unchanged same = record {
     sound = record {
       lawful = h.lawful;
       cursors = h.cursors;
@@ -48,6 +52,37 @@ module _ {D : Type 0} (history : D → History) where
     changes = refl;
   }
 
+  pub leaves_on : (a b c : Engine D) → LeavesAll history a b → LeavesAll history b c → LeavesAll history a c
+  leaves_on a b c first later = record {
+    sound = later.sound;
+    goes = laws.goes_further history a.file b.file c.file first.goes later.goes;
+    told = later.told ∙ first.told;
+    cursors = later.cursors ∙ first.cursors;
+    changes = later.changes ∙ first.changes;
+  }
+
+  pub world_left : (old new : Engine D) → LeavesAll history old new → world new ≡ world old
+  world_left old new leaves = λ i. world_of (leaves.told i) (table_of (leaves.cursors i))
+
+  pub leaves_all : (old new : Engine D) → OnlyReads history old new → LeavesAll history old new
+  leaves_all old new reads =
+      record { sound = reads.sound; goes = reads.goes; told = reads.told; cursors = reads.cursors; changes = reads.changes }
+
+  -- it was read
+  pub reads_file : (old : Engine D) (file : State D) → IsSound history old → GoesFrom history old.file file → IsUnchanged history old.file file
+      → ((start now : List Collection) → HasState history old.file start now → HasState history file start now)
+      → OnlyReads history old (record old { file = file })
+  reads_file old file h goes unchanged same =
+      let leaves = leaves_file old file h goes (ap (λ (t : Bool × ℕ). t.0) unchanged) same in
+      record {
+        sound = leaves.sound;
+        goes = goes;
+        told = refl;
+        cursors = refl;
+        changes = refl;
+        takes = ap (λ (t : Bool × ℕ). t.1) unchanged;
+      }
+
   pub reads_on : (a b c : Engine D) → OnlyReads history a b → OnlyReads history b c → OnlyReads history a c
   reads_on a b c first later = record {
     sound = later.sound;
@@ -55,6 +90,7 @@ module _ {D : Type 0} (history : D → History) where
     told = later.told ∙ first.told;
     cursors = later.cursors ∙ first.cursors;
     changes = later.changes ∙ first.changes;
+    takes = later.takes ∙ first.takes;
   }
 
   -- the collections are those of before
@@ -72,18 +108,9 @@ module _ {D : Type 0} (history : D → History) where
     failed_from (inl stopped) = inl (sym (stopped_same history a.pager b.pager goes.stays) ∙ stopped)
     failed_from (inr more) = inr (omega (arith, more, (goes.frame k).failures))
 
-    full_from : HasNoPage (pages_of history b) (pages_of history c) → HasNoPage (pages_of history a) (pages_of history c)
-    full_from (inl more) = inl (omega (arith, more, (goes.frame k).full_takes))
-    full_from (inr most) = inr most
-
-    pub cause_from : (e : Refusal) → HasCause history b c e → HasCause history a c e
+    pub cause_from : (e : Refusal) → HasReadCause history b c e → HasReadCause history a c e
     cause_from e (inl memory) = inl memory
-    cause_from e (inr (inl (is, failed))) = inr (inl (is, failed_from failed))
-    cause_from e (inr (inr (is, full))) = inr (inr (is, full_from full))
-
-    pub write_cause_from : (after : List Collection) (e : Refusal) → HasWriteCause history after b c e → HasWriteCause history after a c e
-    write_cause_from after e (inl cause) = inl (cause_from e cause)
-    write_cause_from after e (inr large) = inr large
+    cause_from e (inr (is, failed)) = inr (is, failed_from failed)
 
   -- ---- what was tried after reads
 
@@ -92,10 +119,19 @@ module _ {D : Type 0} (history : D → History) where
     tries_on r later = record { reads = reads_on a b c first later.reads; answers = answered r later.answers }
       where
         answered : (x : Result X Refusal)
-            → (KeepsWord (disk_history history c) → MatchResult x IsRight (λ e. IsRefused e ⊎ HasCause history (file_of b) (file_of c) e))
-            → KeepsWord (disk_history history c) → MatchResult x IsRight (λ e. IsRefused e ⊎ HasCause history (file_of a) (file_of c) e)
+            → (KeepsWord (disk_history history c) → MatchResult x IsRight (λ e. IsRefused e ⊎ HasReadCause history (file_of b) (file_of c) e))
+            → KeepsWord (disk_history history c) → MatchResult x IsRight (λ e. IsRefused e ⊎ HasReadCause history (file_of a) (file_of c) e)
         answered (Ok x) right k = right k
         answered (Err e) right k = elim (right k) [
           | inl refused ↦ inl refused
           | inr cause ↦ inr (cause_from (file_of a) (file_of b) (file_of c) first.goes (word_before (file_of b) (file_of c) later.reads.goes k) e cause)
         ]
+
+  -- ---- what a command does that only reads is what any does
+
+  pub does_any : (old new : Engine D) (planned : Result (World × Pairs) Refusal) (r : Result Pairs Refusal) → DoesReading history planned r old new
+      → DoesPlanned history planned r old new
+  does_any old new planned (Ok reply) does = does
+  does_any old new planned (Err e) (same, inl is) = (same, inl is)
+  does_any old new planned (Err e) (same, inr cause) =
+      (same, inr (of_file history old.file new.file e cause, λ k. inl (any_cause history old.file new.file e cause)))

@@ -10,7 +10,7 @@ use Rattle.btree.specs.Keys.{Edit}
 use Rattle.path.specs.declared.refusal.Refusal.{Refusal}
 use Rattle.path.specs.declared.refusal.Refusal.TheVariants as refusals
 use Rattle.commands.specs.Delete.{Deletion}
-use Rattle.collections.specs.Calls.{HasCause}
+use Rattle.collections.specs.Calls.{HasReadCause}
 use Rattle.collections.proofs.LawLemmas as laws
 use Rattle.index.specs.Definition.{Definition}
 use Rattle.entries.specs.LawfulState.{AreNamedApart, IsKept, IsLawfulState}
@@ -151,7 +151,7 @@ module _ {D : Type 0} (history : D → History) where
 
   -- the device stopped before
   pub remove_stopped : (planned : Result (List Collection) Refusal) (old : Engine D) → IsSound history old
-      → (KeepsWord (disk_history history old) → HasCause history (file_of old) (file_of old) refusals.StorageFailed)
+      → (KeepsWord (disk_history history old) → HasReadCause history (file_of old) (file_of old) refusals.StorageFailed)
       → Makes history planned (Err refusals.StorageFailed) old old
   remove_stopped planned old h cause = makes_none history planned old old refusals.StorageFailed (reads_none history old h) (λ k. inr (cause k))
 

@@ -4,8 +4,8 @@ use Rattle.std.specs.Prelude.{◌==◌, not, All, OnErr}
 use Rattle.std.proofs.lemmas.List.Elements.{All-filter}
 use Rattle.bson.specs.Tree.{Pairs}
 use Rattle.page.specs.History.{History, KeepsWord}
+use Rattle.collections.specs.Calls.{HasReadCause, IsUnchanged}
 use Rattle.collections.specs.Standing.{HasState}
-use Rattle.collections.specs.State.{State}
 use Rattle.collections.specs.View as views
 use Rattle.database_model.specs.World.{World, Cursor, forget, after_undo}
 use Rattle.entries.specs.State.{Collection}
@@ -19,7 +19,7 @@ use Rattle.engine.specs.Writing.{FileCause}
 use Rattle.engine.specs.declared.engine.Engine.{Engine}
 use Rattle.opening.specs.declared.told.Told.{Told}
 use Rattle.database_model.specs.Refusals.{refusal_reply}
-use Rattle.engine.specs.Performing.{DoesPlanned, Performs}
+use Rattle.engine.specs.Performing.{DoesPlanned, DoesReading, PerformsReading}
 use Rattle.opening.specs.Known.{Known}
 use Rattle.path.specs.declared.refusal.Refusal.{Refusal}
 use Rattle.path.specs.declared.refusal.Refusal.TheVariants as refusals
@@ -29,6 +29,7 @@ use Rattle.engine.specs.Continuing.{Continues}
 use Rattle.engine.specs.Laws.{ForMemory}
 use Rattle.engine.proofs.Continuing.{continues_still}
 use Rattle.engine.proofs.LawfulSteps.{Good, good_run}
+use Rattle.engine.proofs.OnlyReading.{does_any}
 
 -- the file has the collections as the turn began, and a tree of those of now
 pub keeps_sound : {D : Type 0} (history : D → History) (old new : Engine D) → IsSound history old
@@ -90,10 +91,6 @@ answers_done w new (Ok x) d h = sym (ap both h)
     both (Ok y) = y
     both (Err e) = (w, d)
 
--- want of memory is a cause of any file's
-pub for_memory : {D : Type 0} (history : D → History) (old new : State D) (planned : World) → FileCause history old new planned refusals.OutOfMemory
-for_memory history old new planned = (inl refl, λ k. inl (inl refl))
-
 pub answers_refused : {D : Type 0} (history : D → History) (old new : Engine D) (planned : Result (World × Pairs) Refusal) (e : Refusal)
     → DoesPlanned history planned (Err e) old new
     → ((world new, refusal_reply e) ≡ answered (world old) planned)
@@ -107,32 +104,44 @@ pub refused_for_memory : (w new : World) (planned : Result (World × Pairs) Refu
 refused_for_memory w new planned refusals.OutOfMemory runs = inr (record { refusal = refusals.OutOfMemory; cause = refl; same = runs.0; says = refl })
 refused_for_memory w new planned e runs = inl ((λ i. (runs.0 i, refusal_reply e)) ∙ ap (answered w) (sym (runs.1 (λ h. absurd cc))))
 
+pub answers_read : {D : Type 0} (history : D → History) (old new : Engine D) (planned : Result (World × Pairs) Refusal) (e : Refusal)
+    → DoesReading history planned (Err e) old new
+    → ((world new, refusal_reply e) ≡ answered (world old) planned)
+    ⊎ RefusedBeside (λ w. HasReadCause history (file_of old) (file_of new)) (world old) (answered (world old) planned).0 (world new) (refusal_reply e)
+answers_read history old new planned e (same, inl is) = inl ((λ i. (same i, refusal_reply e)) ∙ ap (answered (world old)) (sym is))
+answers_read history old new planned e (same, inr cause) = inr (record { refusal = e; cause = cause; same = same; says = refl })
+
 -- ---- commands that ask the file for pins at most
 
 module _ {D : Type 0} (history : D → History) (old new : Engine D) (planned : Result (World × Pairs) Refusal) where
   -- what memory alone gives is what was planned
-  pub does_planned : (r : Result Pairs Refusal) → Runs (world old) planned (world new) r → DoesPlanned history planned r old new
+  does_planned : (r : Result Pairs Refusal) → Runs (world old) planned (world new) r → DoesReading history planned r old new
   does_planned (Ok reply) runs = runs
-  does_planned (Err refusals.OutOfMemory) runs = (runs.0, inr (for_memory history (file_of old) (file_of new) (answered (world old) planned).0))
+  does_planned (Err refusals.OutOfMemory) runs = (runs.0, inr (inl refl))
   does_planned (Err e) runs = (runs.0, inl (runs.1 (λ h. absurd cc)))
 
   -- the turn goes on with the same collections, and the cursors stay tied to its file
   pub performs_tied : (r : Result Pairs Refusal) → IsSound history old → Continues history old new
-      → HasState history new.file (turn_start old) (world old).collections → views.is_changed new.file ≡ views.is_changed old.file
+      → HasState history new.file (turn_start old) (world old).collections → IsUnchanged history old.file new.file
       → AreTied (has_changes old) history new.file new.cursors.list → new.told.value ≡ old.told.value
-      → has_changes new ≡ has_changes old → IsLawful (world new) → (KeepsWord (disk_history history new) → DoesPlanned history planned r old new)
-      → OnErr r (world new ≡ world old) → Performs history planned r old new
+      → has_changes new ≡ has_changes old → IsLawful (world new) → (KeepsWord (disk_history history new) → DoesReading history planned r old new)
+      → OnErr r (world new ≡ world old) → PerformsReading history planned r old new
   performs_tied r h goes state unchanged tied told changes lawful does left = record {
-    sound = keeps_sound history old new h (subst (λ (k : Known). HasState history new.file (turn_start old) k.now) (sym told) state)
-        (subst (λ (b : Bool). AreTied b history new.file new.cursors.list) (sym changes) tied)
-        (ap (λ (k : Known). k.start) told) lawful
-        (λ rests. ap (λ (k : Known). k.start) told ∙ h.quiet (sym changes ∙ rests) ∙ sym (ap (λ (k : Known). k.now) told))
-        (λ running rests. unchanged ∙ h.unchanged (sym goes.running ∙ running) (sym changes ∙ rests));
-    goes = goes;
-    start = ap (λ (k : Known). k.start) told;
+    performs = record {
+      sound = keeps_sound history old new h (subst (λ (k : Known). HasState history new.file (turn_start old) k.now) (sym told) state)
+          (subst (λ (b : Bool). AreTied b history new.file new.cursors.list) (sym changes) tied)
+          (ap (λ (k : Known). k.start) told) lawful
+          (λ rests. ap (λ (k : Known). k.start) told ∙ h.quiet (sym changes ∙ rests) ∙ sym (ap (λ (k : Known). k.now) told))
+          (λ running rests. ap (λ (t : Bool × ℕ). t.0) unchanged ∙ h.unchanged (sym goes.running ∙ running) (sym changes ∙ rests));
+      goes = goes;
+      start = ap (λ (k : Known). k.start) told;
+      does = λ k. does_any history old new planned r (does k);
+      left = left;
+      refused = either r;
+    };
+    changes = changes;
+    takes = ap (λ (t : Bool × ℕ). t.1) unchanged;
     does = does;
-    left = left;
-    refused = either r;
   }
     where
       either : (x : Result Pairs Refusal) → OnErr x (has_changes new ≡ has_changes old)
@@ -143,14 +152,15 @@ module _ {D : Type 0} (history : D → History) (old new : Engine D) (planned : 
   pub performs_pins : (r : Result Pairs Refusal) → IsSound history old → OnlyPins history old.file new.file → AreTied
       (has_changes old) history new.file new.cursors.list
       → new.told.value ≡ old.told.value → has_changes new ≡ has_changes old → IsLawful (world new)
-      → (KeepsWord (disk_history history new) → DoesPlanned history planned r old new) → OnErr r (world new ≡ world old) → Performs history planned r old new
+      → (KeepsWord (disk_history history new) → DoesReading history planned r old new) → OnErr r (world new ≡ world old)
+      → PerformsReading history planned r old new
   performs_pins r h pins tied =
       performs_tied r h (continues_still history old new pins.untouched.disk pins.untouched.stopped pins.untouched.version pins.takes)
-      (pins.state (turn_start old) (world old).collections h.file) pins.unchanged tied
+      (pins.state (turn_start old) (world old).collections h.file) (λ i. (pins.unchanged i, pins.takes i)) tied
 
   pub performs_in_memory : (r : Result Pairs Refusal) → IsSound history old → Releases (has_changes old) history old.file new.file old.cursors new.cursors
       → new.told.value ≡ old.told.value → has_changes new ≡ has_changes old → IsLawful (world new) → Runs (world old) planned (world new) r
-      → Performs history planned r old new
+      → PerformsReading history planned r old new
   performs_in_memory r h file told changes lawful runs =
       performs_pins r h file.pins (file.tied h.tied) told changes lawful (λ k. does_planned r runs) (unchanged r runs)
     where
@@ -161,14 +171,14 @@ module _ {D : Type 0} (history : D → History) (old new : Engine D) (planned : 
 -- the same of a command that was read
 pub performs_told : {D : Type 0} (history : D → History) (old new : Engine D) (connection : ℕ) (c : Command) (r : Result Pairs Refusal) → IsSound history old
     → IsBounded c → Releases (has_changes old) history old.file new.file old.cursors new.cursors → new.told ≡ old.told → has_changes new ≡ has_changes old
-    → Runs (world old) (run (world old) connection c) (world new) r → Performs history (run (world old) connection c) r old new
+    → Runs (world old) (run (world old) connection c) (world new) r → PerformsReading history (run (world old) connection c) r old new
 performs_told history old new connection c r h b file told changes runs =
     performs_in_memory history old new (run (world old) connection c) r h file (ap (λ (t : Told). t.value) told) changes
     (runs_lawful (world old) (world new) connection c r (lawful_world history old h) b runs) runs
 
 -- what was planned and what was returned, in other words
 pub performs_as : {D : Type 0} (history : D → History) (old new : Engine D) (planned other : Result (World × Pairs) Refusal) (r s : Result Pairs Refusal)
-    → planned ≡ other → r ≡ s → Performs history other s old new → Performs history planned r old new
+    → planned ≡ other → r ≡ s → PerformsReading history other s old new → PerformsReading history planned r old new
 performs_as history old new planned other r s is same h =
-    subst (λ (p : Result (World × Pairs) Refusal). Performs history p r old new) (sym is)
-    (subst (λ (x : Result Pairs Refusal). Performs history other x old new) (sym same) h)
+    subst (λ (p : Result (World × Pairs) Refusal). PerformsReading history p r old new) (sym is)
+    (subst (λ (x : Result Pairs Refusal). PerformsReading history other x old new) (sym same) h)

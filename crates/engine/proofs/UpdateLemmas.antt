@@ -9,7 +9,7 @@ use Rattle.btree.specs.Keys.{Edit}
 use Rattle.outcome.specs.Outcome.{◌>>=◌, unless}
 use Rattle.path.specs.declared.refusal.Refusal.{Refusal}
 use Rattle.path.specs.declared.refusal.Refusal.TheVariants as refusals
-use Rattle.collections.specs.Calls.{HasCause}
+use Rattle.collections.specs.Calls.{HasReadCause}
 use Rattle.commands.specs.Command.{update}
 use Rattle.commands.specs.OutcomeLaws.{step_of}
 use Rattle.commands.specs.Update.{UpdateStatement, IsRead}
@@ -201,7 +201,7 @@ module _ {D : Type 0} (history : D → History) (name : List ℕ) (ss : List Upd
 
   -- it was refused before anything was written
   unwritten : (mid : Engine D) (e : Refusal) → OnlyReads history old mid
-      → (KeepsWord (disk_history history mid) → (plan name ss now ≡ Err e) ⊎ HasCause history (file_of old) (file_of mid) e) → Runs (Err e) mid
+      → (KeepsWord (disk_history history mid) → (plan name ss now ≡ Err e) ⊎ HasReadCause history (file_of old) (file_of mid) e) → Runs (Err e) mid
   unwritten mid e reads why = refused_makes mid e (makes_none history (plan name ss now) old mid e reads why)
 
   done_makes : (new : Engine D) (d : Pairs) → (KeepsWord (disk_history history new) → IsReplied now name ss d)

@@ -43,7 +43,7 @@ use Rattle.replies.specs.declared.batch_spelling.BatchKind.TheVariants as kinds
 use Rattle.statements.proofs.KeptLemmas.{stored_at}
 use Rattle.statements.proofs.Numbers.{found_kept}
 use Rattle.engine.specs.Durable.{IsSound, disk_history}
-use Rattle.engine.specs.Performing.{Performs}
+use Rattle.engine.specs.Performing.{PerformsReading}
 use Rattle.engine.specs.TakingOut.{HasHome}
 use Rattle.engine.specs.View.{world, world_of}
 use Rattle.engine.specs.Walking.{AreOf, IsWholeWalk}
@@ -230,7 +230,7 @@ module _ {D : Type 0} (history : D → History) (mid : Engine D) (connection : �
 
     module _ {E : Type 0} (planned : Result (World × Pairs) Refusal) where
       pub opens_done : Opens {E = E} (Ok tt) → (reply : Pairs) → (KeepsWord (disk_history history mid) → with_ok planned ≡ Ok (with_rest, reply))
-          → Performs history planned (Ok reply) mid new
+          → PerformsReading history planned (Ok reply) mid new
       opens_done opens reply is =
           let made : world new ≡ with_rest = ap (world_of mid.told.value) opens.ok in
           performs_pins history mid new planned (Ok reply) h opens.pins (opens.tied left mid.is_changed h.unchanged h.tied) refl refl
@@ -238,12 +238,12 @@ module _ {D : Type 0} (history : D → History) (mid : Engine D) (connection : �
           (λ k. is (subst KeepsWord opens.pins.untouched.disk k)
           ∙ (λ i. let r : Result (World × Pairs) Refusal = Ok (sym made i, reply) in r)) tt
 
-      pub opens_failed : (fault : E) → Opens (Err fault) → (e : Refusal) → e ≡ refusals.OutOfMemory → Performs history planned (Err e) mid new
+      pub opens_failed : (fault : E) → Opens (Err fault) → (e : Refusal) → e ≡ refusals.OutOfMemory → PerformsReading history planned (Err e) mid new
       opens_failed fault opens e memory =
           let same : world new ≡ world mid = ap (λ (t : Held). world_of mid.told.value (table_of t)) opens.err in
           performs_pins history mid new planned (Err e) h opens.pins (opens.tied left mid.is_changed h.unchanged h.tied) refl refl
           (subst IsLawful (sym same) (lawful_world history mid h))
-          (λ k. (same, inr (inl memory, λ k. inl (inl memory)))) same
+          (λ k. (same, inr (inl memory))) same
 
 -- ---- what was found
 

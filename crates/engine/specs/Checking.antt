@@ -6,7 +6,7 @@ use Rattle.collections.specs.Counting.{HasCounts}
 use Rattle.opening.specs.Totals.{total_documents, total_indexes}
 use Rattle.engine.specs.Dump.{HasFaultCause}
 use Rattle.engine.specs.Durable.{disk_history, generation}
-use Rattle.engine.specs.Looking.{OnlyReads}
+use Rattle.engine.specs.Looking.{LeavesAll}
 use Rattle.engine.specs.View.{turn_start, world}
 use Rattle.engine.specs.declared.check_fault.CheckFault.{CheckFault}
 use Rattle.engine.specs.declared.checking.Counts.{Counts}
@@ -30,7 +30,7 @@ pub record AreCountsIn (image : ℕ → List ℕ) (last : ℕ) (start now : List
 -- has its cause: it is never that the file is damaged.
 pub record ChecksFile {D : Type 0} (history : D → History) (result : Result Counts CheckFault)
     (old new : Engine D) : Type 0 where
-  pub only : OnlyReads history old new
+  pub only : LeavesAll history old new
   pub answers : let image = reads (now (disk_history history old)) in
       KeepsWord (disk_history history new) → MatchResult result
       (AreCountsIn image (generation old) (turn_start old) (world old).collections)

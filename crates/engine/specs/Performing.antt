@@ -5,7 +5,8 @@ use Rattle.commands.specs.Command as commands
 use Rattle.page.specs.History.{History, KeepsWord}
 use Rattle.path.specs.declared.refusal.Refusal.{Refusal}
 use Rattle.engine.specs.Continuing.{Continues}
-use Rattle.engine.specs.Durable.{disk_history, file_of, has_changes, IsSound}
+use Rattle.collections.specs.Calls.{HasReadCause}
+use Rattle.engine.specs.Durable.{disk_history, file_of, full_takes_of, has_changes, IsSound}
 use Rattle.database_model.specs.Step.{answered}
 use Rattle.replies.specs.View.{with_ok}
 use Rattle.engine.specs.View.{world, turn_start}
@@ -44,3 +45,21 @@ pub record Performs {D : Type 0} (history : D → History) (planned : Result (Wo
   pub does : KeepsWord (disk_history history new) → DoesPlanned history planned result old new
   pub left : OnErr result (world new ≡ world old)
   pub refused : OnErr result (has_changes new ≡ has_changes old)
+
+-- The command did what was planned, or was refused as planned, or because memory ran out or the
+-- device failed. A refusal leaves the world as it was.
+abbrev pub DoesReading : {D : Type 0} → (D → History) → Result (World × Pairs) Refusal
+    → Result Pairs Refusal → Engine D → Engine D → Type 0
+DoesReading history planned (Ok reply) old new = with_ok planned ≡ Ok (world new, reply)
+DoesReading history planned (Err e) old new = (world new ≡ world old)
+    × ((planned ≡ Err e) ⊎ HasReadCause history (file_of old) (file_of new) e)
+
+-- A command was run that only reads. On any disk it leaves nothing for the commit and asks for no
+-- page, so that none is free is no cause of a refusal.
+pub record PerformsReading {D : Type 0} (history : D → History)
+    (planned : Result (World × Pairs) Refusal) (result : Result Pairs Refusal) (old new : Engine D)
+    : Type 0 where
+  pub performs : Performs history planned result old new
+  pub changes : has_changes new ≡ has_changes old
+  pub takes : full_takes_of history new ≡ full_takes_of history old
+  pub does : KeepsWord (disk_history history new) → DoesReading history planned result old new

@@ -8,7 +8,7 @@ use Rattle.page.specs.History.{History, KeepsWord}
 use Rattle.btree.specs.Keys.{Edit}
 use Rattle.path.specs.declared.refusal.Refusal.{Refusal}
 use Rattle.path.specs.declared.refusal.Refusal.TheVariants as refusals
-use Rattle.collections.specs.Calls.{HasCause}
+use Rattle.collections.specs.Calls.{HasReadCause}
 use Rattle.commands.specs.Update.{UpdateStatement}
 use Rattle.entries.specs.Documents.{put_document}
 use Rattle.entries.specs.LawfulState as states
@@ -138,4 +138,4 @@ pub record NotesWrites {D : Type 0} (history : D → History) (name : List ℕ) 
       (λ edits. ArePlanned edits (world old).collections
       (written_in name (map seen ws) (world old).collections))
       (λ e. (written_in name (map seen ws) (world old).collections ≡ Err e)
-      ⊎ HasCause history (file_of old) (file_of new) e)
+      ⊎ HasReadCause history (file_of old) (file_of new) e)

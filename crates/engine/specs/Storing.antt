@@ -7,7 +7,7 @@ use Rattle.page.specs.History.{History, KeepsWord}
 use Rattle.btree.specs.Keys.{Edit}
 use Rattle.path.specs.declared.refusal.Refusal.{Refusal}
 use Rattle.path.specs.declared.refusal.Refusal.TheVariants as refusals
-use Rattle.collections.specs.Calls.{HasCause}
+use Rattle.collections.specs.Calls.{HasReadCause}
 use Rattle.value_order.specs.KeyText.{tree_text}
 use Rattle.entries.specs.Entering.{AreKeyed, DocumentWrite, clashes, entered, is_duplicate}
 use Rattle.entries.specs.LawfulState as states
@@ -56,7 +56,7 @@ pub record Notes {D : Type 0} (history : D → History) (name : List ℕ) (Is : 
   pub answers : KeepsWord (disk_history history new) → (c : Collection)
       → AreNoted (world old).collections name home before c → Is c
       → MatchResult result (λ _. HasNoted (world old).collections name home_after after (planned c))
-      (λ e. (planned c ≡ Err e) ⊎ HasCause history (file_of old) (file_of new) e)
+      (λ e. (planned c ≡ Err e) ⊎ HasReadCause history (file_of old) (file_of new) e)
 
 abbrev pub IsAny : Collection → Type 0
 IsAny c = Unit {0}

@@ -3,7 +3,7 @@ use Rattle.std.specs.Prelude.{◌⊎◌, List, Result, MatchResult}
 use Rattle.page.specs.History.{History, KeepsWord}
 use Rattle.path.specs.declared.refusal.Refusal.{Refusal}
 use Rattle.entries.specs.State.{Collection}
-use Rattle.collections.specs.Calls.{HasCause}
+use Rattle.collections.specs.Calls.{HasReadCause}
 use Rattle.engine.specs.Durable.{disk_history, file_of}
 use Rattle.engine.specs.Looking.{OnlyReads}
 use Rattle.engine.specs.View.{world}
@@ -17,7 +17,7 @@ pub record Tries {D X : Type 0} (history : D → History) (IsRight : X → Type 
   pub reads : OnlyReads history old new
   pub answers : KeepsWord (disk_history history new)
       → MatchResult result IsRight
-      (λ e. IsRefused e ⊎ HasCause history (file_of old) (file_of new) e)
+      (λ e. IsRefused e ⊎ HasReadCause history (file_of old) (file_of new) e)
 
 -- The same of what not all collections have: the answer is right for what was asked for, or the
 -- refusal is, where this is so of it.
@@ -28,4 +28,4 @@ pub record TriesOf {D A X : Type 0} (history : D → History) (Is : List Collect
   pub answers : KeepsWord (disk_history history new) → (asked : A)
       → Is (world old).collections asked
       → MatchResult result (IsRight (world old).collections asked)
-      (λ e. IsRefused asked e ⊎ HasCause history (file_of old) (file_of new) e)
+      (λ e. IsRefused asked e ⊎ HasReadCause history (file_of old) (file_of new) e)

@@ -7,7 +7,7 @@ ghost use Rattle.database_model.specs.Find.{given, query_result, run_find};
 ghost use Rattle.database_model.specs.Lawful.{IsWithin};
 ghost use Rattle.database_model.specs.World.{documents_of};
 ghost use Rattle.engine.specs.Durable.{disk_history, file_of, has_changes, IsSound};
-ghost use Rattle.engine.specs.Performing.{Performs};
+ghost use Rattle.engine.specs.Performing.{PerformsReading};
 ghost use Rattle.engine.specs.View.{world};
 ghost use Rattle.engine.specs.Walking.{AreIdsAsked, AreOf};
 ghost use Rattle.index.specs.View.{texts_of};
@@ -60,7 +60,7 @@ impl<D: Disk> Engine<D> {
     ) -> Result<SpelledDocument, Refusal>
         requires short { length namespace.now ≤ 255 }
         requires sound { IsSound D.history self.old }
-        ensures performs { Performs D.history
+        ensures performs { PerformsReading D.history
             (run_find (world self.old) connection
             (record { namespace = namespace.now; query = query.now; batch_size = Some most }))
             result self.old self.new }
@@ -97,7 +97,7 @@ impl<D: Disk> Engine<D> {
         requires there { KeepsWord (disk_history D.history self.old)
             → AreIdsAsked (world self.old).collections namespace.now home.now query.now
             (texts_of texts.items) }
-        ensures performs { Performs D.history
+        ensures performs { PerformsReading D.history
             (run_find (world self.old) connection
             (record { namespace = namespace.now; query = query.now; batch_size = Some most }))
             result self.old self.new }

@@ -3,6 +3,7 @@
 ghost use Rattle.std.specs.Prelude.{◌≡◌, ◌⊎◌, Bool, Ok, true, false, IfOk, IfErr};
 ghost use Rattle.page.specs.History.{KeepsWord};
 ghost use Rattle.roots.specs.Store.{limit_in};
+ghost use Rattle.collections.specs.Calls.{HasReadCause};
 ghost use Rattle.collections.specs.Marks.{Undoes};
 ghost use Rattle.collections.specs.Opening.{HasLimit};
 ghost use Rattle.cursors.specs.Changes.{all_at_rest};
@@ -12,7 +13,7 @@ ghost use Rattle.engine.specs.Laws.{BodyNeedsNoDisk, BodyOnlyReads, ForMemory, N
 ghost use Rattle.engine.specs.Opening.{IsOpened};
 ghost use Rattle.opening.specs.Refusing.{IsRefused};
 ghost use Rattle.pinned_cursors.specs.Tied.{AreTied};
-ghost use Rattle.engine.specs.Performing.{IsAdministrative, Performs};
+ghost use Rattle.engine.specs.Performing.{IsAdministrative, Performs, PerformsReading};
 ghost use Rattle.database_model.specs.World.{are_untouched, after_commit, after_undo, forget};
 ghost use Rattle.replies.specs.View.{answer_of, outcome_of, IsSendable, Runs};
 ghost use Rattle.engine.specs.View.{world, turn_start, reply_of, IsRefusal};
@@ -104,7 +105,9 @@ impl<D: Disk> Engine<D> {
         ensures has_changes { KeepsWord (disk_history D.history self.new)
             → WroteNothing (world self.old) (Ok body.now) (world self.new)
             → has_changes self.new ≡ has_changes self.old }
-        ensures reads { BodyOnlyReads (Ok body.now) → has_changes self.new ≡ has_changes self.old }
+        ensures reads { BodyOnlyReads (Ok body.now) → PerformsReading D.history
+            (read_and_run (world self.old) connection body.now)
+            (outcome_of result) self.old self.new }
         ensures sure { BodyNeedsNoDisk (Ok body.now) → Runs (world self.old)
             (read_and_run (world self.old) connection body.now) (world self.new)
             (outcome_of result) }
@@ -131,8 +134,9 @@ impl<D: Disk> Engine<D> {
             → (world self.new).collections ≡ (world self.old).collections
             → ChangesNone (world self.old) (command_read command.now)
             → has_changes self.new ≡ has_changes self.old }
-        ensures reads { OnlyReads (Ok (command_read command.now))
-            → has_changes self.new ≡ has_changes self.old }
+        ensures reads { OnlyReads (Ok (command_read command.now)) → PerformsReading D.history
+            (run (world self.old) connection (command_read command.now))
+            (outcome_of result) self.old self.new }
         ensures sure { NeedsNoDisk (Ok (command_read command.now)) → Runs (world self.old)
             (run (world self.old) connection (command_read command.now)) (world self.new)
             (outcome_of result) }
@@ -174,8 +178,9 @@ impl<D: Disk> Engine<D> {
         ensures has_changes { KeepsWord (disk_history D.history self.new)
             → (world self.new).collections ≡ (world self.old).collections
             → has_changes self.new ≡ has_changes self.old }
-        ensures reads { OnlyReads (Ok (command_read command.now))
-            → has_changes self.new ≡ has_changes self.old }
+        ensures reads { OnlyReads (Ok (command_read command.now)) → PerformsReading D.history
+            (run (world self.old) connection (command_read command.now))
+            (outcome_of result) self.old self.new }
         ensures sure { NeedsNoDisk (Ok (command_read command.now)) → Runs (world self.old)
             (run (world self.old) connection (command_read command.now)) (world self.new)
             (outcome_of result) }
@@ -216,6 +221,11 @@ impl<D: Disk> Engine<D> {
             → WroteNothing (world self.old) (Ok body.now) (world self.new)
             → has_changes self.new ≡ has_changes self.old }
         ensures reads { BodyOnlyReads (Ok body.now) → has_changes self.new ≡ has_changes self.old }
+        ensures takes { BodyOnlyReads (Ok body.now)
+            → full_takes_of D.history self.new ≡ full_takes_of D.history self.old }
+        ensures room { KeepsWord (disk_history D.history self.new) → BodyOnlyReads (Ok body.now)
+            → Answers (λ planned. HasReadCause D.history (file_of self.old) (file_of self.new))
+            (world self.old) connection (Ok body.now) (world self.new) (reply_of result) }
         ensures sure { BodyNeedsNoDisk (Ok body.now) → Answers ForMemory (world self.old) connection
             (Ok body.now) (world self.new) (reply_of result) }
         ensures sendable { IsSendable (reply_of result) }

@@ -4,7 +4,7 @@ ghost use Rattle.std.specs.Prelude.{◌≡◌, ◌≤◌, [], Some, IfOk, length
 ghost use Rattle.database_model.specs.Cursors.{batch_of, first_batch};
 ghost use Rattle.engine.specs.Durable.{has_changes, IsSound};
 ghost use Rattle.database_model.specs.Find.{window, given, run_find, Suffices};
-ghost use Rattle.engine.specs.Performing.{Performs};
+ghost use Rattle.engine.specs.Performing.{PerformsReading};
 ghost use Rattle.pinned_cursors.specs.Opening.{that_keep};
 ghost use Rattle.replies.specs.View.{IsSendable, Runs};
 ghost use Rattle.engine.specs.View.{world};
@@ -67,7 +67,7 @@ impl<D: Disk> Engine<D> {
     ) -> Result<SpelledDocument, Refusal>
         requires short { length namespace.now ≤ 255 }
         requires sound { IsSound D.history self.old }
-        ensures performs { Performs D.history
+        ensures performs { PerformsReading D.history
             (run_find (world self.old) connection
             (record { namespace = namespace.now; query = query.now; batch_size = Some most }))
             result self.old self.new }

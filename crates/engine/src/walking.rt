@@ -4,7 +4,7 @@ ghost use Rattle.std.specs.Prelude.{◌≡◌, ◌-◌, ◌≤◌, true, IfOk, S
 ghost use Rattle.database_model.specs.Find.{run_find};
 ghost use Rattle.database_model.specs.World.{documents_of};
 ghost use Rattle.engine.specs.Durable.{disk_history, file_of, has_changes, IsSound};
-ghost use Rattle.engine.specs.Performing.{Performs};
+ghost use Rattle.engine.specs.Performing.{PerformsReading};
 ghost use Rattle.engine.specs.TakingOut.{HasHome};
 ghost use Rattle.engine.specs.View.{world};
 ghost use Rattle.engine.specs.Walking.{IsWholeWalk};
@@ -68,7 +68,7 @@ impl<D: Disk> Engine<D> {
         requires short { length namespace.now ≤ 255 }
         requires sound { IsSound D.history self.old }
         requires in_order { keeps_id_order query.now.sort ≡ true }
-        ensures performs { Performs D.history
+        ensures performs { PerformsReading D.history
             (run_find (world self.old) connection
             (record { namespace = namespace.now; query = query.now; batch_size = Some most }))
             result self.old self.new }
@@ -100,7 +100,7 @@ impl<D: Disk> Engine<D> {
         requires in_order { keeps_id_order query.now.sort ≡ true }
         requires home { KeepsWord (disk_history D.history self.old)
             → HasHome (world self.old).collections namespace.now home.now }
-        ensures performs { Performs D.history
+        ensures performs { PerformsReading D.history
             (run_find (world self.old) connection
             (record { namespace = namespace.now; query = query.now; batch_size = Some most }))
             result self.old self.new }

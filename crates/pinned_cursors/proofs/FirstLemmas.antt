@@ -7,14 +7,13 @@ use Rattle.std.proofs.lemmas.Bool.Decides.{nat_tests}
 use Rattle.bson.specs.Tree.{Pairs}
 use Rattle.page.specs.History.{History, KeepsWord}
 use Rattle.btree.specs.Keys.{times}
-use Rattle.btree.specs.Store.{HasNoPage}
 use Rattle.pager.specs.declared.version.Version.{Version}
 use Rattle.path.specs.declared.refusal.Refusal.{Refusal}
 use Rattle.path.specs.declared.refusal.Refusal.TheVariants as refusals
-use Rattle.collections.specs.Calls.{GoesFrom, HasCause, HasFailed}
+use Rattle.collections.specs.Calls.{GoesFrom, HasReadCause, HasFailed}
 use Rattle.collections.specs.State.{State}
 use Rattle.collections.specs.Versions.{PinsNow, ReadsVersion, UnpinsVersion}
-use Rattle.collections.specs.View.{disk_history, is_changed, is_stopped, pages_of}
+use Rattle.collections.specs.View.{disk_history, is_stopped}
 use Rattle.collections.proofs.StandingLemmas.{stopped_same}
 use Rattle.collections.proofs.VersionLemmas.{pins_stay}
 use Rattle.database_model.specs.Cursors.{batch_of, batch_reply, cursor_reply, is_refused, new_cursor, number_after}
@@ -79,11 +78,11 @@ module _ {D : Type 0} (history : D → History) (version : Version) (number : �
   ReadsListed asked result = ReadsVersion history version (AreListedIn number texts) (λ now chosen b. IsListedBatch asked (given_of p chosen) b) result old new
 
   listed_there : (asked : BatchAsked) (result : Result GivenBatch Refusal) → ReadsListed asked result → KeepsWord (disk_history history new)
-      → ReadsRest true history old its documents → MatchResult result (IsListedBatch asked documents) (HasCause history old new)
+      → ReadsRest true history old its documents → MatchResult result (IsListedBatch asked documents) (HasReadCause history old new)
   listed_there asked result reads k r =
       let l : ListsRest texts p r.home.documents documents = r.left in
       let chosen : Chosen = record { home = r.home; documents = l.some } in
-      subst (λ (ds : List Pairs). MatchResult result (IsListedBatch asked ds) (HasCause history old new)) (sym l.same)
+      subst (λ (ds : List Pairs). MatchResult result (IsListedBatch asked ds) (HasReadCause history old new)) (sym l.same)
       (reads.answers k r.collections r.had chosen
       (record { numbered = r.numbered; stored = r.stored; listed = l.there }))
 
@@ -106,7 +105,7 @@ module _ {D : Type 0} (history : D → History) (version : Version) (number : �
     -- nothing was given
     gives_none : (q : Result GivenBatch Refusal) → ReadsListed asked q → (e : Refusal) (after : Held) → after ≡ held
         → (KeepsWord (disk_history history new) → ReadsRest true history old its documents
-        → HasCause history old new e ⊎ IsNoBatch (table_of held) connection documents most e)
+        → HasReadCause history old new e ⊎ IsNoBatch (table_of held) connection documents most e)
         → Gives (Err e) after
     gives_none q reads e after same cause = record {
       on = reads.on;
@@ -219,21 +218,16 @@ module _ {D : Type 0} (history : D → History) where
     failed_around (inr failed) = inr (subst (λ (h : History). h.failures < (disk_history history d).failures) before.untouched.disk
         (subst (λ (h : History). (disk_history history b).failures < h.failures) (sym behind.untouched.disk) failed))
 
-    full_around : HasNoPage (pages_of history b) (pages_of history c) → HasNoPage (pages_of history a) (pages_of history d)
-    full_around (inl more) = inl (omega (arith, more, before.takes, behind.takes))
-    full_around (inr most) = inr (behind.takes ∙ most)
-
-    pub cause_around : (e : Refusal) → HasCause history b c e → HasCause history a d e
+    pub cause_around : (e : Refusal) → HasReadCause history b c e → HasReadCause history a d e
     cause_around e (inl memory) = inl memory
-    cause_around e (inr (inl (is, failed))) = inr (inl (is, failed_around failed))
-    cause_around e (inr (inr (is, full))) = inr (inr (is, full_around full))
+    cause_around e (inr (is, failed)) = inr (is, failed_around failed)
 
 module _ {D : Type 0} (history : D → History) (connection : ℕ) (namespace : List ℕ) (number : ℕ) (p : Projection) (way : Way) (documents : List Pairs)
     (most : ℕ) (old : State D) (held : Held) where
   abbrev Firsts : Result Pairs Refusal → State D → Held → Type 0
   Firsts result new after = GivesFirst history connection namespace number p way documents most result old new held after
 
-  pub first_none : (e : Refusal) → HasCause history old old e → (new : State D) → new ≡ old → Firsts (Err e) new held
+  pub first_none : (e : Refusal) → HasReadCause history old old e → (new : State D) → new ≡ old → Firsts (Err e) new held
   first_none e cause new same = subst (λ (file : State D). Firsts (Err e) file held) (sym same) (record {
     pinned = old;
     first = no_pins history old;
@@ -295,8 +289,8 @@ module _ {D : Type 0} (history : D → History) (connection : ℕ) (namespace : 
         }
       where
         either : (e : Refusal) (new : State D) → OnlyPins history read new
-            → HasCause history pinned read e ⊎ IsNoBatch (table_of held) connection documents most e
-            → HasCause history old new e ⊎ IsNoBatch (table_of held) connection documents most e
+            → HasReadCause history pinned read e ⊎ IsNoBatch (table_of held) connection documents most e
+            → HasReadCause history old new e ⊎ IsNoBatch (table_of held) connection documents most e
         either e new ends (inl cause) = inl (cause_around history old pinned read new only ends e cause)
         either e new ends (inr none) = inr none
 

@@ -9,11 +9,11 @@ use Rattle.bson.specs.Tree.{Pairs}
 use Rattle.page.specs.History.{History, KeepsWord}
 use Rattle.path.specs.declared.refusal.Refusal.{Refusal}
 use Rattle.path.specs.declared.refusal.Refusal.TheVariants as refusals
-use Rattle.collections.specs.Calls.{GoesFrom, HasCause}
+use Rattle.collections.specs.Calls.{GoesFrom, HasReadCause, IsUnchanged}
 use Rattle.collections.specs.Standing.{HasState}
 use Rattle.collections.specs.State.{State}
 use Rattle.collections.specs.Versions.{ReadsVersion}
-use Rattle.collections.specs.View.{disk_history, is_changed, is_stopped}
+use Rattle.collections.specs.View.{disk_history, is_stopped}
 use Rattle.database_model.specs.Cursors.{advanced, batch_len, batch_of, batch_reply, item_size}
 use Rattle.database_model.specs.GetMore.{batch_len_of}
 use Rattle.database_model.specs.Refusals.{ok_reply}
@@ -77,10 +77,10 @@ pub record AsksNext (h : HeldCursor) (namespace : List ℕ) (most : ℕ) (asked 
 module _ {D : Type 0} (history : D → History) (h : HeldCursor) (w : HeldWalk) (is : h.walk ≡ Some w) (namespace : List ℕ) (most : ℕ) (asked : BatchAsked)
     (asks : AsksNext h namespace most asked) (old new : State D) where
   -- what is right of what the walk is still to give
-  reads_of : (result : Result GivenBatch Refusal) → GoesFrom history old new → is_changed new ≡ is_changed old
+  reads_of : (result : Result GivenBatch Refusal) → GoesFrom history old new → IsUnchanged history old new
       → ((s t : List Collection) → HasState history old s t → HasState history new s t)
       → (KeepsWord (disk_history history new) → (passing : Bool) → ReadsRest passing history old w h.cursor.rest
-      → MatchResult result (IsNextBatch passing history new h w namespace most) (HasCause history old new))
+      → MatchResult result (IsNextBatch passing history new h w namespace most) (HasReadCause history old new))
       → ReadsAt history h namespace most result old new
   reads_of result on unchanged same right = record {
     on = on;
@@ -88,7 +88,7 @@ module _ {D : Type 0} (history : D → History) (h : HeldCursor) (w : HeldWalk) 
     same = same;
     answers = λ k v there passing r.
         let one : v ≡ w = some_is v w (sym there ∙ is) in
-        subst (λ (x : HeldWalk). MatchResult result (IsNextBatch passing history new h x namespace most) (HasCause history old new)) (sym one)
+        subst (λ (x : HeldWalk). MatchResult result (IsNextBatch passing history new h x namespace most) (HasReadCause history old new)) (sym one)
         (right k passing (subst (λ (x : HeldWalk). ReadsRest passing history old x h.cursor.rest) one r));
   }
     where
@@ -145,13 +145,13 @@ module _ {D : Type 0} (history : D → History) (h : HeldCursor) (w : HeldWalk) 
   reads_through walk its result reads = reads_of result reads.on reads.unchanged reads.same right
     where
       right : KeepsWord (disk_history history new) → (passing : Bool) → ReadsRest passing history old w h.cursor.rest
-          → MatchResult result (IsNextBatch passing history new h w namespace most) (HasCause history old new)
+          → MatchResult result (IsNextBatch passing history new h w namespace most) (HasReadCause history old new)
       right k passing r = at result (reads.answers k r.collections (has_now history passing old w.version r.collections r.had) r.home
           (record { numbered = r.numbered; stored = r.stored }))
         where
           at : (q : Result GivenBatch Refusal)
-              → MatchResult q (λ b. IsGivenBatch walk asked r.home.documents b) (HasCause history old new)
-              → MatchResult q (IsNextBatch passing history new h w namespace most) (HasCause history old new)
+              → MatchResult q (λ b. IsGivenBatch walk asked r.home.documents b) (HasReadCause history old new)
+              → MatchResult q (IsNextBatch passing history new h w namespace most) (HasReadCause history old new)
           at (Ok b) given = next_so walk its reads.on passing r b given
           at (Err e) cause = cause
 
@@ -165,7 +165,7 @@ module _ {D : Type 0} (history : D → History) (h : HeldCursor) (w : HeldWalk) 
     reads_listed its result reads = reads_of result reads.on reads.unchanged reads.same right
       where
         right : KeepsWord (disk_history history new) → (passing : Bool) → ReadsRest passing history old w h.cursor.rest
-            → MatchResult result (IsNextBatch passing history new h w namespace most) (HasCause history old new)
+            → MatchResult result (IsNextBatch passing history new h w namespace most) (HasReadCause history old new)
         right k passing r =
             let l : ListsRest (texts_of list.ids.now) w.projection r.home.documents h.cursor.rest =
             subst (λ (x : Way). IsLeftBy x w.projection r.home.documents h.cursor.rest) its.way r.left in
@@ -174,8 +174,8 @@ module _ {D : Type 0} (history : D → History) (h : HeldCursor) (w : HeldWalk) 
             (record { numbered = r.numbered; stored = r.stored; listed = l.there }))
           where
             at : (q : Result GivenBatch Refusal) (l : ListsRest (texts_of list.ids.now) w.projection r.home.documents h.cursor.rest)
-                → MatchResult q (λ b. IsListedBatch asked (map (project list.projection.now) l.some) b) (HasCause history old new)
-                → MatchResult q (IsNextBatch passing history new h w namespace most) (HasCause history old new)
+                → MatchResult q (λ b. IsListedBatch asked (map (project list.projection.now) l.some) b) (HasReadCause history old new)
+                → MatchResult q (IsNextBatch passing history new h w namespace most) (HasReadCause history old new)
             at (Err e) l cause = cause
             at (Ok b) l batch =
                 let rest : map (project list.projection.now) l.some ≡ h.cursor.rest = ap (λ p. map (project p) l.some) its.projection ∙ sym l.same in
@@ -341,6 +341,6 @@ pub gives_stopped : {D : Type 0} (history : D → History) (file : State D) (hel
 gives_stopped history file held at namespace most stopped = record {
   goes = nothing_read history file;
   err = refl;
-  answers = λ k changed tied. inr (inl (refl, inl stopped));
+  answers = λ k changed tied. inr (refl, inl stopped);
   tied = λ changed tied. tied;
 }

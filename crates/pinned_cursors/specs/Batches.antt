@@ -5,10 +5,10 @@ use Rattle.bson.specs.Tree.{Pairs}
 use Rattle.page.specs.History.{History, KeepsWord}
 use Rattle.path.specs.declared.refusal.Refusal.{Refusal}
 use Rattle.entries.specs.State.{Collection}
-use Rattle.collections.specs.Calls.{GoesFrom, HasCause}
+use Rattle.collections.specs.Calls.{GoesFrom, HasReadCause, IsUnchanged}
 use Rattle.collections.specs.Standing.{HasState}
 use Rattle.collections.specs.State.{State}
-use Rattle.collections.specs.View.{disk_history, is_changed}
+use Rattle.collections.specs.View.{disk_history}
 use Rattle.database_model.specs.Cursors.{advanced, batch_of, batch_reply}
 use Rattle.database_model.specs.GetMore.{batch_len_of}
 use Rattle.database_model.specs.Refusals.{ok_reply}
@@ -37,13 +37,13 @@ pub record IsNextBatch {D : Type 0} (passing : Bool) (history : D → History) (
 pub record ReadsAt {D : Type 0} (history : D → History) (h : HeldCursor) (namespace : List ℕ)
     (most : ℕ) (result : Result GivenBatch Refusal) (old new : State D) : Type 0 where
   pub on : GoesFrom history old new
-  pub unchanged : is_changed new ≡ is_changed old
+  pub unchanged : IsUnchanged history old new
   pub same : (start now : List Collection) → HasState history old start now
       → HasState history new start now
   pub answers : KeepsWord (disk_history history new) → (w : HeldWalk) → h.walk ≡ Some w
       → (passing : Bool) → ReadsRest passing history old w h.cursor.rest
       → MatchResult result (IsNextBatch passing history new h w namespace most)
-      (HasCause history old new)
+      (HasReadCause history old new)
 
 -- ---- and the cursor goes on, or ends
 
@@ -51,7 +51,7 @@ pub record ReadsAt {D : Type 0} (history : D → History) (h : HeldCursor) (name
 pub record ReadsThenPins {D : Type 0} (history : D → History) (old new : State D) : Type 0 where
   pub read : State D
   pub on : GoesFrom history old read
-  pub unchanged : is_changed read ≡ is_changed old
+  pub unchanged : IsUnchanged history old read
   pub same : (start now : List Collection) → HasState history old start now
       → HasState history read start now
   pub pins : OnlyPins history read new
@@ -75,6 +75,6 @@ pub record GivesNext {D : Type 0} (history : D → History) (at : ℕ) (namespac
   pub answers : KeepsWord (disk_history history new)
       → (changed : Bool) → AreTied changed history old before.list
       → MatchResult result (IsGivenNext at namespace most before after)
-      (HasCause history old new)
+      (HasReadCause history old new)
   pub tied : (changed : Bool) → AreTied changed history old before.list
       → AreTied changed history new after.list

@@ -5,10 +5,10 @@ use Rattle.bson.specs.Tree.{Pairs}
 use Rattle.page.specs.History.{History, KeepsWord}
 use Rattle.path.specs.declared.refusal.Refusal.{Refusal}
 use Rattle.entries.specs.State.{Collection}
-use Rattle.collections.specs.Calls.{GoesFrom, HasCause}
+use Rattle.collections.specs.Calls.{GoesFrom, HasReadCause, IsUnchanged}
 use Rattle.collections.specs.Standing.{HasState}
 use Rattle.collections.specs.State.{State}
-use Rattle.collections.specs.View.{disk_history, is_changed, is_stopped}
+use Rattle.collections.specs.View.{disk_history, is_stopped}
 use Rattle.pager.specs.declared.version.Version.{Version}
 use Rattle.database_model.specs.Cursors.{new_cursor}
 use Rattle.projection.specs.Projection.{Projection}
@@ -48,7 +48,7 @@ pub record GivesFirst {D : Type 0} (history : D → History) (connection : ℕ)
   pub answers : KeepsWord (disk_history history new)
       → IsLeftOf history old number p way documents
       → MatchResult result (IsFirstGiven connection namespace documents most before after)
-      (λ e. HasCause history old new e
+      (λ e. HasReadCause history old new e
       ⊎ IsNoBatch (table_of before) connection documents most e)
   pub tied : (KeepsWord (disk_history history old)
       → IsLeftOf history old number p way documents)
@@ -70,7 +70,7 @@ pub record GivesPinned {D : Type 0} (history : D → History) (connection : ℕ)
     (namespace : List ℕ) (w : HeldWalk) (documents : List Pairs) (most : ℕ)
     (result : Result FirstGiven Refusal) (old new : State D) (before after : Held) : Type 0 where
   pub on : GoesFrom history old new
-  pub unchanged : is_changed new ≡ is_changed old
+  pub unchanged : IsUnchanged history old new
   pub same : (start now : List Collection) → HasState history old start now
       → HasState history new start now
   pub err : OnErr result (after ≡ before)
@@ -78,7 +78,7 @@ pub record GivesPinned {D : Type 0} (history : D → History) (connection : ℕ)
   pub answers : KeepsWord (disk_history history new) → ReadsRest true history old w documents
       → MatchResult result
       (λ g. IsFirstGiven connection namespace documents most before after g.reply)
-      (λ e. HasCause history old new e
+      (λ e. HasReadCause history old new e
       ⊎ IsNoBatch (table_of before) connection documents most e)
   pub pin : IfOk result (λ g. (changed : Bool) → (is_stopped new ≡ false
       → KeepsWord (disk_history history new) → ReadsRest changed history old w documents)

@@ -22,7 +22,7 @@ use Rattle.value_order.specs.Order.{compare}
 use Rattle.entries.specs.LawfulState.{IsLawfulState}
 use Rattle.entries.specs.State.{Collection}
 use Rattle.entries.proofs.FoundLawLemmas.{found_collection, found_document}
-use Rattle.collections.specs.Calls.{HasCause}
+use Rattle.collections.specs.Calls.{HasReadCause}
 use Rattle.collections.specs.Reading.{IsPlaceOf, Place, ReadsOf, stored_at}
 use Rattle.collections.specs.Standing.{HasState, IsTurnOf}
 use Rattle.collections.specs.State.{State}
@@ -137,8 +137,8 @@ module _ {D : Type 0} (history : D → History) (old new : State D) (number : �
   }
     where
       at : (b : Bool) → is_stopped old ≡ b → KeepsWord (disk_history history new) → (start now : List Collection) → HasState history old start now
-          → (place : Place) → IsPlaceOf number text now place → HasCause history old new refusals.StorageFailed
-      at true stopped k start now has place there = inr (inl (refl, inl stopped))
+          → (place : Place) → IsPlaceOf number text now place → HasReadCause history old new refusals.StorageFailed
+      at true stopped k start now has place there = inr (refl, inl stopped)
       at false running k start now has place there =
           let t : IsTurnOf history old start now = has running (word_before history old new reads.on k) in
           let within = found_within now place t.now_state there (reads.answers k start now has place there) in

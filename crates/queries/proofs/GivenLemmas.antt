@@ -16,7 +16,7 @@ use Rattle.page.specs.History.{History}
 use Rattle.pager.specs.declared.version.Version.{Version}
 use Rattle.path.specs.declared.refusal.Refusal.{Refusal}
 use Rattle.path.specs.declared.refusal.Refusal.TheVariants as refusals
-use Rattle.collections.specs.Calls.{HasCause}
+use Rattle.collections.specs.Calls.{HasReadCause}
 use Rattle.collections.specs.Folding.{IsFolded, documents_within}
 use Rattle.collections.specs.Reading.{IsNumbered, OrMemory, ReadsOf}
 use Rattle.collections.specs.State.{State}
@@ -216,8 +216,8 @@ module _ {D : Type 0} (history : D → History) (w : Walk) (start : Giving) (tex
   }
     where
       either : (s : Result Giving Refusal) (now : List Collection) (c : Collection) → IsLawfulState now → IsAskedIn number now c
-          → MatchResult s (λ done. IsFolded Gives start (documents_within texts c.documents) done) (HasCause history old new)
-          → MatchResult s (λ done. AreLent w start c.documents done) (HasCause history old new)
+          → MatchResult s (λ done. IsFolded Gives start (documents_within texts c.documents) done) (HasReadCause history old new)
+          → MatchResult s (λ done. AreLent w start c.documents done) (HasReadCause history old new)
       either (Ok done) now c state asked folded = lent_of w start done texts first end from to pass now c number state asked.numbered asked.stored folded
       either (Err e) now c state asked cause = cause
 
@@ -240,6 +240,7 @@ module _ {D A X Y : Type 0} (history : D → History) (version : Version) (Is : 
     answers = λ k now has asked so. or_cause r now asked (on now asked so (reads.answers k now has asked so));
   }
     where
-      or_cause : (s : Result Y Refusal) (now : List Collection) (asked : A) → OrMemory (Q now asked) s → MatchResult s (Q now asked) (HasCause history old new)
+      or_cause : (s : Result Y Refusal) (now : List Collection) (asked : A) → OrMemory (Q now asked) s
+          → MatchResult s (Q now asked) (HasReadCause history old new)
       or_cause (Ok y) now asked right = right
       or_cause (Err e) now asked is = inl is

@@ -17,12 +17,12 @@ use Rattle.entries.specs.State.{Collection, key_of}
 use Rattle.entries.specs.StateReads.{find_document}
 use Rattle.entries.proofs.EntryLemmas.{id_is_key}
 use Rattle.entries.proofs.FoundLawLemmas.{found_collection, found_document}
-use Rattle.collections.specs.Calls.{GoesFrom, HasCause}
+use Rattle.collections.specs.Calls.{GoesFrom, HasReadCause, IsUnchanged}
 use Rattle.collections.specs.Reading.{IsPlaceOf, Place, stored_at}
 use Rattle.collections.specs.Standing.{HasState}
 use Rattle.collections.specs.State.{State}
 use Rattle.collections.specs.Versions.{HasVersion, ReadsVersion}
-use Rattle.collections.specs.View.{disk_history, is_changed}
+use Rattle.collections.specs.View.{disk_history}
 use Rattle.collections.proofs.VersionLemmas.{versions_stay}
 use Rattle.database_model.specs.Cursors.{batch_of, batch_reply, cursor_reply}
 use Rattle.database_model.specs.Refusals.{ok_reply}
@@ -42,13 +42,13 @@ pub record IsBeside {D B X : Type 0} (history : D → History) (old new : State 
     (P : List Collection → B → X → Type 0) (s : Result X Refusal) (now : List Collection) (Right : Type 0) : Type 0 where
   pub other : B
   pub was : Was now other
-  pub right : MatchResult s (P now other) (HasCause history old new) → Right
+  pub right : MatchResult s (P now other) (HasReadCause history old new) → Right
 
 pub version_from : {D A B X Y : Type 0} (history : D → History) (version : Version) (Was : List Collection → B → Type 0) (P : List Collection → B → X → Type 0)
     (Is : List Collection → A → Type 0) (R : List Collection → A → Y → Type 0) (old new : State D) (s : Result X Refusal) (r : Result Y Refusal)
     → ReadsVersion history version Was P s old new
     → ((now : List Collection) → IsLawfulState now → (asked : A) → Is now asked
-    → IsBeside history old new Was P s now (MatchResult r (R now asked) (HasCause history old new)))
+    → IsBeside history old new Was P s now (MatchResult r (R now asked) (HasReadCause history old new)))
     → ReadsVersion history version Is R r old new
 version_from history version Was P Is R old new s r reads on = record {
   on = reads.on;
@@ -78,8 +78,8 @@ module _ {D : Type 0} (history : D → History) (version : Version) (number : �
   Reads s = ReadsVersion history version (IsPlaceOf number text) (λ now place found. found ≡ stored_at place) s old new
 
   from_place : (s : Result (Option Pairs) Refusal) (r : Result Bool Refusal) → Reads s
-      → ((one : Stored) → IsStorable one.document → MatchResult s (λ found. found ≡ Some one.document) (HasCause history old new)
-      → MatchResult r (λ is_taken. IsOffered before (project p one.document) is_taken after) (HasCause history old new)) → Offers r
+      → ((one : Stored) → IsStorable one.document → MatchResult s (λ found. found ≡ Some one.document) (HasReadCause history old new)
+      → MatchResult r (λ is_taken. IsOffered before (project p one.document) is_taken after) (HasReadCause history old new)) → Offers r
   from_place s r reads on =
       version_from history version (IsPlaceOf number text) (λ now place found. found ≡ stored_at place) (IsStoredIn number text)
       (λ now one is_taken. IsOffered before (project p one.document) is_taken after) old new s r reads
@@ -90,8 +90,8 @@ module _ {D : Type 0} (history : D → History) (version : Version) (number : �
       })
     where
       at : (q : Result (Option Pairs) Refusal) (one : Stored) → find_document one.home.documents (key_of one.document) ≡ Some one.document
-          → MatchResult q (λ found. found ≡ stored_at (place_of one)) (HasCause history old new)
-          → MatchResult q (λ found. found ≡ Some one.document) (HasCause history old new)
+          → MatchResult q (λ found. found ≡ stored_at (place_of one)) (HasReadCause history old new)
+          → MatchResult q (λ found. found ≡ Some one.document) (HasReadCause history old new)
       at (Ok found) one there read = read ∙ there
       at (Err e) one there cause = cause
 
@@ -115,7 +115,7 @@ module _ {D : Type 0} (history : D → History) (version : Version) (number : �
 
       at : (q : Result Bool Refusal) (one : Stored) → IsStorable one.document → document ≡ one.document
           → IfOk q (λ is_taken. IsOffered before (project p document) is_taken after) → (IsStorable document → IfErr q (λ e. e ≡ refusals.OutOfMemory))
-          → MatchResult q (λ is_taken. IsOffered before (project p one.document) is_taken after) (HasCause history old new)
+          → MatchResult q (λ is_taken. IsOffered before (project p one.document) is_taken after) (HasReadCause history old new)
       at (Ok is_taken) one storable same ok err = subst (λ (d : Pairs). IsOffered before (project p d) is_taken after) same ok
       at (Err e) one storable same ok err = inl (err (subst IsStorable (sym same) storable))
 
@@ -155,7 +155,7 @@ module _ {D : Type 0} (history : D → History) (version : Version) (number : �
     -- Those before this one are in the batch.
     pub record HasOffered (now : State D) (i : ℕ) (batch : OpenBatch) : Type 0 where
       pub on : GoesFrom history start now
-      pub unchanged : is_changed now ≡ is_changed start
+      pub unchanged : IsUnchanged history start now
       pub same : (s t : List Collection) → HasState history start s t → HasState history now s t
       pub some : IsOpen batch
       pub there : KeepsWord (disk_history history now) → (cs : List Collection) → HasVersion history start version cs → (chosen : Chosen) → Asks cs chosen

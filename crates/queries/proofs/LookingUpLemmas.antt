@@ -17,12 +17,12 @@ use Rattle.index.specs.View.{texts_of}
 use Rattle.entries.proofs.FoundLawLemmas.{found_collection}
 use Rattle.planner.specs.IdLaws.{AreIdTexts, found_by, with_found}
 use Rattle.planner.proofs.IdLemmas.{finds_by_ids}
-use Rattle.collections.specs.Calls.{GoesFrom}
+use Rattle.collections.specs.Calls.{GoesFrom, IsUnchanged}
 use Rattle.entries.specs.LawfulState.{IsLawfulState}
 use Rattle.collections.specs.Reading.{IsNumbered, IsPlaceOf, Place, ReadsOf, stored_at}
 use Rattle.collections.specs.Standing.{HasState, IsTurnOf}
 use Rattle.collections.specs.State.{State}
-use Rattle.collections.specs.View.{disk_history, is_changed, is_stopped}
+use Rattle.collections.specs.View.{disk_history, is_stopped}
 use Rattle.replies.proofs.Steps.{drop_step}
 use Rattle.queries.specs.ById.{AreIdsOf}
 use Rattle.queries.proofs.ReadingLemmas.{goes_itself, goes_on, widen_before, word_before}
@@ -50,7 +50,7 @@ module _ {D : Type 0} (history : D → History) (number : ℕ) (Asks : List Coll
   -- What is so of all documents of the collection of that number and of those that are still to be looked up.
   pub record HasLookedUp (R : List Pairs → List Pairs → Type 0) (old new : State D) (left : List (List ℕ)) : Type 0 where
     pub on : GoesFrom history old new
-    pub unchanged : is_changed new ≡ is_changed old
+    pub unchanged : IsUnchanged history old new
     pub same : (start now : List Collection) → HasState history old start now → HasState history new start now
     pub there : KeepsWord (disk_history history new) → (start now : List Collection) → HasState history old start now → (c : Collection) → Asks now c
         → IsLeft (R c.documents) c.documents left

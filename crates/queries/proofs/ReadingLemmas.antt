@@ -1,15 +1,14 @@
 -- How calls that read a file add up, one after the other.
 use Rattle.std.proofs.Common.{◌≡◌, inl, inr, false, List, Result, Ok, Err, refl, sym, ◌∙◌, arith}
 use Rattle.std.specs.Prelude.{MatchResult}
-use Rattle.std.proofs.lemmas.Bool.{cases_lt}
 use Rattle.page.specs.History.{History, KeepsWord}
-use Rattle.btree.specs.Store.{Frame, HasNoPage}
+use Rattle.btree.specs.Store.{Frame}
 use Rattle.btree.proofs.StoreLemmas.{grows_itself, grows_trans}
 use Rattle.path.specs.declared.refusal.Refusal.{Refusal}
 use Rattle.path.specs.declared.refusal.Refusal.TheVariants as refusals
 use Rattle.entries.specs.LawfulState.{IsLawfulState}
 use Rattle.entries.specs.State.{Collection}
-use Rattle.collections.specs.Calls.{GoesFrom, HasCause, IsOfFile}
+use Rattle.collections.specs.Calls.{GoesFrom, HasReadCause, IsOfFile}
 use Rattle.collections.specs.Reading.{ReadsOf}
 use Rattle.collections.specs.Standing.{IsTurnOf}
 use Rattle.collections.specs.State.{State}
@@ -40,33 +39,24 @@ module _ {D : Type 0} (history : D → History) (a b c d : State D) (early : Goe
   first : Frame (pages_of history a) (pages_of history b)
   first = early.frame second.word
 
-  no_page_wider : HasNoPage (pages_of history b) (pages_of history c) → HasNoPage (pages_of history a) (pages_of history d)
-  no_page_wider (inl more) = inl (omega (arith, first.full_takes, more, third.full_takes))
-  no_page_wider (inr most) = elim (cases_lt (pages_of history c).full_takes (pages_of history d).full_takes) [
-    | inl more ↦ inl (omega (arith, first.full_takes, second.full_takes, more))
-    | inr same ↦ inr (omega (arith, most, third.full_takes, same))
-  ]
-
-  pub widen : (e : Refusal) → HasCause history b c e → HasCause history a d e
+  pub widen : (e : Refusal) → HasReadCause history b c e → HasReadCause history a d e
   widen e (inl is) = inl is
-  widen e (inr (inl (is, inl stopped))) = inr (inl (is, inl (sym (stopped_same history a.pager b.pager early.stays) ∙ stopped)))
-  widen e (inr (inl (is, inr failed))) = inr (inl (is, inr (omega (arith, first.failures, failed, third.failures))))
-  widen e (inr (inr (is, none))) = inr (inr (is, no_page_wider none))
+  widen e (inr (is, inl stopped)) = inr (is, inl (sym (stopped_same history a.pager b.pager early.stays) ∙ stopped))
+  widen e (inr (is, inr failed)) = inr (is, inr (omega (arith, first.failures, failed, third.failures)))
 
 -- only what came before is added, or only what came after
 module _ {D : Type 0} (history : D → History) (a b c : State D) (early : GoesFrom history a b) (late : GoesFrom history b c)
     (k : KeepsWord (disk_history history c)) where
-  pub widen_before : (e : Refusal) → HasCause history b c e → HasCause history a c e
+  pub widen_before : (e : Refusal) → HasReadCause history b c e → HasReadCause history a c e
   widen_before = widen history a b c c early late (goes_itself history c) k
 
-  pub widen_after : (e : Refusal) → HasCause history a b e → HasCause history a c e
+  pub widen_after : (e : Refusal) → HasReadCause history a b e → HasReadCause history a c e
   widen_after = widen history a a b c (goes_itself history a) early late k
 
 -- the refusals that have a cause
-pub of_file : {D : Type 0} (history : D → History) (a b : State D) (e : Refusal) → HasCause history a b e → IsOfFile e
+pub of_file : {D : Type 0} (history : D → History) (a b : State D) (e : Refusal) → HasReadCause history a b e → IsOfFile e
 of_file history a b e (inl is) = inl is
-of_file history a b e (inr (inl x)) = inr (inl x.0)
-of_file history a b e (inr (inr x)) = inr (inr x.0)
+of_file history a b e (inr x) = inr (inl x.0)
 
 -- ---- what was read, of something else that is asked for
 
@@ -80,7 +70,7 @@ pub record IsOther {A B X : Type 0} (Was : List Collection → B → Type 0) (P 
 module _ {D A B X : Type 0} (history : D → History) (Is : List Collection → A → Type 0) (Was : List Collection → B → Type 0) (P : List Collection → B → X
     → Type 0) (R : List Collection → A → X → Type 0) where
   either_read : (old new : State D) (r : Result X Refusal) (now : List Collection) (asked : A) (o : IsOther Was P R now asked)
-      → MatchResult r (P now o.other) (HasCause history old new) → MatchResult r (R now asked) (HasCause history old new)
+      → MatchResult r (P now o.other) (HasReadCause history old new) → MatchResult r (R now asked) (HasReadCause history old new)
   either_read old new (Ok x) now asked o right = o.right x right
   either_read old new (Err e) now asked o cause = cause
 
@@ -101,7 +91,7 @@ module _ {D A B X Y : Type 0} (history : D → History) (Is : List Collection �
     → Type 0) (Q : List Collection → B → Y → Type 0) (R : List Collection → A → Y → Type 0) where
   either_behind : (a b c : State D) → GoesFrom history a b → GoesFrom history b c → KeepsWord (disk_history history c)
       → (r : Result Y Refusal) (now : List Collection) (asked : A) (o : IsOther Was Q R now asked)
-      → MatchResult r (Q now o.other) (HasCause history b c) → MatchResult r (R now asked) (HasCause history a c)
+      → MatchResult r (Q now o.other) (HasReadCause history b c) → MatchResult r (R now asked) (HasReadCause history a c)
   either_behind a b c early late k (Ok y) now asked o right = o.right y right
   either_behind a b c early late k (Err e) now asked o cause = widen_before history a b c early late k e cause
 

@@ -3,26 +3,27 @@ use Rattle.std.proofs.Common.{◌≡◌, ap, subst, sym, true, ◌∙◌}
 use Rattle.page.specs.History.{History}
 use Rattle.trusted_disk.specs.Trusting.{trusted_history}
 use Rattle.trusted_disk.specs.declared.disk.TrustedDisk.{TrustedDisk}
-use Rattle.engine.specs.Looking.{OnlyReads}
+use Rattle.engine.specs.Looking.{LeavesAll}
+use Rattle.engine.proofs.OnlyReading.{world_left}
+use Rattle.opening.specs.Known.{Known}
 use Rattle.database_model.specs.World.{World, are_untouched}
 use Rattle.engine.specs.declared.engine.Engine.{Engine}
-use Rattle.engine.proofs.LookingLemmas.{collections_same, start_same, world_same}
 use Rattle.server.specs.Durable.{IsSound}
 use Rattle.server.specs.ServerState.{ServerState}
 use Rattle.server.specs.View.{state}
 use Rattle.server.specs.declared.turn.Core.{Core}
 
 module _ {D : Type 0} (history : D → History) (old : Core D) (engine : Engine (TrustedDisk D))
-    (reads : OnlyReads (trusted_history history) old.engine engine) where
+    (reads : LeavesAll (trusted_history history) old.engine engine) where
   pub sound_read : IsSound history old → IsSound history (record old { engine = engine })
   sound_read h = record {
     engine = reads.sound;
-    idle = start_same (trusted_history history) old.engine engine reads ∙ h.idle ∙ sym (collections_same (trusted_history history) old.engine engine reads);
-    rested = subst (λ (w : World). are_untouched w.cursors ≡ true) (sym (world_same (trusted_history history) old.engine engine reads)) h.rested;
+    idle = ap (λ (t : Known). t.start) reads.told ∙ h.idle ∙ sym (ap (λ (t : Known). t.now) reads.told);
+    rested = subst (λ (w : World). are_untouched w.cursors ≡ true) (sym (world_left (trusted_history history) old.engine engine reads)) h.rested;
     rests = reads.changes ∙ h.rests;
     ascending = h.ascending;
   }
 
   pub state_read : state (record old { engine = engine }) ≡ state old
   state_read = let on : World → ServerState = λ w. record { world = w; connections = old.connections.items } in
-      ap on (world_same (trusted_history history) old.engine engine reads)
+      ap on (world_left (trusted_history history) old.engine engine reads)

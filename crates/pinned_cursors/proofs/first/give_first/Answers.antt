@@ -8,7 +8,7 @@ pub returns-then-is_stopped-clause-gives : goal.returns-then-is_stopped-clause-g
 returns-then-is_stopped-clause-gives g c =
     first_none g.D.Disk.history c.args.asked.now.connection c.args.asked.now.namespace.now c.args.left.number c.args.left.projection.now
     (way_by c.args.left) c.args.rest.value c.args.asked.now.most c.args.file.now c.args.cursors.now _
-    (inr (inl (refl, inl (sym c.is_stopped.ensures ∙ c.if-is_stopped.true)))) c.args.file.now refl
+    (inr (refl, inl (sym c.is_stopped.ensures ∙ c.if-is_stopped.true))) c.args.file.now refl
 
 pub returns-in_err-version-clause-gives : goal.returns-in_err-version-clause-gives
 returns-in_err-version-clause-gives g c =

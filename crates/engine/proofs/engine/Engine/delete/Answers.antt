@@ -23,14 +23,14 @@ returns-in_err-taken-clause-performs g c =
     let p = err_from_is_err_and c.from_residual.result c.from_residual.ensures.1 in
     rw (p.1, p.2)
     (performs_refused g.D.Disk.history old c.taken.new.self
-    (run_delete (world old) asked) c.in_err-taken.field-0.0 c.in_err-taken.ensures.reads c.in_err-taken.ensures.answers)
+    (run_delete (world old) asked) c.in_err-taken.field-0.0 c.in_err-taken.ensures.reads c.in_err-taken.ensures.answers).performs
 
 pub returns-in_err-reply-clause-performs : goal.returns-in_err-reply-clause-performs
 returns-in_err-reply-clause-performs g c =
     let old = c.args.self.now in
     let asked : Delete = record { namespace = c.args.namespace.now; deletions = c.args.deletions.now } in
     let p = err_from_is_err_and c.from_residual-in_err-reply.result c.from_residual-in_err-reply.ensures.1 in
-    rw p.1 (performs_memory g.D.Disk.history old c.taken.new.self (run_delete (world old) asked) p.0 p.2 c.in_ok-taken.ensures.reads)
+    rw p.1 (performs_memory g.D.Disk.history old c.taken.new.self (run_delete (world old) asked) p.0 p.2 c.in_ok-taken.ensures.reads).performs
 
 pub remove-requires-clause-sound : goal.remove-requires-clause-sound
 remove-requires-clause-sound g c = c.in_ok-taken.ensures.reads.sound

@@ -16,7 +16,7 @@ returns-in_err-home-clause-performs g c =
     rw (p.1, p.2)
     (performs_refused g.D.Disk.history old c.catalogued.new.self
     (run_drop (world old) (record { namespace = c.args.namespace.now })) c.in_err-home.field-0.0 c.in_err-home.ensures.looks.reads
-    c.in_err-home.ensures.looks.answers)
+    c.in_err-home.ensures.looks.answers).performs
 
 pub returns-in_default-clause-performs : goal.returns-in_default-clause-performs
 returns-in_default-clause-performs g c =
@@ -27,7 +27,7 @@ returns-in_err-reply-clause-performs g c =
     let p = err_from_is_err_and c.from_residual-in_err-reply.result c.from_residual-in_err-reply.ensures.1 in
     let old = c.args.self.now in
     rw p.1 (performs_memory g.D.Disk.history old c.catalogued.new.self
-    (run_drop (world old) (record { namespace = c.args.namespace.now })) p.0 p.2 c.in_ok-home.ensures.looks.reads)
+    (run_drop (world old) (record { namespace = c.args.namespace.now })) p.0 p.2 c.in_ok-home.ensures.looks.reads).performs
 
 pub remove_collection-requires-clause-sound : goal.remove_collection-requires-clause-sound
 remove_collection-requires-clause-sound g c = c.in_ok-home.ensures.looks.reads.sound

@@ -17,7 +17,7 @@ returns-in_err-home-clause-performs g c =
     rw (p.1, p.2)
     (performs_refused g.D.Disk.history old c.catalogued.new.self
     (run_drop_indexes (world old) (record { namespace = c.args.namespace.now; indexes = dropped_of c.args.dropped.now }))
-    c.in_err-home.field-0.0 c.in_err-home.ensures.looks.reads c.in_err-home.ensures.looks.answers)
+    c.in_err-home.field-0.0 c.in_err-home.ensures.looks.reads c.in_err-home.ensures.looks.answers).performs
 
 pub returns-in_default-clause-performs : goal.returns-in_default-clause-performs
 returns-in_default-clause-performs g c =

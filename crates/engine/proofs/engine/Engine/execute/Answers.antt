@@ -3,7 +3,7 @@ use Rattle.database_model.specs.Step.{read_and_run}
 use Rattle.replies.specs.View.{answer_of}
 use Rattle.engine.specs.View.{world}
 use Rattle.replies.proofs.SpelledSizes.{refusal-sendable}
-use Rattle.engine.proofs.Sound.{answers_done, answers_refused, refused_for_memory}
+use Rattle.engine.proofs.Sound.{answers_done, answers_read, answers_refused, refused_for_memory}
 use Rattle.engine.proofs.engine.Engine.execute.Goals as goal
 
 pub returns-in-Ok-clause-answers : goal.returns-in-Ok-clause-answers
@@ -28,6 +28,8 @@ returns-in-Ok-clause-refused g c refusal = absurd refusal
 pub returns-in-Err-clause-refused : goal.returns-in-Err-clause-refused
 returns-in-Err-clause-refused g c refusal = (c.in-Err.ensures.performs.left, c.in-Err.ensures.performs.refused)
 
+-- ---- a command that asks for no collection
+
 pub returns-in-Ok-clause-sure : goal.returns-in-Ok-clause-sure
 returns-in-Ok-clause-sure g c none =
     let old = world c.args.self.now in
@@ -37,3 +39,30 @@ pub returns-in-Err-clause-sure : goal.returns-in-Err-clause-sure
 returns-in-Err-clause-sure g c none =
     let old = world c.args.self.now in
     refused_for_memory old (world c.run.new.self) (read_and_run old c.args.connection c.args.body.now) c.in-Err.refusal (c.in-Err.ensures.sure none)
+
+-- ---- a command that only reads
+
+pub returns-in-Ok-clause-reads : goal.returns-in-Ok-clause-reads
+returns-in-Ok-clause-reads g c only = (c.in-Ok.ensures.reads only).changes
+
+pub returns-in-Err-clause-reads : goal.returns-in-Err-clause-reads
+returns-in-Err-clause-reads g c only = (c.in-Err.ensures.reads only).changes
+
+pub returns-in-Ok-clause-takes : goal.returns-in-Ok-clause-takes
+returns-in-Ok-clause-takes g c only = (c.in-Ok.ensures.reads only).takes
+
+pub returns-in-Err-clause-takes : goal.returns-in-Err-clause-takes
+returns-in-Err-clause-takes g c only = (c.in-Err.ensures.reads only).takes
+
+pub returns-in-Ok-clause-room : goal.returns-in-Ok-clause-room
+returns-in-Ok-clause-room g c = λ k only.
+    let old = c.args.self.now in
+    let new = c.run.new.self in
+    inl (answers_done (world old) (world new) (read_and_run (world old) c.args.connection c.args.body.now) (answer_of c.in-Ok.answer)
+    ((c.in-Ok.ensures.reads only).does k))
+
+pub returns-in-Err-clause-room : goal.returns-in-Err-clause-room
+returns-in-Err-clause-room g c = λ k only.
+    let old = c.args.self.now in
+    let new = c.run.new.self in
+    answers_read g.D.Disk.history old new (read_and_run (world old) c.args.connection c.args.body.now) c.in-Err.refusal ((c.in-Err.ensures.reads only).does k)

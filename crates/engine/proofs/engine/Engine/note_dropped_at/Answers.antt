@@ -26,7 +26,7 @@ returns-clause-notes g c =
 pub returns-then-is_stopped-clause-notes : goal.returns-then-is_stopped-clause-notes
 returns-then-is_stopped-clause-notes g c = record {
   reads = reads_none g.D.Disk.history c.args.self.now c.requires.sound;
-  answers = λ k found noted so. inr (inr (inl (refl, inl (sym c.is_stopped.ensures ∙ c.if-is_stopped.true))));
+  answers = λ k found noted so. inr (inr (refl, inl (sym c.is_stopped.ensures ∙ c.if-is_stopped.true)));
 }
 
 pub returns-in_err-drop_index-clause-notes : goal.returns-in_err-drop_index-clause-notes

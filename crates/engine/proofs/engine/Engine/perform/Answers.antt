@@ -17,8 +17,8 @@ use Rattle.engine.proofs.Running.{run_find-default, run_aggregate-default}
 use Rattle.engine.proofs.Sound.{performs_as, performs_told}
 use Rattle.engine.proofs.engine.Engine.perform.Goals as goal
 
-pub returns-in-GetMore-clause-performs : goal.returns-in-GetMore-clause-performs
-returns-in-GetMore-clause-performs g c =
+pub returns-in-GetMore-clause-reads : goal.returns-in-GetMore-clause-reads
+returns-in-GetMore-clause-reads g c only =
     let w = world c.args.self.now in
     let asked : mores.GetMore = get_more_read c.in-GetMore.c in
     let spelled : run w c.args.connection (command_read c.args.command.now) ≡ run_get_more w c.args.connection asked =
@@ -31,16 +31,24 @@ returns-in-GetMore-clause-performs g c =
     performs_as g.D.Disk.history c.args.self.now c.get_more.new.self _ _ _ _ (spelled ∙ sym called) c.spelled-in-GetMore.ensures
     c.get_more.ensures.performs
 
-pub returns-in-KillCursors-clause-performs : goal.returns-in-KillCursors-clause-performs
-returns-in-KillCursors-clause-performs g c =
+pub returns-in-GetMore-clause-performs : goal.returns-in-GetMore-clause-performs
+returns-in-GetMore-clause-performs g c =
+    (returns-in-GetMore-clause-reads g c (subst (λ (x : Command). OnlyReads (Ok (command_read x))) (sym c.in-GetMore.is) tt)).performs
+
+pub returns-in-KillCursors-clause-reads : goal.returns-in-KillCursors-clause-reads
+returns-in-KillCursors-clause-reads g c only =
     let old = c.args.self.now in
     let new = c.kill_cursors.new.self in
     performs_told g.D.Disk.history old new c.args.connection
     (command_read c.args.command.now) _ c.requires.sound c.requires.bounded c.kill_cursors.ensures.file c.kill_cursors.ensures.told
     c.kill_cursors.ensures.has_changes (search rules)
 
-pub returns-in-Find-clause-performs : goal.returns-in-Find-clause-performs
-returns-in-Find-clause-performs g c =
+pub returns-in-KillCursors-clause-performs : goal.returns-in-KillCursors-clause-performs
+returns-in-KillCursors-clause-performs g c =
+    (returns-in-KillCursors-clause-reads g c (subst (λ (x : Command). OnlyReads (Ok (command_read x))) (sym c.in-KillCursors.is) tt)).performs
+
+pub returns-in-Find-clause-reads : goal.returns-in-Find-clause-reads
+returns-in-Find-clause-reads g c only =
     let w = world c.args.self.now in
     let asked : finds.Find = find_read c.in-Find.c in
     let spelled : run w c.args.connection (command_read c.args.command.now) ≡ run_find w c.args.connection asked =
@@ -53,8 +61,12 @@ returns-in-Find-clause-performs g c =
     performs_as g.D.Disk.history c.args.self.now c.find.new.self _ _ _ _
     (spelled ∙ sym (run_find-default w c.args.connection asked) ∙ sym called) c.spelled.ensures c.find.ensures.performs
 
-pub returns-in-Aggregate-clause-performs : goal.returns-in-Aggregate-clause-performs
-returns-in-Aggregate-clause-performs g c =
+pub returns-in-Find-clause-performs : goal.returns-in-Find-clause-performs
+returns-in-Find-clause-performs g c =
+    (returns-in-Find-clause-reads g c (subst (λ (x : Command). OnlyReads (Ok (command_read x))) (sym c.in-Find.is) tt)).performs
+
+pub returns-in-Aggregate-clause-reads : goal.returns-in-Aggregate-clause-reads
+returns-in-Aggregate-clause-reads g c only =
     let w = world c.args.self.now in
     let asked : aggregates.Aggregate = aggregate_read c.in-Aggregate.c in
     let spelled : run w c.args.connection (command_read c.args.command.now) ≡ run_aggregate w c.args.connection asked =
@@ -66,6 +78,10 @@ returns-in-Aggregate-clause-performs g c =
     (record { namespace = c.as_str-in-Aggregate.ensures.value i; pipeline = asked.pipeline; batch_size = Some (c.unwrap_or-most-in-Aggregate.ensures i) }) in
     performs_as g.D.Disk.history c.args.self.now c.aggregate.new.self _ _ _ _
     (spelled ∙ sym (run_aggregate-default w c.args.connection asked) ∙ sym called) c.spelled-in-Aggregate.ensures c.aggregate.ensures.performs
+
+pub returns-in-Aggregate-clause-performs : goal.returns-in-Aggregate-clause-performs
+returns-in-Aggregate-clause-performs g c =
+    (returns-in-Aggregate-clause-reads g c (subst (λ (x : Command). OnlyReads (Ok (command_read x))) (sym c.in-Aggregate.is) tt)).performs
 
 pub returns-in-Update-clause-has_changes : goal.returns-in-Update-clause-has_changes
 returns-in-Update-clause-has_changes g c = λ k unchanged none.

@@ -18,7 +18,7 @@ pub returns-then-is_stopped-clause-makes : goal.returns-then-is_stopped-clause-m
 returns-then-is_stopped-clause-makes g c =
     remove_stopped g.D.Disk.history
     (Ok (deleted (world c.args.self.now).collections c.args.namespace.now c.args.deletions.now)) c.args.self.now c.requires.sound
-    (λ k. inr (inl (refl, inl (sym c.is_stopped.ensures ∙ c.if-is_stopped.true))))
+    (λ k. inr (refl, inl (sym c.is_stopped.ensures ∙ c.if-is_stopped.true)))
 
 pub returns-then-is_empty-clause-makes : goal.returns-then-is_empty-clause-makes
 returns-then-is_empty-clause-makes g c =
