@@ -5,6 +5,7 @@ pub mod SelectLemmas
 pub mod CountLemmas
 pub mod NeededByOrderLemmas
 pub mod NeededLemmas
+pub mod PartlyToldLemmas
 pub mod PipingLemmas
 pub mod ByIdLemmas
 pub mod LookingUpLemmas

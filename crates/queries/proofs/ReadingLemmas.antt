@@ -86,6 +86,19 @@ module _ {D A B X : Type 0} (history : D → History) (Is : List Collection → 
         either_read old new r now asked o (reads.answers k start now has o.other o.was);
   }
 
+-- the same, where what is asked for was itself asked for, among other things
+pub reads_within : {D A X : Type 0} (history : D → History) (Is Was : List Collection → A → Type 0) (P R : List Collection → A → X → Type 0)
+    (old new : State D) (r : Result X Refusal) → ReadsOf history Was P r old new → ((now : List Collection) (asked : A) → Is now asked → Was now asked)
+    → ((now : List Collection) (asked : A) (x : X) → Is now asked → P now asked x → R now asked x) → ReadsOf history Is R r old new
+reads_within history Is Was P R old new r reads was on = record {
+  on = reads.on;
+  unchanged = reads.unchanged;
+  same = reads.same;
+  answers = λ k start now has asked is.
+      either_read history Is Was P R old new r now asked (record { other = asked; was = was now asked is; right = λ x right. on now asked x is right })
+      (reads.answers k start now has asked (was now asked is));
+}
+
 -- what was read before tells what is asked for next
 module _ {D A B X Y : Type 0} (history : D → History) (Is : List Collection → A → Type 0) (P : List Collection → A → X → Type 0) (Was : List Collection → B
     → Type 0) (Q : List Collection → B → Y → Type 0) (R : List Collection → A → Y → Type 0) where

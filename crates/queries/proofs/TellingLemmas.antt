@@ -1,8 +1,8 @@
 -- `_id`s that several filters ask for, or to which indexes lead, put one after the other.
-use Rattle.std.proofs.Common.{◌≡◌, ℕ, zero, suc, Bool, true, false, List, [], ◌∷◌, ◌++◌, Option, Some, None, Result, Ok, refl, sym, ap, subst, ◌∙◌}
+use Rattle.std.proofs.Common.{◌≡◌, ℕ, zero, suc, Bool, true, false, List, [], ◌∷◌, ◌++◌, Option, Some, None, Result, Ok, refl, sym, ap, subst, ◌∙◌, append_assoc}
 use Rattle.std.specs.Global.{Vec}
 use Rattle.std.specs.List.{AllByRecursion, list_any}
-use Rattle.std.specs.Prelude.{◌||◌, IfSome, get_or, is_some, map, option_map, option_to_list}
+use Rattle.std.specs.Prelude.{◌&&◌, ◌||◌, not, IfSome, get_or, is_some, map, option_map, option_to_list}
 use Rattle.bson.specs.Tree.{Tree, Pairs}
 use Rattle.page.specs.History.{History}
 use Rattle.path.specs.declared.refusal.Refusal.{Refusal}
@@ -22,7 +22,7 @@ use Rattle.entries.proofs.MemberLemmas.{among_back, among_front, among_of}
 use Rattle.planner.specs.IdLaws.{AreIdTexts}
 use Rattle.entries.specs.declared.catalogue_reading.Catalogued.{Catalogued}
 use Rattle.queries.specs.Asking.{IsAsked}
-use Rattle.queries.specs.ById.{AreIdsOf, ArePut, IsIdText, IsIn, Tell, TellBeside, TellIds, TellIdsBeside, TellOf, one_matches}
+use Rattle.queries.specs.ById.{AreIdsOf, ArePut, IsIdText, IsIn, Tell, TellBeside, TellIds, TellIdsBeside, TellOf, but_not, one_matches}
 use Rattle.queries.proofs.IdTextLemmas.{either_tells, left_all, left_next, left_none, put_none, put_on}
 use Rattle.queries.proofs.ReadingLemmas.{reads_behind}
 
@@ -70,29 +70,111 @@ module _ (c : Collection) (all : Pairs → Bool) (before : List (List ℕ)) wher
   pub ends_told : (after : List (List ℕ)) → AreTold c all (λ d. false) before after → TellOf c all before after
   ends_told after so = record { put = so.put; tells = left_none (IsIn c) (λ (d : Pairs). tree_text (key_of d)) all after so.tells }
 
--- the next filter's `_id`s were read
-pub one_read : {D : Type 0} (history : D → History) (home : Catalogued) (filters left : List Conditions) (f : Conditions) (rest : List Conditions)
-    (before mid after : List (List ℕ)) (old now new : State D) (r : Result Bool Refusal) → left ≡ f ∷ rest
-    → ReadsOf history (IsAsked home) (λ cs c (_ : Unit {0}). AreTold c (one_matches filters) (one_matches left) before mid) (Ok tt) old now
-    → ReadsOf history (IsAsked home) (λ cs c told. told ≡ true → TellOf c (matches f) mid after) r now new
-    → ReadsOf history (IsAsked home) (λ cs c told. told ≡ true → AreTold c (one_matches filters) (one_matches rest) before after) r old new
-one_read history home filters left f rest before mid after old now new r next first second =
-    reads_behind history (IsAsked home) (λ cs c (_ : Unit {0}). AreTold c (one_matches filters) (one_matches left) before mid) (IsAsked home)
-    (λ cs c told. told ≡ true → TellOf c (matches f) mid after) (λ cs c told. told ≡ true → AreTold c (one_matches filters) (one_matches rest) before after)
-    old now new tt r first second
-    (λ cs c asked so. record {
-      other = c;
-      was = asked;
-      right = λ told tells e. next_told c (one_matches filters) before (matches f) (one_matches rest) mid after
-          (subst (λ (fs : List Conditions). AreTold c (one_matches filters) (one_matches fs) before mid) next so) (tells e);
-    })
+or_either : (a m : Bool) → m ≡ true → (a || m) ≡ true
+or_either true m e = refl
+or_either false m e = e
 
--- those that a filter matches, and those that are told by themselves
-pub both_tell : (c : Collection) (p : Pairs → Bool) (filters : List Conditions) (before after : List (List ℕ))
-    → TellIdsBeside p (one_matches filters) before → TellOf c (one_matches filters) before after → Tell (IsIn c) (λ d. tree_text (key_of d)) p after
-both_tell c p filters before after own others d has passes =
+-- ---- filter after filter
+
+-- which of them comes last says nothing
+last_matches : (xs : List Conditions) (f : Conditions) (d : Pairs) → one_matches (f ∷ xs) d ≡ true → one_matches (xs ++ f ∷ []) d ≡ true
+last_matches [] f d e = e
+last_matches (x ∷ xs) f d e = by (matches x d) (one_matches (xs ++ f ∷ []) d) (one_matches xs d) (matches f d) (λ h. last_matches xs f d h) e
+  where
+    by : (x last rest f : Bool) → ((f || rest) ≡ true → last ≡ true) → (f || (x || rest)) ≡ true → (x || last) ≡ true
+    by true last rest f on e = refl
+    by false last rest f on e = on e
+
+module _ (c : Collection) (filters : List Conditions) (before : List (List ℕ)) where
+  -- what one of those filters doesn't match that are left or walked by, is told
+  abbrev pub AreToldBut : List Conditions → List (List ℕ) → Type 0
+  AreToldBut left texts = AreTold c (one_matches filters) (one_matches left) before texts
+
+  -- before anything is told, whatever else is walked by
+  pub begins_but : (ws : List Conditions) → AreToldBut (filters ++ ws) before
+  begins_but ws = record { put = put_none before; tells = λ d has e. or_either (is_among before (tree_text (key_of d))) (one_matches (filters ++ ws) d) (first_match filters d e) }
+    where
+      first_match : (xs : List Conditions) (d : Pairs) → one_matches xs d ≡ true → one_matches (xs ++ ws) d ≡ true
+      first_match [] d e = absurd cc
+      first_match (x ∷ xs) d e = by (matches x d) (one_matches xs d) (one_matches (xs ++ ws) d) (λ h. first_match xs d h) e
+        where
+          by : (x rest more : Bool) → (rest ≡ true → more ≡ true) → (x || rest) ≡ true → (x || more) ≡ true
+          by true rest more on e = refl
+          by false rest more on e = on e
+
+  -- the next one is walked by
+  pub walks_by : (rest ws : List Conditions) (f : Conditions) (texts : List (List ℕ)) → AreToldBut ((f ∷ rest) ++ ws) texts
+      → AreToldBut (rest ++ (ws ++ f ∷ [])) texts
+  walks_by rest ws f texts so = record {
+    put = so.put;
+    tells = λ d has e.
+        let among = is_among texts (tree_text (key_of d)) in
+        either_tells among (one_matches ((f ∷ rest) ++ ws) d) (among || one_matches (rest ++ (ws ++ f ∷ [])) d)
+        (λ told. ap (λ (b : Bool). b || one_matches (rest ++ (ws ++ f ∷ [])) d) told)
+        (λ left. or_either among (one_matches (rest ++ (ws ++ f ∷ [])) d)
+        (subst (λ (xs : List Conditions). one_matches xs d ≡ true) (append_assoc rest ws (f ∷ [])) (last_matches (rest ++ ws) f d left)))
+        (so.tells d has e);
+  }
+
+  -- none is left but those that are walked by
+  pub ends_but : (ws : List Conditions) (after : List (List ℕ)) → AreToldBut ws after → TellOf c (but_not (one_matches filters) ws) before after
+  ends_but ws after so = record {
+    put = so.put;
+    tells = λ d has e.
+        let one = one_matches filters d in
+        let walked = one_matches ws d in
+        by (is_among after (tree_text (key_of d))) one walked (λ passes. so.tells d has passes) e;
+  }
+    where
+      by : (among one walked : Bool) → (one ≡ true → (among || walked) ≡ true) → (one && not walked) ≡ true → among ≡ true
+      by true one walked tells e = refl
+      by false false walked tells e = absurd cc
+      by false true true tells e = absurd cc
+      by false true false tells e = let no : false ≡ true = tells refl in absurd cc
+
+-- what the next filter asks for, where its `_id`s are told, and where they aren't
+abbrev pub IsNextOf : Collection → List Conditions → List Conditions → Conditions → List Conditions → List (List ℕ) → List (List ℕ)
+    → Option (Vec (Vec ℕ)) → Type 0
+IsNextOf c filters ws f rest before mid None = AreToldBut c filters before (rest ++ (ws ++ f ∷ [])) mid
+IsNextOf c filters ws f rest before mid (Some ids) = AreToldBut c filters before (rest ++ ws) (mid ++ texts_of ids.items)
+
+pub not_some : {X : Type 0} (o : Option X) → ((x : X) → o ≡ Some x → ⊥) → o ≡ None
+not_some None h = refl
+not_some (Some x) h = absurd (h x refl)
+
+pub one_read : {D : Type 0} (history : D → History) (home : Catalogued) (filters ws left : List Conditions) (f : Conditions) (rest : List Conditions)
+    (before mid : List (List ℕ)) (old now new : State D) (r : Result (Option (Vec (Vec ℕ))) Refusal) → left ≡ f ∷ rest
+    → ReadsOf history (IsAsked home) (λ cs c (_ : Unit {0}). AreToldBut c filters before (left ++ ws) mid) (Ok tt) old now
+    → ReadsOf history (IsAsked home) (λ cs c (found : Option (Vec (Vec ℕ))). IfSome found (λ ids. TellOf c (matches f) [] (texts_of ids.items))) r now new
+    → ReadsOf history (IsAsked home) (λ cs c found. IsNextOf c filters ws f rest before mid found) r old new
+one_read history home filters ws left f rest before mid old now new r next first second =
+    reads_behind history (IsAsked home) (λ cs c (_ : Unit {0}). AreToldBut c filters before (left ++ ws) mid) (IsAsked home)
+    (λ cs c (found : Option (Vec (Vec ℕ))). IfSome found (λ ids. TellOf c (matches f) [] (texts_of ids.items)))
+    (λ cs c found. IsNextOf c filters ws f rest before mid found) old now new tt r first second
+    (λ cs c asked so. record { other = c; was = asked; right = λ found tells. at c (subst (λ (fs : List Conditions). AreToldBut c filters before (fs ++ ws) mid) next so) found tells })
+  where
+    at : (c : Collection) → AreToldBut c filters before ((f ∷ rest) ++ ws) mid → (found : Option (Vec (Vec ℕ)))
+        → IfSome found (λ ids. TellOf c (matches f) [] (texts_of ids.items)) → IsNextOf c filters ws f rest before mid found
+    at c so None tells = walks_by c filters before rest ws f mid so
+    at c so (Some ids) tells =
+        let texts = texts_of ids.items in
+        next_told c (one_matches filters) before (matches f) (one_matches (rest ++ ws)) mid (mid ++ texts) so
+        (tell_behind c (matches f) mid mid texts (mid ++ texts) tells (put_none mid) refl)
+
+-- those that a filter matches, and those that are told by themselves, but not those that are walked by
+pub both_tell : (c : Collection) (p : Pairs → Bool) (filters ws : List Conditions) (before after : List (List ℕ))
+    → TellIdsBeside p (one_matches filters) before → TellOf c (but_not (one_matches filters) ws) before after
+    → Tell (IsIn c) (λ d. tree_text (key_of d)) (but_not p ws) after
+both_tell c p filters ws before after own others d has passes =
     let text = tree_text (key_of d) in
-    either_tells (is_among before text) (one_matches filters d) (is_among after text) (others.put.kept text) (others.tells d has) (own d has.1 passes)
+    by (p d) (one_matches ws d) (is_among before text) (one_matches filters d) (is_among after text) (others.put.kept text) (others.tells d has) (own d has.1) passes
+  where
+    by : (passes walked was one now : Bool) → (was ≡ true → now ≡ true) → ((one && not walked) ≡ true → now ≡ true)
+        → (passes ≡ true → (was || one) ≡ true) → (passes && not walked) ≡ true → now ≡ true
+    by false walked was one now kept tells own e = absurd cc
+    by true true was one now kept tells own e = absurd cc
+    by true false true one now kept tells own e = kept refl
+    by true false false one now kept tells own e = tells (ap (λ (b : Bool). b && true) (own refl))
 
 -- ---- what is looked for by filters alone
 
@@ -125,10 +207,6 @@ one_leads seen None p same = ap is_some same
 one_leads seen (Some x) p same = ap is_some same
 
 -- ---- filters of statements
-
-or_either : (a m : Bool) → m ≡ true → (a || m) ≡ true
-or_either true m e = refl
-or_either false m e = e
 
 module _ {X : Type 0} (filter_of : X → Conditions) where
   one_of_them : (xs : List X) (d : Pairs) → list_any (λ x. matches (filter_of x) d) xs ≡ one_matches (map filter_of xs) d

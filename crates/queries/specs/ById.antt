@@ -1,5 +1,5 @@
 -- What is known of documents that have to have one of some `_id`s.
-use Rattle.std.specs.Prelude.{◌≡◌, ◌||◌, ℕ, Bool, true, List, [], ◌∷◌, Some, Contains}
+use Rattle.std.specs.Prelude.{◌≡◌, ◌&&◌, ◌||◌, not, ℕ, Bool, true, List, [], ◌∷◌, Some, Contains}
 use Rattle.std.specs.List.{AllByRecursion, AllPairs, list_any}
 use Rattle.std.specs.declared.cmp.Ordering.TheVariants as orders
 use Rattle.bson.specs.Tree.{Tree, Pairs}
@@ -58,6 +58,10 @@ TellIdsBeside passes other texts = TellBeside HasId (λ d. tree_text (key_of d))
 -- one of these filters matches it
 abbrev pub one_matches : List Conditions → Pairs → Bool
 one_matches filters d = list_any (λ rs. matches rs d) filters
+
+-- it passes, and none of these filters matches it
+abbrev pub but_not : (Pairs → Bool) → List Conditions → Pairs → Bool
+but_not passes filters d = passes d && not (one_matches filters d)
 
 -- a document of the collection, which is stored, and whose `_id` BSON can spell
 abbrev pub IsIn : Collection → Pairs → Type 0

@@ -8,6 +8,7 @@ pub mod Folding
 pub mod IdOrder
 pub mod IdRange
 pub mod Listed
+pub mod PartlyTold
 pub mod SortedIds
 pub mod Within
 pub mod Piping

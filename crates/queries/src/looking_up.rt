@@ -8,11 +8,13 @@ ghost use Rattle.index.specs.View.{texts_of};
 ghost use Rattle.planner.specs.IdLaws.{with_found};
 ghost use Rattle.queries.specs.ById.{AreIdsOf};
 ghost use Rattle.queries.specs.Asking.{IsAsked};
+ghost use Rattle.queries.specs.PartlyTold.{IsToldOf};
 
 use crate::dense::fold_dense;
+use crate::partly_told::PartlyTold;
 use crate::scanning::{Selecting, scanned};
 use crate::selects::Selects;
-use crate::telling::asked_ids;
+use crate::telling::{Told, asked_ids, told_in};
 use crate::within::is_within;
 use bson::{NoMemory, SpelledDocument};
 use collections::Collections;
@@ -156,6 +158,36 @@ pub(crate) fn selected_by_ids<D: Disk, S: Selects>(
     }
 }
 
+/// The documents of a collection in a file that are looked for, as they are told: they are looked up where their `_id`s are. Else a
+/// walk asks each document by the filters of the others, and only those that one of these matches, or whose `_id` is told, whether
+/// they are looked for.
+fn selected_as_told<D: Disk, S: Selects>(
+    alloc: Global,
+    file: &mut Collections<D>,
+    home: &Catalogued,
+    which: &S,
+    told: &Told<'_>,
+    most: usize,
+) -> Result<Vec<SpelledDocument>, Refusal>
+    ensures reads { ReadsOf D.history (IsToldOf home.now (S.selects which.now) told.now)
+        (λ now c found. found.items ≡ take most (filter (S.selects which.now) c.documents))
+        result file.old file.new }
+    ensures within { IfOk result (λ found. All IsWithin found.items) }
+{
+    if told.walked.is_empty() {
+        return selected_by_ids(alloc, file, home.number, which, told.ids.texts(), most);
+    }
+    if told.ids.is_empty() {
+        return scanned(alloc, file, home, which, most);
+    }
+    let partly = PartlyTold {
+        which,
+        ids: &told.ids,
+        walked: &told.walked,
+    };
+    scanned(alloc, file, home, &partly, most)
+}
+
 /// The documents of a collection in a file that are looked for, in ascending order of `_id`: the first ones, up to so many. They are
 /// looked up, where they are looked for by their `_id`s, or indexes serve the filters that ask for them. `None`: only a walk through
 /// the collection tells them.
@@ -194,10 +226,10 @@ pub(crate) fn spelled_in<D: Disk, S: Selects>(
         result file.old file.new }
     ensures within { IfOk result (λ found. All IsWithin found.items) }
 {
-    match looked_up_in(alloc, file, home, which, most)? {
-        Some(found) => Ok(found),
-        None => scanned(alloc, file, home, which, most),
-    }
+    let Some(told) = told_in(alloc, file, home, which)? else {
+        return scanned(alloc, file, home, which, most);
+    };
+    selected_as_told(alloc, file, home, which, &told, most)
 }
 
 /// Documents with values of their own, of such as may have several owners.

@@ -1,65 +1,85 @@
 //! The `_id`s that tell which documents are looked for: those that their filters ask for, and those to which indexes lead.
 
-ghost use Rattle.std.specs.Prelude.{◌≡◌, true, IfSome};
+ghost use Rattle.std.specs.Prelude.{◌≡◌, [], true, IfSome, map};
 ghost use Rattle.collections.specs.Reading.{ReadsOf};
 ghost use Rattle.filter.specs.Matches.{matches};
 ghost use Rattle.index.specs.View.{texts_of};
-ghost use Rattle.queries.specs.ById.{AreIdsOf, TellOf, one_matches};
+ghost use Rattle.queries.specs.ById.{AreIdsOf, TellOf, but_not, one_matches};
 ghost use Rattle.queries.specs.Asking.{IsAsked};
 
 use crate::alternatives::ids_served;
 use crate::by_id::put_ids;
+use crate::id_set::IdSet;
 use crate::selects::Selects;
 use collections::Collections;
 use entries::Catalogued;
 use filter::Filter;
 use page::Disk;
 use path::Refusal;
-use planner::ascending;
 use std::alloc::Global;
 
 /// Where indexes lead to more `_id`s than this, their documents are not looked up one by one: a walk through the collection is
 /// quicker.
 const MOST_LOOKED_UP: usize = 4_096;
 
-/// Puts the texts of the `_id`s of the documents that a filter matches behind others; false where it asks for none and no index leads
-/// to a few.
-fn put_matched<D: Disk>(
+/// Where a walk is needed anyway, a filter is left to it whose index leads to more `_id`s than this.
+const MOST_BESIDE_A_WALK: usize = 256;
+
+/// What tells the documents that are looked for.
+#[derive(Drop)]
+pub(crate) struct Told<'a> {
+    /// Those that none of these filters matches have one of these `_id`s.
+    pub(crate) ids: IdSet,
+    pub(crate) walked: Vec<&'a Filter>,
+}
+
+/// So many entries of indexes may lead to the `_id`s of one more filter.
+fn most_for_one(ids: &[Vec<u8>], walked: &[&Filter]) -> usize {
+    let left = MOST_LOOKED_UP.saturating_sub(ids.len());
+    if walked.is_empty() {
+        left
+    } else {
+        left.min(MOST_BESIDE_A_WALK)
+    }
+}
+
+/// The texts of the `_id`s among which are those of all documents that a filter matches, where it asks for these, or indexes lead to
+/// them by at most so many entries.
+fn ids_matched<D: Disk>(
     alloc: Global,
     file: &mut Collections<D>,
     home: &Catalogued,
     filter: &Filter,
-    ids: &mut Vec<Vec<u8>>,
-) -> Result<bool, Refusal>
+    most: usize,
+) -> Result<Option<Vec<Vec<u8>>>, Refusal>
     ensures { ReadsOf D.history (IsAsked home.now)
-        (λ now c told. told ≡ true
-        → TellOf c (matches filter.now) (texts_of ids.old.items) (texts_of ids.new.items))
+        (λ now c found. IfSome found
+        (λ ids. TellOf c (matches filter.now) [] (texts_of ids.items)))
         result file.old file.new }
 {
     if file.is_stopped() {
         return Err(Refusal::StorageFailed);
     }
-    if put_ids(alloc, ids, filter)? {
-        return Ok(true);
+    let mut ids = Vec::new(alloc);
+    if put_ids(alloc, &mut ids, filter)? {
+        return Ok(Some(ids));
     }
-    let most = MOST_LOOKED_UP.saturating_sub(ids.len());
-    let Some(mut found) = ids_served(alloc, file, home, filter, most)? else {
-        return Ok(false);
-    };
-    ids.append(&mut found)?;
-    Ok(true)
+    ids_served(alloc, file, home, filter, most)
 }
 
-/// The same of the documents that one of the filters matches by which documents are looked for.
-fn put_all_matched<D: Disk, S: Selects>(
+/// Puts the texts of the `_id`s of the documents that one of the filters matches by which documents are looked for behind others, and
+/// the filters whose `_id`s aren't told so behind other filters. False where there is a filter less than is said.
+fn put_all_matched<'a, D: Disk, S: Selects>(
     alloc: Global,
     file: &mut Collections<D>,
     home: &Catalogued,
-    which: &S,
+    which: &'a S,
     ids: &mut Vec<Vec<u8>>,
+    walked: &mut Vec<&'a Filter>,
 ) -> Result<bool, Refusal>
     ensures { ReadsOf D.history (IsAsked home.now)
-        (λ now c told. told ≡ true → TellOf c (one_matches (S.filters which.now))
+        (λ now c told. told ≡ true → TellOf c
+        (but_not (one_matches (S.filters which.now)) (map (λ f. f.now) walked.new.items))
         (texts_of ids.old.items) (texts_of ids.new.items)) result file.old file.new }
 {
     if file.is_stopped() {
@@ -69,11 +89,43 @@ fn put_all_matched<D: Disk, S: Selects>(
         let Some(filter) = which.filter_at(at) else {
             return Ok(false);
         };
-        if !put_matched(alloc, file, home, filter, ids)? {
-            return Ok(false);
-        }
+        let most = most_for_one(ids, walked);
+        let Some(mut found) = ids_matched(alloc, file, home, filter, most)? else {
+            walked.push(filter)?;
+            continue;
+        };
+        ids.append(&mut found)?;
     }
     Ok(true)
+}
+
+/// What tells the documents that are looked for: their `_id`s, as far as they can be told without a walk, and the filters of the others.
+pub(crate) fn told_in<'a, D: Disk, S: Selects>(
+    alloc: Global,
+    file: &mut Collections<D>,
+    home: &Catalogued,
+    which: &'a S,
+) -> Result<Option<Told<'a>>, Refusal>
+    ensures { ReadsOf D.history (IsAsked home.now)
+        (λ now c found. IfSome found (λ told. AreIdsOf home.now.number
+        (but_not (S.selects which.now) (map (λ f. f.now) told.walked.items)) told.ids now c))
+        result file.old file.new }
+{
+    if file.is_stopped() {
+        return Err(Refusal::StorageFailed);
+    }
+    let mut ids = Vec::new(alloc);
+    if !which.put_ids(alloc, &mut ids)? {
+        return Ok(None);
+    }
+    let mut walked = Vec::new(alloc);
+    if !put_all_matched(alloc, file, home, which, &mut ids, &mut walked)? {
+        return Ok(None);
+    }
+    Ok(Some(Told {
+        ids: IdSet::of(ids),
+        walked,
+    }))
 }
 
 /// The ascending texts of `_id`s among which are those of all documents that are looked for, where they can be told without a walk.
@@ -88,15 +140,12 @@ pub(crate) fn asked_ids<D: Disk, S: Selects>(
         (λ ids. AreIdsOf home.now.number (S.selects which.now) (texts_of ids.items) now c))
         result file.old file.new }
 {
-    if file.is_stopped() {
-        return Err(Refusal::StorageFailed);
-    }
-    let mut ids = Vec::new(alloc);
-    if !which.put_ids(alloc, &mut ids)? {
+    let Some(told) = told_in(alloc, file, home, which)? else {
         return Ok(None);
+    };
+    if told.walked.is_empty() {
+        Ok(Some(told.ids.into_texts()))
+    } else {
+        Ok(None)
     }
-    if !put_all_matched(alloc, file, home, which, &mut ids)? {
-        return Ok(None);
-    }
-    Ok(Some(ascending(ids)))
 }

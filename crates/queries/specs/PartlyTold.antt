@@ -1,0 +1,14 @@
+-- Documents of which some are told by their `_id`s, and the others are those that filters match.
+use Rattle.std.specs.Prelude.{Bool, List, map}
+use Rattle.bson.specs.Tree.{Pairs}
+use Rattle.entries.specs.State.{Collection}
+use Rattle.entries.specs.declared.catalogue_reading.Catalogued.{Catalogued}
+use Rattle.queries.specs.Asking.{IsAsked}
+use Rattle.queries.specs.ById.{AreIdsOf, but_not}
+use Rattle.queries.specs.declared.telling.Told.{Told}
+
+-- The `_id`s tell the documents of the collection that pass and that none of the filters matches.
+pub record IsToldOf (home : Catalogued) (passes : Pairs → Bool) (told : Told)
+    (now : List Collection) (c : Collection) : Type 0 where
+  pub asked : IsAsked home now c
+  pub ids : AreIdsOf home.number (but_not passes (map (λ f. f.now) told.walked.items)) told.ids now c
