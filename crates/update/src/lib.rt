@@ -18,6 +18,7 @@ mod numbers;
 mod operators;
 mod reading;
 mod renames;
+mod renaming;
 mod replacements;
 mod stored;
 mod sums;
