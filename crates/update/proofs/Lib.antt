@@ -3,3 +3,4 @@ pub mod IdLemmas
 pub mod ArrayLemmas
 pub mod EditPathLemmas
 pub mod UnsetLemmas
+pub mod RenamingLemmas

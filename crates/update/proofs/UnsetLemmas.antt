@@ -51,7 +51,7 @@ pub unmarked-none : (ps : Pairs) → unmarked no_pairs ps ≡ ps
 unmarked-none no_pairs = refl
 unmarked-none (pair n t ps) = ap (pair n t) (unmarked-none ps)
 
-Lacks-unmarked : (marks ps : Pairs) (name : List ℕ) → Lacks ps name → Lacks (unmarked marks ps) name
+pub Lacks-unmarked : (marks ps : Pairs) (name : List ℕ) → Lacks ps name → Lacks (unmarked marks ps) name
 Lacks-unmarked marks no_pairs name h = tt
 Lacks-unmarked marks (pair n t ps) name h = by (is_some (lookup marks n)) (Lacks-unmarked marks ps name h.1)
   where

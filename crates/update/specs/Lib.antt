@@ -11,6 +11,7 @@ pub mod Operators
 pub mod Reading
 pub mod RefusalLaws
 pub mod Renames
+pub mod Renaming
 pub mod Replacements
 pub mod Stored
 pub mod Unsets

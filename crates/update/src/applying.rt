@@ -8,6 +8,7 @@ ghost use Rattle.update.specs.View.{edit_of, form_of, update_of};
 
 use crate::edit::{Edit, Form, Update};
 use crate::operators::apply_action;
+use crate::renaming::{count_field_renames, rename_fields};
 use crate::replacements::replace;
 use crate::stored::{id_first, stored_fault};
 use crate::unsets::{count_field_unsets, unset_fields};
@@ -15,10 +16,11 @@ use bson::Document;
 use path::Refusal;
 use std::alloc::Global;
 
-/// How many edits are many: fewer fields are taken away one after the other.
+/// How many edits are many: fewer are done one after the other.
 const MANY: usize = 16;
 
-/// The edits, in the order written, of which many that take away a field of the document are done at once.
+/// The edits, in the order written. Of those that take away or rename a field of the document many are done at
+/// once.
 fn apply_edits(alloc: Global, edits: &[Edit], document: Document) -> Result<Document, Refusal>
     ensures { Gives Refusal.OutOfMemory (λ d. d) result
         (apply_edits (map edit_of edits.now) document) }
@@ -26,13 +28,17 @@ fn apply_edits(alloc: Global, edits: &[Edit], document: Document) -> Result<Docu
     let mut document = document;
     let mut rest = edits;
     'runs: while let [edit, others @ ..] = rest {
-        let (unsets, behind) = rest.split_at(count_field_unsets(rest));
-        if unsets.len() < MANY {
+        let (unsets, behind_unsets) = rest.split_at(count_field_unsets(rest));
+        let (renames, behind_renames) = rest.split_at(count_field_renames(rest));
+        if MANY <= unsets.len() {
+            document = unset_fields(alloc, unsets, document)?;
+            rest = behind_unsets;
+        } else if MANY <= renames.len() {
+            document = rename_fields(alloc, renames, document)?;
+            rest = behind_renames;
+        } else {
             document = apply_action(alloc, document, &edit.path, &edit.action)?;
             rest = others;
-        } else {
-            document = unset_fields(alloc, unsets, document)?;
-            rest = behind;
         }
     }
     Ok(document)

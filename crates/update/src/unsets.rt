@@ -57,7 +57,7 @@ fn is_marked(marks: &Document, pair: &Pair) -> bool
 }
 
 /// The document without the fields that are among the marks.
-fn unmarked(document: Document, marks: &Document) -> Document
+pub(crate) fn unmarked(document: Document, marks: &Document) -> Document
     ensures { result ≡ unmarked marks.now document }
 {
     let mut pairs = document.into_pairs();
