@@ -1,6 +1,6 @@
 -- Documents of which some are told by their `_id`s, found by a walk.
 use Rattle.std.proofs.Common.{◌≡◌, inl, inr, ℕ, Bool, true, false, List, [], ◌∷◌, refl, ap, ◌∙◌}
-use Rattle.std.specs.Prelude.{◌&&◌, ◌||◌, not, cond, map, Contains}
+use Rattle.std.specs.Prelude.{◌&&◌, ◌||◌, not, cond}
 use Rattle.std.specs.List.{filter}
 use Rattle.bson.specs.Tree.{Pairs}
 use Rattle.value_order.specs.KeyText.{tree_text}

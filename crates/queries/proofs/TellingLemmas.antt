@@ -1,5 +1,6 @@
 -- `_id`s that several filters ask for, or to which indexes lead, put one after the other.
-use Rattle.std.proofs.Common.{◌≡◌, ℕ, zero, suc, Bool, true, false, List, [], ◌∷◌, ◌++◌, Option, Some, None, Result, Ok, refl, sym, ap, subst, ◌∙◌, append_assoc}
+use Rattle.std.proofs.Common.{◌≡◌, ℕ, zero, suc, Bool, true, false, List, [], ◌∷◌, ◌++◌, Option, Some, None, Result, Ok, refl, sym, ap, subst, ◌∙◌}
+use Rattle.std.proofs.Common.{append_assoc}
 use Rattle.std.specs.Global.{Vec}
 use Rattle.std.specs.List.{AllByRecursion, list_any}
 use Rattle.std.specs.Prelude.{◌&&◌, ◌||◌, not, IfSome, get_or, is_some, map, option_map, option_to_list}
@@ -18,11 +19,11 @@ use Rattle.index.specs.Changes.{is_among}
 use Rattle.entries.specs.State.{Collection, key_of}
 use Rattle.index.specs.View.{texts_of}
 use Rattle.entries.proofs.KeyOfDocument.{among_test, test_among}
-use Rattle.entries.proofs.MemberLemmas.{among_back, among_front, among_of}
+use Rattle.entries.proofs.MemberLemmas.{among_back, among_front}
 use Rattle.planner.specs.IdLaws.{AreIdTexts}
 use Rattle.entries.specs.declared.catalogue_reading.Catalogued.{Catalogued}
 use Rattle.queries.specs.Asking.{IsAsked}
-use Rattle.queries.specs.ById.{AreIdsOf, ArePut, IsIdText, IsIn, Tell, TellBeside, TellIds, TellIdsBeside, TellOf, but_not, one_matches}
+use Rattle.queries.specs.ById.{ArePut, IsIdText, IsIn, Tell, TellBeside, TellIds, TellIdsBeside, TellOf, but_not, one_matches}
 use Rattle.queries.proofs.IdTextLemmas.{either_tells, left_all, left_next, left_none, put_none, put_on}
 use Rattle.queries.proofs.ReadingLemmas.{reads_behind}
 
@@ -92,7 +93,10 @@ module _ (c : Collection) (filters : List Conditions) (before : List (List ℕ))
 
   -- before anything is told, whatever else is walked by
   pub begins_but : (ws : List Conditions) → AreToldBut (filters ++ ws) before
-  begins_but ws = record { put = put_none before; tells = λ d has e. or_either (is_among before (tree_text (key_of d))) (one_matches (filters ++ ws) d) (first_match filters d e) }
+  begins_but ws = record {
+    put = put_none before;
+    tells = λ d has e. or_either (is_among before (tree_text (key_of d))) (one_matches (filters ++ ws) d) (first_match filters d e);
+  }
     where
       first_match : (xs : List Conditions) (d : Pairs) → one_matches xs d ≡ true → one_matches (xs ++ ws) d ≡ true
       first_match [] d e = absurd cc
@@ -151,7 +155,11 @@ one_read history home filters ws left f rest before mid old now new r next first
     reads_behind history (IsAsked home) (λ cs c (_ : Unit {0}). AreToldBut c filters before (left ++ ws) mid) (IsAsked home)
     (λ cs c (found : Option (Vec (Vec ℕ))). IfSome found (λ ids. TellOf c (matches f) [] (texts_of ids.items)))
     (λ cs c found. IsNextOf c filters ws f rest before mid found) old now new tt r first second
-    (λ cs c asked so. record { other = c; was = asked; right = λ found tells. at c (subst (λ (fs : List Conditions). AreToldBut c filters before (fs ++ ws) mid) next so) found tells })
+    (λ cs c asked so. record {
+      other = c;
+      was = asked;
+      right = λ found tells. at c (subst (λ (fs : List Conditions). AreToldBut c filters before (fs ++ ws) mid) next so) found tells;
+    })
   where
     at : (c : Collection) → AreToldBut c filters before ((f ∷ rest) ++ ws) mid → (found : Option (Vec (Vec ℕ)))
         → IfSome found (λ ids. TellOf c (matches f) [] (texts_of ids.items)) → IsNextOf c filters ws f rest before mid found
@@ -167,7 +175,8 @@ pub both_tell : (c : Collection) (p : Pairs → Bool) (filters ws : List Conditi
     → Tell (IsIn c) (λ d. tree_text (key_of d)) (but_not p ws) after
 both_tell c p filters ws before after own others d has passes =
     let text = tree_text (key_of d) in
-    by (p d) (one_matches ws d) (is_among before text) (one_matches filters d) (is_among after text) (others.put.kept text) (others.tells d has) (own d has.1) passes
+    by (p d) (one_matches ws d) (is_among before text) (one_matches filters d) (is_among after text) (others.put.kept text) (others.tells d has)
+    (own d has.1) passes
   where
     by : (passes walked was one now : Bool) → (was ≡ true → now ≡ true) → ((one && not walked) ≡ true → now ≡ true)
         → (passes ≡ true → (was || one) ≡ true) → (passes && not walked) ≡ true → now ≡ true

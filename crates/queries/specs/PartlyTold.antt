@@ -11,4 +11,5 @@ use Rattle.queries.specs.declared.telling.Told.{Told}
 pub record IsToldOf (home : Catalogued) (passes : Pairs → Bool) (told : Told)
     (now : List Collection) (c : Collection) : Type 0 where
   pub asked : IsAsked home now c
-  pub ids : AreIdsOf home.number (but_not passes (map (λ f. f.now) told.walked.items)) told.ids now c
+  pub ids : let others = map (λ f. f.now) told.walked.items in
+      AreIdsOf home.number (but_not passes others) told.ids now c

@@ -1,4 +1,4 @@
-use Rattle.std.proofs.Common.{◌≡◌, ℕ, List, Vec, Global, ap, sym, subst, ◌∙◌, rules}
+use Rattle.std.proofs.Common.{ℕ, List, Vec, Global, ap, sym, subst, ◌∙◌, rules}
 use Rattle.std.proofs.lemmas.Fn.{always_returns_same}
 use Rattle.value_order.specs.Order.{bytes_cmp}
 use Rattle.index.specs.Changes.{IsAscending, is_among}
