@@ -108,8 +108,8 @@ abbrev pub told : Result Pairs Refusal → Pairs
 told (Ok reply) = reply
 told (Err e) = refusal_reply e
 
--- A message is answered, whatever the disk gives: a refusal leaves the world as it was; and one that
--- asks for no collection gets the definition's answer, unless memory runs out.
+-- A message is answered, whatever the disk gives: a refusal leaves the world as it was; and one
+-- that asks for no collection gets the definition's answer, unless memory runs out.
 pub record AnswersOnAnyDisk (world : World) (connection : ℕ) (body : Result Pairs BsonFault)
     (new : World) (reply : Pairs) : Type 0 where
   pub outcome : Result Pairs Refusal
@@ -177,8 +177,8 @@ abbrev pub refused_calls : Refusal → List Call → List Pairs
 refused_calls refusal [] = []
 refused_calls refusal (c ∷ cs) = refusal_reply refusal ∷ refused_calls refusal cs
 
--- The messages of a turn are answered one after the other, whatever the disk gives. What they did is
--- kept, and the frames have their answers; or it is taken back, and each frame has this refusal.
+-- The messages of a turn are answered one after the other, whatever the disk gives. What they did
+-- is kept, and the frames have their answers; or it is taken back, and each frame has this refusal.
 pub record RunsAndHandsOut (state : ServerState) (out : Out) (new : ServerState) : Type 0 where
   pub replies : List Pairs
   pub last : World
