@@ -58,8 +58,8 @@ abbrev pub BodyOnlyReads : Result Pairs BsonFault → Type 0
 BodyOnlyReads (Ok body) = OnlyReads (command_of body)
 BodyOnlyReads (Err fault) = Unit {0}
 
--- A command that asks for no collection, or one that is refused before it runs: what it is answered
--- depends on no disk.
+-- A ping or a hello, or a command that is refused before it runs: what it is answered depends on no
+-- disk.
 abbrev pub NeedsNoDisk : Result Command Refusal → Type 0
 NeedsNoDisk (Ok ping) = Unit {0}
 NeedsNoDisk (Ok hello) = Unit {0}

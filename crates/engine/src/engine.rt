@@ -205,8 +205,8 @@ impl<D: Disk> Engine<D> {
     }
 
     /// Runs a command and answers it. `OutOfMemory` comes in place of another answer where a growth was refused,
-    /// `StorageFailed` where the device failed, and `Full` where no page of the file is free. A command that asks for no
-    /// collection is answered so on any disk.
+    /// `StorageFailed` where the device failed, and `Full` where no page of the file is free. A `ping`, a `hello`
+    /// and what is refused before it runs are answered so on any disk.
     pub fn execute(&mut self, connection: ConnId, body: &Document) -> Reply
         requires sound { IsSound D.history self.old }
         ensures sound { IsSound D.history self.new }

@@ -108,8 +108,9 @@ abbrev pub told : Result Pairs Refusal → Pairs
 told (Ok reply) = reply
 told (Err e) = refusal_reply e
 
--- A message is answered, whatever the disk gives: a refusal leaves the world as it was; and one
--- that asks for no collection gets the definition's answer, unless memory runs out.
+-- A message is answered, whatever the disk gives: it comes to a reply, or to a refusal that leaves
+-- the world as it was (which of the two isn't told by the document); a ping, a hello and what is
+-- refused before it runs get the definition's answer, unless memory runs out.
 pub record AnswersOnAnyDisk (world : World) (connection : ℕ) (body : Result Pairs BsonFault)
     (new : World) (reply : Pairs) : Type 0 where
   pub outcome : Result Pairs Refusal

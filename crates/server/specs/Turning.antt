@@ -30,8 +30,8 @@ pub record TakesTurn {D : Type 0} (history : D → History) (old : Core D)
   -- on any disk: to whom its frames go, one for each message that is taken, and what it leaves of
   -- what came
   pub hands_out : IfOk result (λ out. HandsOut (state old) (out_of out))
-  -- on any disk: that each message is answered behind the one before it, of which one that is
-  -- refused leaves the world as it was, and one that asks for no collection is answered as defined
+  -- on any disk: that its messages are answered one after the other, a ping and a hello as defined,
+  -- and whether what they did is kept or taken back
   pub answers : IfOk result (λ out. RunsAndHandsOut (state old) (out_of out) (state new))
   pub leaves : OnOk result
       ((state new).connections ≡ connections_after (state old).connections)
