@@ -22,25 +22,22 @@ use std::alloc::Global;
 /// quicker.
 const MOST_LOOKED_UP: usize = 4_096;
 
-/// Where a walk is needed anyway, a filter is left to it whose index leads to more `_id`s than this.
-const MOST_BESIDE_A_WALK: usize = 256;
+/// For each filter that is left to a walk, of the first so many, the next ones are looked up where they lead to half as many `_id`s.
+const HALVINGS: usize = 8;
 
 /// What tells the documents that are looked for.
 #[derive(Drop)]
 pub(crate) struct Told<'a> {
-    /// Those that none of these filters matches have one of these `_id`s.
-    pub(crate) ids: IdSet,
+    /// The filters that only a walk serves.
     pub(crate) walked: Vec<&'a Filter>,
+    /// The `_id`s of all others: of those that none of these filters matches.
+    pub(crate) ids: IdSet,
 }
 
 /// So many entries of indexes may lead to the `_id`s of one more filter.
 fn most_for_one(ids: &[Vec<u8>], walked: &[&Filter]) -> usize {
     let left = MOST_LOOKED_UP.saturating_sub(ids.len());
-    if walked.is_empty() {
-        left
-    } else {
-        left.min(MOST_BESIDE_A_WALK)
-    }
+    left.min(MOST_LOOKED_UP >> walked.len().min(HALVINGS))
 }
 
 /// The texts of the `_id`s among which are those of all documents that a filter matches, where it asks for these, or indexes lead to

@@ -3,4 +3,5 @@ pub mod IdLemmas
 pub mod ArrayLemmas
 pub mod EditPathLemmas
 pub mod UnsetLemmas
+pub mod InsideLemmas
 pub mod RenamingLemmas

@@ -1,6 +1,6 @@
 -- Fields that are renamed one after the other: what is kept, and what moved behind it, are the document.
-use Rattle.std.proofs.Common.{◌≡◌, ◌≢◌, ◌<◌, ◌≤◌, ℕ, zero, suc, Bool, true, false, List, [], ◌∷◌, Option}
-use Rattle.std.proofs.Common.{Some, None, Result, Ok, Err, refl, sym, ap, subst, ◌∙◌, inl, inr, arith, max}
+use Rattle.std.proofs.Common.{◌≡◌, ◌≢◌, ◌<◌, ℕ, zero, suc, Bool, true, false, List, [], ◌∷◌, Option}
+use Rattle.std.proofs.Common.{Some, None, Result, Ok, Err, refl, sym, ap, subst, ◌∙◌, inl, inr, arith}
 use Rattle.std.specs.Prelude.{if◌then◌else◌, ◌⊎◌, ◌++◌, option_map}
 use Rattle.std.specs.Option.{is_some, option_and_then}
 use Rattle.std.specs.Str.{bytes_eq}
@@ -11,7 +11,7 @@ use Rattle.bson.specs.Tree.{Tree, scalar, null, document, Pairs, no_pairs, pair,
 use Rattle.bson.specs.Edits.{pairs_len, place, pair_at, with_value, put, cut}
 use Rattle.bson.specs.EditPlaces.{pairs_levels-append}
 use Rattle.bson.specs.EditsLaws.{place-there, place-absent, lookup-put, lookup-put_other, lookup-cut_other}
-use Rattle.bson.specs.Lawful.{levels, pairs_levels, Lacks, IsPairs, IsDocument}
+use Rattle.bson.specs.Lawful.{Lacks, IsPairs, IsDocument}
 use Rattle.bson.specs.Lookup.{lookup}
 use Rattle.path.specs.declared.refusal.Refusal.{Refusal}
 use Rattle.path.specs.declared.refusal.Refusal.TheVariants as refusals
@@ -20,7 +20,7 @@ use Rattle.path.specs.Place.{value_at, some_passes, passes_array}
 use Rattle.update.specs.Renames.{moved, rename_at}
 use Rattle.update.specs.Renaming.{whole, AreGone}
 use Rattle.update.specs.Unsets.{is_one_name, unmarked}
-use Rattle.update.proofs.UnsetLemmas.{Lacks-unmarked, marked_more}
+use Rattle.update.proofs.UnsetLemmas.{Lacks-unmarked, unmarked_levels, marked_more}
 
 -- ---- two documents of which one stands behind the other
 
@@ -270,7 +270,8 @@ module _ (gone kept behind : Pairs) (h : IsPairs kept) (apart : AreGone behind g
             ∙ ap (whole (put gone first (scalar null)) kept) (cut_one first behind)
             ∙ sym (cut_gone gone kept behind first h apart) ∙ sym (cut_one first (whole gone kept behind)),
         subst (AreGone (cut_at (first ∷ []) behind)) made
-            (subst (λ (ps : Pairs). AreGone ps (put gone first (scalar null))) (sym (cut_one first behind)) (AreGone-cut gone behind first (scalar null) apart)),
+            (subst (λ (ps : Pairs). AreGone ps (put gone first (scalar null))) (sym (cut_one first behind))
+            (AreGone-cut gone behind first (scalar null) apart)),
       )
 
   -- its value is what stands behind, or else what is kept
@@ -345,15 +346,6 @@ IsPairs-whole gone (pair n t ps) behind apart h b = by (lookup gone n) refl (IsP
     by (Some u) e rest = rest
     by None e rest =
         (h.0, h.1, Lacks-behind (unmarked gone ps) behind n (Lacks-unmarked gone ps n h.2) (not_found-Lacks behind n (apart n e)), rest)
-
-unmarked_levels : (marks ps : Pairs) → pairs_levels (unmarked marks ps) ≤ pairs_levels ps
-unmarked_levels marks no_pairs = omega arith
-unmarked_levels marks (pair n t ps) = by (is_some (lookup marks n)) (unmarked_levels marks ps)
-  where
-    by : (b : Bool) → pairs_levels (unmarked marks ps) ≤ pairs_levels ps
-        → pairs_levels (if b then unmarked marks ps else pair n t (unmarked marks ps)) ≤ max (levels t) (pairs_levels ps)
-    by true later = omega (arith, later)
-    by false later = omega (arith, later)
 
 pub IsDocument-whole : (gone kept behind : Pairs) → AreGone behind gone → IsDocument kept → IsDocument behind → IsDocument (whole gone kept behind)
 IsDocument-whole gone kept behind apart h b = record {

@@ -1,23 +1,21 @@
 -- Taking fields away one after the other leaves the pairs whose names aren't among the marks.
-use Rattle.std.proofs.Common.{◌≡◌, ◌≢◌, ℕ, zero, suc, Bool, true, false, List, [], ◌∷◌, take, drop, map}
+use Rattle.std.proofs.Common.{◌≡◌, ◌≢◌, ◌≤◌, ℕ, zero, suc, max, arith, Bool, true, false, List, [], ◌∷◌, take, drop, map}
 use Rattle.std.proofs.Common.{Option, Some, None, Result, Ok, Err, refl, sym, ap, subst, ◌∙◌}
 use Rattle.std.specs.Prelude.{◌&&◌, if◌then◌else◌, not, filter}
-use Rattle.std.specs.List.{list_all}
 use Rattle.std.specs.Option.{is_some}
 use Rattle.std.specs.Str.{bytes_eq}
 use Rattle.std.proofs.lemmas.Slice.Eq.{bytes_eq-Decides}
-use Rattle.bson.specs.Tree.{Tree, scalar, null, Pairs, no_pairs, pair}
+use Rattle.bson.specs.Tree.{Tree, Pairs, no_pairs, pair}
 use Rattle.bson.specs.View.{tree, pairs_of}
 use Rattle.bson.specs.Edits.{put, cut}
 use Rattle.bson.specs.EditsLaws.{lookup-put, lookup-put_other, lookup-absent}
-use Rattle.bson.specs.Lawful.{Lacks, IsPairs}
+use Rattle.bson.specs.Lawful.{levels, pairs_levels, Lacks, IsPairs}
 use Rattle.bson.specs.Lookup.{lookup}
 use Rattle.bson.specs.declared.value.Pair.{Pair}
 use Rattle.path.specs.declared.refusal.Refusal.{Refusal}
-use Rattle.path.specs.Edits.{if_ok, set_at, put_or_cut, cut_found, cut_field, cut_off}
+use Rattle.path.specs.Edits.{if_ok, put_or_cut, cut_found, cut_field, cut_off}
 use Rattle.update.specs.Applying.{apply_edit, apply_edits}
-use Rattle.update.specs.Unsets.{is_field_unset, marked, unmarked}
-use Rattle.update.specs.Update.{Path, Action, set, unset, increment, at_most, at_least, push, pull, rename, Edit}
+use Rattle.update.specs.Unsets.{unmarked}
 use Rattle.update.specs.View.{edit_of}
 use Rattle.update.specs.declared.edit.Edit.{Edit as Change}
 use Rattle.update.proofs.StepLemmas.{goes_on, stops}
@@ -59,6 +57,15 @@ Lacks-unmarked marks (pair n t ps) name h = by (is_some (lookup marks n)) (Lacks
     by true later = later
     by false later = (h.0, later)
 
+pub unmarked_levels : (marks ps : Pairs) → pairs_levels (unmarked marks ps) ≤ pairs_levels ps
+unmarked_levels marks no_pairs = omega arith
+unmarked_levels marks (pair n t ps) = by (is_some (lookup marks n)) (unmarked_levels marks ps)
+  where
+    by : (b : Bool) → pairs_levels (unmarked marks ps) ≤ pairs_levels ps
+        → pairs_levels (if b then unmarked marks ps else pair n t (unmarked marks ps)) ≤ max (levels t) (pairs_levels ps)
+    by true later = omega (arith, later)
+    by false later = omega (arith, later)
+
 bytes_differ : (xs ys : List ℕ) → bytes_eq xs ys ≡ false → ys ≢ xs
 bytes_differ xs ys e same = let f = (bytes_eq-Decides xs ys).1 (sym same) in absurd cc
 
@@ -93,56 +100,9 @@ module _ (marks : Pairs) (name : List ℕ) (u : Tree) where
           (lookup-put_other marks name n u (bytes_differ name n e))
           ∙ other (is_some (lookup marks n)) e rest
 
--- ---- edits
-
-ok : Pairs → Result Pairs Refusal
-ok ps = Ok ps
-
-one_unset : (path : Path) (action : Action) → is_field_unset (record { path = path; action = action }) ≡ true
-    → (name : List ℕ) × (path ≡ name ∷ []) × (action ≡ unset)
-one_unset [] unset e = absurd cc
-one_unset (name ∷ []) unset e = (name, refl, refl)
-one_unset (name ∷ other ∷ rest) unset e = absurd cc
-one_unset path (set t) e = absurd cc
-one_unset path (increment n) e = absurd cc
-one_unset path (at_most t) e = absurd cc
-one_unset path (at_least t) e = absurd cc
-one_unset path (push ts) e = absurd cc
-one_unset path (pull c) e = absurd cc
-one_unset path (rename new) e = absurd cc
-
-and_true : (a b : Bool) → (a && b) ≡ true → (a ≡ true) × (b ≡ true)
+pub and_true : (a b : Bool) → (a && b) ≡ true → (a ≡ true) × (b ≡ true)
 and_true true b e = (refl, e)
 and_true false b e = absurd cc
-
--- what these edits mark, and what they make of a document
-pub record Unsets (es : List Edit) (marks ps : Pairs) : Type 0 where
-  pub new : Pairs
-  pub marks_so : marked es marks ≡ Ok new
-  pub leaves : apply_edits es (unmarked marks ps) ≡ Ok (unmarked new ps)
-
-unset_first : (path : Path) (action : Action) (es : List Edit) (marks ps : Pairs) → is_field_unset (record { path = path; action = action }) ≡ true → IsPairs ps
-    → ((more : Pairs) → Unsets es more ps) → Unsets (record { path = path; action = action } ∷ es) marks ps
-unfolding ok
-unset_first path action es marks ps e h later =
-    let one = one_unset path action e in
-    let more : Pairs = put marks one.0 (scalar null) in
-    let rest = later more in
-    let mark : set_at path (scalar null) marks ≡ ok more = ap (λ (p : Path). set_at p (scalar null) marks) one.1 in
-    let cut_one : apply_edits (record { path = path; action = action } ∷ es) (unmarked marks ps)
-    ≡ if_ok (ok (cut_field (cut_off []) one.0 (unmarked marks ps))) (apply_edits es) =
-    λ i. apply_edits (record { path = one.1 i; action = one.2 i } ∷ es) (unmarked marks ps) in
-    record {
-      new = rest.new;
-      marks_so = ap (λ (r : Result Pairs Refusal). if_ok r (marked es)) mark ∙ rest.marks_so;
-      leaves = cut_one ∙ sym (ap (apply_edits es) (marked_more marks one.0 (scalar null) ps h)) ∙ rest.leaves;
-    }
-
-pub unsets : (cs : List Change) (marks ps : Pairs) → list_all (λ e. is_field_unset (edit_of e)) cs ≡ true → IsPairs ps → Unsets (map edit_of cs) marks ps
-unsets [] marks ps e h = record { new = marks; marks_so = refl; leaves = refl }
-unsets (c ∷ cs) marks ps e h =
-    let both = and_true (is_field_unset (edit_of c)) (list_all (λ x. is_field_unset (edit_of x)) cs) e in
-    unset_first c.path (edit_of c).action (map edit_of cs) marks ps both.0 h (λ more. unsets cs more ps both.1 h)
 
 -- ---- a run of edits, and those behind it
 
@@ -182,9 +142,3 @@ pairs_of-filter marks (p ∷ ps) = by (is_some (lookup marks p.name)) (pairs_of-
         ≡ (if b then unmarked marks (pairs_of ps) else pair p.name (tree p.value) (unmarked marks (pairs_of ps)))
     by true later = later
     by false later = ap (pair p.name (tree p.value)) later
-
-pub one_result : (r : Result Pairs Refusal) (ps qs : Pairs) → r ≡ Ok ps → r ≡ Ok qs → ps ≡ qs
-one_result r ps qs a b = cc
-
-pub no_refusal : (r : Result Pairs Refusal) (ps : Pairs) (e : Refusal) → r ≡ Ok ps → r ≡ Err e → ⊥
-no_refusal r ps e a b = cc

@@ -11,16 +11,24 @@ use crate::operators::apply_action;
 use crate::renaming::{count_field_renames, rename_fields};
 use crate::replacements::replace;
 use crate::stored::{id_first, stored_fault};
-use crate::unsets::{count_field_unsets, unset_fields};
+use crate::unsets::{count_unsets_below, unset_below};
 use bson::Document;
-use path::Refusal;
+use path::{Part, Path, Refusal};
 use std::alloc::Global;
 
 /// How many edits are many: fewer are done one after the other.
 const MANY: usize = 16;
 
-/// The edits, in the order written. Of those that take away or rename a field of the document many are done at
-/// once.
+/// The parts of a path but the last.
+fn parent_of(path: &Path) -> &[Part] {
+    match path.parts() {
+        [parent @ .., _] => parent,
+        [] => &[],
+    }
+}
+
+/// The edits, in the order written. Of those that take away fields of one document, or rename fields of the document
+/// itself, many are done at once.
 fn apply_edits(alloc: Global, edits: &[Edit], document: Document) -> Result<Document, Refusal>
     ensures { Gives Refusal.OutOfMemory (λ d. d) result
         (apply_edits (map edit_of edits.now) document) }
@@ -28,10 +36,11 @@ fn apply_edits(alloc: Global, edits: &[Edit], document: Document) -> Result<Docu
     let mut document = document;
     let mut rest = edits;
     'runs: while let [edit, others @ ..] = rest {
-        let (unsets, behind_unsets) = rest.split_at(count_field_unsets(rest));
+        let parent = parent_of(&edit.path);
+        let (unsets, behind_unsets) = rest.split_at(count_unsets_below(parent, rest));
         let (renames, behind_renames) = rest.split_at(count_field_renames(rest));
         if MANY <= unsets.len() {
-            document = unset_fields(alloc, unsets, document)?;
+            document = unset_below(alloc, parent, unsets, document)?;
             rest = behind_unsets;
         } else if MANY <= renames.len() {
             document = rename_fields(alloc, renames, document)?;

@@ -8,7 +8,7 @@ use Rattle.update.proofs.applying.apply_edits.Goals as goal
 pub returns-in_err-document : goal.returns-in_err-document
 returns-in_err-document c =
     refused (λ d. d) _ c.from_residual.result c.in_err-document.field-0.0 c.from_residual.ensures.1
-    (λ known. refused_run c.count_field_unsets.result c.runs.rest.now c.split_at.result.0.now c.split_at.result.1.now c.runs.document
+    (λ known. refused_run c.count_unsets_below.result c.runs.rest.now c.split_at.result.0.now c.split_at.result.1.now c.runs.document
     (apply_edits (map edit_of c.args.edits.now) c.args.document) c.split_at.ensures.front c.split_at.ensures.back c.runs.invariant
     c.in_err-document.field-0.0 (c.in_err-document.ensures known))
 
@@ -21,7 +21,7 @@ returns-in_err-document-2 c =
 
 pub runs-preserved-then-unsets-ge-MANY : goal.runs-preserved-then-unsets-ge-MANY
 runs-preserved-then-unsets-ge-MANY c =
-    behind_run c.count_field_unsets.result c.runs.rest.now c.split_at.result.0.now c.split_at.result.1.now c.runs.document
+    behind_run c.count_unsets_below.result c.runs.rest.now c.split_at.result.0.now c.split_at.result.1.now c.runs.document
     (apply_edits (map edit_of c.args.edits.now) c.args.document) c.split_at.ensures.front c.split_at.ensures.back c.runs.invariant
     c.in_ok-document.document c.in_ok-document.ensures
 
