@@ -27,8 +27,8 @@ abbrev pub with_more : Gathering → List Pairs → Result (List Pairs) Refusal
 with_more g documents = unless_refused g.refused
     (grouped_from (grouping_of g.grouping.now) documents (entries_of g.groups))
 
--- The stages were given all these documents so far: whatever comes behind them, the groups are those
--- of all that the stages take.
+-- The stages were given all these documents so far: whatever comes behind them, the groups are
+-- those of all that the stages take.
 pub record HasGathered (stages : List Stage) (all : List Pairs) (g : Gathering) : Type 0 where
   pub pipeline : pipeline_of g.pipeline.now ≡ stages
   pub first : behind_match stages

@@ -275,7 +275,8 @@ zero_or zero = inl refl
 zero_or (suc n) = inr (omega arith)
 
 -- what was put back among its neighbours, first to the left
-pub few_left_first : (old mid c new : Store) (left below right : Sheaf) (front : Loose) (r : Result Loose TreeFault) → MakesUpTo old mid 0 → 0 < length left.stubs
+pub few_left_first : (old mid c new : Store) (left below right : Sheaf) (front : Loose) (r : Result Loose TreeFault) → MakesUpTo old mid 0
+    → 0 < length left.stubs
     → Each IsStub right.stubs → AreFewJoined mid c 10880 left below (sheaf_in front)
     → (0 < length right.stubs → Each IsStub (map stub_in front.units.items) → EndsJoined 10880 c new (sheaf_in front) right r)
     → (length right.stubs ≡ 0 → MatchResult r (λ l. (l ≡ front) × MakesUpTo c new 0) (λ e. MakesUpTo c new 0)) → EndsSettled old new left below right r

@@ -13,6 +13,7 @@ abbrev pub between : Bounds → List Entry → List Entry
 between bounds entries = window bounds.from.now (option_map (λ b. b.now) bounds.to) entries
 
 -- A fold has taken some entries: so much is said on any device.
-pub record HasTaken {F : Type 0} (makes : F → List Entry → F → Type 0) (start now : F) : Type 0 where
+pub record HasTaken {F : Type 0} (makes : F → List Entry → F → Type 0) (start now : F)
+    : Type 0 where
   pub entries : List Entry
   pub made : makes start entries now

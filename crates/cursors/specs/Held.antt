@@ -7,9 +7,9 @@ use Rattle.pager.specs.declared.version.Version.{Version}
 use Rattle.database_model.specs.World.{Cursor, CursorTable}
 use Rattle.database_model.specs.Cursors.{no_cursor}
 
--- In which way a cursor goes on in a collection: through it from a key text on, where so many of the
--- documents that pass the filter may still come (0: all); or by the key texts of the `_id`s of those
--- that are left, in their order.
+-- In which way a cursor goes on in a collection: through it from a key text on, where so many of
+-- the documents that pass the filter may still come (0: all); or by the key texts of the `_id`s of
+-- those that are left, in their order.
 pub data Way : Type 0 where
   through : Conditions → ℕ → List ℕ → Way
   listed : List (List ℕ) → Way

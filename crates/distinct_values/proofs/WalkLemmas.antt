@@ -1,5 +1,6 @@
 -- Values that are put among others one after the other.
-use Rattle.std.proofs.Common.{◌≡◌, ℕ, ◌+◌, ◌<◌, ◌≤◌, List, [], ◌∷◌, ◌++◌, length, map, drop, slice_index_or, Option, Some, None, refl, ap, sym, subst, ◌∙◌, arith}
+use Rattle.std.proofs.Common.{◌≡◌, ℕ, ◌+◌, ◌<◌, ◌≤◌, List, [], ◌∷◌, ◌++◌, length, map, drop, slice_index_or, Option, Some, None, refl, ap, sym, subst}
+use Rattle.std.proofs.Common.{◌∙◌, arith}
 use Rattle.std.proofs.Common.{add-one, drop-cons}
 use Rattle.std.proofs.lemmas.List.{drop_all}
 use Rattle.bson.specs.EditPlaces.{append_items-one, append_items-none}
@@ -31,14 +32,16 @@ item_step values grown all vs i v h is left =
     ∙ sym (ap (λ (ts : Items). with_values values (items_list ts)) (next_item vs i v h))
     ∙ left
 
-pub items_done : (values all : List Tree) (vs : List Value) (i : ℕ) → length vs ≤ i → with_values values (items_list (items_of (drop i vs))) ≡ all → values ≡ all
+pub items_done : (values all : List Tree) (vs : List Value) (i : ℕ) → length vs ≤ i → with_values values (items_list (items_of (drop i vs))) ≡ all
+    → values ≡ all
 items_done values all vs i h left = sym (ap (λ (ws : List Value). with_values values (items_list (items_of ws))) (drop_all i vs h)) ∙ left
 
 pub item_flat : (vs : List Value) (i : ℕ) (v : Value) → i < length vs → items_levels (items_of (drop i vs)) ≤ 98 → levels (tree (slice_index_or vs i v)) ≤ 98
 item_flat vs i v h flat = let e : items_levels (items_of (drop i vs)) ≡ items_levels (item (tree (slice_index_or vs i v)) (items_of (drop (i + 1) vs))) =
     ap items_levels (next_item vs i v h) in omega (arith, e, flat)
 
-pub rest_flat : (vs : List Value) (i : ℕ) (v : Value) → i < length vs → items_levels (items_of (drop i vs)) ≤ 98 → items_levels (items_of (drop (i + 1) vs)) ≤ 98
+pub rest_flat : (vs : List Value) (i : ℕ) (v : Value) → i < length vs → items_levels (items_of (drop i vs)) ≤ 98
+    → items_levels (items_of (drop (i + 1) vs)) ≤ 98
 rest_flat vs i v h flat = let e : items_levels (items_of (drop i vs)) ≡ items_levels (item (tree (slice_index_or vs i v)) (items_of (drop (i + 1) vs))) =
     ap items_levels (next_item vs i v h) in omega (arith, e, flat)
 
@@ -58,7 +61,8 @@ found_step values grown all rs i r h is left =
     ∙ sym (ap (λ (ss : List Reached). with_values values (all_elements ss)) (next_found rs i r h))
     ∙ left
 
-pub found_done : (values all : List Tree) (rs : List Found) (i : ℕ) → length rs ≤ i → with_values values (all_elements (map reached (drop i rs))) ≡ all → values ≡ all
+pub found_done : (values all : List Tree) (rs : List Found) (i : ℕ) → length rs ≤ i → with_values values (all_elements (map reached (drop i rs))) ≡ all
+    → values ≡ all
 found_done values all rs i h left = sym (ap (λ (ss : List Found). with_values values (all_elements (map reached ss))) (drop_all i rs h)) ∙ left
 
 pub found_flat : (rs : List Found) (i : ℕ) (r : Found) → i < length rs → AreFlat 98 (map reached (drop i rs))

@@ -1,8 +1,8 @@
 -- The integer that a double of BSON 1.1 (bsonspec.org) is. Its eight bytes, the lowest first, are a
 -- binary64 of IEEE 754 (2019, 3.4): a sign, an exponent of eleven bits, a significand of 52. Where
 -- all bits but the sign are 0 it is zero. With an exponent from 1 to 2046 it is, up to its sign,
--- (2^52 + significand) / 2^52 * 2^(exponent - 1023). With another it is no integer. One that is 2^63
--- or more, up to its sign, counts as none here.
+-- (2^52 + significand) / 2^52 * 2^(exponent - 1023). With another it is no integer. One that is
+-- 2^63 or more, up to its sign, counts as none here.
 use Rattle.std.specs.Prelude.{ℕ, ℤ, pos, neg_ℤ, ◌+◌, ◌-◌, ◌*◌, ◌/◌, ◌%◌, ◌^◌, Bool, true, false}
 use Rattle.std.specs.Prelude.{◌||◌, ◌==◌, nat_lt, nat_le, if◌then◌else◌, List, length, take, Option}
 use Rattle.std.specs.Prelude.{Some, None}

@@ -2,8 +2,8 @@
 -- has under 36 bytes, which one driver takes for cut. Two refusals are told by drivers and programs
 -- from their texts: that a collection isn't there, and that a key is there already (MongoDB manual,
 -- error codes).
-use Rattle.std.specs.Prelude.{ℕ, ℤ, pos, negsuc, Bool, true, false, ◌||◌, ◌==◌, if◌then◌else◌, List, ◌++◌}
-use Rattle.std.specs.Prelude.{codes, Option, Some, None, Result, Ok, Err}
+use Rattle.std.specs.Prelude.{ℕ, ℤ, pos, negsuc, Bool, true, false, ◌||◌, ◌==◌, if◌then◌else◌}
+use Rattle.std.specs.Prelude.{List, ◌++◌, codes, Option, Some, None, Result, Ok, Err}
 use Rattle.bson.specs.Tree.{Tree, scalar, document, array, int32, int64, Pairs, no_pairs, pair}
 use Rattle.bson.specs.Tree.{append, Items, no_items, item}
 use Rattle.bson.specs.Lookup.{lookup}

@@ -1,6 +1,7 @@
 -- One of many values: what is asked by conditions is told by the values, in any order; and what a
 -- search among ascending ones tells.
-use Rattle.std.proofs.Common.{◌≡◌, ℕ, ◌+◌, ◌<◌, ◌≤◌, Bool, true, false, Some, List, [], ◌∷◌, length, map, get_or, Result, Ok, Err, refl, sym, ap, ◌∙◌, arith, ◌⊎◌, inl, inr}
+use Rattle.std.proofs.Common.{◌≡◌, ℕ, ◌+◌, ◌<◌, ◌≤◌, Bool, true, false, Some, List, [], ◌∷◌, length, map, get_or, Result, Ok, Err, refl, sym, ap, ◌∙◌}
+use Rattle.std.proofs.Common.{arith, ◌⊎◌, inl, inr}
 use Rattle.std.specs.Prelude.{◌||◌, ◌&&◌, is_ok}
 use Rattle.std.specs.List.{All, HoldsAt, list_any}
 use Rattle.std.specs.List.Sorted.{IsBinarySearchResult, IsPartitionPoint, IsPermutation, IsSearchInRange, IsSortedByKey}
@@ -11,7 +12,8 @@ use Rattle.std.proofs.lemmas.Bool.{cases_lt}
 use Rattle.std.proofs.lemmas.List.{length-map, get_or-map}
 use Rattle.std.proofs.lemmas.List.Folds.{list_any_none, list_any_at}
 use Rattle.std.proofs.lemmas.List.Sorted.{list_any-IsPermutation, searchable_from_sorted}
-use Rattle.bson.specs.Tree.{Tree, scalar, text, binary, object_id, boolean, date, null, int32, timestamp, int64, min_key, max_key, document, array, Items, no_items, item}
+use Rattle.bson.specs.Tree.{Tree, scalar, text, binary, object_id, boolean, date, null, int32, timestamp, int64, min_key, max_key, document, array, Items}
+use Rattle.bson.specs.Tree.{no_items, item}
 use Rattle.bson.specs.View.{tree, items_of}
 use Rattle.bson.specs.declared.value.Value.{Value}
 use Rattle.value_order.specs.Order.{compare}
@@ -58,7 +60,8 @@ passes_more : (v : Tree) (vs : List Tree) (one : Bool) (r : Reached)
 passes_more v vs one r =
     ap (λ b. b || ((is_null v || list_any is_null vs) && is_missing r))
     (any_either (λ t. is_equal (compare t v)) (is_among vs) (candidates_of one r))
-    ∙ told_apart (list_any (λ t. is_equal (compare t v)) (candidates_of one r)) (list_any (is_among vs) (candidates_of one r)) (is_null v) (list_any is_null vs) (is_missing r)
+    ∙ told_apart (list_any (λ t. is_equal (compare t v)) (candidates_of one r)) (list_any (is_among vs) (candidates_of one r)) (is_null v)
+      (list_any is_null vs) (is_missing r)
 
 reached_either : (p q : Bool → Reached → Bool) (s : Subject)
     → some_reached (λ one r. p one r || q one r) s ≡ (some_reached p s || some_reached q s)
@@ -141,7 +144,8 @@ pub search_told : (vs : List Value) (t : Tree) (r : Result ℕ ℕ) → IsSorted
 search_told [] t (Ok i) up range found = absurd (omega (arith, range))
 search_told (v ∷ vs) t (Ok i) up range found = sym (at_place v vs t i range found)
 search_told vs t (Err i) up range found =
-    sym (among_mapped vs t ∙ list_any_none (λ v. is_equal (compare t (tree v))) vs (none_ties vs t i (found (searchable_from_sorted compare_total tree vs t up))))
+    sym (among_mapped vs t ∙ list_any_none (λ v. is_equal (compare t (tree v))) vs
+      (none_ties vs t i (found (searchable_from_sorted compare_total tree vs t up))))
 
 -- ---- Missing
 

@@ -17,7 +17,8 @@ abbrev pub among_passes : List Tree → Bool → Reached → Bool
 among_passes vs one r =
     list_any (is_among vs) (candidates_of one r) || (list_any is_null vs && is_missing r)
 
--- where values stand beside conditions, to ask for one of the values is to ask one of the conditions
+-- where values stand beside conditions, to ask for one of the values is to ask one of the
+-- conditions
 abbrev pub AsksOneOf : Option (List Tree) → Conditions → Type 0
 AsksOneOf None rs = Unit {0}
 AsksOneOf (Some vs) rs = (s : Subject) → any_holds rs s ≡ some_reached (among_passes vs) s

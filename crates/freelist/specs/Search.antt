@@ -48,7 +48,8 @@ pub record IsNextUnused (from end page : ℕ) (pages : List PageState) : Type 0 
   pub unused : page < end → is_unused pages page ≡ true
   pub passed : from ≤ end → unused_below page pages ≡ unused_below from pages
 
--- What is known of the pages: where the next free one may be, and of two marks a block what they say.
+-- What is known of the pages: where the next free one may be, and what the two marks of a block
+-- say.
 pub record IsSearch (start : ℕ) (full used : List Bool) (pages : List PageState) : Type 0 where
   pub starts : IsStart start pages
   pub full_blocks : MarksHold soughts.Free full pages

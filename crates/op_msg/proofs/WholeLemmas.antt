@@ -1,11 +1,13 @@
 -- Whole messages, and what isn't whole yet.
-use Rattle.std.proofs.Common.{◌≡◌, ◌⊎◌, inl, inr, ℕ, ◌≤◌, ◌<◌, ◌+◌, ◌-◌, List, [], ◌∷◌, ◌++◌, length, take, drop, refl, sym, ◌∙◌, ap, subst, arith, length-append}
+use Rattle.std.proofs.Common.{◌≡◌, ◌⊎◌, inl, inr, ℕ, ◌≤◌, ◌<◌, ◌+◌, ◌-◌, List, [], ◌∷◌, ◌++◌, length, take, drop, refl, sym, ◌∙◌, ap, subst, arith}
+use Rattle.std.proofs.Common.{length-append}
 use Rattle.std.specs.Prelude.{Bool, true, false, ◌||◌, nat_lt, Result, Ok, Err, Option, Some, None, OnOk, IfSome, is_ok, option_map, if◌then◌else◌}
 use Rattle.std.specs.Global.{Vec}
 use Rattle.std.specs.List.{flat_map}
 use Rattle.std.specs.Prelude.{slice_index_or, slice_set}
 use Rattle.std.proofs.lemmas.List.Concat.{flat_map-append}
-use Rattle.std.proofs.lemmas.List.{append_assoc, append-nil, take_more, set_at, take-append-drop, take-append-le, length-take-le, length-drop, take-take, take_all, take_at, drop_all}
+use Rattle.std.proofs.lemmas.List.{append_assoc, append-nil, take_more, set_at, take-append-drop, take-append-le, length-take-le, length-drop, take-take}
+use Rattle.std.proofs.lemmas.List.{take_all, take_at, drop_all}
 use Rattle.std.specs.Int.{w32, from_le_bytes}
 use Rattle.outcome.specs.Outcome.{◌>>=◌}
 use Rattle.op_msg.specs.Frame.{Frame, front, frame_of, number_at, is_no_length}
@@ -93,7 +95,8 @@ one_whole bytes long right fits =
     let same : number_at 0 first ≡ n = ap (λ (xs : List ℕ). from_le_bytes w32 xs) (take-take 4 n bytes (omega (arith, least))) in
     let is = long_front first false false (omega (arith, len, least)) (ap is_no_length same ∙ right)
     (not_below (length first) (number_at 0 first) (omega (arith, len, same))) in
-    alone_by first (drop (number_at 0 first) first) (frame_of (take (number_at 0 first) first)) (drop_all (number_at 0 first) first (omega (arith, len, same))) is
+    alone_by first (drop (number_at 0 first) first) (frame_of (take (number_at 0 first) first))
+      (drop_all (number_at 0 first) first (omega (arith, len, same))) is
 
 pub no_message : (bytes : List ℕ) (count : ℕ) → 4 ≤ length bytes → is_no_length (number_at 0 bytes) ≡ true → length bytes ≡ count → EndsAt (Some count) bytes
 no_message bytes count long wrong is = (
@@ -250,7 +253,8 @@ longer_last xs x y chunk i last at more =
     ap (λ (zs : List (Vec ℕ)). slice_set zs i y) (sym split) ∙ set_at (take i xs) x [] y i (length-take-le i xs (omega (arith, last))) in
     ap all_of changed ∙ flat_map-append (λ p. p.items) (take i xs) (y ∷ [])
     ∙ ap (λ (zs : List ℕ). all_of (take i xs) ++ (zs ++ [])) more
-    ∙ ap (λ (zs : List ℕ). all_of (take i xs) ++ zs) (append_assoc x.items chunk [] ∙ ap (λ (zs : List ℕ). x.items ++ zs) (append-nil chunk) ∙ ap (λ (zs : List ℕ). zs ++ chunk) (sym (append-nil x.items)))
+    ∙ ap (λ (zs : List ℕ). all_of (take i xs) ++ zs) (append_assoc x.items chunk [] ∙ ap (λ (zs : List ℕ). x.items ++ zs) (append-nil chunk)
+      ∙ ap (λ (zs : List ℕ). zs ++ chunk) (sym (append-nil x.items)))
     ∙ sym (append_assoc (all_of (take i xs)) (x.items ++ []) chunk)
     ∙ ap (λ (zs : List ℕ). zs ++ chunk) (sym (flat_map-append (λ p. p.items) (take i xs) (x ∷ [])) ∙ ap all_of split)
 

@@ -1,5 +1,6 @@
 -- Bytes that are whole messages, one behind the other, and bytes that aren't one yet.
-use Rattle.std.specs.Prelude.{◌≡◌, ◌⊎◌, ℕ, ◌≤◌, List, [], ◌++◌, length, take, Option, Some, None, Ok, Err}
+use Rattle.std.specs.Prelude.{◌≡◌, ◌⊎◌, ℕ, ◌≤◌, List, [], ◌++◌, length, take, Option, Some, None}
+use Rattle.std.specs.Prelude.{Ok, Err}
 use Rattle.op_msg.specs.Frame.{Frame, front}
 use Rattle.op_msg.specs.Stream.{Begins}
 use Rattle.op_msg.specs.declared.fault.FrameFault.{FrameFault}

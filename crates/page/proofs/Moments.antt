@@ -70,7 +70,8 @@ leaves_further a b c P goes first second k image left =
     ]
 
 -- one call more, after which a crash leaves what has P
-pub leaves_call : {writes : Bool} (a b c : History) (ok : Bool) (P : (ℕ → List ℕ) → Type 0) → Ticks writes b c ok → LeavesOnly a b P → LeavesNow c P → LeavesOnly a c P
+pub leaves_call : {writes : Bool} (a b c : History) (ok : Bool) (P : (ℕ → List ℕ) → Type 0) → Ticks writes b c ok → LeavesOnly a b P → LeavesNow c P
+    → LeavesOnly a c P
 leaves_call a b c ok P tick so_far here k image left =
     elim (cases_lt b.clock left.at) [
       | inl late ↦
@@ -132,7 +133,8 @@ reads_one old new ok tick same = record {
 }
 
 -- a sync after them
-pub then_syncs : {writes : Bool} (a b c : History) (ok : Bool) → ReadsOnly a b → Ticks writes b c ok → (KeepsWord c → (k : ℕ) → Syncs (now b k) (now c k)) → OnlySyncs a c
+pub then_syncs : {writes : Bool} (a b c : History) (ok : Bool) → ReadsOnly a b → Ticks writes b c ok → (KeepsWord c → (k : ℕ) → Syncs (now b k) (now c k))
+    → OnlySyncs a c
 then_syncs a b c ok first tick syncs = record {
   still = λ keeps t low high. still_further a b c first (goes_one b c ok tick) keeps t low (omega (arith, tick.clock keeps));
   syncs = λ keeps k. subst (λ (s : ℕ → Sector). Syncs (s k) (now c k)) (first.same (tick.kept keeps)) (syncs keeps k);

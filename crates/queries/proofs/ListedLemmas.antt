@@ -127,7 +127,8 @@ still_open before after d is_taken h some =
 -- ---- one after the other
 
 -- as many documents are given as there are texts
-pub as_many : (ds : List Pairs) (texts : List (List ℕ)) (some : List Pairs) (p : Projection) → HasListed ds texts some → length texts ≡ length (map (project p) some)
+pub as_many : (ds : List Pairs) (texts : List (List ℕ)) (some : List Pairs) (p : Projection) → HasListed ds texts some
+    → length texts ≡ length (map (project p) some)
 as_many ds texts some p h = ap length h.spelled ∙ length-map some id_text_of ∙ sym (length-map some (project p))
 
 -- the first of some documents, by their texts

@@ -10,7 +10,8 @@ use Rattle.database_model.specs.Refusals.{refusal_reply}
 use Rattle.path.specs.declared.refusal.Refusal.{Refusal}
 use Rattle.op_msg.specs.Frame.{Frame}
 use Rattle.op_msg.specs.declared.fault.FrameFault.{FrameFault}
-use Rattle.server.specs.Turn.{Call, Runs, RunsOnAnyDisk, WroteNone, AllRead, frames_of, frame_for, calls, call_at, front_of, connection_at, connections_after, taken_at}
+use Rattle.server.specs.Turn.{Call, Runs, RunsOnAnyDisk, WroteNone, AllRead, frames_of, frame_for, calls, call_at, front_of, connection_at}
+use Rattle.server.specs.Turn.{connections_after, taken_at}
 use Rattle.server.specs.Turn.{connections_taken, forget_all, refused_calls, refused_frames, faults, fault_at}
 use Rattle.server.specs.Taking.{Serves, refused_at, fault_in, faults_in, closed_by, closed_connections, fault_beside}
 use Rattle.server.specs.declared.connection.Connection.{Connection}

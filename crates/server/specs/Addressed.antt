@@ -1,5 +1,5 @@
--- To whom the frames of a run go, on any disk, whatever stands in them. Each turn that answers takes
--- the first whole message of each open connection, and hands out one frame for each: to the
+-- To whom the frames of a run go, on any disk, whatever stands in them. Each turn that answers
+-- takes the first whole message of each open connection, and hands out one frame for each: to the
 -- connection that sent it, with the next number of its replies and the number of the message,
 -- unless none is wanted. So nobody is handed what another asked for, nothing twice, and nothing
 -- that was not asked for.

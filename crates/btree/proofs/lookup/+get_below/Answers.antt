@@ -47,22 +47,29 @@ returns-clause-looks g t c =
     (λ e. sym (ap (λ (a : Arm). a.child) (c.branch_child.ensures e))) (λ d body part within. c.get_below.ensures.looks d body part within k) d body part within
 
 pub returns-in_err-shared-clause-grows : goal.returns-in_err-shared-clause-grows
-returns-in_err-shared-clause-grows g t c = grows_same (g.P.Pages.store c.args.pages.now) (g.P.Pages.store c.read.new.self) c.in_err-shared.ensures.stays c.in_err-shared.ensures.same
+returns-in_err-shared-clause-grows g t c =
+    grows_same (g.P.Pages.store c.args.pages.now) (g.P.Pages.store c.read.new.self) c.in_err-shared.ensures.stays c.in_err-shared.ensures.same
 
 pub returns-then-not-lies_between-clause-grows : goal.returns-then-not-lies_between-clause-grows
-returns-then-not-lies_between-clause-grows g t c = grows_same (g.P.Pages.store c.args.pages.now) (g.P.Pages.store c.read.new.self) c.in_ok-shared.ensures.stays c.in_ok-shared.ensures.same
+returns-then-not-lies_between-clause-grows g t c =
+    grows_same (g.P.Pages.store c.args.pages.now) (g.P.Pages.store c.read.new.self) c.in_ok-shared.ensures.stays c.in_ok-shared.ensures.same
 
 pub returns-in-Leaf-clause-grows : goal.returns-in-Leaf-clause-grows
-returns-in-Leaf-clause-grows g t c = grows_trans _ _ _ (grows_same (g.P.Pages.store c.args.pages.now) (g.P.Pages.store c.read.new.self) c.in_ok-shared.ensures.stays c.in_ok-shared.ensures.same) c.value_in_leaf.ensures.grows
+returns-in-Leaf-clause-grows g t c =
+    grows_trans _ _ _ (grows_same (g.P.Pages.store c.args.pages.now) (g.P.Pages.store c.read.new.self) c.in_ok-shared.ensures.stays
+      c.in_ok-shared.ensures.same) c.value_in_leaf.ensures.grows
 
 pub returns-in-Leaf-clause-same : goal.returns-in-Leaf-clause-same
 returns-in-Leaf-clause-same g t c = λ k. let now = c.value_in_leaf.ensures.same k in same_trans _ _ _ (c.in_ok-shared.ensures.same now.word) now
 
 pub returns-then-len-eq0-clause-grows : goal.returns-then-len-eq0-clause-grows
-returns-then-len-eq0-clause-grows g t c = grows_same (g.P.Pages.store c.args.pages.now) (g.P.Pages.store c.read.new.self) c.in_ok-shared.ensures.stays c.in_ok-shared.ensures.same
+returns-then-len-eq0-clause-grows g t c =
+    grows_same (g.P.Pages.store c.args.pages.now) (g.P.Pages.store c.read.new.self) c.in_ok-shared.ensures.stays c.in_ok-shared.ensures.same
 
 pub returns-clause-grows : goal.returns-clause-grows
-returns-clause-grows g t c = grows_trans _ _ _ (grows_same (g.P.Pages.store c.args.pages.now) (g.P.Pages.store c.read.new.self) c.in_ok-shared.ensures.stays c.in_ok-shared.ensures.same) c.get_below.ensures.grows
+returns-clause-grows g t c =
+    grows_trans _ _ _ (grows_same (g.P.Pages.store c.args.pages.now) (g.P.Pages.store c.read.new.self) c.in_ok-shared.ensures.stays
+      c.in_ok-shared.ensures.same) c.get_below.ensures.grows
 
 pub returns-clause-same : goal.returns-clause-same
 returns-clause-same g t c = λ k. let now = c.get_below.ensures.same k in same_trans _ _ _ (c.in_ok-shared.ensures.same now.word) now

@@ -44,10 +44,13 @@ pub returns-in_err-made-clause-grows : goal.returns-in_err-made-clause-grows
 returns-in_err-made-clause-grows g c = grows_itself (g.P.Pages.store c.args.pages.now)
 
 pub returns-in_err-written-clause-grows : goal.returns-in_err-written-clause-grows
-returns-in_err-written-clause-grows g c = grows_failed (g.P.Pages.store c.args.pages.now) (g.P.Pages.store c.fresh.new.self) _ c.in_err-written.ensures.stays c.in_err-written.ensures.makes
+returns-in_err-written-clause-grows g c =
+    grows_failed (g.P.Pages.store c.args.pages.now) (g.P.Pages.store c.fresh.new.self) _ c.in_err-written.ensures.stays c.in_err-written.ensures.makes
 
 pub returns-in_err-push_unit-clause-grows : goal.returns-in_err-push_unit-clause-grows
-returns-in_err-push_unit-clause-grows g c = grows_made (g.P.Pages.store c.args.pages.now) (g.P.Pages.store c.fresh.new.self) _ _ c.in_ok-written.ensures.stays c.in_ok-written.ensures.makes
+returns-in_err-push_unit-clause-grows g c =
+    grows_made (g.P.Pages.store c.args.pages.now) (g.P.Pages.store c.fresh.new.self) _ _ c.in_ok-written.ensures.stays c.in_ok-written.ensures.makes
 
 pub returns-clause-grows : goal.returns-clause-grows
-returns-clause-grows g c = grows_made (g.P.Pages.store c.args.pages.now) (g.P.Pages.store c.fresh.new.self) _ _ c.in_ok-written.ensures.stays c.in_ok-written.ensures.makes
+returns-clause-grows g c =
+    grows_made (g.P.Pages.store c.args.pages.now) (g.P.Pages.store c.fresh.new.self) _ _ c.in_ok-written.ensures.stays c.in_ok-written.ensures.makes

@@ -54,7 +54,8 @@ returns-in_err-units-clause-few g c =
     stopped _ _ _ c.from_residual-in_err-units.result c.from_residual-in_err-units.ensures.1 m
 
 pub returns-in_err-shared-clause-grows : goal.returns-in_err-shared-clause-grows
-returns-in_err-shared-clause-grows g c = grows_same (g.P.Pages.store c.args.pages.now) (g.P.Pages.store c.read.new.self) c.in_err-shared.ensures.stays c.in_err-shared.ensures.same
+returns-in_err-shared-clause-grows g c =
+    grows_same (g.P.Pages.store c.args.pages.now) (g.P.Pages.store c.read.new.self) c.in_err-shared.ensures.stays c.in_err-shared.ensures.same
 
 pub returns-in_err-retire-clause-grows : goal.returns-in_err-retire-clause-grows
 returns-in_err-retire-clause-grows g c =

@@ -26,7 +26,9 @@ pub returns-in_err-key-clause-grows : goal.returns-in_err-key-clause-grows
 returns-in_err-key-clause-grows g c = grows_itself (g.P.Pages.store c.args.pages.now)
 
 pub returns-in_err-page-clause-grows : goal.returns-in_err-page-clause-grows
-returns-in_err-page-clause-grows g c = grows_failed (g.P.Pages.store c.args.pages.now) (g.P.Pages.store c.fresh.new.self) _ c.in_err-page.ensures.stays c.in_err-page.ensures.makes
+returns-in_err-page-clause-grows g c =
+    grows_failed (g.P.Pages.store c.args.pages.now) (g.P.Pages.store c.fresh.new.self) _ c.in_err-page.ensures.stays c.in_err-page.ensures.makes
 
 pub returns-clause-grows : goal.returns-clause-grows
-returns-clause-grows g c = grows_made (g.P.Pages.store c.args.pages.now) (g.P.Pages.store c.fresh.new.self) _ _ c.in_ok-page.ensures.stays c.in_ok-page.ensures.makes
+returns-clause-grows g c =
+    grows_made (g.P.Pages.store c.args.pages.now) (g.P.Pages.store c.fresh.new.self) _ _ c.in_ok-page.ensures.stays c.in_ok-page.ensures.makes

@@ -10,4 +10,5 @@ from_items-requires c =
     subst (λ (ts : Items). IsArray ts) (sym c.in_ok-values.ensures.items) (definitions_array c.args.indexes.now c.in_ok-values.ensures.lawful)
 
 pub put_field-requires-2-clause-flat : goal.put_field-requires-2-clause-flat
-put_field-requires-2-clause-flat c = omega (arith, items_flat c.args.indexes.now, ap items_levels c.in_ok-values.ensures.items, ap items_levels c.from_items.ensures)
+put_field-requires-2-clause-flat c =
+    omega (arith, items_flat c.args.indexes.now, ap items_levels c.in_ok-values.ensures.items, ap items_levels c.from_items.ensures)

@@ -31,7 +31,8 @@ returns-in_err-found g c =
     let e = err_from_is_err_and c.from_residual.result c.from_residual.ensures.1 in
     rw (e.1, e.2)
     (reads_refused g.D.Disk.history (IsAsked home)
-    (λ now of (found : Option (Vec (Vec ℕ Global) Global)). IfSome found (λ ids. AreTold of all (one_left path (drop (i + 1) rs)) [] (mid ++ texts_of ids.items)))
+    (λ now of (found : Option (Vec (Vec ℕ Global) Global)). IfSome found
+      (λ ids. AreTold of all (one_left path (drop (i + 1) rs)) [] (mid ++ texts_of ids.items)))
     (λ now of (found : Option (Vec (Vec ℕ Global) Global)). IfSome found (λ ids. TellOf of all [] (texts_of ids.items))) c.args.file.now
     c.ids_of_one.new.file c.in_err-found.field-0.0
     (more_read g.D.Disk.history home path rs (drop i rs) c.condition-item.result (drop (i + 1) rs) mid c.args.file.now c.conditions.file c.ids_of_one.new.file
@@ -47,7 +48,8 @@ returns-in_default g c =
     let all = one_left path rs in
     let mid = texts_of c.conditions.ids.items in
     reads_made g.D.Disk.history (IsAsked home)
-    (λ now of (found : Option (Vec (Vec ℕ Global) Global)). IfSome found (λ ids. AreTold of all (one_left path (drop (i + 1) rs)) [] (mid ++ texts_of ids.items)))
+    (λ now of (found : Option (Vec (Vec ℕ Global) Global)). IfSome found
+      (λ ids. AreTold of all (one_left path (drop (i + 1) rs)) [] (mid ++ texts_of ids.items)))
     (λ now of (found : Option (Vec (Vec ℕ Global) Global)). IfSome found (λ ids. TellOf of all [] (texts_of ids.items))) c.args.file.now
     c.ids_of_one.new.file c.in_ok-found.field-0 None
     (more_read g.D.Disk.history home path rs (drop i rs) c.condition-item.result (drop (i + 1) rs) mid c.args.file.now c.conditions.file c.ids_of_one.new.file
@@ -66,7 +68,8 @@ returns-in_err-append g c =
     let e = err_from_is_err_and c.from_residual-in_err-append.result c.from_residual-in_err-append.ensures.1 in
     rw e.1
     (reads_memory g.D.Disk.history (IsAsked home)
-    (λ now of (found : Option (Vec (Vec ℕ Global) Global)). IfSome found (λ ids. AreTold of all (one_left path (drop (i + 1) rs)) [] (mid ++ texts_of ids.items)))
+    (λ now of (found : Option (Vec (Vec ℕ Global) Global)). IfSome found
+      (λ ids. AreTold of all (one_left path (drop (i + 1) rs)) [] (mid ++ texts_of ids.items)))
     (λ now of (found : Option (Vec (Vec ℕ Global) Global)). IfSome found (λ ids. TellOf of all [] (texts_of ids.items))) (Ok c.in_ok-found.field-0)
     c.args.file.now c.ids_of_one.new.file e.0 e.2
     (more_read g.D.Disk.history home path rs (drop i rs) c.condition-item.result (drop (i + 1) rs) mid c.args.file.now c.conditions.file c.ids_of_one.new.file
@@ -90,7 +93,8 @@ conditions-preserved g c =
     (Ok c.in_ok-found.field-0) (drop_step rs i c.condition-item.result c.conditions-test.true c.condition-item.is) c.conditions.invariant
     c.in_ok-found.ensures)
     (λ now of asked so. subst (AreTold of all rest [])
-    (sym (ap texts_of {y = c.conditions.ids.items ++ c.in-Some.found.items} c.in_ok-append.ensures.items ∙ texts_appended c.conditions.ids.items c.in-Some.found.items))
+    (sym (ap texts_of {y = c.conditions.ids.items ++ c.in-Some.found.items} c.in_ok-append.ensures.items
+      ∙ texts_appended c.conditions.ids.items c.in-Some.found.items))
     (subst (λ (o : Option (Vec (Vec ℕ Global) Global)). IfSome o (λ ids. AreTold of all rest [] (mid ++ texts_of ids.items))) c.in-Some.is so))
 
 pub returns : goal.returns

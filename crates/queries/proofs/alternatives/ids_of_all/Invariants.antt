@@ -13,5 +13,6 @@ invariant-conditions g l =
     let path = option_map (λ p. p.now) l.alternatives.path in
     let rs = l.alternatives.conditions.now in
     ReadsOf g.D.Disk.history (IsAsked l.home)
-    (λ now c (_ : Unit {0}). AreTold c (one_holds path (conditions_of rs)) (one_holds path (conditions_of (drop l.condition-index rs))) [] (texts_of l.ids.items))
+    (λ now c (_ : Unit {0}). AreTold c (one_holds path (conditions_of rs)) (one_holds path (conditions_of (drop l.condition-index rs))) []
+      (texts_of l.ids.items))
     (Ok tt) l.fn.file l.file

@@ -1,7 +1,8 @@
 use Rattle.std.proofs.Common.{◌∙◌, ◌<◌, ℕ, Option, ap, length, subst, sym}
 use Rattle.freelist.specs.Book.{Book, Takes, undone}
 use Rattle.freelist.specs.ListWriting.{GoesBack, IsDraft, unused_below}
-use Rattle.freelist.proofs.TakenPages.{counts_before, drafts_more, finds_none, free_count, goes_back, goes_back_more, is_used, on_err, same_book, some_page, takes_fewer}
+use Rattle.freelist.proofs.TakenPages.{counts_before, drafts_more, finds_none, free_count, goes_back, goes_back_more, is_used, on_err, same_book}
+use Rattle.freelist.proofs.TakenPages.{some_page, takes_fewer}
 use Rattle.freelist.proofs.book.FreePages.take_pages.Goals as goal
 
 pub returns-in_err-page-clause-err : goal.returns-in_err-page-clause-err
