@@ -125,7 +125,7 @@ tells_one_more o new ps i p name depth named lawful lt is takes fits deep tells 
     let len : i ≡ pairs_len (pairs_of before) = omega (arith, pairs_len-pairs_of before, length-take i ps) in
     let tells_new = takes (pairs_of before) (tree p.value) tells lacks len fits deep in
     subst (Tells new) (sym (ap pairs_of one ∙ pairs_of-push before p ∙ ap (λ (n : List ℕ). append (pairs_of before) (pair n (tree p.value) no_pairs))
-      (sym named)))
+    (sym named)))
     tells_new
 
 -- a name that has a place is a lawful one

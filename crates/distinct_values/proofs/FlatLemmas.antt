@@ -26,7 +26,7 @@ module _ (most : ℕ) (go : Tree → List Reached) (on : (t : Tree) → levels t
   field_flat (pair other t ps) name none h k = at (bytes_eq name other) (on t (omega (arith, h))) (field_flat ps name none (omega (arith, h)) k)
     where
       at : (b : Bool) → AreFlat most (go t) → AreFlat most (onwards go (lookup ps name) none)
-        → AreFlat most (onwards go (if b then Some t else lookup ps name) none)
+          → AreFlat most (onwards go (if b then Some t else lookup ps name) none)
       at true this later = this
       at false this later = later
 

@@ -160,8 +160,11 @@ module _ {D : Type 0} (history : D → History) (reply : Pairs) (planned : Resul
     }
       where
         there : with_ok (Ok (record (world old) { collections = (world new).collections }, reply)) ≡ Ok (world new, d)
-        there i = Ok (record { collections = (world new).collections; cursors = cursors_of (sym makes.cursors i); next = (sym makes.cursors i).next }, sym
-          said i)
+        there i = Ok (
+          record { collections = (world new).collections; cursors = cursors_of (sym makes.cursors i); next = (sym makes.cursors i).next },
+          sym
+              said i,
+        )
 
     refused_so : (p : Result (List Collection) Refusal)
         → (answered (world old) (with_reply (world old) reply p)).0.collections ≡ planned_or (world old).collections p

@@ -131,5 +131,5 @@ module _ {D : Type 0} (history : D → History) (name : List ℕ) (deletions : L
       → Looks history (λ now t. IsTaken now name deletions t) (Ok t) a b
   takes_meant most suffices home found t looks few same made =
       looks_made history (λ now (found : Vec Pairs). AreMeant name deletions most home now found.items) a b (λ now t. IsTaken now name deletions t) found t
-        looks
+      looks
       (λ h. meant_taken name deletions most suffices home (world a).collections found.items t h few same made)

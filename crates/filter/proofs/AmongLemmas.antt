@@ -61,7 +61,7 @@ passes_more v vs one r =
     ap (λ b. b || ((is_null v || list_any is_null vs) && is_missing r))
     (any_either (λ t. is_equal (compare t v)) (is_among vs) (candidates_of one r))
     ∙ told_apart (list_any (λ t. is_equal (compare t v)) (candidates_of one r)) (list_any (is_among vs) (candidates_of one r)) (is_null v)
-      (list_any is_null vs) (is_missing r)
+    (list_any is_null vs) (is_missing r)
 
 reached_either : (p q : Bool → Reached → Bool) (s : Subject)
     → some_reached (λ one r. p one r || q one r) s ≡ (some_reached p s || some_reached q s)
@@ -145,7 +145,7 @@ search_told [] t (Ok i) up range found = absurd (omega (arith, range))
 search_told (v ∷ vs) t (Ok i) up range found = sym (at_place v vs t i range found)
 search_told vs t (Err i) up range found =
     sym (among_mapped vs t ∙ list_any_none (λ v. is_equal (compare t (tree v))) vs
-      (none_ties vs t i (found (searchable_from_sorted compare_total tree vs t up))))
+    (none_ties vs t i (found (searchable_from_sorted compare_total tree vs t up))))
 
 -- ---- Missing
 

@@ -96,7 +96,7 @@ one_whole bytes long right fits =
     let is = long_front first false false (omega (arith, len, least)) (ap is_no_length same ∙ right)
     (not_below (length first) (number_at 0 first) (omega (arith, len, same))) in
     alone_by first (drop (number_at 0 first) first) (frame_of (take (number_at 0 first) first))
-      (drop_all (number_at 0 first) first (omega (arith, len, same))) is
+    (drop_all (number_at 0 first) first (omega (arith, len, same))) is
 
 pub no_message : (bytes : List ℕ) (count : ℕ) → 4 ≤ length bytes → is_no_length (number_at 0 bytes) ≡ true → length bytes ≡ count → EndsAt (Some count) bytes
 no_message bytes count long wrong is = (
@@ -254,7 +254,7 @@ longer_last xs x y chunk i last at more =
     ap all_of changed ∙ flat_map-append (λ p. p.items) (take i xs) (y ∷ [])
     ∙ ap (λ (zs : List ℕ). all_of (take i xs) ++ (zs ++ [])) more
     ∙ ap (λ (zs : List ℕ). all_of (take i xs) ++ zs) (append_assoc x.items chunk [] ∙ ap (λ (zs : List ℕ). x.items ++ zs) (append-nil chunk)
-      ∙ ap (λ (zs : List ℕ). zs ++ chunk) (sym (append-nil x.items)))
+    ∙ ap (λ (zs : List ℕ). zs ++ chunk) (sym (append-nil x.items)))
     ∙ sym (append_assoc (all_of (take i xs)) (x.items ++ []) chunk)
     ∙ ap (λ (zs : List ℕ). zs ++ chunk) (sym (flat_map-append (λ p. p.items) (take i xs) (x ∷ [])) ∙ ap all_of split)
 

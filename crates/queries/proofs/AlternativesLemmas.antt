@@ -64,7 +64,7 @@ ids_tell number wide passes ids now c narrow lead = record {
 module _ {D : Type 0} (history : D → History) (home : Catalogued) (wide passes : Pairs → Bool) (narrow : (d : Pairs) → passes d ≡ true → wide d ≡ true) where
   pub tell_narrow : (old new : State D) (r : Result (Option (Vec (Vec ℕ))) Refusal) → is_stopped old ≡ false
       → ReadsOf history (IsAsked home) (λ now c (found : Option (Vec (Vec ℕ))). IfSome found (λ ids. AreIdsOf home.number wide (texts_of ids.items) now c)) r
-        old new
+      old new
       → ReadsOf history (IsAsked home) (λ now c (found : Option (Vec (Vec ℕ))). IfSome found (λ ids. TellOf c passes [] (texts_of ids.items))) r old new
   tell_narrow old new r running reads =
       reads_as history (IsAsked home) (IsAsked home)

@@ -6,5 +6,5 @@ use Rattle.aggregate.proofs.groups.take_all.Given as goal
 abbrev pub invariant-fields : goal.invariant-fields
 invariant-fields g l =
     map state_of (take l.at l.states.items) ++ taken (map group_field_of (drop l.at l.fields)) (g.S.PathSource.source l.document)
-      (map state_of (drop l.at l.states.items))
+    (map state_of (drop l.at l.states.items))
     ≡ taken (map group_field_of l.fields) (g.S.PathSource.source l.document) (map state_of l.initial.states.items)

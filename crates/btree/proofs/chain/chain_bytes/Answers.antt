@@ -57,7 +57,7 @@ returns-in_err-shared-clause-same g c = λ k. let now = c.in_err-shared.ensures.
 pub returns-then-len-min-clause-grows : goal.returns-then-len-min-clause-grows
 returns-then-len-min-clause-grows g c =
     grows_trans _ _ _ c.loop-left.invariant.grows (grows_same (g.P.Pages.store c.loop-left.pages) (g.P.Pages.store c.read.new.self)
-      c.in_ok-shared.ensures.stays c.in_ok-shared.ensures.same)
+    c.in_ok-shared.ensures.stays c.in_ok-shared.ensures.same)
 
 pub returns-then-len-min-clause-same : goal.returns-then-len-min-clause-same
 returns-then-len-min-clause-same g c = λ k. let now = c.in_ok-shared.ensures.same k in same_trans _ _ _ (c.loop-left.invariant.same now.word) now
@@ -65,7 +65,7 @@ returns-then-len-min-clause-same g c = λ k. let now = c.in_ok-shared.ensures.sa
 pub returns-in_err-extend_from_slice-clause-grows : goal.returns-in_err-extend_from_slice-clause-grows
 returns-in_err-extend_from_slice-clause-grows g c =
     grows_trans _ _ _ c.loop-left.invariant.grows (grows_same (g.P.Pages.store c.loop-left.pages) (g.P.Pages.store c.read.new.self)
-      c.in_ok-shared.ensures.stays c.in_ok-shared.ensures.same)
+    c.in_ok-shared.ensures.stays c.in_ok-shared.ensures.same)
 
 pub returns-in_err-extend_from_slice-clause-same : goal.returns-in_err-extend_from_slice-clause-same
 returns-in_err-extend_from_slice-clause-same g c = λ k. let now = c.in_ok-shared.ensures.same k in same_trans _ _ _ (c.loop-left.invariant.same now.word) now

@@ -101,4 +101,4 @@ is_enough-requires-clause-over c =
 pub returns-then-is_enough-clause-part : goal.returns-then-is_enough-clause-part
 returns-then-is_enough-clause-part c =
     λ small. subst (λ f. IsPart f (map stub_in c.args.units.now) (c.units_within-share.result + 1)) (sym c.if-fills.false)
-      (c.is_enough.ensures.enough c.if-is_enough.true small).0
+    (c.is_enough.ensures.enough c.if-is_enough.true small).0

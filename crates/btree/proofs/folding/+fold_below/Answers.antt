@@ -161,7 +161,7 @@ returns-then-not-lies_between-clause-grows g t c =
 pub returns-in-Leaf-clause-grows : goal.returns-in-Leaf-clause-grows
 returns-in-Leaf-clause-grows g t c =
     grows_trans _ _ _ (grows_same (g.P.Pages.store c.args.pages.now) (g.P.Pages.store c.read.new.self) c.in_ok-shared.ensures.stays
-      c.in_ok-shared.ensures.same) c.fold_leaf.ensures.grows
+    c.in_ok-shared.ensures.same) c.fold_leaf.ensures.grows
 
 pub returns-in-Leaf-clause-same : goal.returns-in-Leaf-clause-same
 returns-in-Leaf-clause-same g t c = λ k. let now = c.fold_leaf.ensures.same k in same_trans _ _ _ (c.in_ok-shared.ensures.same now.word) now
@@ -173,7 +173,7 @@ returns-then-len-eq0-clause-grows g t c =
 pub returns-then-is_done-clause-grows : goal.returns-then-is_done-clause-grows
 returns-then-is_done-clause-grows g t c =
     grows_trans _ _ _ (grows_same (g.P.Pages.store c.args.pages.now) (g.P.Pages.store c.read.new.self) c.in_ok-shared.ensures.stays
-      c.in_ok-shared.ensures.same) c.loop-i.invariant.grows
+    c.in_ok-shared.ensures.same) c.loop-i.invariant.grows
 
 pub returns-then-is_done-clause-same : goal.returns-then-is_done-clause-same
 returns-then-is_done-clause-same g t c = λ k. let now = c.loop-i.invariant.same k in same_trans _ _ _ (c.in_ok-shared.ensures.same now.word) now
@@ -181,7 +181,7 @@ returns-then-is_done-clause-same g t c = λ k. let now = c.loop-i.invariant.same
 pub returns-then-not-is_within-clause-grows : goal.returns-then-not-is_within-clause-grows
 returns-then-not-is_within-clause-grows g t c =
     grows_trans _ _ _ (grows_same (g.P.Pages.store c.args.pages.now) (g.P.Pages.store c.read.new.self) c.in_ok-shared.ensures.stays
-      c.in_ok-shared.ensures.same) c.loop-i.invariant.grows
+    c.in_ok-shared.ensures.same) c.loop-i.invariant.grows
 
 pub returns-then-not-is_within-clause-same : goal.returns-then-not-is_within-clause-same
 returns-then-not-is_within-clause-same g t c = λ k. let now = c.loop-i.invariant.same k in same_trans _ _ _ (c.in_ok-shared.ensures.same now.word) now
@@ -189,7 +189,7 @@ returns-then-not-is_within-clause-same g t c = λ k. let now = c.loop-i.invarian
 pub returns-in_err-fold_below-clause-grows : goal.returns-in_err-fold_below-clause-grows
 returns-in_err-fold_below-clause-grows g t c =
     grows_trans _ _ _ (grows_trans _ _ _ (grows_same (g.P.Pages.store c.args.pages.now) (g.P.Pages.store c.read.new.self) c.in_ok-shared.ensures.stays
-      c.in_ok-shared.ensures.same)
+    c.in_ok-shared.ensures.same)
     c.loop-i.invariant.grows) c.in_err-fold_below.ensures.grows
 
 pub returns-in_err-fold_below-clause-same : goal.returns-in_err-fold_below-clause-same
@@ -201,7 +201,7 @@ returns-in_err-fold_below-clause-same g t c =
 pub returns-clause-grows : goal.returns-clause-grows
 returns-clause-grows g t c =
     grows_trans _ _ _ (grows_same (g.P.Pages.store c.args.pages.now) (g.P.Pages.store c.read.new.self) c.in_ok-shared.ensures.stays
-      c.in_ok-shared.ensures.same) c.loop-i.invariant.grows
+    c.in_ok-shared.ensures.same) c.loop-i.invariant.grows
 
 pub returns-clause-same : goal.returns-clause-same
 returns-clause-same g t c = λ k. let now = c.loop-i.invariant.same k in same_trans _ _ _ (c.in_ok-shared.ensures.same now.word) now

@@ -57,7 +57,7 @@ returns-then-not-lies_between-clause-grows g t c =
 pub returns-in-Leaf-clause-grows : goal.returns-in-Leaf-clause-grows
 returns-in-Leaf-clause-grows g t c =
     grows_trans _ _ _ (grows_same (g.P.Pages.store c.args.pages.now) (g.P.Pages.store c.read.new.self) c.in_ok-shared.ensures.stays
-      c.in_ok-shared.ensures.same) c.value_in_leaf.ensures.grows
+    c.in_ok-shared.ensures.same) c.value_in_leaf.ensures.grows
 
 pub returns-in-Leaf-clause-same : goal.returns-in-Leaf-clause-same
 returns-in-Leaf-clause-same g t c = λ k. let now = c.value_in_leaf.ensures.same k in same_trans _ _ _ (c.in_ok-shared.ensures.same now.word) now
@@ -69,7 +69,7 @@ returns-then-len-eq0-clause-grows g t c =
 pub returns-clause-grows : goal.returns-clause-grows
 returns-clause-grows g t c =
     grows_trans _ _ _ (grows_same (g.P.Pages.store c.args.pages.now) (g.P.Pages.store c.read.new.self) c.in_ok-shared.ensures.stays
-      c.in_ok-shared.ensures.same) c.get_below.ensures.grows
+    c.in_ok-shared.ensures.same) c.get_below.ensures.grows
 
 pub returns-clause-same : goal.returns-clause-same
 returns-clause-same g t c = λ k. let now = c.get_below.ensures.same k in same_trans _ _ _ (c.in_ok-shared.ensures.same now.word) now

@@ -56,7 +56,7 @@ returns-in_err-shared-clause-grows g t c =
 pub returns-in_err-below-clause-grows : goal.returns-in_err-below-clause-grows
 returns-in_err-below-clause-grows g t c =
     grows_trans _ _ _ (grows_same (g.P.Pages.store c.args.pages.now) (g.P.Pages.store c.read.new.self) c.in_ok-shared.ensures.stays
-      c.in_ok-shared.ensures.same) c.in_err-below.ensures.grows
+    c.in_ok-shared.ensures.same) c.in_err-below.ensures.grows
 
 pub returns-in_err-below-clause-same : goal.returns-in_err-below-clause-same
 returns-in_err-below-clause-same g t c = λ k. let now = c.in_err-below.ensures.same k in same_trans _ _ _ (c.in_ok-shared.ensures.same now.word) now
@@ -64,7 +64,7 @@ returns-in_err-below-clause-same g t c = λ k. let now = c.in_err-below.ensures.
 pub returns-then-below-clause-grows : goal.returns-then-below-clause-grows
 returns-then-below-clause-grows g t c =
     grows_trans _ _ _ (grows_same (g.P.Pages.store c.args.pages.now) (g.P.Pages.store c.read.new.self) c.in_ok-shared.ensures.stays
-      c.in_ok-shared.ensures.same) c.in_ok-below.ensures.grows
+    c.in_ok-shared.ensures.same) c.in_ok-below.ensures.grows
 
 pub returns-then-below-clause-same : goal.returns-then-below-clause-same
 returns-then-below-clause-same g t c = λ k. let now = c.in_ok-below.ensures.same k in same_trans _ _ _ (c.in_ok-shared.ensures.same now.word) now
@@ -72,7 +72,7 @@ returns-then-below-clause-same g t c = λ k. let now = c.in_ok-below.ensures.sam
 pub returns-clause-grows : goal.returns-clause-grows
 returns-clause-grows g t c =
     grows_trans _ _ _ (grows_same (g.P.Pages.store c.args.pages.now) (g.P.Pages.store c.read.new.self) c.in_ok-shared.ensures.stays
-      c.in_ok-shared.ensures.same) c.in_ok-below.ensures.grows
+    c.in_ok-shared.ensures.same) c.in_ok-below.ensures.grows
 
 pub returns-clause-same : goal.returns-clause-same
 returns-clause-same g t c = λ k. let now = c.in_ok-below.ensures.same k in same_trans _ _ _ (c.in_ok-shared.ensures.same now.word) now

@@ -7,7 +7,7 @@ returns-in_err-page-clause-list g c =
     λ w. let before = c.read_next.ensures.same w in
     let same = c.loop-page.invariant.same before.0 in
     stops _ _ _ _ _ _ c.loop-page.reading c.read_next.new.self _ _ same.1 (c.loop-page.invariant.so before.0) c.loop-page-test.true
-      (c.in_err-page.ensures.steps w)
+    (c.in_err-page.ensures.steps w)
     c.from_residual-in_err-page.ensures.1
 
 pub loop-page-preserved : goal.loop-page-preserved
@@ -19,7 +19,7 @@ loop-page-preserved g c = record {
   so = λ w. let before = c.read_next.ensures.same w in
       let same = c.loop-page.invariant.same before.0 in
       goes_on _ _ _ _ _ _ c.loop-page.reading c.read_next.new.self same.1 (c.loop-page.invariant.so before.0) c.loop-page-test.true
-        (c.in_ok-page.ensures.steps w);
+      (c.in_ok-page.ensures.steps w);
 }
 
 pub returns-then-len-count-clause-list : goal.returns-then-len-count-clause-list

@@ -11,7 +11,7 @@ returns-in_err-push_text c =
     refused_doing _ _ c.from_residual.result c.in_err-push_text.field-0.0 c.from_residual.ensures.1
     (λ known.
     sym (ap (with_texts way (texts_of c.args.texts.now.items)) (keys_listed items c.args.array.now c.items.item-index c.items-item-items.ensures.items
-      c.items-test.true))
+    c.items-test.true))
     ∙ item_refused way items c.items.item-index c.item-item.result (texts_of c.items.texts.items) _ c.items-test.true c.item-item.is c.items.invariant
     c.in_err-push_text.field-0.0 (c.in_err-push_text.ensures known))
 

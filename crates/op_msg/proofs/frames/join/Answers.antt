@@ -15,7 +15,7 @@ returns-clause-ok c =
     let parts = take_both chunk c.args.len m c.requires.within fits in
     let ended = c.split_at-2.ensures.front in
     let left : c.push.new.self ≡ drop n chunk = c.in_ok-push.ensures.ok ∙ ap (λ (xs : List ℕ). xs ++ c.split_at-2.result.1.now) c.new-rest.ensures
-      ∙ c.split_at-2.ensures.back in
+    ∙ c.split_at-2.ensures.back in
     let whole = both_whole (begun ++ take c.args.len chunk) (take m (drop c.args.len chunk)) c.requires.ended
     (subst (λ (xs : List ℕ). AreWhole (take m xs)) back c.whole_len.ensures.whole) in
     let joined : (begun ++ take c.args.len chunk) ++ take m (drop c.args.len chunk) ≡ begun ++ take n chunk =

@@ -14,4 +14,4 @@ returns-then-count-len c bytes long same count =
 pub returns-else-count-len : goal.returns-else-count-len
 returns-else-count-len c bytes long same count =
     is_whole bytes c.args.len long (ap is_no_length same ∙ sym c.is_no_length.ensures ∙ c.if-is_no_length.false) same
-      (omega (arith, count, c.if-count-len.false))
+    (omega (arith, count, c.if-count-len.false))

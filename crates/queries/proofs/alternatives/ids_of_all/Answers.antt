@@ -32,7 +32,7 @@ returns-in_err-found g c =
     rw (e.1, e.2)
     (reads_refused g.D.Disk.history (IsAsked home)
     (λ now of (found : Option (Vec (Vec ℕ Global) Global)). IfSome found
-      (λ ids. AreTold of all (one_left path (drop (i + 1) rs)) [] (mid ++ texts_of ids.items)))
+    (λ ids. AreTold of all (one_left path (drop (i + 1) rs)) [] (mid ++ texts_of ids.items)))
     (λ now of (found : Option (Vec (Vec ℕ Global) Global)). IfSome found (λ ids. TellOf of all [] (texts_of ids.items))) c.args.file.now
     c.ids_of_one.new.file c.in_err-found.field-0.0
     (more_read g.D.Disk.history home path rs (drop i rs) c.condition-item.result (drop (i + 1) rs) mid c.args.file.now c.conditions.file c.ids_of_one.new.file
@@ -49,7 +49,7 @@ returns-in_default g c =
     let mid = texts_of c.conditions.ids.items in
     reads_made g.D.Disk.history (IsAsked home)
     (λ now of (found : Option (Vec (Vec ℕ Global) Global)). IfSome found
-      (λ ids. AreTold of all (one_left path (drop (i + 1) rs)) [] (mid ++ texts_of ids.items)))
+    (λ ids. AreTold of all (one_left path (drop (i + 1) rs)) [] (mid ++ texts_of ids.items)))
     (λ now of (found : Option (Vec (Vec ℕ Global) Global)). IfSome found (λ ids. TellOf of all [] (texts_of ids.items))) c.args.file.now
     c.ids_of_one.new.file c.in_ok-found.field-0 None
     (more_read g.D.Disk.history home path rs (drop i rs) c.condition-item.result (drop (i + 1) rs) mid c.args.file.now c.conditions.file c.ids_of_one.new.file
@@ -69,7 +69,7 @@ returns-in_err-append g c =
     rw e.1
     (reads_memory g.D.Disk.history (IsAsked home)
     (λ now of (found : Option (Vec (Vec ℕ Global) Global)). IfSome found
-      (λ ids. AreTold of all (one_left path (drop (i + 1) rs)) [] (mid ++ texts_of ids.items)))
+    (λ ids. AreTold of all (one_left path (drop (i + 1) rs)) [] (mid ++ texts_of ids.items)))
     (λ now of (found : Option (Vec (Vec ℕ Global) Global)). IfSome found (λ ids. TellOf of all [] (texts_of ids.items))) (Ok c.in_ok-found.field-0)
     c.args.file.now c.ids_of_one.new.file e.0 e.2
     (more_read g.D.Disk.history home path rs (drop i rs) c.condition-item.result (drop (i + 1) rs) mid c.args.file.now c.conditions.file c.ids_of_one.new.file
@@ -94,7 +94,7 @@ conditions-preserved g c =
     c.in_ok-found.ensures)
     (λ now of asked so. subst (AreTold of all rest [])
     (sym (ap texts_of {y = c.conditions.ids.items ++ c.in-Some.found.items} c.in_ok-append.ensures.items
-      ∙ texts_appended c.conditions.ids.items c.in-Some.found.items))
+    ∙ texts_appended c.conditions.ids.items c.in-Some.found.items))
     (subst (λ (o : Option (Vec (Vec ℕ Global) Global)). IfSome o (λ ids. AreTold of all rest [] (mid ++ texts_of ids.items))) c.in-Some.is so))
 
 pub returns : goal.returns

@@ -14,5 +14,5 @@ invariant-conditions g l =
     let rs = l.alternatives.conditions.now in
     ReadsOf g.D.Disk.history (IsAsked l.home)
     (λ now c (_ : Unit {0}). AreTold c (one_holds path (conditions_of rs)) (one_holds path (conditions_of (drop l.condition-index rs))) []
-      (texts_of l.ids.items))
+    (texts_of l.ids.items))
     (Ok tt) l.fn.file l.file

@@ -62,7 +62,7 @@ returns-in_err-walk_leaf-in-Leaf-clause-reaches g t c keeps d body part can =
     (λ pairs e part can.
     depth_failed zero (c.args.page ∷ pages_of zero pairs) (pages_so_far c.args.reached.now)
     (pages_so_far c.walk_leaf.new.reached) c.from_residual-in_err-walk_leaf-in-Leaf.result c.in_err-walk_leaf-in-Leaf.field-0.0
-      (handed_on _ _ c.from_residual-in_err-walk_leaf-in-Leaf.ensures.1)
+    (handed_on _ _ c.from_residual-in_err-walk_leaf-in-Leaf.ensures.1)
     (c.in_err-walk_leaf-in-Leaf.ensures.reaches keeps pairs e part.shown part.sound.1
     (can_rest c.args.root.pages c.args.reached.now c.note.new.self c.args.page
     (pages_of zero pairs) can c.in_ok-note.ensures.marks c.in_ok-note.ensures.noted)))
@@ -130,7 +130,7 @@ returns-in_err-below-clause-looks g t c =
     let h1 = g.D.Disk.history c.read_sheet.new.disk in
     let h2 = g.D.Disk.history c.loop-i.disk in
     looks_failed {Y = ℕ} h0 h2 (g.D.Disk.history c.walk_below.new.disk) c.from_residual-in_err-below.result c.in_err-below.field-0.0
-      (handed_on _ _ c.from_residual-in_err-below.ensures.1)
+    (handed_on _ _ c.from_residual-in_err-below.ensures.1)
     (reads_further h0 h1 h2 c.read_sheet.ensures.looks.reads c.loop-i.invariant.only) c.in_err-below.ensures.looks
 
 within : (d : ℕ) (arms : List Arm) (twigs : List (Twig (Body d))) (i : ℕ) → arms ≡ map arm_of twigs → i < length arms → i < length twigs

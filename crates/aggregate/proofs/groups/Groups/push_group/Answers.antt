@@ -26,7 +26,7 @@ returns-clause-indexed g c = λ old text new.
     let texted = text ∙ ap tree_text (sym (ap (λ (e : Entry). e.0) c.in_ok-group.ensures)) in
     let len = c.len.ensures ∙ c.args.self.now.groups.ok.0 in
     indexed_new (map group_field_of c.args.fields.now) (g.S.PathSource.source c.args.document.now) c.args.self.now c.insert.new.self c.push.new.self
-      c.args.text group
+    c.args.text group
     (id_value_of c.args.id) old texted
     (λ q. c.in_ok-insert.ensures.updates.0 q ∙ ap (λ (n : ℕ). cond (same_text c.args.text q) (Some n) (get same_text c.args.self.now.places q)) len)
     c.in_ok-push.ensures.items

@@ -52,7 +52,7 @@ returns-clause-performs g c =
     (run_aggregate w c.args.connection (asked_of w c.args.connection name stages c.args.most)) c.give_all.result
     c.requires.short
     (subst (λ (r : Result (Vec Pairs Global) Refusal). IfOk r (λ v. All IsWithin v.items)) c.in_ok-given.was c.in_ok-piped.ensures.within)
-      c.give_all.ensures.runs
+    c.give_all.ensures.runs
     (λ k. run_aggregate-is w c.args.connection name stages c.args.most given
     (subst (λ (r : Result (Vec Pairs Global) Refusal). Pipes stages r (documents_of w.collections name)) c.in_ok-given.was (looks.answers k)
     (none_of_lawful w.collections name c.requires.sound.lawful)))

@@ -25,8 +25,13 @@ invariant_of-self c =
     let len = c.in-Some.front.len in
     let left = left_whole w (drop len w) (frame_in c.in-Some.front.message) (subst AreWhole (sym whole) c.self.invariant.1)
     (some_of _ c.in_ok-front.field-0 c.in-Some.front (front w) c.in_ok-front.ensures.front c.in-Some.is) in (
-      omega (arith, within_of _ c.in_ok-front.field-0 c.in-Some.front c.in_ok-front.ensures.within c.in-Some.is, ap (λ (xs : List ℕ). length xs) whole,
-        length-drop c.self.inside.taken c.self.inside.whole.items, c.self.invariant.0),
+      omega (
+        arith,
+        within_of _ c.in_ok-front.field-0 c.in-Some.front c.in_ok-front.ensures.within c.in-Some.is,
+        ap (λ (xs : List ℕ). length xs) whole,
+        length-drop c.self.inside.taken c.self.inside.whole.items,
+        c.self.invariant.0,
+      ),
       subst AreWhole (ap (λ (xs : List ℕ). drop len xs) whole ∙ drop-drop len c.self.inside.taken c.self.inside.whole.items) left,
       c.self.invariant.2,
     )

@@ -25,7 +25,7 @@ returns-in_default c =
     let four = c.front_with-front.ensures.front c.args.self.now (sym len) known in
     let number =
     front_number bytes c.front_with-front.result (c.self.inside.len + length c.args.chunk.now) c.from_le_bytes.result four c.front_with-front.ensures.four
-      (omega (arith, c.if-len-lt4.false))
+    (omega (arith, c.if-len-lt4.false))
     c.from_le_bytes.ensures in
     c.in_default.ensures bytes (omega (arith, c.if-len-lt4.false, len, count)) number (omega (arith, len, count))
 
@@ -38,7 +38,7 @@ overflow_sub-result c =
     let four = c.front_with-front.ensures.front c.args.self.now (sym len) known in
     let number =
     front_number bytes c.front_with-front.result (c.self.inside.len + length c.args.chunk.now) c.from_le_bytes.result four c.front_with-front.ensures.four
-      (omega (arith, c.if-len-lt4.false))
+    (omega (arith, c.if-len-lt4.false))
     c.from_le_bytes.ensures in
     let ends = c.in-Some.ensures bytes (omega (arith, c.if-len-lt4.false, len, count)) number (omega (arith, len, count)) in
     omega (arith, len, ends_behind c.args.self.now c.args.chunk.now c.in-Some.end c.requires ends)
@@ -52,8 +52,8 @@ returns c =
     let four = c.front_with-front.ensures.front c.args.self.now (sym len) known in
     let number =
     front_number bytes c.front_with-front.result (c.self.inside.len + length c.args.chunk.now) c.from_le_bytes.result four c.front_with-front.ensures.four
-      (omega (arith, c.if-len-lt4.false))
+    (omega (arith, c.if-len-lt4.false))
     c.from_le_bytes.ensures in
     let ends = c.in-Some.ensures bytes (omega (arith, c.if-len-lt4.false, len, count)) number (omega (arith, len, count)) in
     subst (λ (n : ℕ). EndsIn c.args.self.now (Some (c.in-Some.end - n)) c.args.chunk.now) (sym len)
-      (ends_in c.args.self.now c.args.chunk.now c.in-Some.end c.requires ends)
+    (ends_in c.args.self.now c.args.chunk.now c.in-Some.end c.requires ends)
