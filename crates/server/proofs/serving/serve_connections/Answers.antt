@@ -73,7 +73,8 @@ connections-preserved g c =
           (frames_in call.new.frames.items)
           (serves_weaker (IsCaused start middle) (IsCaused start end)
           (caused_wider start start middle end (follows_itself start) before after) word_after word_before call.ensures.goes.reads.on.kept
-          changes_before rests_before (calls (take i first)) (world c.args.engine.now) (world c.connections.engine) c.connections.all (frames_in c.args.frames.now.items)
+          changes_before rests_before (calls (take i first)) (world c.args.engine.now) (world c.connections.engine) c.connections.all
+          (frames_in c.args.frames.now.items)
           (frames_in c.connections.frames.items) inv.serves)
           (serves_weaker (IsCaused middle end) (IsCaused start end) (caused_wider start middle end end before after (follows_itself end)) word_after word_after
           (λ k. k) changes_then rests (call_at x (front_of x)) (world c.connections.engine) (world call.new.engine) call.result
