@@ -146,7 +146,10 @@ WroteNoneOnAnyDisk old (c ∷ cs) (r ∷ rs) new h =
 
 -- What the messages of a turn did is kept, by the number of the last commit before the turn and
 -- after it: it is committed once, unless each of them left the collections as they were. Where none
--- of them wrote anything, nothing is committed, while the disk keeps its word.
+-- of them wrote anything, nothing is committed, while the disk keeps its word. The worlds in
+-- between are the run's, of which any disk says only that it leads from the first world to the
+-- last: that a change which is changed back is committed too is what the engine says
+-- (`KeepsChanges`, `quiet`).
 pub record IsCommitted (word : Type 0) (old : World) (cs : List Call) (replies : List Pairs)
     (last : World) (runs : RunsOnAnyDisk old cs replies last) (before after : ℕ) : Type 0 where
   pub once : LeftCollections old cs replies last runs ⊎ (after ≡ before + 1)
