@@ -22,7 +22,7 @@ use Rattle.engine.specs.Durable.{disk_history, file_of, full_takes_of, generatio
 use Rattle.engine.specs.declared.engine.Engine.{Engine}
 use Rattle.engine.specs.View.{world, turn_start}
 use Rattle.engine.proofs.Continuing.{continues_still}
-use Rattle.server.specs.Turn.{Call, Runs, WroteNone, ChangeNothing}
+use Rattle.server.specs.Turn.{Call, Runs, WroteNone, ChangeNothing, LeftAll}
 use Rattle.server.specs.Taking.{Serves}
 use Rattle.server.specs.Moment.{Moment, TurnEnd, Follows, FollowsInTurn, FollowInOrder, last_moment}
 use Rattle.server.specs.Causes.{FoundNoPage, IsCaused, OfAnyCause}
@@ -123,6 +123,14 @@ module _ (beside other : World → Refusal → Type 0) (weaker : (planned : Worl
   wrote_weaker (c ∷ cs) w [] new h none = tt
   wrote_weaker (c ∷ cs) w (r ∷ rs) new h none = (none.0, wrote_weaker cs h.0 rs new h.2 none.1)
 
+  -- all of them left the collections as they were
+  pub left_weaker : (cs : List Call) (w : World) (rs : List Pairs) (new : World) (h : Runs beside w cs rs new)
+      → LeftAll beside w cs rs new h → LeftAll other w cs rs new (runs_weaker cs w rs new h)
+  unfolding runs_weaker
+  left_weaker [] w rs new h left = tt
+  left_weaker (c ∷ cs) w [] new h left = tt
+  left_weaker (c ∷ cs) w (r ∷ rs) new h left = (left.0, left_weaker cs h.0 rs new h.2 left.1)
+
   -- nor did those that change nothing however they are answered
   pub changed_none : (cs : List Call) (w : World) (rs : List Pairs) (new : World) (h : Runs beside w cs rs new) → ChangeNothing other w cs
       → WroteNone beside w cs rs new h
@@ -143,6 +151,7 @@ module _ (beside other : World → Refusal → Type 0) (weaker : (planned : Worl
     anyhow = s.anyhow;
     wrote_none = λ k. s.wrote_none (kept k);
     left = s.left;
+    left_all = λ k r. left_weaker cs old s.replies new (s.runs (kept k)) (s.left_all (kept k) r);
   }
 
 -- ---- what the engine's calls do to the moment

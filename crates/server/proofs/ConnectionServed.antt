@@ -48,6 +48,7 @@ none_served word beside same rests w given stays = record {
   anyhow = refl;
   wrote_none = λ k n. stays;
   left = λ r. tt;
+  left_all = λ k r. tt;
 }
 
 module _ (word : Type 0) (beside : World → Refusal → Type 0) (same rests : Type 0) (old new : Connection) where
@@ -76,6 +77,7 @@ module _ (word : Type 0) (beside : World → Refusal → Type 0) (same rests : T
     anyhow = (w', any (body_of x.0) h.1.body, refl);
     wrote_none = λ k none. q k (body_of x.0) h.1.body none.0;
     left = λ r. (still r, tt);
+    left_all = λ k r. (still r, tt);
     frames = λ e. f e ∙ ap (λ (fs : List (ℕ × List ℕ)). given ++ fs) (so ∙ sym (append-nil (frame_for (record { connection = old; frame = x.0 }) reply)));
   }
     where

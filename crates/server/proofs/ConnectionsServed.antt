@@ -10,7 +10,7 @@ use Rattle.database_model.specs.Refusals.{refusal_reply}
 use Rattle.path.specs.declared.refusal.Refusal.{Refusal}
 use Rattle.op_msg.specs.Frame.{Frame}
 use Rattle.op_msg.specs.declared.fault.FrameFault.{FrameFault}
-use Rattle.server.specs.Turn.{LeftCollections, WroteNoneOnAnyDisk}
+use Rattle.server.specs.Turn.{LeftAll, LeftCollections, WroteNoneOnAnyDisk}
 use Rattle.server.specs.Turn.{Call, Runs, RunsOnAnyDisk, WroteNone, AllRead, frames_of, frame_for, calls, call_at, front_of, connection_at}
 use Rattle.server.specs.Turn.{connections_after, taken_at}
 use Rattle.server.specs.Turn.{connections_taken, forget_all, refused_calls, refused_frames, faults, fault_at}
@@ -59,6 +59,22 @@ module _ (beside : World → Refusal → Type 0) where
   wrote_on (x ∷ cs) ds a b c (r ∷ rs) ss h k none =
       let later = wrote_on cs ds h.0 b c rs ss h.2 k none.1 in
       ((none.0, later.0), later.1)
+
+  left_moved : (ds : List Call) (a b c : World) (ss : List Pairs) (is : b ≡ a) (k : Runs beside b ds ss c) → LeftAll beside b ds ss c k
+      → LeftAll beside a ds ss c (subst (λ (w : World). Runs beside w ds ss c) is k)
+  left_moved ds a b c ss is =
+      path_j
+      (λ (y : World) (p : b ≡ y). (k : Runs beside b ds ss c) → LeftAll beside b ds ss c k
+      → LeftAll beside y ds ss c (subst (λ (w : World). Runs beside w ds ss c) p k))
+      (λ k. subst (LeftAll beside b ds ss c) (sym (subst_refl (λ (w : World). Runs beside w ds ss c) k))) is
+
+  left_all_on : (cs ds : List Call) (a b c : World) (rs ss : List Pairs) (h : Runs beside a cs rs b) (k : Runs beside b ds ss c)
+      → LeftAll beside a cs rs b h → LeftAll beside b ds ss c k → LeftAll beside a (cs ++ ds) (rs ++ ss) c (runs_on beside cs ds a b c rs ss h k)
+  unfolding runs_on
+  left_all_on [] ds a b c [] ss h k first later = left_moved ds a b c ss h k later
+  left_all_on [] ds a b c (r ∷ rs) ss h k first later = absurd h
+  left_all_on (x ∷ cs) ds a b c [] ss h k first later = absurd h
+  left_all_on (x ∷ cs) ds a b c (r ∷ rs) ss h k first later = (first.0, left_all_on cs ds h.0 b c rs ss h.2 k first.1 later)
 
 -- ---- the same, on any disk
 
@@ -126,6 +142,7 @@ serves_on word beside first second same join earlier rests before cs ds a b c p 
       let each = none_on cs ds a b c s.replies t.replies s.anyhow t.anyhow none in
       join (s.wrote_none k each.0) (t.wrote_none k each.1);
   left = λ r. left_on cs ds a b c s.replies t.replies s.anyhow t.anyhow (s.left (before r)) (t.left r);
+  left_all = λ k r. left_all_on beside cs ds a b c s.replies t.replies (s.runs k) (t.runs k) (s.left_all k (before r)) (t.left_all k r);
 }
 
 -- the refusals of calls, one each

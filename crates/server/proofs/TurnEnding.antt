@@ -21,12 +21,12 @@ use Rattle.server.specs.History.{TakenBack}
 use Rattle.server.specs.Moment.{Follows, FollowsInTurn}
 use Rattle.server.specs.Durable.{engine_moment}
 use Rattle.server.specs.Messages.{RunsMessages}
-use Rattle.server.specs.Turn.{AllRead, ChangeNothing, LeftCollections, Runs, WroteNone, calls, connections_taken, frames_of, refused_frames}
+use Rattle.server.specs.Turn.{AllRead, ChangeNothing, LeftAll, LeftCollections, Runs, WroteNone, calls, connections_taken, frames_of, refused_frames}
 use Rattle.server.specs.Taking.{Serves}
 use Rattle.server.specs.View.{frames_in}
 use Rattle.server.specs.declared.connection.Connection.{Connection}
 use Rattle.server.proofs.CauseLemmas.{commit_follows, undo_follows, turn_follows, commits_once, idle_commit, quiet_commit, room_ran_out}
-use Rattle.server.proofs.CauseLemmas.{any_cause, cause_over, changed_none, runs_weaker, wrote_weaker}
+use Rattle.server.proofs.CauseLemmas.{any_cause, cause_over, changed_none, left_weaker, runs_weaker, wrote_weaker}
 use Rattle.server.proofs.Images.{unwritten, unwritten_on, then_on, moved, moved_back, failed_further, on_same}
 
 abbrev Frames : Type 0
@@ -85,6 +85,13 @@ module _ {D : Type 0} (history : D → History) (old mid new : Engine D) (b : Be
   wrote_none after k none = s.serves.wrote (after.word k)
       (wrote_weaker early whole (cause_over history old mid new s.goes after) (calls connections) (world old) s.serves.replies (world mid)
       (s.serves.runs (after.word k)) none)
+
+  -- where all of them left the collections as they were
+  left_all : (after : Follows (engine_moment history mid) (engine_moment history new)) (k : KeepsWord (disk_history history new))
+      → has_changes mid ≡ false → LeftAll whole (world old) (calls connections) s.serves.replies (world mid) (ran after k)
+  unfolding ran
+  left_all after k rests = left_weaker early whole (cause_over history old mid new s.goes after) (calls connections) (world old) s.serves.replies (world mid)
+      (s.serves.runs (after.word k)) (s.serves.left_all (after.word k) rests)
 
   changed_nothing : KeepsWord (disk_history history mid) → ChangeNothing OfAnyCause (world old) (calls connections) → has_changes mid ≡ has_changes old
   changed_nothing k nothing = s.serves.wrote k
@@ -174,6 +181,9 @@ module _ {D : Type 0} (history : D → History) (old mid new : Engine D) (b : Be
               (has_changes mid) refl s.serves.left s.goes c.version;
           none = λ k wrote. (unchanged (Ok tt) c (s.serves.wrote_none (c.on.kept k) wrote)).version;
         },
+        λ k. commits_once history old mid new (LeftAll whole (world old) (calls connections) s.serves.replies (world mid) (ran (after (Ok tt) c) k))
+            (has_changes mid) refl (left_all (after (Ok tt) c) k) s.goes c.version,
+        λ k none. (unchanged (Ok tt) c (wrote_none (after (Ok tt) c) k none)).version,
       );
     };
     breaks = λ e. absurd cc;

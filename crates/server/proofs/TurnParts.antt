@@ -6,7 +6,7 @@ use Rattle.path.specs.declared.refusal.Refusal.{Refusal}
 use Rattle.op_msg.specs.declared.fault.FrameFault.{FrameFault}
 use Rattle.server.specs.ServerState.{ServerState}
 use Rattle.path.specs.declared.refusal.Refusal.TheVariants as refusals
-use Rattle.server.specs.Turn.{Out, Turns, HandsOut, RunsAndHandsOut, calls, faults, forget_all, connections_after, refused_calls, refused_frames}
+use Rattle.server.specs.Turn.{Out, Turns, TurnsOnce, HandsOut, RunsAndHandsOut, calls, faults, forget_all, connections_after, refused_calls, refused_frames}
 use Rattle.server.proofs.ConnectionsServed.{refused_each}
 use Rattle.server.specs.Taking.{EndsTurn}
 use Rattle.server.specs.View.{state}
@@ -63,6 +63,42 @@ module _ {D : Type 0} (word : Type 0) (beside : World → Refusal → Type 0) (u
       refused.0))
       s.ends
 
+  -- and its commit
+  pub turned_once : word → TurnsOnce beside undone (state core) handed after count counted
+  turned_once k = ⊎_elim
+      (λ done. inl (
+        record { replies = s.replies; last = s.last; runs = s.runs k; hands_out = hands _ done.0; leaves = leaves _ done.1 },
+        record { once = done.2.1 k; none = done.2.2 k },
+      ))
+      (λ refused. inr (
+        ⊎_elim
+            (λ memory. inl (
+              memory.1 k,
+              record {
+                replies = s.replies;
+                last = s.last;
+                runs = s.runs k;
+                hands_out = hands _ memory.0;
+                leaves = leaves _ refused.1;
+                wrote = λ e. absurd cc;
+              },
+            ))
+            (λ room. inr (
+              room.0.1 k,
+              record {
+                replies = s.replies;
+                last = s.last;
+                runs = s.runs k;
+                hands_out = hands _ room.0.0;
+                leaves = leaves _ refused.1;
+                wrote = λ _. room.1 k;
+              },
+            ))
+            refused.0,
+        refused.2,
+      ))
+      s.ends
+
   -- to whom the frames go, whatever the replies say
   pub handed_out : HandsOut (state core) handed
   handed_out = ⊎_elim
@@ -83,7 +119,7 @@ module _ {D : Type 0} (word : Type 0) (beside : World → Refusal → Type 0) (u
     last = s.last;
     runs = s.anyhow;
     ends = ⊎_elim
-        (λ done. inl (done.0, forgets_all _ done.1, done.2))
+        (λ done. inl (done.0, forgets_all _ done.1, done.2.0))
         (λ refused. inr (⊎_elim
         (λ memory. (refusals.OutOfMemory, inl refl, memory.0, forgets_all _ refused.1, refused.2))
         (λ room. (refusals.Full, inr refl, room.0.0, forgets_all _ refused.1, refused.2))

@@ -18,7 +18,7 @@ use Rattle.path.specs.declared.refusal.Refusal.{Refusal}
 use Rattle.path.specs.declared.refusal.Refusal.TheVariants as refusals
 use Rattle.server.specs.Turn.{Call, Runs, WroteNone, calls, call_at, frames_of, front_of}
 use Rattle.server.specs.Turn.{refused_calls, refused_frames, taken_at, next_number, RunsOnAnyDisk}
-use Rattle.server.specs.Turn.{IsCommitted, LeftCollections, WroteNoneOnAnyDisk}
+use Rattle.server.specs.Turn.{IsCommitted, LeftAll, LeftCollections, WroteNoneOnAnyDisk}
 use Rattle.server.specs.declared.connection.Connection.{Connection}
 use Rattle.server.specs.declared.connection.Taken.{Taken}
 use Rattle.server.specs.declared.connection.Taken.TheVariants as takes
@@ -91,6 +91,7 @@ pub record Serves (word : Type 0) (beside : World → Refusal → Type 0) (same 
   pub anyhow : RunsOnAnyDisk old calls replies new
   pub wrote_none : word → WroteNoneOnAnyDisk old calls replies new anyhow → same
   pub left : rests → LeftCollections old calls replies new anyhow
+  pub left_all : (k : word) → rests → LeftAll beside old calls replies new (runs k)
 
 -- a request with this body, whatever frame it came in
 abbrev pub IsAnswer : (World → Refusal → Type 0) → World → ℕ → Request → World → Pairs → Type 0
@@ -117,7 +118,11 @@ pub record EndsTurn (word : Type 0) (beside : World → Refusal → Type 0)
   pub runs : word → Runs beside old (calls connections) replies last
   pub anyhow : RunsOnAnyDisk old (calls connections) replies last
   pub ends : ((given ≡ frames_of (calls connections) replies) × (new ≡ after_commit last)
-      × IsCommitted word old (calls connections) replies last anyhow before after)
+      × IsCommitted word old (calls connections) replies last anyhow before after
+      × ((k : word) → LeftAll beside old (calls connections) replies last (runs k)
+      ⊎ (after ≡ before + 1))
+      × ((k : word) → WroteNone beside old (calls connections) replies last (runs k)
+      → after ≡ before))
       ⊎ ((RefusesAll word undone connections given refusals.OutOfMemory
       ⊎ (RefusesAll word undone connections given refusals.Full
       × ((k : word) → WroteNone beside old (calls connections) replies last (runs k) → ⊥)))

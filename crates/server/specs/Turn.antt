@@ -148,8 +148,8 @@ WroteNoneOnAnyDisk old (c ∷ cs) (r ∷ rs) new h =
 -- after it: it is committed once, unless each of them left the collections as they were. Where none
 -- of them wrote anything, nothing is committed, while the disk keeps its word. The worlds in
 -- between are the run's, of which any disk says only that it leads from the first world to the
--- last: that a change which is changed back is committed too is what the engine says
--- (`KeepsChanges`, `quiet`).
+-- last: that a change which is changed back is committed too is said of the run as defined
+-- (`DoneOnce`).
 pub record IsCommitted (word : Type 0) (old : World) (cs : List Call) (replies : List Pairs)
     (last : World) (runs : RunsOnAnyDisk old cs replies last) (before after : ℕ) : Type 0 where
   pub once : LeftCollections old cs replies last runs ⊎ (after ≡ before + 1)
@@ -164,6 +164,15 @@ WroteNone beside old [] replies new h = Unit {0}
 WroteNone beside old (c ∷ cs) [] new h = Unit {0}
 WroteNone beside old (c ∷ cs) (r ∷ rs) new h =
     WroteNothing old (body_of c.frame) h.0 × WroteNone beside h.0 cs rs new h.2
+
+-- Each of the messages that were answered so left the collections as they were: none changed them,
+-- not even for a later one to change them back.
+abbrev pub LeftAll : (beside : World → Refusal → Type 0) (old : World) (cs : List Call)
+    (replies : List Pairs) (new : World) → Runs beside old cs replies new → Type 0
+LeftAll beside old [] replies new h = Unit {0}
+LeftAll beside old (c ∷ cs) [] new h = Unit {0}
+LeftAll beside old (c ∷ cs) (r ∷ rs) new h =
+    (h.0.collections ≡ old.collections) × LeftAll beside h.0 cs rs new h.2
 
 -- However the messages are answered, none of them writes anything.
 abbrev pub ChangeNothing : (World → Refusal → Type 0) → World → List Call → Type 0
@@ -286,6 +295,24 @@ Turns beside undone state out new =
     Done beside state out new
     ⊎ ((undone refusals.OutOfMemory × Undone beside state refusals.OutOfMemory out new)
     ⊎ (undone refusals.Full × Undone beside state refusals.Full out new))
+
+-- What a turn that is done did is committed once, by the number of the last commit before it and
+-- after it, unless each of its messages left the collections as they were; where none of them wrote
+-- anything, nothing is committed.
+pub record DoneOnce (beside : World → Refusal → Type 0) (state : ServerState) (out : Out)
+    (new : ServerState) (done : Done beside state out new) (before after : ℕ) : Type 0 where
+  pub once : LeftAll beside state.world (calls state.connections) done.replies done.last done.runs
+      ⊎ (after ≡ before + 1)
+  pub none : WroteNone beside state.world (calls state.connections) done.replies done.last done.runs
+      → after ≡ before
+
+-- A turn that answers, with its commit: one that is undone has none.
+abbrev pub TurnsOnce : (World → Refusal → Type 0) → (Refusal → Type 0) → ServerState → Out
+    → ServerState → ℕ → ℕ → Type 0
+TurnsOnce beside undone state out new before after =
+    ((done : Done beside state out new) × DoneOnce beside state out new done before after)
+    ⊎ (((undone refusals.OutOfMemory × Undone beside state refusals.OutOfMemory out new)
+    ⊎ (undone refusals.Full × Undone beside state refusals.Full out new)) × (after ≡ before))
 
 -- Cut: the messages are taken and ran, no reply is handed out, and no connection is closed.
 pub record Cut (beside : World → Refusal → Type 0) (state new : ServerState) : Type 0 where

@@ -7,7 +7,7 @@ use Rattle.trusted_disk.specs.Trusting.{trusted_history}
 use Rattle.engine.specs.Continuing.{Continues}
 use Rattle.opening.specs.Holding.{Holds}
 use Rattle.server.specs.Turn.{calls, connections_after, AllRead, HandsOut, RunsAndHandsOut, Turns}
-use Rattle.server.specs.Turn.{ChangesNothing, TurnFails}
+use Rattle.server.specs.Turn.{ChangesNothing, TurnFails, TurnsOnce}
 use Rattle.server.specs.Moment.{HoldsEither, FollowsInTurn}
 use Rattle.server.specs.Causes.{IsCaused, OfAnyCause}
 use Rattle.server.specs.History.{TakenBack}
@@ -27,6 +27,13 @@ pub record TakesTurn {D : Type 0} (history : D → History) (old : Core D)
       → Turns (IsCaused (moment_of history old) (moment_of history new))
       (TakenBack (moment_of history old) (moment_of history new)) (state old)
       (out_of out) (state new))
+  -- and it commits once, where a message changed the collections, even if a later one changed them
+  -- back; one whose messages wrote nothing, or that is undone, commits nothing
+  pub commits_once : IfOk result (λ out. KeepsWord (disk_history history new)
+      → TurnsOnce (IsCaused (moment_of history old) (moment_of history new))
+      (TakenBack (moment_of history old) (moment_of history new)) (state old)
+      (out_of out) (state new) (moment_of history old).generation
+      (moment_of history new).generation)
   -- on any disk: to whom its frames go, one for each message that is taken, and what it leaves of
   -- what came
   pub hands_out : IfOk result (λ out. HandsOut (state old) (out_of out))

@@ -22,10 +22,10 @@ use Rattle.server.specs.View.{state, frames_in}
 use Rattle.server.specs.ServerState.{ServerState, are_ascending}
 use Rattle.server.proofs.Ascending.{taken_ascends, after_ascends}
 use Rattle.server.proofs.Images.{engine_holds, stays, forgotten, forget_all_state}
-use Rattle.server.proofs.CauseLemmas.{in_turn_itself, runs_weaker, wrote_weaker}
+use Rattle.server.proofs.CauseLemmas.{in_turn_itself, left_weaker, runs_weaker, wrote_weaker}
 use Rattle.server.proofs.ConnectionsServed.{all_closed}
 use Rattle.server.proofs.Refusing.{whole}
-use Rattle.server.proofs.TurnParts.{turned, handed_out, runs_and_hands_out}
+use Rattle.server.proofs.TurnParts.{turned, turned_once, handed_out, runs_and_hands_out}
 use Rattle.server.proofs.turn.Core.turn.Goals as goal
 
 stopped_not : (b : Bool) → b ≡ true → b ≡ false → ⊥
@@ -48,7 +48,12 @@ ends_after before word kept undone world_was connections given left start end la
       (λ done. inl (
         done.0,
         done.1,
-        record { once = ⊎_elim (λ left. inl left) (λ one. inr (counts ∙ one)) done.2.once; none = λ k wrote. counts ∙ done.2.none (kept k) wrote },
+        record { once = ⊎_elim (λ left. inl left) (λ one. inr (counts ∙ one)) done.2.0.once; none = λ k wrote. counts ∙ done.2.0.none (kept k) wrote },
+        λ k. ⊎_elim
+            (λ left. inl (left_weaker (IsCaused start end) (IsCaused start later) wider (calls connections) world_was s.replies s.last (s.runs (kept k)) left))
+            (λ one. inr (counts ∙ one)) (done.2.1 (kept k)),
+        λ k none. counts ∙ done.2.2 (kept k)
+            (wrote_weaker (IsCaused start end) (IsCaused start later) wider (calls connections) world_was s.replies s.last (s.runs (kept k)) none),
       ))
       (λ refused. inr (
         ⊎_elim (λ memory. inl (later_on refusals.OutOfMemory memory)) (λ room. inr (
@@ -75,6 +80,7 @@ pub returns-then-is_stopped : goal.returns-then-is_stopped
 returns-then-is_stopped g c = record {
   sound = search rules;
   turns = search rules;
+  commits_once = tt;
   hands_out = tt;
   answers = tt;
   leaves = tt;
@@ -99,6 +105,7 @@ pub returns-in_err-refusals : goal.returns-in_err-refusals
 returns-in_err-refusals g c = record {
   sound = search rules;
   turns = search rules;
+  commits_once = search rules;
   hands_out = search rules;
   answers = search rules;
   leaves = search rules;
@@ -136,6 +143,7 @@ returns-in_default g c =
         ascending = ap are_ascending ran.taken ∙ taken_ascends core.connections.items c.requires.sound.ascending;
       };
       turns = search rules;
+      commits_once = tt;
       hands_out = tt;
       answers = tt;
       leaves = tt;
@@ -204,6 +212,8 @@ returns g c =
         ascending = ap are_ascending left ∙ after_ascends connections c.requires.sound.ascending;
       };
       turns = λ k. turned word (IsCaused old new) (TakenBack old new) core old.generation new.generation frames
+          (world c.run_messages.new.engine) prepared.closed.items (world c.forget_closed.new.engine) _ settles closes forgets left k;
+      commits_once = λ k. turned_once word (IsCaused old new) (TakenBack old new) core old.generation new.generation frames
           (world c.run_messages.new.engine) prepared.closed.items (world c.forget_closed.new.engine) _ settles closes forgets left k;
       hands_out = handed_out word (IsCaused old new) (TakenBack old new) core old.generation new.generation frames
           (world c.run_messages.new.engine) prepared.closed.items (world c.forget_closed.new.engine) _ settles closes forgets left;
