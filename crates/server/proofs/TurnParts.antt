@@ -68,7 +68,7 @@ module _ {D : Type 0} (word : Type 0) (beside : World → Refusal → Type 0) (u
   turned_once k = ⊎_elim
       (λ done. inl (
         record { replies = s.replies; last = s.last; runs = s.runs k; hands_out = hands _ done.0; leaves = leaves _ done.1 },
-        record { once = done.2.1 k; none = done.2.2 k },
+        record { once = done.3 k; none = done.4 k },
       ))
       (λ refused. inr (
         ⊎_elim
@@ -119,7 +119,7 @@ module _ {D : Type 0} (word : Type 0) (beside : World → Refusal → Type 0) (u
     last = s.last;
     runs = s.anyhow;
     ends = ⊎_elim
-        (λ done. inl (done.0, forgets_all _ done.1, done.2.0))
+        (λ done. inl (done.0, forgets_all _ done.1, done.2))
         (λ refused. inr (⊎_elim
         (λ memory. (refusals.OutOfMemory, inl refl, memory.0, forgets_all _ refused.1, refused.2))
         (λ room. (refusals.Full, inr refl, room.0.0, forgets_all _ refused.1, refused.2))

@@ -48,11 +48,11 @@ ends_after before word kept undone world_was connections given left start end la
       (λ done. inl (
         done.0,
         done.1,
-        record { once = ⊎_elim (λ left. inl left) (λ one. inr (counts ∙ one)) done.2.0.once; none = λ k wrote. counts ∙ done.2.0.none (kept k) wrote },
+        record { once = ⊎_elim (λ left. inl left) (λ one. inr (counts ∙ one)) done.2.once; none = λ k wrote. counts ∙ done.2.none (kept k) wrote },
         λ k. ⊎_elim
             (λ left. inl (left_weaker (IsCaused start end) (IsCaused start later) wider (calls connections) world_was s.replies s.last (s.runs (kept k)) left))
-            (λ one. inr (counts ∙ one)) (done.2.1 (kept k)),
-        λ k none. counts ∙ done.2.2 (kept k)
+            (λ one. inr (counts ∙ one)) (done.3 (kept k)),
+        λ k none. counts ∙ done.4 (kept k)
             (wrote_weaker (IsCaused start end) (IsCaused start later) wider (calls connections) world_was s.replies s.last (s.runs (kept k)) none),
       ))
       (λ refused. inr (
