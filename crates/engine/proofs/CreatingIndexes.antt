@@ -200,6 +200,7 @@ module _ {D : Type 0} (history : D → History) (name : List ℕ) (ns : List New
         planned_next cs name ns p a ∙ ap (λ (ds : List Collection). Ok ds) stays;
     left = tt;
     refused = tt;
+    keeps = λ t. t;
   }
 
   pub put_leads : KeepsWord (disk_history history old) → IsRunning old
@@ -314,6 +315,7 @@ module _ {D : Type 0} (history : D → History) (name : List ℕ) (ns : List New
                 (performs_done history reply (Planned cs) run old new (run_indexes (world old) name ns) d told makes).does k;
             left = tt;
             refused = tt;
+            keeps = makes.keeps;
           }
 
       -- where the collections stay, nothing was written

@@ -270,6 +270,7 @@ module _ {D : Type 0} (history : D → History) (name : List ℕ) (away : Droppe
         planned_left ds t ∙ ap (λ (es : List Collection). Ok es) same;
     left = tt;
     refused = tt;
+    keeps = λ t. t;
   }
 
   module _ (last : Engine D) (before : List Edit) (none : before ≡ []) (home_after : Catalogued) (after : List Edit) where
@@ -423,6 +424,7 @@ module _ {D : Type 0} (history : D → History) (name : List ℕ) (away : Droppe
                 (said ∙ ap (λ (x : ℕ). ok_reply (drop_indexes_reply x)) counted) makes).does k;
             left = tt;
             refused = tt;
+            keeps = makes.keeps;
           }
 
       -- where the collections stay, none was dropped

@@ -358,4 +358,5 @@ module _ {D : Type 0} (history : D → History) (name : List ℕ) (old mid : Eng
                 (said ∙ ap (λ (x : ℕ). ok_reply (drop_reply x name)) counted) makes).does k;
             left = tt;
             refused = tt;
+            keeps = makes.keeps;
           }

@@ -146,6 +146,7 @@ module _ {D : Type 0} (history : D → History) (old new : Engine D) (planned : 
       does = λ k. does_any history old new planned r (does k);
       left = on_err r (world_same history old new reads);
       refused = on_err r reads.changes;
+      keeps = λ t. reads.changes ∙ t;
     };
     changes = reads.changes;
     takes = reads.takes;
@@ -181,6 +182,7 @@ module _ {D : Type 0} (history : D → History) (old mid new : Engine D) (reads 
           does = λ k. does_any history old new planned r (does k);
           left = unchanged r done.performs.left;
           refused = kept r done.performs.refused;
+          keeps = λ t. done.changes ∙ reads.changes ∙ t;
         };
         changes = done.changes ∙ reads.changes;
         takes = done.takes ∙ reads.takes;

@@ -62,6 +62,7 @@ module _ {D : Type 0} (history : D → History) where
     does = λ k. (now_same history old new reads, elim (why k) [ inl is ↦ inl is | inr cause ↦ inr (inl (any_cause history old.file new.file e cause)) ]);
     left = now_same history old new reads;
     refused = reads.changes;
+    keeps = λ t. reads.changes ∙ t;
   }
 
   -- what was read was followed by a write
@@ -80,6 +81,7 @@ module _ {D : Type 0} (history : D → History) where
           ∙ ap (λ (cs : List Collection). Ok cs) (sym w.ok);
       left = tt;
       refused = tt;
+      keeps = λ t. w.keeps (reads.changes ∙ t);
     }
     makes_written (Err e) plans w = record {
       sound = w.sound;
@@ -95,6 +97,7 @@ module _ {D : Type 0} (history : D → History) where
       );
       left = w.err.0 ∙ now_same history old mid reads;
       refused = w.err.1 ∙ reads.changes;
+      keeps = λ t. w.keeps (reads.changes ∙ t);
     }
 
   -- what was made behind reads
@@ -109,6 +112,7 @@ module _ {D : Type 0} (history : D → History) where
       does = λ k. ap plan (sym (now_same history old mid reads)) ∙ m.does k;
       left = tt;
       refused = tt;
+      keeps = λ t. m.keeps (reads.changes ∙ t);
     }
     makes_behind (Err e) m = record {
       sound = m.sound;
@@ -129,6 +133,7 @@ module _ {D : Type 0} (history : D → History) where
           );
       left = m.left ∙ now_same history old mid reads;
       refused = m.refused ∙ reads.changes;
+      keeps = λ t. m.keeps (reads.changes ∙ t);
     }
 
 -- the collections that are planned, and this reply
@@ -146,6 +151,7 @@ module _ {D : Type 0} (history : D → History) (reply : Pairs) (planned : Resul
     does = λ k. (refl, inr (inl refl, λ k. inl (inl refl)));
     left = refl;
     refused = refl;
+    keeps = λ t. t;
   }
 
   module _ (is : run ≡ with_reply (world old) reply planned) where
@@ -157,6 +163,7 @@ module _ {D : Type 0} (history : D → History) (reply : Pairs) (planned : Resul
       does = λ k. ap with_ok (is ∙ ap (with_reply (world old) reply) (makes.does k)) ∙ there;
       left = tt;
       refused = tt;
+      keeps = makes.keeps;
     }
       where
         there : with_ok (Ok (record (world old) { collections = (world new).collections }, reply)) ≡ Ok (world new, d)
@@ -179,6 +186,7 @@ module _ {D : Type 0} (history : D → History) (reply : Pairs) (planned : Resul
       does = λ k. let d = makes.does k in (same d.0, why d.1);
       left = same makes.left;
       refused = makes.refused;
+      keeps = makes.keeps;
     }
       where
         same : (world new).collections ≡ (world old).collections → world new ≡ world old

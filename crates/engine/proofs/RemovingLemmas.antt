@@ -170,6 +170,7 @@ module _ {D : Type 0} (history : D → History) where
       does = λ k. ap (λ (cs : List Collection). Ok cs) (none_deleted (world old).collections name deletions t (is k) h.lawful.apart none);
       left = tt;
       refused = tt;
+      keeps = λ t. t;
     }
 
     -- what is taken was written
@@ -202,4 +203,5 @@ module _ {D : Type 0} (history : D → History) where
           (said ∙ ap (λ (x : ℕ). ok_reply (pair (codes "n") (total x) no_pairs)) (many k)) m).does k;
       left = tt;
       refused = tt;
+      keeps = m.keeps;
     }

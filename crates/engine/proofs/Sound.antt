@@ -138,6 +138,7 @@ module _ {D : Type 0} (history : D → History) (old new : Engine D) (planned : 
       does = λ k. does_any history old new planned r (does k);
       left = left;
       refused = either r;
+      keeps = λ t. changes ∙ t;
     };
     changes = changes;
     takes = ap (λ (t : Bool × ℕ). t.1) unchanged;

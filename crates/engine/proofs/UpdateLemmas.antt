@@ -216,6 +216,7 @@ module _ {D : Type 0} (history : D → History) (name : List ℕ) (ss : List Upd
         (performs_done history (reply_in (run_all name ss now)) (plan name ss now) (run (world old)) old new runs d said makes).does k;
     left = tt;
     refused = tt;
+    keeps = makes.keeps;
   }
 
   abbrev Tried : Result Ran Refusal → Engine D → Type 0
@@ -252,6 +253,7 @@ module _ {D : Type 0} (history : D → History) (name : List ℕ) (ss : List Upd
             ∙ ap (λ (cs : List Collection). let q : Result (List Collection) Refusal = Ok cs in q) (sym (now_same history old mid tries.reads));
         left = tt;
         refused = tt;
+        keeps = λ t. tries.reads.changes ∙ t;
       })
 
       pub nothing_replied : (r : Result Pairs Refusal) → RepliesTo x.end r → Runs r mid

@@ -32,6 +32,7 @@ module _ {D : Type 0} (history : D → History) (old : Engine D) (h : IsSound hi
     err = (refl, refl);
     kinds = inr (inl refl);
     cause = λ k. inl (inr (inl (refl, inl stopped)));
+    keeps = λ t. t;
   }
 
   module _ (edits : List Edit) (after : List Collection) (leads : KeepsWord (disk_history history old) → IsRunning old
@@ -58,6 +59,7 @@ module _ {D : Type 0} (history : D → History) (old : Engine D) (h : IsSound hi
       err = tt;
       kinds = tt;
       cause = λ k. tt;
+      keeps = λ t. refl;
     }
       where
         has : HasState history file old.told.value.start after
@@ -84,6 +86,7 @@ module _ {D : Type 0} (history : D → History) (old : Engine D) (h : IsSound hi
       err = (refl, refl);
       kinds = applies.kinds;
       cause = λ k. let l = leads (applies.on.frame k).word running in applies.cause k old.told.value.start old.told.value.now after h.file l.0 l.1;
+      keeps = λ t. t;
     }
       where
         has : HasState history file old.told.value.start old.told.value.now

@@ -1,5 +1,5 @@
 -- What an engine keeps in its file.
-use Rattle.std.specs.Prelude.{◌≡◌, ℕ, Bool, false}
+use Rattle.std.specs.Prelude.{◌≡◌, ℕ, Bool, true, false}
 use Rattle.page.specs.History.{History}
 use Rattle.collections.specs.State.{State}
 use Rattle.collections.specs.Standing.{HasState}
@@ -20,6 +20,10 @@ disk_history history engine = views.disk_history history (file_of engine)
 -- the commands of the running turn have changed something
 abbrev pub has_changes : {D : Type 0} → Engine D → Bool
 has_changes engine = engine.is_changed
+
+-- what has changes keeps them
+abbrev pub KeepsChanges : {D : Type 0} → Engine D → Engine D → Type 0
+KeepsChanges old new = has_changes old ≡ true → has_changes new ≡ true
 
 -- a write or a sync of the engine's has failed
 abbrev pub is_stopped : {D : Type 0} → Engine D → Bool

@@ -7,6 +7,7 @@ use Rattle.path.specs.declared.refusal.Refusal.{Refusal}
 use Rattle.engine.specs.Continuing.{Continues}
 use Rattle.collections.specs.Calls.{HasReadCause}
 use Rattle.engine.specs.Durable.{disk_history, file_of, full_takes_of, has_changes, IsSound}
+use Rattle.engine.specs.Durable.{KeepsChanges}
 use Rattle.database_model.specs.Step.{answered}
 use Rattle.replies.specs.View.{with_ok}
 use Rattle.engine.specs.View.{world, turn_start}
@@ -36,7 +37,8 @@ DoesPlanned history planned (Err e) old new = (world new ≡ world old)
     ⊎ FileCause history (file_of old) (file_of new) (answered (world old) planned).0 e)
 
 -- A command was run. While the disk keeps its word, it did what was planned, or was refused. On any
--- disk one that is refused leaves the world as it was.
+-- disk one that is refused leaves the world as it was, and whatever it did, a turn that had changes
+-- before has them still.
 pub record Performs {D : Type 0} (history : D → History) (planned : Result (World × Pairs) Refusal)
     (result : Result Pairs Refusal) (old new : Engine D) : Type 0 where
   pub sound : IsSound history new
@@ -45,6 +47,7 @@ pub record Performs {D : Type 0} (history : D → History) (planned : Result (Wo
   pub does : KeepsWord (disk_history history new) → DoesPlanned history planned result old new
   pub left : OnErr result (world new ≡ world old)
   pub refused : OnErr result (has_changes new ≡ has_changes old)
+  pub keeps : KeepsChanges old new
 
 -- The command did what was planned, or was refused as planned, or because memory ran out or the
 -- device failed. A refusal leaves the world as it was.

@@ -7,7 +7,7 @@ use Rattle.collections.specs.State.{State}
 use Rattle.collections.specs.Calls.{GoesFrom, HasWriteCause, IsOfFile}
 use Rattle.collections.specs.View.{disk_history}
 use Rattle.engine.specs.Durable as durable
-use Rattle.engine.specs.Durable.{file_of, has_changes, IsSound}
+use Rattle.engine.specs.Durable.{file_of, has_changes, IsSound, KeepsChanges}
 use Rattle.engine.specs.View.{world, turn_start}
 use Rattle.database_model.specs.World.{World}
 use Rattle.engine.specs.declared.engine.Engine.{Engine}
@@ -33,6 +33,7 @@ pub record Writes {D : Type 0} (history : D → History) (after : List Collectio
   pub kinds : IfErr result IsOfFile
   pub cause : KeepsWord (durable.disk_history history new)
       → IfErr result (HasWriteCause history after (file_of old) (file_of new))
+  pub keeps : KeepsChanges old new
 
 -- the collections that are planned, or these where a refusal is
 abbrev pub planned_or : List Collection → Result (List Collection) Refusal → List Collection
@@ -50,7 +51,8 @@ Becomes history planned (Err e) old new = ((world new).collections ≡ (world ol
     (file_of new) e)
 
 -- The collections were changed. While the disk keeps its word, they became those that were planned,
--- or the change was refused. On any disk a change that is refused leaves them as they were.
+-- or the change was refused. On any disk a change that is refused leaves them as they were, and a
+-- turn that had changes before has them still.
 pub record Makes {D : Type 0} (history : D → History) (planned : Result (List Collection) Refusal)
     (result : Result (Unit {0}) Refusal) (old new : Engine D) : Type 0 where
   pub sound : IsSound history new
@@ -60,3 +62,4 @@ pub record Makes {D : Type 0} (history : D → History) (planned : Result (List 
   pub does : KeepsWord (durable.disk_history history new) → Becomes history planned result old new
   pub left : OnErr result ((world new).collections ≡ (world old).collections)
   pub refused : OnErr result (has_changes new ≡ has_changes old)
+  pub keeps : KeepsChanges old new

@@ -20,7 +20,7 @@ ghost use Rattle.engine.specs.View.{world, turn_start, reply_of, IsRefusal};
 ghost use Rattle.commands.specs.Command.{IsBounded};
 ghost use Rattle.commands.specs.View.{command_read};
 ghost use Rattle.database_model.specs.Step.{Answers, ChangesNone, WroteNothing, read_and_run, run};
-ghost use Rattle.engine.specs.Durable.{disk_history, file_of, full_takes_of, generation, has_changes, is_stopped, IsSound};
+ghost use Rattle.engine.specs.Durable.{disk_history, file_of, full_takes_of, generation, has_changes, is_stopped, IsSound, KeepsChanges};
 ghost use Rattle.engine.specs.Writing.{FileCause};
 
 use bson::Document;
@@ -217,6 +217,7 @@ impl<D: Disk> Engine<D> {
         ensures refused { IsRefusal result → (world self.new ≡ world self.old)
             × (has_changes self.new ≡ has_changes self.old) }
         ensures turn_start { turn_start self.new ≡ turn_start self.old }
+        ensures keeps { KeepsChanges self.old self.new }
         ensures has_changes { KeepsWord (disk_history D.history self.new)
             → WroteNothing (world self.old) (Ok body.now) (world self.new)
             → has_changes self.new ≡ has_changes self.old }

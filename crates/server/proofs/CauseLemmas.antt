@@ -1,5 +1,5 @@
 -- How moments follow each other, and causes of refusals grow with them.
-use Rattle.std.proofs.Common.{◌≡◌, inl, inr, ℕ, ◌+◌, ◌-◌, ◌^◌, ◌≤◌, ◌<◌, List, [], ◌∷◌, ◌++◌, true, false, sym, ap, ◌∙◌, subst, arith}
+use Rattle.std.proofs.Common.{◌≡◌, inl, inr, ℕ, ◌+◌, ◌-◌, ◌^◌, ◌≤◌, ◌<◌, List, [], ◌∷◌, ◌++◌, true, false, refl, sym, ap, ◌∙◌, subst, arith}
 use Rattle.std.proofs.lemmas.Bool.{cases_lt}
 use Rattle.std.specs.Prelude.{◌⊎◌, Bool, IsTrue, Result, if◌then◌else◌}
 use Rattle.bson.specs.Tree.{Pairs}
@@ -12,13 +12,13 @@ use Rattle.roots.specs.declared.store.CommitFault.{CommitFault}
 use Rattle.collections.specs.Calls.{HasWriteCause, IsTooLarge}
 use Rattle.collections.specs.State.{State}
 use Rattle.collections.specs.View as views
-use Rattle.database_model.specs.World.{World, after_commit}
+use Rattle.database_model.specs.World.{World}
 use Rattle.database_model.specs.Step.{step, Answers}
 use Rattle.engine.specs.Committing as engines
 use Rattle.engine.specs.Committing.{Commits}
 use Rattle.engine.specs.Continuing.{Continues}
 use Rattle.engine.specs.Writing.{FileCause}
-use Rattle.engine.specs.Durable.{disk_history, file_of, full_takes_of, generation, has_changes, IsRunning, IsSound}
+use Rattle.engine.specs.Durable.{disk_history, file_of, full_takes_of, generation, has_changes, IsRunning, IsSound, KeepsChanges}
 use Rattle.engine.specs.declared.engine.Engine.{Engine}
 use Rattle.engine.specs.View.{world, turn_start}
 use Rattle.engine.proofs.Continuing.{continues_still}
@@ -132,15 +132,17 @@ module _ (beside other : World → Refusal → Type 0) (weaker : (planned : Worl
       let one = nothing h.0 r (answers_weaker w _ _ h.0 r h.1) in
       (one.0, changed_none cs h.0 rs new h.2 one.1)
 
-  pub serves_weaker : (word before : Type 0) → (word → before) → (same : Type 0) (cs : List Call) (old new : World) (ok : Bool) (given now : List (ℕ × List ℕ))
-      → Serves before beside same cs old new ok given now → Serves word other same cs old new ok given now
-  serves_weaker word before kept same cs old new ok given now s = record {
+  pub serves_weaker : (word before : Type 0) → (word → before) → (same rests : Type 0) (cs : List Call) (old new : World) (ok : Bool)
+      (given now : List (ℕ × List ℕ)) → Serves before beside same rests cs old new ok given now → Serves word other same rests cs old new ok given now
+  serves_weaker word before kept same rests cs old new ok given now s = record {
     replies = s.replies;
     one_each = s.one_each;
     runs = λ k. runs_weaker cs old s.replies new (s.runs (kept k));
     wrote = λ k none. s.wrote (kept k) (wrote_weaker cs old s.replies new (s.runs (kept k)) none);
     frames = s.frames;
     anyhow = s.anyhow;
+    wrote_none = λ k. s.wrote_none (kept k);
+    left = s.left;
   }
 
 -- ---- what the engine's calls do to the moment
@@ -230,16 +232,24 @@ room_ran_out history old mid new goes k (inl most) = inl (sym goes.version ∙ m
 room_ran_out history old mid new goes k (inr (inl more)) = inr (inl (omega (arith, more, goes.takes k)))
 room_ran_out history old mid new goes k (inr (inr most)) = inr (inr (omega (arith, most)))
 
--- what the commands of a turn changed is committed
-pub commits_changes : {D : Type 0} (history : D → History) (old mid new : Engine D) (changed : Bool) → has_changes mid ≡ changed → IsSound history mid
-    → Continues history old mid
-    → turn_start mid ≡ (world old).collections → world new ≡ after_commit (world mid)
-    → generation new ≡ (if has_changes mid then generation mid + 1 else generation mid)
-    → ((world new).collections ≡ (world old).collections) ⊎ (generation new ≡ generation old + 1)
-commits_changes history old mid new true moved sound goes start done version =
+-- what the commands of a turn changed is committed: P is what holds where they changed nothing
+pub commits_once : {D : Type 0} (history : D → History) (old mid new : Engine D) (P : Type 0) (changed : Bool) → has_changes mid ≡ changed
+    → (has_changes mid ≡ false → P) → Continues history old mid → generation new ≡ (if has_changes mid then generation mid + 1 else generation mid)
+    → P ⊎ (generation new ≡ generation old + 1)
+commits_once history old mid new P true moved quiet goes version =
     inr (version ∙ ap (λ (b : Bool). if b then generation mid + 1 else generation mid) moved ∙ ap (λ (n : ℕ). n + 1) goes.version)
-commits_changes history old mid new false rests sound goes start done version =
-    inl (ap (λ (w : World). w.collections) done ∙ sym (sound.quiet rests) ∙ start)
+commits_once history old mid new P false rests quiet goes version = inl (quiet rests)
+
+-- what has no changes had none before
+pub rested_before : (old new : Bool) → (old ≡ true → new ≡ true) → new ≡ false → old ≡ false
+rested_before true new keeps rests = absurd (let is = keeps refl in cc)
+rested_before false new keeps rests = refl
+
+-- so a command that leaves none left the collections as they were
+pub rested_still : {D : Type 0} (history : D → History) (old new : Engine D) → IsSound history old → IsSound history new → turn_start new ≡ turn_start old
+    → KeepsChanges old new → has_changes new ≡ false → (world new).collections ≡ (world old).collections
+rested_still history old new before after start keeps rests =
+    sym (after.quiet rests) ∙ start ∙ before.quiet (rested_before (has_changes old) (has_changes new) keeps rests)
 
 -- the same file is on the same disk
 disk_same : {D : Type 0} (history : D → History) (mid new : Engine D) → file_of new ≡ file_of mid → disk_history history new ≡ disk_history history mid

@@ -36,22 +36,25 @@ is_called old new (Ok None) n r h none = absurd h
 is_called old new (Err e) n r h none = absurd h
 is_called old new (Ok (Some x)) n r h none = absurd cc
 
-module _ (word : Type 0) (beside : World → Refusal → Type 0) (same : Type 0) (old new : Connection) where
-  nothing : (w : World) (given : List (ℕ × List ℕ)) → same → Serves word beside same [] w w true given given
-  nothing w given stays =
-      record {
-        replies = [];
-        one_each = refl;
-        runs = λ k. refl;
-        wrote = λ k n. stays;
-        frames = λ e. sym (append-nil given);
-        anyhow = refl;
-      }
+-- no message was answered
+pub none_served : (word : Type 0) (beside : World → Refusal → Type 0) (same rests : Type 0) (w : World) (given : List (ℕ × List ℕ)) → same
+    → Serves word beside same rests [] w w true given given
+none_served word beside same rests w given stays = record {
+  replies = [];
+  one_each = refl;
+  runs = λ k. refl;
+  wrote = λ k n. stays;
+  frames = λ e. sym (append-nil given);
+  anyhow = refl;
+  wrote_none = λ k n. stays;
+  left = λ r. tt;
+}
 
+module _ (word : Type 0) (beside : World → Refusal → Type 0) (same rests : Type 0) (old new : Connection) where
   pub nothing_served : (front : Front) (t : Taken) (w : World) (given : List (ℕ × List ℕ)) → same → IsTaken old front t new
-      → ((n : ℕ) (r : Request) → t ≡ takes.Call n r → ⊥) → Serves word beside same (call_at old front) w w true given given
-  nothing_served (Ok None) t w given stays h none = nothing w given stays
-  nothing_served (Err e) t w given stays h none = nothing w given stays
+      → ((n : ℕ) (r : Request) → t ≡ takes.Call n r → ⊥) → Serves word beside same rests (call_at old front) w w true given given
+  nothing_served (Ok None) t w given stays h none = none_served word beside same rests w given stays
+  nothing_served (Err e) t w given stays h none = none_served word beside same rests w given stays
   nothing_served (Ok (Some x)) takes.Nothing w given stays h none = absurd h
   nothing_served (Ok (Some x)) (takes.Call n r) w given stays h none = absurd (none n r refl)
 
@@ -60,16 +63,19 @@ module _ (word : Type 0) (beside : World → Refusal → Type 0) (same : Type 0)
       → (word → IsAnswer beside w old.id r w' reply)
       → (word → (read : Result Pairs BsonFault) → Gives bson_faults.Memory (λ d. d) r.body read → WroteNothing w read w' → same)
       → ((read : Result Pairs BsonFault) → Gives bson_faults.Memory (λ d. d) r.body read → AnswersOnAnyDisk w old.id read w' reply)
+      → (rests → w'.collections ≡ w.collections)
       → (ok ≡ true → now ≡ given ++ frame_unless r.more_to_come old.id n r.request_id reply)
-      → Serves word beside same (call_at old front) w w' ok given now
-  one_served (Ok None) n r w w' reply ok given now h a q any f = absurd h
-  one_served (Err e) n r w w' reply ok given now h a q any f = absurd h
-  one_served (Ok (Some x)) n r w w' reply ok given now h a q any f = record {
+      → Serves word beside same rests (call_at old front) w w' ok given now
+  one_served (Ok None) n r w w' reply ok given now h a q any still f = absurd h
+  one_served (Err e) n r w w' reply ok given now h a q any still f = absurd h
+  one_served (Ok (Some x)) n r w w' reply ok given now h a q any still f = record {
     replies = reply ∷ [];
     one_each = refl;
     runs = λ k. (w', a k (body_of x.0) h.1.body, refl);
     wrote = λ k none. q k (body_of x.0) h.1.body none.0;
     anyhow = (w', any (body_of x.0) h.1.body, refl);
+    wrote_none = λ k none. q k (body_of x.0) h.1.body none.0;
+    left = λ r. (still r, tt);
     frames = λ e. f e ∙ ap (λ (fs : List (ℕ × List ℕ)). given ++ fs) (so ∙ sym (append-nil (frame_for (record { connection = old; frame = x.0 }) reply)));
   }
     where

@@ -10,6 +10,7 @@ use Rattle.database_model.specs.Refusals.{refusal_reply}
 use Rattle.path.specs.declared.refusal.Refusal.{Refusal}
 use Rattle.op_msg.specs.Frame.{Frame}
 use Rattle.op_msg.specs.declared.fault.FrameFault.{FrameFault}
+use Rattle.server.specs.Turn.{LeftCollections, WroteNoneOnAnyDisk}
 use Rattle.server.specs.Turn.{Call, Runs, RunsOnAnyDisk, WroteNone, AllRead, frames_of, frame_for, calls, call_at, front_of, connection_at}
 use Rattle.server.specs.Turn.{connections_after, taken_at}
 use Rattle.server.specs.Turn.{connections_taken, forget_all, refused_calls, refused_frames, faults, fault_at}
@@ -59,6 +60,36 @@ module _ (beside : World → Refusal → Type 0) where
       let later = wrote_on cs ds h.0 b c rs ss h.2 k none.1 in
       ((none.0, later.0), later.1)
 
+-- ---- the same, on any disk
+
+module _ (ds : List Call) (c : World) (ss : List Pairs) (P : (w : World) → RunsOnAnyDisk w ds ss c → Type 0) where
+  abbrev At : World → Type 0
+  At w = RunsOnAnyDisk w ds ss c
+
+  to_moved : (a b : World) (is : b ≡ a) (k : At b) → P b k → P a (subst At is k)
+  to_moved a b is = path_j (λ (y : World) (p : b ≡ y). (k : At b) → P b k → P y (subst At p k)) (λ k. subst (P b) (sym (subst_refl At k))) is
+
+  from_moved : (a b : World) (is : b ≡ a) (k : At b) → P a (subst At is k) → P b k
+  from_moved a b is = path_j (λ (y : World) (p : b ≡ y). (k : At b) → P y (subst At p k) → P b k) (λ k. subst (P b) (subst_refl At k)) is
+
+left_on : (cs ds : List Call) (a b c : World) (rs ss : List Pairs) (h : RunsOnAnyDisk a cs rs b) (k : RunsOnAnyDisk b ds ss c)
+    → LeftCollections a cs rs b h → LeftCollections b ds ss c k → LeftCollections a (cs ++ ds) (rs ++ ss) c (runs_anyhow cs ds a b c rs ss h k)
+unfolding runs_anyhow
+left_on [] ds a b c [] ss h k first later = to_moved ds c ss (λ w. LeftCollections w ds ss c) a b h k later
+left_on [] ds a b c (r ∷ rs) ss h k first later = absurd h
+left_on (x ∷ cs) ds a b c [] ss h k first later = absurd h
+left_on (x ∷ cs) ds a b c (r ∷ rs) ss h k first later = (first.0, left_on cs ds h.0 b c rs ss h.2 k first.1 later)
+
+none_on : (cs ds : List Call) (a b c : World) (rs ss : List Pairs) (h : RunsOnAnyDisk a cs rs b) (k : RunsOnAnyDisk b ds ss c)
+    → WroteNoneOnAnyDisk a (cs ++ ds) (rs ++ ss) c (runs_anyhow cs ds a b c rs ss h k) → WroteNoneOnAnyDisk a cs rs b h × WroteNoneOnAnyDisk b ds ss c k
+unfolding runs_anyhow
+none_on [] ds a b c [] ss h k none = (tt, from_moved ds c ss (λ w. WroteNoneOnAnyDisk w ds ss c) a b h k none)
+none_on [] ds a b c (r ∷ rs) ss h k none = absurd h
+none_on (x ∷ cs) ds a b c [] ss h k none = absurd h
+none_on (x ∷ cs) ds a b c (r ∷ rs) ss h k none =
+    let later = none_on cs ds h.0 b c rs ss h.2 k none.1 in
+    ((none.0, later.0), later.1)
+
 -- of calls that only read, those of one connection
 read_both : (cs ds : List Call) → AllRead (cs ++ ds) → AllRead cs × AllRead ds
 read_both [] ds only = (tt, only)
@@ -75,9 +106,10 @@ both true q e = (refl, e)
 both false q e = absurd cc
 
 pub serves_on : (word : Type 0) (beside : World → Refusal → Type 0) (first second same : Type 0) → (first → second → same)
-    → (cs ds : List Call) (a b c : World) (p q : Bool) (f g h : List (ℕ × List ℕ)) → Serves word beside first cs a b p f g
-    → Serves word beside second ds b c q g h → Serves word beside same (cs ++ ds) a c (p && q) f h
-serves_on word beside first second same join cs ds a b c p q f g h s t = record {
+    → (earlier rests : Type 0) → (rests → earlier)
+    → (cs ds : List Call) (a b c : World) (p q : Bool) (f g h : List (ℕ × List ℕ)) → Serves word beside first earlier cs a b p f g
+    → Serves word beside second rests ds b c q g h → Serves word beside same rests (cs ++ ds) a c (p && q) f h
+serves_on word beside first second same join earlier rests before cs ds a b c p q f g h s t = record {
   replies = s.replies ++ t.replies;
   one_each = omega (arith, length-append s.replies t.replies, length-append cs ds, s.one_each, t.one_each);
   runs = λ k. runs_on beside cs ds a b c s.replies t.replies (s.runs k) (t.runs k);
@@ -90,6 +122,10 @@ serves_on word beside first second same join cs ds a b c p q f g h s t = record 
       ∙ append_assoc f (frames_of cs s.replies) (frames_of ds t.replies)
       ∙ ap (λ (fs : List (ℕ × List ℕ)). f ++ fs) (sym (frames_on cs ds s.replies t.replies s.one_each));
   anyhow = runs_anyhow cs ds a b c s.replies t.replies s.anyhow t.anyhow;
+  wrote_none = λ k none.
+      let each = none_on cs ds a b c s.replies t.replies s.anyhow t.anyhow none in
+      join (s.wrote_none k each.0) (t.wrote_none k each.1);
+  left = λ r. left_on cs ds a b c s.replies t.replies s.anyhow t.anyhow (s.left (before r)) (t.left r);
 }
 
 -- the refusals of calls, one each

@@ -1,5 +1,5 @@
 -- How a turn ends, behind its messages.
-use Rattle.std.proofs.Common.{◌≡◌, inl, inr, ℕ, List, [], ◌++◌, refl, ap, ◌∙◌, arith}
+use Rattle.std.proofs.Common.{◌≡◌, inl, inr, ℕ, List, [], ◌++◌, refl, sym, ap, ◌∙◌, arith}
 use Rattle.std.specs.Prelude.{Bool, true, false, Result, Ok, Err, Some, None, Vec}
 use Rattle.std.specs.Global.{Global}
 use Rattle.page.specs.History.{History, KeepsWord}
@@ -21,11 +21,11 @@ use Rattle.server.specs.History.{TakenBack}
 use Rattle.server.specs.Moment.{Follows, FollowsInTurn}
 use Rattle.server.specs.Durable.{engine_moment}
 use Rattle.server.specs.Messages.{RunsMessages}
-use Rattle.server.specs.Turn.{AllRead, ChangeNothing, Runs, WroteNone, calls, connections_taken, frames_of, refused_frames}
+use Rattle.server.specs.Turn.{AllRead, ChangeNothing, LeftCollections, Runs, WroteNone, calls, connections_taken, frames_of, refused_frames}
 use Rattle.server.specs.Taking.{Serves}
 use Rattle.server.specs.View.{frames_in}
 use Rattle.server.specs.declared.connection.Connection.{Connection}
-use Rattle.server.proofs.CauseLemmas.{commit_follows, undo_follows, turn_follows, commits_changes, idle_commit, quiet_commit, room_ran_out}
+use Rattle.server.proofs.CauseLemmas.{commit_follows, undo_follows, turn_follows, commits_once, idle_commit, quiet_commit, room_ran_out}
 use Rattle.server.proofs.CauseLemmas.{any_cause, cause_over, changed_none, runs_weaker, wrote_weaker}
 use Rattle.server.proofs.Images.{unwritten, unwritten_on, then_on, moved, moved_back, failed_further, on_same}
 
@@ -48,7 +48,7 @@ pub record Served {D : Type 0} (history : D → History) (old mid : Engine D) (o
   pub sound : IsSound history mid
   pub start : turn_start mid ≡ turn_start old
   pub serves : Serves (KeepsWord (disk_history history mid)) (IsCaused (engine_moment history old) (engine_moment history mid))
-      (has_changes mid ≡ has_changes old) (calls connections) (world old) (world mid) ok given now
+      (has_changes mid ≡ has_changes old) (has_changes mid ≡ false) (calls connections) (world old) (world mid) ok given now
   pub reads : AllRead (calls connections) → has_changes mid ≡ has_changes old
   pub idle : calls connections ≡ [] → mid ≡ old
 
@@ -115,7 +115,7 @@ module _ {D : Type 0} (history : D → History) (old mid new : Engine D) (b : Be
           anyhow = s.serves.anyhow;
           last = world mid;
           runs = ran after;
-          ends = inr (inl (are, λ k. version ∙ s.goes.version), back_to back);
+          ends = inr (inl (are, λ k. version ∙ s.goes.version), back_to back, version ∙ s.goes.version);
         };
         breaks = λ none. absurd cc;
         taken = took;
@@ -166,7 +166,15 @@ module _ {D : Type 0} (history : D → History) (old mid new : Engine D) (b : Be
       anyhow = s.serves.anyhow;
       last = world mid;
       runs = ran (after (Ok tt) c);
-      ends = inl (are ∙ s.serves.frames fine ∙ ap (λ (fs : Frames). fs ++ frames_of (calls connections) s.serves.replies) none, c.done);
+      ends = inl (
+        are ∙ s.serves.frames fine ∙ ap (λ (fs : Frames). fs ++ frames_of (calls connections) s.serves.replies) none,
+        c.done,
+        record {
+          once = commits_once history old mid new (LeftCollections (world old) (calls connections) s.serves.replies (world mid) s.serves.anyhow)
+              (has_changes mid) refl s.serves.left s.goes c.version;
+          none = λ k wrote. (unchanged (Ok tt) c (s.serves.wrote_none (c.on.kept k) wrote)).version;
+        },
+      );
     };
     breaks = λ e. absurd cc;
     taken = took;
@@ -179,7 +187,8 @@ module _ {D : Type 0} (history : D → History) (old mid new : Engine D) (b : Be
     stops = λ e. absurd cc;
     device = λ e. absurd cc;
     moment = moment_so (Ok tt) c;
-    commits = commits_changes history old mid new (has_changes mid) refl s.sound s.goes before c.done c.version;
+    commits = commits_once history old mid new ((world new).collections ≡ (world old).collections) (has_changes mid) refl
+        (λ rests. ap (λ (w : World). w.collections) c.done ∙ sym (s.sound.quiet rests) ∙ before) s.goes c.version;
     cut = λ e. absurd cc;
     quiet = quiet_so (Ok tt) c;
     reads = λ only. unchanged (Ok tt) c (s.reads only);
@@ -197,7 +206,7 @@ module _ {D : Type 0} (history : D → History) (old mid new : Engine D) (b : Be
       anyhow = s.serves.anyhow;
       last = world mid;
       runs = ran (after (Err faults.Memory) c);
-      ends = inr (inl (are, λ k. c.version ∙ s.goes.version), back_to (c.memory refl));
+      ends = inr (inl (are, λ k. c.version ∙ s.goes.version), back_to (c.memory refl), c.version ∙ s.goes.version);
     };
     breaks = λ e. absurd cc;
     taken = took;
@@ -239,7 +248,7 @@ module _ {D : Type 0} (history : D → History) (old mid new : Engine D) (b : Be
       anyhow = s.serves.anyhow;
       last = world mid;
       runs = ran (after (Err faults.Full) c);
-      ends = inr (inr ((are, no_room_cause c), room_wrote c), back_to ((c.full refl).0));
+      ends = inr (inr ((are, no_room_cause c), room_wrote c), back_to ((c.full refl).0), c.version ∙ s.goes.version);
     };
     breaks = λ e. absurd cc;
     taken = took;

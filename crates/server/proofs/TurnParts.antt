@@ -13,9 +13,10 @@ use Rattle.server.specs.View.{state}
 use Rattle.server.specs.declared.connection.Connection.{Connection}
 use Rattle.server.specs.declared.turn.Core.{Core}
 
-module _ {D : Type 0} (word : Type 0) (beside : World → Refusal → Type 0) (undone : Refusal → Type 0) (core : Core D) (given : List (ℕ × List ℕ)) (mid : World)
+module _ {D : Type 0} (word : Type 0) (beside : World → Refusal → Type 0) (undone : Refusal → Type 0) (core : Core D) (count counted : ℕ)
+    (given : List (ℕ × List ℕ)) (mid : World)
     (closed : List (ℕ × FrameFault)) (new : World) (left : List Connection)
-    (s : EndsTurn word beside undone (world core.engine) core.connections.items given mid) (closes : closed ≡ faults core.connections.items)
+    (s : EndsTurn word beside undone (world core.engine) count core.connections.items given mid counted) (closes : closed ≡ faults core.connections.items)
     (forgets : new ≡ forget_all mid closed)
     (go_on : left ≡ connections_after core.connections.items) where
   abbrev connections : List Connection
@@ -76,16 +77,16 @@ module _ {D : Type 0} (word : Type 0) (beside : World → Refusal → Type 0) (u
       refused_out r is = record { replies = refused_calls r (calls connections); one_each = refused_each r (calls connections); is = hands _ is }
 
   -- what the messages are answered, and what the turn leaves, on any disk
-  pub runs_and_hands_out : RunsAndHandsOut (state core) handed after
+  pub runs_and_hands_out : RunsAndHandsOut word (state core) count handed after counted
   runs_and_hands_out = record {
     replies = s.replies;
     last = s.last;
     runs = s.anyhow;
     ends = ⊎_elim
-        (λ done. inl (done.0, forgets_all _ done.1))
+        (λ done. inl (done.0, forgets_all _ done.1, done.2))
         (λ refused. inr (⊎_elim
-        (λ memory. (refusals.OutOfMemory, inl refl, memory.0, forgets_all _ refused.1))
-        (λ room. (refusals.Full, inr refl, room.0.0, forgets_all _ refused.1))
+        (λ memory. (refusals.OutOfMemory, inl refl, memory.0, forgets_all _ refused.1, refused.2))
+        (λ room. (refusals.Full, inr refl, room.0.0, forgets_all _ refused.1, refused.2))
         refused.0))
         s.ends;
   }

@@ -18,6 +18,7 @@ use Rattle.path.specs.declared.refusal.Refusal.{Refusal}
 use Rattle.path.specs.declared.refusal.Refusal.TheVariants as refusals
 use Rattle.server.specs.Turn.{Call, Runs, WroteNone, calls, call_at, frames_of, front_of}
 use Rattle.server.specs.Turn.{refused_calls, refused_frames, taken_at, next_number, RunsOnAnyDisk}
+use Rattle.server.specs.Turn.{IsCommitted, LeftCollections, WroteNoneOnAnyDisk}
 use Rattle.server.specs.declared.connection.Connection.{Connection}
 use Rattle.server.specs.declared.connection.Taken.{Taken}
 use Rattle.server.specs.declared.connection.Taken.TheVariants as takes
@@ -78,8 +79,9 @@ IsTaken old (Ok (Some x)) (takes.Call number request) new =
 IsTaken old front other new = ⊥
 
 -- The calls were answered, one reply each, and at ok each frame was put at the end. While the word
--- is kept, they were answered so, and where none of them wrote anything, all is the same.
-pub record Serves (word : Type 0) (beside : World → Refusal → Type 0) (same : Type 0)
+-- is kept, they were answered so, and where none of them wrote anything, all is the same. At rest,
+-- with no change to be committed, each of them left the collections as they were.
+pub record Serves (word : Type 0) (beside : World → Refusal → Type 0) (same rests : Type 0)
     (calls : List Call) (old new : World) (ok : Bool) (given now : List (ℕ × List ℕ)) : Type 0 where
   pub replies : List Pairs
   pub one_each : length replies ≡ length calls
@@ -87,6 +89,8 @@ pub record Serves (word : Type 0) (beside : World → Refusal → Type 0) (same 
   pub wrote : (k : word) → WroteNone beside old calls replies new (runs k) → same
   pub frames : ok ≡ true → now ≡ given ++ frames_of calls replies
   pub anyhow : RunsOnAnyDisk old calls replies new
+  pub wrote_none : word → WroteNoneOnAnyDisk old calls replies new anyhow → same
+  pub left : rests → LeftCollections old calls replies new anyhow
 
 -- a request with this body, whatever frame it came in
 abbrev pub IsAnswer : (World → Refusal → Type 0) → World → ℕ → Request → World → Pairs → Type 0
@@ -102,20 +106,22 @@ RefusesAll word undone connections given refusal =
 
 -- The messages of the connections ran. The turn kept what they changed and hands out these replies,
 -- or it took back what they changed and hands out refusals, for want of memory or of room.
--- What they were answered, and the cause, is said while the word is kept.
+-- What they were answered, and the cause, is said while the word is kept. The numbers are those of
+-- the last commit before the turn and after it.
 pub record EndsTurn (word : Type 0) (beside : World → Refusal → Type 0)
-    (undone : Refusal → Type 0) (old : World) (connections : List Connection)
-    (given : List (ℕ × List ℕ)) (new : World) : Type 0 where
+    (undone : Refusal → Type 0) (old : World) (before : ℕ) (connections : List Connection)
+    (given : List (ℕ × List ℕ)) (new : World) (after : ℕ) : Type 0 where
   pub replies : List Pairs
   pub one_each : length replies ≡ length (calls connections)
   pub last : World
   pub runs : word → Runs beside old (calls connections) replies last
   pub anyhow : RunsOnAnyDisk old (calls connections) replies last
-  pub ends : ((given ≡ frames_of (calls connections) replies) × (new ≡ after_commit last))
+  pub ends : ((given ≡ frames_of (calls connections) replies) × (new ≡ after_commit last)
+      × IsCommitted word old (calls connections) replies last anyhow before after)
       ⊎ ((RefusesAll word undone connections given refusals.OutOfMemory
       ⊎ (RefusesAll word undone connections given refusals.Full
       × ((k : word) → WroteNone beside old (calls connections) replies last (runs k) → ⊥)))
-      × (new ≡ after_undo old.collections last))
+      × (new ≡ after_undo old.collections last) × (after ≡ before))
 
 -- The messages of the connections ran, and the device failed when what they changed was to be made
 -- durable.

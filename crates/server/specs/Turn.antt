@@ -127,6 +127,31 @@ RunsOnAnyDisk world (c ∷ cs) (r ∷ rs) new =
     (mid : World) × AnswersOnAnyDisk world c.connection.id (body_of c.frame) mid r
     × RunsOnAnyDisk mid cs rs new
 
+-- Each of the messages that were answered so left the collections as they were: none changed them,
+-- not even for a later one to change them back.
+abbrev pub LeftCollections : (old : World) (cs : List Call) (replies : List Pairs) (new : World)
+    → RunsOnAnyDisk old cs replies new → Type 0
+LeftCollections old [] replies new h = Unit {0}
+LeftCollections old (c ∷ cs) [] new h = Unit {0}
+LeftCollections old (c ∷ cs) (r ∷ rs) new h =
+    (h.0.collections ≡ old.collections) × LeftCollections h.0 cs rs new h.2
+
+-- None of them wrote anything.
+abbrev pub WroteNoneOnAnyDisk : (old : World) (cs : List Call) (replies : List Pairs) (new : World)
+    → RunsOnAnyDisk old cs replies new → Type 0
+WroteNoneOnAnyDisk old [] replies new h = Unit {0}
+WroteNoneOnAnyDisk old (c ∷ cs) [] new h = Unit {0}
+WroteNoneOnAnyDisk old (c ∷ cs) (r ∷ rs) new h =
+    WroteNothing old (body_of c.frame) h.0 × WroteNoneOnAnyDisk h.0 cs rs new h.2
+
+-- What the messages of a turn did is kept, by the number of the last commit before the turn and
+-- after it: it is committed once, unless each of them left the collections as they were. Where none
+-- of them wrote anything, nothing is committed, while the disk keeps its word.
+pub record IsCommitted (word : Type 0) (old : World) (cs : List Call) (replies : List Pairs)
+    (last : World) (runs : RunsOnAnyDisk old cs replies last) (before after : ℕ) : Type 0 where
+  pub once : LeftCollections old cs replies last runs ⊎ (after ≡ before + 1)
+  pub none : word → WroteNoneOnAnyDisk old cs replies last runs → after ≡ before
+
 -- ---- what is written
 
 -- None of the messages that were answered so wrote anything.
@@ -179,19 +204,23 @@ refused_calls refusal [] = []
 refused_calls refusal (c ∷ cs) = refusal_reply refusal ∷ refused_calls refusal cs
 
 -- The messages of a turn are answered one after the other, whatever the disk gives. What they did
--- is kept, and the frames have their answers; or it is taken back, and each frame has this refusal.
-pub record RunsAndHandsOut (state : ServerState) (out : Out) (new : ServerState) : Type 0 where
+-- is kept and committed, and the frames have their answers; or it is taken back, each frame has
+-- this refusal, and nothing is committed.
+pub record RunsAndHandsOut (word : Type 0) (state : ServerState) (before : ℕ) (out : Out)
+    (new : ServerState) (after : ℕ) : Type 0 where
   pub replies : List Pairs
   pub last : World
   pub runs : RunsOnAnyDisk state.world (calls state.connections) replies last
   pub ends : ((out.replies ≡ frames_of (calls state.connections) replies)
-      × (new.world ≡ forget_all (after_commit last) (faults state.connections)))
+      × (new.world ≡ forget_all (after_commit last) (faults state.connections))
+      × IsCommitted word state.world (calls state.connections) replies last runs before after)
       ⊎ ((refusal : Refusal)
       × ((refusal ≡ refusals.OutOfMemory) ⊎ (refusal ≡ refusals.Full))
       × (out.replies
       ≡ frames_of (calls state.connections) (refused_calls refusal (calls state.connections)))
       × (new.world
-      ≡ forget_all (after_undo state.world.collections last) (faults state.connections)))
+      ≡ forget_all (after_undo state.world.collections last) (faults state.connections))
+      × (after ≡ before))
 
 -- the connections after the turn
 abbrev pub connections_after : List Connection → List Connection

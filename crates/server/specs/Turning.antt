@@ -31,8 +31,11 @@ pub record TakesTurn {D : Type 0} (history : D → History) (old : Core D)
   -- what came
   pub hands_out : IfOk result (λ out. HandsOut (state old) (out_of out))
   -- on any disk: that its messages are answered one after the other, a ping and a hello as defined,
-  -- and whether what they did is kept or taken back
-  pub answers : IfOk result (λ out. RunsAndHandsOut (state old) (out_of out) (state new))
+  -- and whether what they did is kept or taken back. What is kept is committed once, unless each of
+  -- them left the collections as they were: so also where a later one changed back what one changed
+  pub answers : IfOk result (λ out. RunsAndHandsOut (KeepsWord (disk_history history new))
+      (state old) (moment_of history old).generation (out_of out) (state new)
+      (moment_of history new).generation)
   pub leaves : OnOk result
       ((state new).connections ≡ connections_after (state old).connections)
   pub fails : IfErr result (λ fault.

@@ -8,7 +8,7 @@ ghost use Rattle.replies.specs.View.{answer_of, IsSendable};
 ghost use Rattle.engine.specs.View.{world, turn_start, reply_of};
 ghost use Rattle.engine.specs.Continuing.{Continues};
 ghost use Rattle.engine.specs.Laws.{BodyOnlyReads};
-ghost use Rattle.engine.specs.Durable.{disk_history, has_changes, is_stopped, IsRunning, IsSound};
+ghost use Rattle.engine.specs.Durable.{disk_history, has_changes, is_stopped, IsRunning, IsSound, KeepsChanges};
 ghost use Rattle.path.specs.declared.refusal.Refusal.TheVariants.{OutOfMemory};
 ghost use Rattle.std.specs.Prelude.{Result};
 ghost use Rattle.bson.specs.Tree.{Pairs};
@@ -79,6 +79,7 @@ fn answer<D: Disk>(engine: &mut Engine<D>, id: ConnId, request: &Request) -> Rep
         (engine_moment D.history engine.new)) (world engine.old) id request.now (world engine.new)
         (reply_of result) }
     ensures turn_start { turn_start engine.new ≡ turn_start engine.old }
+    ensures keeps { KeepsChanges engine.old engine.new }
     ensures quiet { KeepsWord (disk_history D.history engine.new)
         → (read : Result Pairs BsonFault)
         → Gives bson_faults.Memory (λ d. d) request.now.body read
@@ -112,11 +113,12 @@ fn serve_connection<D: Disk>(
     ensures running { is_stopped engine.new ≡ is_stopped engine.old }
     ensures serves { Serves (KeepsWord (disk_history D.history engine.new))
         (IsCaused (engine_moment D.history engine.old) (engine_moment D.history engine.new))
-        (has_changes engine.new ≡ has_changes engine.old)
+        (has_changes engine.new ≡ has_changes engine.old) (has_changes engine.new ≡ false)
         (call_at connection.old (front_of connection.old)) (world engine.old) (world engine.new)
         result (frames_in frames.old.items) (frames_in frames.new.items) }
     ensures connection { connection.new ≡ taken_at connection.old (front_of connection.old) }
     ensures turn_start { turn_start engine.new ≡ turn_start engine.old }
+    ensures keeps { KeepsChanges engine.old engine.new }
     ensures reads { AllRead (call_at connection.old (front_of connection.old))
         → has_changes engine.new ≡ has_changes engine.old }
     ensures idle { call_at connection.old (front_of connection.old) ≡ []
@@ -149,8 +151,9 @@ fn serve_connections<D: Disk>(
     ensures running { is_stopped engine.new ≡ is_stopped engine.old }
     ensures serves { Serves (KeepsWord (disk_history D.history engine.new))
         (IsCaused (engine_moment D.history engine.old) (engine_moment D.history engine.new))
-        (has_changes engine.new ≡ has_changes engine.old) (calls connections.old) (world engine.old)
-        (world engine.new) result (frames_in frames.old.items) (frames_in frames.new.items) }
+        (has_changes engine.new ≡ has_changes engine.old) (has_changes engine.new ≡ false)
+        (calls connections.old) (world engine.old) (world engine.new) result
+        (frames_in frames.old.items) (frames_in frames.new.items) }
     ensures connections { connections.new ≡ connections_taken connections.old }
     ensures turn_start { turn_start engine.new ≡ turn_start engine.old }
     ensures reads { AllRead (calls connections.old)

@@ -1,18 +1,37 @@
-use Rattle.std.proofs.Common.{◌≡◌, ℕ, suc, ◌+◌, List, ◌++◌, take, drop, set, get_or, ◌&&◌, sym, ◌∙◌, ap, subst, arith}
+use Rattle.std.proofs.Common.{◌≡◌, ℕ, suc, ◌+◌, List, ◌++◌, take, drop, set, get_or, false, ◌&&◌, refl, sym, ◌∙◌, ap, subst, arith}
 use Rattle.engine.specs.View.{world}
 use Rattle.page.specs.History.{KeepsWord}
 use Rattle.engine.specs.Durable.{disk_history, has_changes}
-use Rattle.engine.proofs.Continuing.{continues_further}
+use Rattle.engine.proofs.Continuing.{continues_further, continues_itself}
 use Rattle.server.specs.Causes.{IsCaused}
 use Rattle.server.specs.Durable.{engine_moment}
 use Rattle.server.specs.Moment.{Moment, Follows}
-use Rattle.server.proofs.CauseLemmas.{follows_itself, goes_follows, caused_wider, serves_weaker}
+use Rattle.server.proofs.CauseLemmas.{follows_itself, goes_follows, caused_wider, rested_before, serves_weaker}
 use Rattle.server.specs.Turn.{Call, calls, call_at, front_of, connections_taken, AllRead}
 use Rattle.server.specs.Taking.{Serves}
 use Rattle.server.specs.View.{frames_in}
 use Rattle.server.specs.declared.connection.Connection.{Connection}
+use Rattle.server.proofs.ConnectionServed.{none_served}
 use Rattle.server.proofs.ConnectionsServed.{serves_on, calls_more, none_next, none_more, links_step, read_at}
 use Rattle.server.proofs.serving.serve_connections.Goals as goal
+
+pub connections-init : goal.connections-init
+connections-init g c =
+    let history = g.D.Disk.history in
+    let engine = c.args.engine.now in
+    let moment = engine_moment history engine in
+    record {
+      sound = c.requires.sound;
+      goes = continues_itself history engine;
+      running = refl;
+      serves = none_served (KeepsWord (disk_history history engine)) (IsCaused moment moment) (has_changes engine ≡ has_changes engine)
+          (has_changes engine ≡ false) (world engine) (frames_in c.args.frames.now.items) refl;
+      done = refl;
+      left = refl;
+      turn_start = refl;
+      idle = λ none. refl;
+      reads = λ only. refl;
+    }
 
 pub connections-preserved : goal.connections-preserved
 connections-preserved g c =
@@ -35,6 +54,8 @@ connections-preserved g c =
     let changes_before : Type 0 = has_changes c.connections.engine ≡ has_changes c.args.engine.now in
     let changes_then : Type 0 = has_changes call.new.engine ≡ has_changes c.connections.engine in
     let changes : Type 0 = has_changes call.new.engine ≡ has_changes c.args.engine.now in
+    let rests_before : Type 0 = has_changes c.connections.engine ≡ false in
+    let rests : Type 0 = has_changes call.new.engine ≡ false in
     let word_after : Type 0 = KeepsWord (disk_history history call.new.engine) in
     let more : calls (take i first) ++ call_at x (front_of x) ≡ calls (take (i + 1) first) =
     ap (λ (y : Connection). calls (take i first) ++ call_at y (front_of y)) s.same ∙ sym (calls_more first i x s.within) in
@@ -43,19 +64,21 @@ connections-preserved g c =
       goes = continues_further history c.args.engine.now c.connections.engine call.new.engine inv.goes call.ensures.goes;
       running = call.ensures.running ∙ inv.running;
       serves = subst
-          (λ (cs : List Call). Serves word_after (IsCaused start end) changes cs (world c.args.engine.now) (world call.new.engine)
+          (λ (cs : List Call). Serves word_after (IsCaused start end) changes rests cs (world c.args.engine.now) (world call.new.engine)
           (c.connections.all && call.result) (frames_in c.args.frames.now.items) (frames_in call.new.frames.items)) more
-          (serves_on word_after (IsCaused start end) changes_before changes_then changes (λ same then. then ∙ same)
+          (serves_on word_after (IsCaused start end) changes_before changes_then changes (λ same then. then ∙ same) rests_before rests
+          (rested_before (has_changes c.connections.engine) (has_changes call.new.engine) call.ensures.keeps)
           (calls (take i first)) (call_at x (front_of x)) (world c.args.engine.now) (world c.connections.engine)
           (world call.new.engine) c.connections.all call.result (frames_in c.args.frames.now.items) (frames_in c.connections.frames.items)
           (frames_in call.new.frames.items)
           (serves_weaker (IsCaused start middle) (IsCaused start end)
-          (caused_wider start start middle end (follows_itself start) before after) word_after word_before call.ensures.goes.reads.on.kept changes_before
-          (calls (take i first)) (world c.args.engine.now) (world c.connections.engine) c.connections.all (frames_in c.args.frames.now.items)
+          (caused_wider start start middle end (follows_itself start) before after) word_after word_before call.ensures.goes.reads.on.kept
+          changes_before rests_before (calls (take i first)) (world c.args.engine.now) (world c.connections.engine) c.connections.all
+          (frames_in c.args.frames.now.items)
           (frames_in c.connections.frames.items) inv.serves)
           (serves_weaker (IsCaused middle end) (IsCaused start end) (caused_wider start middle end end before after (follows_itself end)) word_after word_after
-          (λ k. k) changes_then (call_at x (front_of x)) (world c.connections.engine) (world call.new.engine) call.result (frames_in c.connections.frames.items)
-          (frames_in call.new.frames.items) call.ensures.serves));
+          (λ k. k) changes_then rests (call_at x (front_of x)) (world c.connections.engine) (world call.new.engine) call.result
+          (frames_in c.connections.frames.items) (frames_in call.new.frames.items) call.ensures.serves));
       done = ap (λ (m : ℕ). take m (set c.connections.connections i call.new.connection)) next ∙ s.done
           ∙ ap (λ (m : ℕ). connections_taken (take m first)) (sym next);
       left = ap (λ (m : ℕ). drop m (set c.connections.connections i call.new.connection)) next ∙ s.left ∙ ap (λ (m : ℕ). drop m first) (sym next);

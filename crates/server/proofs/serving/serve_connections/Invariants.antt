@@ -1,4 +1,4 @@
-use Rattle.std.proofs.Common.{◌≡◌, [], take, drop}
+use Rattle.std.proofs.Common.{◌≡◌, [], false, take, drop}
 use Rattle.engine.specs.View.{world, turn_start}
 use Rattle.page.specs.History.{KeepsWord}
 use Rattle.engine.specs.Continuing.{Continues}
@@ -17,7 +17,7 @@ invariant-connections g l = record {
   running : is_stopped l.engine ≡ is_stopped l.initial.engine;
   serves : Serves (KeepsWord (disk_history g.D.Disk.history l.engine))
       (IsCaused (engine_moment g.D.Disk.history l.initial.engine) (engine_moment g.D.Disk.history l.engine))
-      (has_changes l.engine ≡ has_changes l.initial.engine)
+      (has_changes l.engine ≡ has_changes l.initial.engine) (has_changes l.engine ≡ false)
       (calls (take l.connection-index l.initial.connections)) (world l.initial.engine) (world l.engine) l.all (frames_in l.initial.frames.items)
       (frames_in l.frames.items);
   done : take l.connection-index l.connections ≡ connections_taken (take l.connection-index l.initial.connections);

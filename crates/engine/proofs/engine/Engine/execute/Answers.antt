@@ -28,6 +28,12 @@ returns-in-Ok-clause-refused g c refusal = absurd refusal
 pub returns-in-Err-clause-refused : goal.returns-in-Err-clause-refused
 returns-in-Err-clause-refused g c refusal = (c.in-Err.ensures.performs.left, c.in-Err.ensures.performs.refused)
 
+pub returns-in-Ok-clause-keeps : goal.returns-in-Ok-clause-keeps
+returns-in-Ok-clause-keeps g c = c.in-Ok.ensures.performs.keeps
+
+pub returns-in-Err-clause-keeps : goal.returns-in-Err-clause-keeps
+returns-in-Err-clause-keeps g c = c.in-Err.ensures.performs.keeps
+
 -- ---- a command that asks for no collection
 
 pub returns-in-Ok-clause-sure : goal.returns-in-Ok-clause-sure

@@ -36,8 +36,8 @@ ends_after : (before word : Type 0) → (word → before)
     → (undone : Moment → Refusal → Type 0) (world_was : World) (connections : List Connection) (given : List (ℕ × List ℕ)) (left : World)
     (start end later : Moment)
     → end ≡ later
-    → EndsTurn before (IsCaused start end) (undone end) world_was connections given left
-    → EndsTurn word (IsCaused start later) (undone later) world_was connections given left
+    → EndsTurn before (IsCaused start end) (undone end) world_was start.generation connections given left end.generation
+    → EndsTurn word (IsCaused start later) (undone later) world_was start.generation connections given left later.generation
 ends_after before word kept undone world_was connections given left start end later same s = record {
   replies = s.replies;
   one_each = s.one_each;
@@ -45,7 +45,11 @@ ends_after before word kept undone world_was connections given left start end la
   last = s.last;
   runs = λ k. runs_weaker (IsCaused start end) (IsCaused start later) wider (calls connections) world_was s.replies s.last (s.runs (kept k));
   ends = ⊎_elim
-      (λ done. inl done)
+      (λ done. inl (
+        done.0,
+        done.1,
+        record { once = ⊎_elim (λ left. inl left) (λ one. inr (counts ∙ one)) done.2.once; none = λ k wrote. counts ∙ done.2.none (kept k) wrote },
+      ))
       (λ refused. inr (
         ⊎_elim (λ memory. inl (later_on refusals.OutOfMemory memory)) (λ room. inr (
           later_on refusals.Full room.0,
@@ -53,10 +57,14 @@ ends_after before word kept undone world_was connections given left start end la
               (wrote_weaker (IsCaused start end) (IsCaused start later) wider (calls connections) world_was s.replies s.last (s.runs (kept k)) none),
         )) refused.0,
         refused.1,
+        counts ∙ refused.2,
       ))
       s.ends;
 }
   where
+    counts : later.generation ≡ end.generation
+    counts = ap (λ (m : Moment). m.generation) (sym same)
+
     wider : (planned : World) (r : Refusal) → IsCaused start end planned r → IsCaused start later planned r
     wider planned r = subst (λ (m : Moment). IsCaused start m planned r) same
 
@@ -195,12 +203,12 @@ returns g c =
         rests = forgot.has_changes ∙ ran.rests;
         ascending = ap are_ascending left ∙ after_ascends connections c.requires.sound.ascending;
       };
-      turns = λ k. turned word (IsCaused old new) (TakenBack old new) core frames (world c.run_messages.new.engine) prepared.closed.items
-          (world c.forget_closed.new.engine) _ settles closes forgets left k;
-      hands_out = handed_out word (IsCaused old new) (TakenBack old new) core frames (world c.run_messages.new.engine) prepared.closed.items
-          (world c.forget_closed.new.engine) _ settles closes forgets left;
-      answers = runs_and_hands_out word (IsCaused old new) (TakenBack old new) core frames (world c.run_messages.new.engine) prepared.closed.items
-          (world c.forget_closed.new.engine) _ settles closes forgets left;
+      turns = λ k. turned word (IsCaused old new) (TakenBack old new) core old.generation new.generation frames
+          (world c.run_messages.new.engine) prepared.closed.items (world c.forget_closed.new.engine) _ settles closes forgets left k;
+      hands_out = handed_out word (IsCaused old new) (TakenBack old new) core old.generation new.generation frames
+          (world c.run_messages.new.engine) prepared.closed.items (world c.forget_closed.new.engine) _ settles closes forgets left;
+      answers = runs_and_hands_out word (IsCaused old new) (TakenBack old new) core old.generation new.generation frames
+          (world c.run_messages.new.engine) prepared.closed.items (world c.forget_closed.new.engine) _ settles closes forgets left;
       leaves = left;
       fails = search rules;
       untouched = λ e. absurd cc;
