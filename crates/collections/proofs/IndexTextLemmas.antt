@@ -149,7 +149,8 @@ few_told front [] = omega arith
 few_told front (x ∷ xs) = elim (either_text front x.key) [
   | inl found ↦ subst (λ (o : Option (List ℕ)). length (option_to_list o ++ texts_behind front xs) ≤ suc (length xs)) (sym found.0)
       (omega (arith, few_told front xs))
-  | inr none ↦ subst (λ (o : Option (List ℕ)). length (option_to_list o ++ texts_behind front xs) ≤ suc (length xs)) (sym none) (omega (arith, few_told front xs))
+  | inr none ↦ subst (λ (o : Option (List ℕ)). length (option_to_list o ++ texts_behind front xs) ≤ suc (length xs)) (sym none)
+      (omega (arith, few_told front xs))
 ]
 
 -- ---- keys up to a text and all that goes on from it
@@ -498,7 +499,8 @@ texts_asked now at number index first last range batch told texts p place from e
     let fronts : key_under number index [] ≡ key_under at.collection.number at.definition.number [] = λ t. key_under (numbers t) (indexes t) [] in
     subst (λ (o : Option (List ℕ)). AreNextTexts first last range.limit at o texts)
     (sym (told_is ∙ ap (λ (k : List ℕ). next_behind k (option_map (λ v. v.items) batch.next)) fronts))
-    (subst (AreNextTexts first last range.limit at (next_behind (key_under at.collection.number at.definition.number []) (option_map (λ v. v.items) batch.next)))
+    (subst (AreNextTexts first last range.limit at
+    (next_behind (key_under at.collection.number at.definition.number []) (option_map (λ v. v.items) batch.next)))
     (sym (texts_is ∙ ap (λ (k : List ℕ). texts_behind k (map entry_in batch.entries.items)) fronts)) right)
 
 -- ---- the first ones of all
