@@ -125,7 +125,8 @@ few_told front [] = omega arith
 few_told front (x ∷ xs) = elim (either_text front x.key) [
   | inl found ↦ subst (λ (o : Option (List ℕ)). length (option_to_list o ++ texts_behind front xs) ≤ suc (length xs)) (sym found.0)
       (omega (arith, few_told front xs))
-  | inr none ↦ subst (λ (o : Option (List ℕ)). length (option_to_list o ++ texts_behind front xs) ≤ suc (length xs)) (sym none) (omega (arith, few_told front xs))
+  | inr none ↦ subst (λ (o : Option (List ℕ)). length (option_to_list o ++ texts_behind front xs) ≤ suc (length xs)) (sym none)
+      (omega (arith, few_told front xs))
 ]
 
 -- ---- keys up to a text and all that goes on from it
