@@ -17,6 +17,7 @@ pub mod Reading
 pub mod Sizing
 pub mod SizingLaws
 pub mod Spelling
+pub mod Texts
 pub mod Tree
 pub mod TreeCode
 pub mod View

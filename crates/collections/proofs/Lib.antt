@@ -1,5 +1,8 @@
+pub mod AnyLemmas
 pub mod ApplyLemmas
+pub mod BehindLemmas
 pub mod BelowLemmas
+pub mod CauseLemmas
 pub mod CommitLemmas
 pub mod CountLemmas
 pub mod EntryLemmas
@@ -10,13 +13,11 @@ pub mod LawLemmas
 pub mod MarkLemmas
 pub mod OpenLemmas
 pub mod OtherKeyLemmas
-pub mod CauseLemmas
-pub mod AnyLemmas
-pub mod TakenLemmas
 pub mod ReadingLemmas
 pub mod StandingLemmas
+pub mod TakenLemmas
+pub mod TreeReadLemmas
 pub mod TrustLemmas
 pub mod VersionLemmas
 pub mod WalkLemmas
-pub mod TreeReadLemmas
 pub mod WithinLemmas

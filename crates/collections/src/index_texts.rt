@@ -6,12 +6,13 @@ ghost use Rattle.btree.specs.Scan.{entry_in};
 ghost use Rattle.entries.specs.OtherKeys.{IsEndOf};
 ghost use Rattle.entries.specs.StateEntries.{key_under};
 ghost use Rattle.index.specs.View.{texts_of};
-ghost use Rattle.collections.specs.IndexTexts.{AreFirstTexts, AreTextsBetween, IsNumberedIndex, text_behind, texts_behind};
+ghost use Rattle.collections.specs.Below.{ReadsBelow};
+ghost use Rattle.collections.specs.IndexTexts.{AreFirstTexts, AreNextTexts, AreTextsBetween, IsNumberedIndex, next_behind, text_behind, texts_behind};
 ghost use Rattle.collections.specs.Reading.{OrMemory, ReadsOf};
 
 use crate::collections::Collections;
 use bson::NoMemory;
-use btree::{Entry, Range};
+use btree::{Batch, Entry, Range};
 use entries::{end_of, first_key, index_key};
 use page::Disk;
 use path::Refusal;
@@ -53,18 +54,42 @@ fn texts_behind(alloc: Global, front: &[u8], entries: &[Entry]) -> Result<Vec<Ve
     Ok(texts)
 }
 
-/// What the keys of entries of an index go on with.
-fn texts_in(
+/// What the next key goes on with from a front, where there is one and it does.
+fn next_behind(
     alloc: Global,
-    number: u32,
-    index: u32,
-    entries: &[Entry],
-) -> Result<Vec<Vec<u8>>, Refusal>
-    ensures { OrMemory (λ texts. texts_of texts.items
-        ≡ texts_behind (key_under number index []) (map entry_in entries.now)) result }
+    front: &[u8],
+    next: &Option<Vec<u8>>,
+) -> Result<Option<Vec<u8>>, NoMemory>
+    ensures { IfOk result (λ text. option_map (λ v. v.items) text
+        ≡ next_behind front.now (option_map (λ v. v.items) next.now)) }
+{
+    let Some(key) = next else {
+        return Ok(None);
+    };
+    let Some(text) = text_behind(front, key) else {
+        return Ok(None);
+    };
+    Ok(Some(text.to_vec(alloc)?))
+}
+
+/// Texts of entries of an index, in ascending order, and from which text others go on that are left.
+#[derive(Debug, Drop)]
+pub struct NextTexts {
+    pub texts: Vec<Vec<u8>>,
+    pub next: Option<Vec<u8>>,
+}
+
+/// What the keys of a batch of entries of an index go on with, and the key behind them.
+fn texts_in(alloc: Global, number: u32, index: u32, batch: &Batch) -> Result<NextTexts, Refusal>
+    ensures texts { OrMemory (λ found. texts_of found.texts.items
+        ≡ texts_behind (key_under number index []) (map entry_in batch.now.entries.items)) result }
+    ensures next { IfOk result (λ found. option_map (λ v. v.items) found.next
+        ≡ next_behind (key_under number index []) (option_map (λ v. v.items) batch.now.next)) }
 {
     let front = first_key(alloc, number, index)?;
-    texts_behind(alloc, &front, entries)
+    let texts = texts_behind(alloc, &front, &batch.entries)?;
+    let next = next_behind(alloc, &front, &batch.next)?;
+    Ok(NextTexts { texts, next })
 }
 
 /// The keys in the tree from one text of an index up to another and all that goes on from it.
@@ -99,6 +124,32 @@ pub struct FirstTexts {
 }
 
 impl<D: Disk> Collections<D> {
+    /// The texts of the entries of an index in the tree below a root page, from one text on, in ascending order, at most so many; at the
+    /// end those up to another text and all that goes on from it.
+    pub(crate) fn texts_from(
+        &mut self,
+        root: u32,
+        number: u32,
+        index: u32,
+        first: &[u8],
+        last: &[u8],
+        most: usize,
+    ) -> Result<NextTexts, Refusal>
+        ensures { ReadsBelow D.history root (IsNumberedIndex number index)
+            (λ now at found. AreNextTexts first.now last.now most at
+            (option_map (λ v. v.items) found.next) (texts_of found.texts.items))
+            result self.old self.new }
+    {
+        let keys = keys_between(self.alloc, number, index, first, last)?;
+        let range = Range {
+            from: &keys.from,
+            to: keys.to.as_deref(),
+            limit: most,
+        };
+        let batch = self.entries_from(root, range)?;
+        texts_in(self.alloc, number, index, &batch)
+    }
+
     /// The texts of the entries of an index from one text up to another and all that goes on from it, in ascending order: the first ones,
     /// at most so many. Texts behind them may be among them.
     pub fn first_texts(
@@ -114,16 +165,10 @@ impl<D: Disk> Collections<D> {
             AreFirstTexts first.now last.now at found.are_all (texts_of found.texts.items))
             result self.old self.new }
     {
-        let keys = keys_between(self.alloc, number, index, first, last)?;
-        let batch = self.entries_in(Range {
-            from: &keys.from,
-            to: keys.to.as_deref(),
-            limit: most,
-        })?;
-        let texts = texts_in(self.alloc, number, index, &batch.entries)?;
+        let found = self.texts_from(self.root, number, index, first, last, most)?;
         Ok(FirstTexts {
-            texts,
-            are_all: batch.next.is_none(),
+            texts: found.texts,
+            are_all: found.next.is_none(),
         })
     }
 

@@ -16,7 +16,7 @@ mod walk;
 
 pub use collections::Collections;
 pub use folding::DocumentFold;
-pub use index_texts::FirstTexts;
+pub use index_texts::{FirstTexts, NextTexts};
 pub use mark::Mark;
 pub use reading::Name;
 pub use walk::{Walk, goes_on_walking};

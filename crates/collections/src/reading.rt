@@ -192,17 +192,25 @@ impl<D: Disk> Collections<D> {
         self.value_from(self.root, key)
     }
 
-    /// The entries of a range of the turn's tree.
-    pub(crate) fn entries_in(&mut self, range: Range<'_>) -> Result<Batch, Refusal>
-        ensures { Reads D.history (IsInTree (IsBatchOf range.entry)) result self.old self.new }
+    /// The entries of a range of the tree below a root page.
+    pub(crate) fn entries_from(&mut self, root: u32, range: Range<'_>) -> Result<Batch, Refusal>
+        ensures { ReadsBelow D.history root IsNothing
+            (λ now asked. IsInTree (IsBatchOf range.entry) now) result self.old self.new }
     {
         if self.pager.is_stopped() {
             return Err(Refusal::StorageFailed);
         }
-        match entries_below(self.alloc, &mut self.pager, self.root, range) {
+        match entries_below(self.alloc, &mut self.pager, root, range) {
             Ok(batch) => Ok(batch),
             Err(fault) => Err(refusal_of(fault)),
         }
+    }
+
+    /// The entries of a range of the turn's tree.
+    pub(crate) fn entries_in(&mut self, range: Range<'_>) -> Result<Batch, Refusal>
+        ensures { Reads D.history (IsInTree (IsBatchOf range.entry)) result self.old self.new }
+    {
+        self.entries_from(self.root, range)
     }
 
     /// All entries of the turn's tree, in ascending order of their keys.

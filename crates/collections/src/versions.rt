@@ -1,12 +1,16 @@
 //! Versions of the collections: what is pinned can be read, whatever is changed and committed meanwhile.
 
 ghost use Rattle.std.specs.Prelude.{◌≡◌, [], IfOk};
+ghost use Rattle.std.specs.Option.{option_map};
 ghost use Rattle.collections.specs.Folding.{HasTaken, IsFolded, documents_within};
+ghost use Rattle.collections.specs.IndexTexts.{AreReadNext, IsNumberedIndex};
 ghost use Rattle.collections.specs.Reading.{IsNumbered, IsPlaceOf, stored_at};
 ghost use Rattle.collections.specs.Versions.{PinsNow, ReadsVersion, UnpinsVersion};
+ghost use Rattle.index.specs.View.{texts_of};
 
 use crate::collections::Collections;
 use crate::folding::DocumentFold;
+use crate::index_texts::NextTexts;
 use bson::{NoMemory, SpelledDocument};
 use btree::Bounds;
 use page::Disk;
@@ -59,5 +63,25 @@ impl<D: Disk> Collections<D> {
         ensures taken { IfOk result (HasTaken F.makes fold) }
     {
         self.fold_from(version.root, number, texts, fold)
+    }
+
+    /// The texts of the entries of an index of a version's collection of a number, from one text on, in ascending order, at most so
+    /// many, and the text from which the others go on. At the end those up to another text and all that goes on from it; texts behind
+    /// that may be among them.
+    pub fn next_texts_in(
+        &mut self,
+        version: Version,
+        number: u32,
+        index: u32,
+        first: &[u8],
+        last: &[u8],
+        most: usize,
+    ) -> Result<NextTexts, Refusal>
+        ensures { ReadsVersion D.history version (IsNumberedIndex number index)
+            (λ now at found. AreReadNext first.now last.now most at
+            (option_map (λ v. v.items) found.next) (texts_of found.texts.items))
+            result self.old self.new }
+    {
+        self.texts_from(version.root, number, index, first, last, most)
     }
 }

@@ -42,6 +42,20 @@ matching_split rules front behind d is =
     let one : matching rules (d ∷ behind) ≡ d ∷ matching rules behind = rw is refl in
     filter-append (matches rules) front (d ∷ behind) ∙ ap (λ (ds : List Pairs). matching rules front ++ ds) one
 
+-- on any disk a batch that was offered a document has some
+pub offered_open : (before after : OpenBatch) (d : Pairs) (is_taken : Bool) → IsOffered before d is_taken after → IsOpen before → IsOpen after
+offered_open before after d is_taken h some =
+    record { ds = if is_taken then some.ds ++ d ∷ [] else some.ds; given = h.given some.ds some.given }
+
+-- by whether it was taken
+pub not_taken : (b : Bool) → not b ≡ false → b ≡ true
+not_taken true e = refl
+not_taken false e = absurd cc
+
+pub not_left : (b : Bool) → not b ≡ true → b ≡ false
+not_left true e = absurd cc
+not_left false e = refl
+
 -- where as many came as may, some came
 no_limit : (limit : ℕ) → is_reached limit 0 ≡ true → ⊥
 no_limit zero e = absurd cc

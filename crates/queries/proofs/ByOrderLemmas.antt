@@ -43,7 +43,7 @@ below_keys : (k : List ℕ) (ks : List (List ℕ)) → Each (λ l. IsUnder k l) 
 below_keys k [] h = tt
 below_keys k (l ∷ ks) h = (h.0, below_keys k ks h.1)
 
-texts_up : (ks : List (List ℕ)) → KeysRise ks → Rises bytes_cmp ks
+pub texts_up : (ks : List (List ℕ)) → KeysRise ks → Rises bytes_cmp ks
 texts_up [] h = tt
 texts_up (k ∷ ks) h = (below_keys k ks h.0, texts_up ks h.1)
 
@@ -52,7 +52,7 @@ found_back : (ds es : List Pairs) → AllByRecursion (λ d. find_document ds (ke
 found_back ds [] h = refl
 found_back ds (e ∷ es) h = ap (λ (o : Option Pairs). with_found o (found_by ds (map key_of es))) h.0 ∙ ap (λ (xs : List Pairs). e ∷ xs) (found_back ds es h.1)
 
-order-length : (sort : List SortField) (ds : List Pairs) → length (order sort ds) ≡ length ds
+pub order-length : (sort : List SortField) (ds : List Pairs) → length (order sort ds) ≡ length ds
 order-length sort ds = length_permutation ds (order sort ds) (sorted-permuted (compare_by sort) ds)
 
 -- ---- what an index in the order of the sort tells of the collection that is asked

@@ -26,3 +26,8 @@ pub mod WalkLeftLemmas
 pub mod GivenLemmas
 pub mod ListedLemmas
 pub mod SortedIdLemmas
+pub mod RestLemmas
+pub mod InOrderLemmas
+pub mod OrderedBatchLemmas
+pub mod InOrderLendLemmas
+pub mod InOrderReadLemmas

@@ -1,10 +1,10 @@
 -- Documents of a version that are looked up one after the other, and put into a batch.
-use Rattle.std.proofs.Common.{◌≡◌, inl, ℕ, ◌+◌, ◌<◌, ◌≤◌, Bool, true, false, List, [], ◌∷◌, ◌++◌, length, map, take, drop, Option, Some, None, Result, Ok, Err}
+use Rattle.std.proofs.Common.{◌≡◌, inl, ℕ, ◌+◌, ◌<◌, ◌≤◌, Bool, true, false, List, [], ◌∷◌, length, map, take, drop, Option, Some, None, Result, Ok, Err}
 use Rattle.std.proofs.Common.{refl, sym, ap, subst, ◌∙◌, arith}
 use Rattle.std.specs.Prelude.{All, IfErr, IfOk, MatchOption, MatchResult, if◌then◌else◌, is_some, nat_lt, nat_le, not}
 use Rattle.std.specs.Global.{Vec}
 use Rattle.std.proofs.lemmas.Bool.Decides.{nat_tests}
-use Rattle.std.proofs.lemmas.List.{drop-map, length-drop, length-map, length-take, take_all}
+use Rattle.std.proofs.lemmas.List.{drop-map, length-drop, length-map, length-take}
 use Rattle.std.proofs.lemmas.List.Elements.{All-drop, All-head}
 use Rattle.bson.specs.Tree.{Pairs}
 use Rattle.page.specs.History.{History, KeepsWord}
@@ -24,7 +24,7 @@ use Rattle.collections.specs.State.{State}
 use Rattle.collections.specs.Versions.{HasVersion, ReadsVersion}
 use Rattle.collections.specs.View.{disk_history}
 use Rattle.collections.proofs.VersionLemmas.{versions_stay}
-use Rattle.database_model.specs.Cursors.{batch_of, batch_reply, cursor_reply}
+use Rattle.database_model.specs.Cursors.{batch_of, cursor_reply}
 use Rattle.database_model.specs.Refusals.{ok_reply}
 use Rattle.replies.specs.OpenBatch.{AreOffered, HasGiven, IsOffered, IsOpen}
 use Rattle.replies.specs.View.{batch_name}
@@ -118,11 +118,6 @@ module _ {D : Type 0} (history : D → History) (version : Version) (number : �
           → MatchResult q (λ is_taken. IsOffered before (project p one.document) is_taken after) (HasReadCause history old new)
       at (Ok is_taken) one storable same ok err = subst (λ (d : Pairs). IsOffered before (project p d) is_taken after) same ok
       at (Err e) one storable same ok err = inl (err (subst IsStorable (sym same) storable))
-
--- on any disk a batch that was offered a document has some
-pub still_open : (before after : OpenBatch) (d : Pairs) (is_taken : Bool) → IsOffered before d is_taken after → IsOpen before → IsOpen after
-still_open before after d is_taken h some =
-    record { ds = if is_taken then some.ds ++ d ∷ [] else some.ds; given = h.given some.ds some.given }
 
 -- ---- one after the other
 

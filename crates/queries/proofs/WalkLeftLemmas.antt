@@ -84,7 +84,7 @@ rest_from_one (x ∷ front) behind d all up =
 
 -- ---- two tests in either order
 
-filter_twice : (p q : Pairs → Bool) (ds : List Pairs) → filter p (filter q ds) ≡ filter q (filter p ds)
+pub filter_twice : (p q : Pairs → Bool) (ds : List Pairs) → filter p (filter q ds) ≡ filter q (filter p ds)
 filter_twice p q ds =
     sym (filter-both (λ d. p d && q d) p q (λ d. refl) ds) ∙ filter-both (λ d. p d && q d) q p (λ d. swapped (p d) (q d)) ds
   where
@@ -211,12 +211,14 @@ limited_within : (limit : ℕ) (ds : List Pairs) → All IsWithin ds → All IsW
 limited_within zero ds h = h
 limited_within (suc n) ds h = All-take IsWithin (suc n) ds h
 
-pub picked_within : (rules : Conditions) (p : Projection) (skip limit : ℕ) (ds : List Pairs) → All IsWithin ds → All IsWithin (picked rules p skip limit ds)
-picked_within rules p skip limit ds h =
-    let kept = window skip limit (matching rules ds) in
-    let all : All IsWithin kept = limited_within limit (drop skip (matching rules ds))
-    (All-drop IsWithin skip (matching rules ds) (All-filter (matches rules) IsWithin ds h)) in
+pub window_within : (p : Projection) (skip limit : ℕ) (ds : List Pairs) → All IsWithin ds → All IsWithin (map (project p) (window skip limit ds))
+window_within p skip limit ds h =
+    let kept = window skip limit ds in
+    let all : All IsWithin kept = limited_within limit (drop skip ds) (All-drop IsWithin skip ds h) in
     All-map IsWithin (project p) kept (λ k d below. projected_within p (get_or kept k d) (all k d below))
+
+pub picked_within : (rules : Conditions) (p : Projection) (skip limit : ℕ) (ds : List Pairs) → All IsWithin ds → All IsWithin (picked rules p skip limit ds)
+picked_within rules p skip limit ds h = window_within p skip limit (matching rules ds) (All-filter (matches rules) IsWithin ds h)
 
 pub stored_within : (ds : List Pairs) → All IsStored ds → All IsWithin ds
 stored_within ds h = λ k d below. record { size = (h k d below).size; depth = (h k d below).depth }

@@ -1,7 +1,8 @@
 -- Batches of what walks through a collection give.
 use Rattle.std.specs.Prelude.{◌≡◌, ℕ, ◌-◌, ◌<◌, ◌≤◌, Bool, true, false, not, ◌&&◌, ◌||◌, ◌==◌}
 use Rattle.std.specs.Prelude.{nat_le, if◌then◌else◌, List, [], ◌∷◌, ◌++◌, length, map, drop, All}
-use Rattle.std.specs.Prelude.{Option, None, is_some, MatchOption}
+use Rattle.std.specs.Prelude.{Option, None, Some, is_some, MatchOption}
+use Rattle.std.specs.Global.{Vec}
 use Rattle.std.specs.List.{filter}
 use Rattle.std.specs.Ordering.{is_lt}
 use Rattle.bson.specs.Tree.{Pairs}
@@ -16,7 +17,7 @@ use Rattle.database_model.specs.Cursors.{batch_of, batch_reply, cursor_reply}
 use Rattle.database_model.specs.Find.{matching, window}
 use Rattle.database_model.specs.Lawful.{IsStored, IsWithin}
 use Rattle.database_model.specs.Refusals.{ok_reply}
-use Rattle.replies.specs.OpenBatch.{HasGiven, has_room}
+use Rattle.replies.specs.OpenBatch.{HasGiven, IsOpen, has_room}
 use Rattle.replies.specs.View.{batch_name}
 use Rattle.replies.specs.declared.open_batch.OpenBatch.{OpenBatch}
 use Rattle.queries.specs.IdRange.{has_id_within}
@@ -113,6 +114,17 @@ pub record Gives (start : Giving) (documents : List Pairs) (now : Giving) : Type
   pub to_skip : now.skip ≡ start.skip - length (matching start.filter.now documents)
   pub given : MatchOption now.next (HasGiven now.batch (picked_by start documents))
       (λ text. IsFirstLeft start documents now.batch text.items)
+
+-- Of the next document was put into the batch what is given, unless the batch has no room for it:
+-- then it is left, once its key text is noted.
+pub record Puts (old : Giving) (d : Pairs) (is_left : Bool) (now : Giving) : Type 0 where
+  pub next : now.next ≡ old.next
+  pub still_open : IsOpen old.batch → IsOpen now.batch
+  pub went : is_left ≡ false → (start : Giving) (all : List Pairs) → Gives start all old
+      → Gives start (all ++ d ∷ []) now
+  pub left : is_left ≡ true → (start : Giving) (all : List Pairs) → Gives start all old
+      → (text : Vec ℕ) → text.items ≡ tree_text (key_of d)
+      → Gives start (all ++ d ∷ []) (record now { next = Some text })
 
 -- nothing was lent
 pub record IsBegun (w : Walk) (asked : BatchAsked) (g : Giving) : Type 0 where

@@ -7,6 +7,7 @@ pub mod Dense
 pub mod Folding
 pub mod IdOrder
 pub mod IdRange
+pub mod InOrder
 pub mod Listed
 pub mod PartlyTold
 pub mod SortedIds

@@ -1,7 +1,7 @@
 //! Batches that are spelled while a collection is walked through: no document of them is kept, and a walk
 //! ends where its batch is full.
 
-ghost use Rattle.std.specs.Prelude.{◌≡◌, ◌<◌, ◌≤◌, ◌^◌, IfErr, IfOk, [], length, option_map};
+ghost use Rattle.std.specs.Prelude.{◌≡◌, ◌<◌, ◌≤◌, ◌^◌, IfErr, IfOk, [], false, length, option_map};
 ghost use Rattle.collections.specs.Reading.{ReadsOf};
 ghost use Rattle.collections.specs.Versions.{ReadsVersion};
 ghost use Rattle.filter.specs.Matches.{matches};
@@ -12,7 +12,7 @@ ghost use Rattle.replies.specs.OpenBatch.{IsOffered, IsOpen};
 ghost use Rattle.replies.specs.View.{IsSendable};
 ghost use Rattle.value_order.specs.KeyText.{tree_text};
 ghost use Rattle.queries.specs.Asking.{IsAsked, IsAskedIn};
-ghost use Rattle.queries.specs.Batches.{Gives, IsBegun, IsEnded, IsGivenBatch, PassFrom, is_over, is_reached};
+ghost use Rattle.queries.specs.Batches.{Gives, IsBegun, IsEnded, IsGivenBatch, PassFrom, Puts, is_over, is_reached};
 
 use crate::id_range::{IdSpan, span_asked};
 use crate::within::{document_of, is_within};
@@ -67,7 +67,7 @@ pub struct GivenBatch {
 
 /// The documents that a walk gives, put into a batch until one is left.
 #[derive(Drop)]
-struct Giving<'a> {
+pub(crate) struct Giving<'a> {
     alloc: Global,
     filter: &'a Filter,
     projection: &'a Projection,
@@ -75,7 +75,7 @@ struct Giving<'a> {
     limit: usize,
     batch: OpenBatch,
     /// The key text of the first one for which the batch has no room.
-    next: Option<Vec<u8>>,
+    pub(crate) next: Option<Vec<u8>>,
 }
 
 /// Whether so many documents are as many as may come.
@@ -114,10 +114,27 @@ fn text_of(alloc: Global, document: &RawDoc<'_>) -> Result<Vec<u8>, Refusal>
 
 impl Giving<'_> {
     /// Whether it stays as it is, whatever else may come.
-    fn is_over(&self) -> bool
+    pub(crate) fn is_over(&self) -> bool
         ensures { result ≡ is_over self.now }
     {
         self.next.is_some() || is_reached(self.limit, self.batch.count())
+    }
+
+    /// Puts what is given of the next document into the batch, and says whether the batch has no room for it.
+    pub(crate) fn put(&mut self, document: &RawDoc<'_>) -> Result<bool, Refusal>
+        requires { is_over self.old ≡ false }
+        ensures puts { IfOk result (λ is_left. Puts self.old document.now is_left self.new) }
+        ensures refuses { IsStorable document.now → IfErr result (λ e. e ≡ Refusal.OutOfMemory) }
+    {
+        if !self.filter.matches_raw(self.alloc, document)? {
+            return Ok(false);
+        }
+        if 0 < self.skip {
+            self.skip -= 1;
+            return Ok(false);
+        }
+        let is_taken = offer_within(self.alloc, &mut self.batch, self.projection, document)?;
+        Ok(!is_taken)
     }
 }
 
@@ -132,23 +149,19 @@ impl DocumentFold for Giving<'_> {
         if self.is_over() {
             return Ok(());
         }
-        if !self.filter.matches_raw(self.alloc, document)? {
-            return Ok(());
+        if self.put(document)? {
+            self.next = Some(text_of(self.alloc, document)?);
         }
-        if 0 < self.skip {
-            self.skip -= 1;
-            return Ok(());
-        }
-        if offer_within(self.alloc, &mut self.batch, self.projection, document)? {
-            return Ok(());
-        }
-        self.next = Some(text_of(self.alloc, document)?);
         Ok(())
     }
 }
 
 /// What is given of a walk before a document is lent.
-fn begun<'a>(alloc: Global, walk: &Walk<'a>, asked: &BatchAsked<'_>) -> Result<Giving<'a>, NoMemory>
+pub(crate) fn begun<'a>(
+    alloc: Global,
+    walk: &Walk<'a>,
+    asked: &BatchAsked<'_>,
+) -> Result<Giving<'a>, NoMemory>
     ensures { IfOk result (IsBegun walk.now asked.now) }
 {
     let batch = OpenBatch::begin(alloc, asked.kind, asked.most)?;
@@ -179,7 +192,7 @@ fn span_from(alloc: Global, filter: &Filter, from: &[u8]) -> Result<IdSpan, NoMe
 }
 
 /// The batch, whose reply says whether others are left.
-fn ended(given: Giving<'_>, asked: &BatchAsked<'_>) -> Result<GivenBatch, NoMemory>
+pub(crate) fn ended(given: Giving<'_>, asked: &BatchAsked<'_>) -> Result<GivenBatch, NoMemory>
     requires has_some { IsOpen given.batch }
     requires short { length asked.now.namespace.now ≤ 255 }
     requires number { asked.now.number < 2 ^ 63 }

@@ -13,6 +13,7 @@ mod dense;
 mod id_order;
 mod id_range;
 mod id_set;
+mod in_order;
 mod listed;
 mod looking_up;
 mod members;
@@ -31,6 +32,7 @@ pub use batches::{BatchAsked, GivenBatch, Walk, batch_of_turn, batch_of_version}
 pub use by_id::put_id;
 pub use counting::count_in;
 pub use id_order::keeps_id_order;
+pub use in_order::{OrderedWalk, batch_in_order};
 pub use listed::{Listed, batch_of_listed, listed_texts};
 pub use looking_up::{looked_up_in, selected_in};
 pub use ordering::ordered_in;

@@ -1,50 +1,44 @@
-use Rattle.std.proofs.Common.{List, [], ℕ, Ok, Err, refl, sym, subst, ◌∙◌}
+use Rattle.std.proofs.Common.{List, Ok, Err, ap}
 use Rattle.std.specs.Option.{option_map}
 use Rattle.std.proofs.lemmas.Result.{err_from_is_err_and}
-use Rattle.btree.specs.declared.scanning.Range.{Range}
-use Rattle.entries.specs.OtherKeys.{IsEndOf}
-use Rattle.entries.specs.StateEntries.{key_under}
 use Rattle.index.specs.View.{texts_of}
-use Rattle.collections.specs.IndexTexts.{AreFirstTexts, IsNumberedIndex}
-use Rattle.collections.specs.Reading.{IsBatchOf, IsInTree}
+use Rattle.entries.specs.State.{Collection}
+use Rattle.collections.specs.IndexTexts.{AreFirstTexts, AreNextTexts, Indexed, IsNumberedIndex}
+use Rattle.collections.specs.State.{State}
 use Rattle.collections.specs.declared.index_texts.FirstTexts.{FirstTexts}
-use Rattle.collections.proofs.IndexTextLemmas.{texts_asked}
-use Rattle.collections.proofs.ReadingLemmas.{asks_on, asks_refused}
+use Rattle.collections.specs.declared.index_texts.NextTexts.{NextTexts}
+use Rattle.collections.proofs.BelowLemmas.{asks_turn}
+use Rattle.collections.proofs.IndexTextLemmas.{first_of_next}
+use Rattle.collections.proofs.ReadingLemmas.{asked_on, asked_refused}
 use Rattle.collections.proofs.collections.Collections.first_texts.Goals as goal
 
-pub returns-in_err-batch : goal.returns-in_err-batch
-returns-in_err-batch g c =
-    let range : Range = record { from = c.deref.result; to = c.as_deref.result; limit = c.args.most } in
-    let p = err_from_is_err_and c.from_residual-in_err-batch.result c.from_residual-in_err-batch.ensures.1 in
+pub returns-in_err-found : goal.returns-in_err-found
+returns-in_err-found g c =
+    let p = err_from_is_err_and c.from_residual.result c.from_residual.ensures.1 in
+    let history = g.D.Disk.history in
+    let call = c.texts_from-2 in
+    let Is = IsNumberedIndex c.args.number c.args.index in
+    let next : List Collection → Indexed → NextTexts → Type 0 =
+    λ now at found. AreNextTexts c.args.first.now c.args.last.now c.args.most at (option_map (λ v. v.items) found.next) (texts_of found.texts.items) in
     rw (p.1, p.2)
-    (asks_refused g.D.Disk.history (IsNumberedIndex c.args.number c.args.index)
+    (asked_refused history Is
     (λ now at (found : FirstTexts). AreFirstTexts c.args.first.now c.args.last.now at found.are_all (texts_of found.texts.items)) c.args.self.now
-    c.entries_in.new.self
-    (IsInTree (IsBatchOf range)) c.in_err-batch.field-0.0 c.in_err-batch.ensures)
-
-pub returns-in_err-texts : goal.returns-in_err-texts
-returns-in_err-texts g c =
-    let range : Range = record { from = c.deref.result; to = c.as_deref.result; limit = c.args.most } in
-    let p = err_from_is_err_and c.from_residual-in_err-texts.result c.from_residual-in_err-texts.ensures.1 in
-    rw (p.1, p.2)
-    (asks_on g.D.Disk.history (IsNumberedIndex c.args.number c.args.index)
-    (λ now at (found : FirstTexts). AreFirstTexts c.args.first.now c.args.last.now at found.are_all (texts_of found.texts.items)) c.args.self.now
-    c.entries_in.new.self
-    (IsInTree (IsBatchOf range)) c.in_ok-batch.batch (Err c.in_err-texts.field-0.0) c.in_ok-batch.ensures (λ now at place q. c.in_err-texts.ensures))
+    call.new.self next c.in_err-found.field-0.0
+    (asks_turn history Is next c.args.self.now call.new.self (Err c.in_err-found.field-0.0) c.texts_from.inside.root c.in_err-found.ensures next
+    (ap (λ (s : State g.row.D.Denot). s.root) c.texts_from.view_is) (λ running k start now has at place found right. right)))
 
 pub returns : goal.returns
 returns g c =
-    let range : Range = record { from = c.deref.result; to = c.as_deref.result; limit = c.args.most } in
-    let batch = c.in_ok-batch.batch in
-    let first : List ℕ = c.args.first.now in
-    let last : List ℕ = c.args.last.now in
-    let ends : IsEndOf (key_under c.args.number c.args.index last) (option_map (λ b. b.now) range.to) =
-    subst (IsEndOf (key_under c.args.number c.args.index last)) (sym c.as_deref.ensures.value) c.in_ok-keys.ensures.to in
-    asks_on g.D.Disk.history (IsNumberedIndex c.args.number c.args.index)
+    let history = g.D.Disk.history in
+    let call = c.texts_from-2 in
+    let found = c.in_ok-found.found in
+    let Is = IsNumberedIndex c.args.number c.args.index in
+    let next : List Collection → Indexed → NextTexts → Type 0 =
+    λ now at found. AreNextTexts c.args.first.now c.args.last.now c.args.most at (option_map (λ v. v.items) found.next) (texts_of found.texts.items) in
+    asked_on history Is
     (λ now at (found : FirstTexts). AreFirstTexts c.args.first.now c.args.last.now at found.are_all (texts_of found.texts.items)) c.args.self.now
-    c.entries_in.new.self
-    (IsInTree (IsBatchOf range)) batch (Ok (record { texts = c.in_ok-texts.texts; are_all = c.is_none.result })) c.in_ok-batch.ensures
-    (λ now at place p.
-    texts_asked now at c.args.number c.args.index first last range batch (key_under c.args.number c.args.index []) c.deref-2.result.now
-    (texts_of c.in_ok-texts.texts.items) c.is_none.result c.is_none.ensures p place
-    (c.deref.ensures.value ∙ c.in_ok-keys.ensures.from) ends refl c.deref-2.ensures.value c.in_ok-texts.ensures)
+    call.new.self next found (Ok (record { texts = found.texts; are_all = c.is_none.result }))
+    (asks_turn history Is next c.args.self.now call.new.self (Ok found) c.texts_from.inside.root c.in_ok-found.ensures next
+    (ap (λ (s : State g.row.D.Denot). s.root) c.texts_from.view_is) (λ running k start now has at place found right. right))
+    (λ now at place right.
+    first_of_next c.args.first.now c.args.last.now c.args.most at (texts_of found.texts.items) found.next c.is_none.result c.is_none.ensures right)
