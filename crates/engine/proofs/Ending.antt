@@ -46,6 +46,7 @@ undone_of_pins history a b c pins undoes = record {
     disk = undoes.untouched.disk ∙ pins.untouched.disk;
     stopped = undoes.untouched.stopped ∙ pins.untouched.stopped;
     version = undoes.untouched.version ∙ pins.untouched.version;
+    reads = undoes.untouched.reads ∙ pins.untouched.reads;
   };
   takes = undoes.takes ∙ pins.takes;
   rests = undoes.rests;
@@ -132,6 +133,7 @@ module _ {D : Type 0} (history : D → History) (old new : Engine D) (h : IsSoun
       disk = undoes.untouched.disk ∙ found.untouched.disk;
       stopped = undoes.untouched.stopped ∙ found.untouched.stopped;
       version = undoes.untouched.version ∙ found.untouched.version;
+      reads = undoes.untouched.reads ∙ found.untouched.reads;
     }
 
     pub state_since : files.FindsNoRoom history old.file mid → (start now : List Collection) → HasState history old.file start now

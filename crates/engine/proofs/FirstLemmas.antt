@@ -127,9 +127,9 @@ module _ {D : Type 0} (history : D → History) (old : Engine D) (h : IsSound hi
         let pins = gives.goes.pins in
         let goes = continues_further history old read new
         (continues_further history old pinned read
-        (continues_still history old pinned first.untouched.disk first.untouched.stopped first.untouched.version first.takes)
+        (continues_still history old pinned first.untouched.disk first.untouched.stopped first.untouched.version first.takes first.untouched.reads)
         (continues_of history pinned read gives.goes.on))
-        (continues_still history read new pins.untouched.disk pins.untouched.stopped pins.untouched.version pins.takes) in
+        (continues_still history read new pins.untouched.disk pins.untouched.stopped pins.untouched.version pins.takes pins.untouched.reads) in
         let start = old.told.value.start in
         let now = old.told.value.now in
         performs_tied history old new planned r h goes

@@ -3,7 +3,10 @@ use Rattle.database_model.specs.Step.{read_and_run}
 use Rattle.replies.specs.View.{answer_of}
 use Rattle.engine.specs.View.{world}
 use Rattle.replies.proofs.SpelledSizes.{refusal-sendable}
-use Rattle.engine.proofs.Sound.{answers_done, answers_read, answers_refused, refused_for_memory}
+use Rattle.engine.specs.Troubles.{Tells}
+use Rattle.engine.specs.declared.troubles.Troubles.{Troubles}
+use Rattle.engine.proofs.Sound.{answers_done, refused_for_memory}
+use Rattle.engine.proofs.TroublesLemmas.{TellsHere, answers_told, answers_told_reading, met_no_trouble, told_as_met}
 use Rattle.engine.proofs.engine.Engine.execute.Goals as goal
 
 pub returns-in-Ok-clause-answers : goal.returns-in-Ok-clause-answers
