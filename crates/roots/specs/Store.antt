@@ -1,5 +1,5 @@
 -- What a store keeps on its disk.
-use Rattle.std.specs.Prelude.{◌≡◌, ◌⊎◌, ℕ, ◌<◌, max, min, Bool, List, true, false}
+use Rattle.std.specs.Prelude.{◌≡◌, ◌⊎◌, ℕ, ◌<◌, ◌≤◌, max, min, Bool, List, true, false}
 use Rattle.page.specs.History.{History, KeepsWord, now, reads}
 use Rattle.page.specs.Crash.{IsDurable}
 use Rattle.btree.specs.Keys.{Entry}
@@ -25,6 +25,10 @@ durable_root store = store.root
 abbrev pub is_stopped : {D : Type 0} → Store D → Bool
 is_stopped store = store.stopped
 
+-- how often a read of its disk has failed
+abbrev pub failed_reads : {D : Type 0} → Store D → ℕ
+failed_reads store = store.failed_reads
+
 abbrev pub IsRunning : {D : Type 0} → Store D → Type 0
 IsRunning store = is_stopped store ≡ false
 
@@ -49,3 +53,11 @@ abbrev pub HasDeviceCause : {D : Type 0} → (D → History) → Store D → Sto
 HasDeviceCause history old new =
     (is_stopped old ≡ true)
     ⊎ ((disk_history history old).failed_writes < (disk_history history new).failed_writes)
+
+-- Each read that fails is counted, as far as a u64 counts: the count rises just where one failed.
+pub record CountsFailed {D : Type 0} (history : D → History) (old new : Store D) : Type 0 where
+  pub rises : failed_reads old ≤ failed_reads new
+  pub failed : failed_reads old < failed_reads new
+      → (disk_history history old).failures < (disk_history history new).failures
+  pub counted : (disk_history history old).failures < (disk_history history new).failures
+      → (failed_reads old < failed_reads new) ⊎ (failed_reads new ≡ 18446744073709551615)
