@@ -1,10 +1,12 @@
 -- What a store keeps on its disk.
-use Rattle.std.specs.Prelude.{◌≡◌, ◌⊎◌, ℕ, ◌<◌, ◌≤◌, max, min, Bool, List, true, false}
+use Rattle.std.specs.Prelude.{◌≡◌, ◌⊎◌, ℕ, ◌+◌, ◌<◌, ◌≤◌, max, min, Bool, List, true, false}
 use Rattle.page.specs.History.{History, KeepsWord, now, reads}
 use Rattle.page.specs.Crash.{IsDurable}
 use Rattle.btree.specs.Keys.{Entry}
 use Rattle.freelist.specs.FreeList.{Part}
 use Rattle.roots.specs.Image.{HasList, HoldsMap, IsKept, OpensAs, reached_by, sheet_at}
+use Rattle.roots.specs.declared.opening.OpenFault.{OpenFault}
+use Rattle.roots.specs.declared.opening.OpenFault.TheVariants as faults
 use Rattle.roots.specs.declared.root.Root.{Root}
 use Rattle.roots.specs.declared.store.Config.{Config}
 use Rattle.roots.specs.declared.store.Store.{Store}
@@ -53,6 +55,15 @@ abbrev pub HasDeviceCause : {D : Type 0} → (D → History) → Store D → Sto
 HasDeviceCause history old new =
     (is_stopped old ≡ true)
     ⊎ ((disk_history history old).failed_writes < (disk_history history new).failed_writes)
+
+-- the count behind a fault: one more where the device failed, as far as a u64 counts
+abbrev pub CountsFault : OpenFault → ℕ → ℕ → Type 0
+CountsFault faults.Device old new =
+    (new ≡ old + 1) ⊎ ((new ≡ old) × (new ≡ 18446744073709551615))
+CountsFault faults.Memory old new = new ≡ old
+CountsFault faults.NotADatabase old new = new ≡ old
+CountsFault faults.Damaged old new = new ≡ old
+CountsFault faults.NewerFormat old new = new ≡ old
 
 -- Each read that fails is counted, as far as a u64 counts: the count rises just where one failed.
 pub record CountsFailed {D : Type 0} (history : D → History) (old new : Store D) : Type 0 where

@@ -126,6 +126,7 @@ pub record FindsFree {D : Type 0} (history : D → History) (limit : ℕ)
   pub stopped : is_stopped new ≡ is_stopped old
   pub committed : (live : List ℕ) (entries : List Entry) → IsCommitted history old live entries
       → IsCommitted history new live entries
+  pub noted : KeepsWord (disk_history history new) → CountsFailed history old new
   pub some : IfOk result (λ found. IsNewBook (max (max limit (durable_root old).pages) 1) found.0)
   pub listed : let root = durable_root old in
       let sheets = sheet_at (reads (now (disk_history history old))) root in
