@@ -92,6 +92,7 @@ module _ {D : Type 0} (history : D → History) (old new : Engine D) (h : IsSoun
       done = ap (world_of old.told.value) made;
       stops = λ e. absurd cc;
       memory = λ e. absurd cc;
+      clear = λ e. absurd cc;
       full = λ e. absurd cc;
       version = sym (counted rests);
       ended = idle;
@@ -192,6 +193,7 @@ module _ {D : Type 0} (history : D → History) (old new : Engine D) (h : IsSoun
           done = tt;
           stops = λ e. absurd (not_device e);
           memory = λ e. back;
+          clear = λ e. disk_same;
           full = λ e. (back, cause (ap fault_of e));
           version = untouched.version;
           ended = ended;
@@ -251,6 +253,7 @@ module _ {D : Type 0} (history : D → History) (old new : Engine D) (h : IsSoun
           done = forth;
           stops = λ e. absurd cc;
           memory = λ e. absurd cc;
+          clear = λ e. absurd cc;
           full = λ e. absurd cc;
           version = saved.version ∙ sym (counted moved);
           ended = ended;
@@ -276,6 +279,7 @@ module _ {D : Type 0} (history : D → History) (old new : Engine D) (h : IsSoun
           done = tt;
           stops = λ e. (forth, off);
           memory = λ e. absurd cc;
+          clear = λ e. absurd cc;
           full = λ e. absurd cc;
           version = saved.still;
           ended = ended;

@@ -2,8 +2,9 @@
 
 ghost use Rattle.std.specs.Prelude.{◌≡◌};
 ghost use Rattle.collections.specs.View.{pages_of};
-ghost use Rattle.engine.specs.Troubles.{Tells};
+ghost use Rattle.engine.specs.Troubles.{Tells, TellsFault};
 
+use crate::check_fault::CheckFault;
 use collections::Collections;
 use page::Disk;
 use path::Refusal;
@@ -41,4 +42,15 @@ pub(crate) fn told(refusal: Refusal, before: Troubles, now: Troubles) -> Refusal
         return Refusal::Full;
     }
     refusal
+}
+
+/// Why a look through a file ended between these moments of it, likewise.
+pub(crate) fn told_fault(fault: CheckFault, before: Troubles, now: Troubles) -> CheckFault
+    ensures { TellsFault fault before now result }
+{
+    if fault == CheckFault::Memory && before.failed_reads < now.failed_reads {
+        CheckFault::Device
+    } else {
+        fault
+    }
 }

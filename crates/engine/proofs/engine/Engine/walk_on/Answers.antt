@@ -5,7 +5,7 @@ use Rattle.bson.specs.Tree.{Pairs}
 use Rattle.collections.specs.Walk.{IsWalk, StepsOn}
 use Rattle.engine.proofs.Dumping.{batch_dumped, batch_not_dumped}
 use Rattle.engine.proofs.LookingLemmas.{looks_so_of}
-use Rattle.engine.proofs.engine.Engine.next_dumped.Goals as goal
+use Rattle.engine.proofs.engine.Engine.walk_on.Goals as goal
 
 pub returns : goal.returns
 returns g c =

@@ -1,7 +1,7 @@
 use Rattle.std.proofs.Common.{sym}
 use Rattle.std.proofs.lemmas.Result.{err_from_is_err_and}
 use Rattle.engine.proofs.Dumping.{dump_begun, dump_memory, dump_missing, dump_stopped, dump_unread}
-use Rattle.engine.proofs.engine.Engine.dump.Goals as goal
+use Rattle.engine.proofs.engine.Engine.walk_through.Goals as goal
 
 pub returns-in_err-number : goal.returns-in_err-number
 returns-in_err-number g c =

@@ -3,7 +3,7 @@ use Rattle.std.proofs.lemmas.Result.{err_from_is_err_and}
 use Rattle.opening.specs.Totals.{total_indexes}
 use Rattle.opening.specs.Loading.{named_as}
 use Rattle.engine.proofs.FileCounts.{check_done, check_stopped, check_uncounted, check_unread, check_without_memory}
-use Rattle.engine.proofs.engine.Engine.check.Goals as goal
+use Rattle.engine.proofs.engine.Engine.look_through.Goals as goal
 
 pub returns-then-is_stopped : goal.returns-then-is_stopped
 returns-then-is_stopped g c = check_stopped g.D.Disk.history c.args.self.now c.requires.sound (sym c.if-is_stopped.ensures)
