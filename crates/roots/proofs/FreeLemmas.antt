@@ -138,6 +138,12 @@ module _ {D : Type 0} (history : D → History) (old : Store D) (disk : D) (coun
   counts_read (Err faults.Damaged) looks same = none_failed same (looks.clear (λ is. absurd cc) keeps)
   counts_read (Err faults.NewerFormat) looks same = absurd looks.cause
 
+pub only_read : {D X : Type 0} (history : D → History) (result : Result X OpenFault) (old : Store D) (disk : D) (count : ℕ)
+    → Looks result (history old.disk) (history disk) → IsCounted result old.failed_reads count
+    → OnlyReads history old (record old { disk = disk; failed_reads = count })
+only_read history result old disk count looks counted =
+    record { disk = looks.reads; root = refl; stopped = refl; noted = λ keeps. counts_read history old disk count keeps result looks counted }
+
 -- a page was read
 pub page_read : {D : Type 0} (history : D → History) (page : ℕ) (result : Result PageImage OpenFault) (old : Store D) (disk : D) (count : ℕ)
     → Looks result (history old.disk) (history disk) → IsCounted result old.failed_reads count

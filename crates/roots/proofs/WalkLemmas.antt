@@ -298,14 +298,12 @@ handed_on (Err e) f is = ap Err is
 
 pub looks_failed : {X Y : Type 0} (a b c : History) (result : Result X OpenFault) (e : OpenFault) → result ≡ Err e → HasRead a b → Looks {X = Y} (Err e) b c
     → Looks result a c
-looks_failed {X = X} {Y = Y} a b c result e is first looks = record {
+looks_failed a b c result e is first looks = record {
   reads = reads_further a b c first.reads looks.reads;
   cause = subst (λ r. IfErr r (HasCause a c)) (sym is) (cause_later a b c e first.reads looks.reads looks.cause);
-  clear = λ ne keeps. looks.clear (λ device. ne (is ∙ ap Err (same_fault Y e device))) keeps ∙ first.clear (looks.reads.on.kept keeps);
+  clear = λ ne keeps.
+      looks.clear (λ device. ne (is ∙ ap Err (let same : e ≡ faults.Device = cc in same))) keeps ∙ first.clear (looks.reads.on.kept keeps);
 }
-  where
-    same_fault : (Y : Type 0) (e : OpenFault) → Err {T = Y} e ≡ Err faults.Device → e ≡ faults.Device
-    same_fault Y e is = cc
 
 pub same_pages : (a b : History) (root : Root) → now b ≡ now a → pages_in b root ≡ pages_in a root
 same_pages a b root same = ap (λ (s : ℕ → Sector). store_of (sheet_at (reads s) root)) same

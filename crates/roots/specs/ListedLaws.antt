@@ -1,6 +1,5 @@
 -- Reads of a store, one after the other.
-use Rattle.std.specs.Prelude.{◌≤◌, inl, inr, refl}
-use Rattle.std.proofs.Common.{◌∙◌, arith}
+use Rattle.std.proofs.Common.{◌≤◌, ◌∙◌, arith, inl, inr, refl}
 use Rattle.std.proofs.Math.Nat.{lt_of_le_of_lt}
 use Rattle.std.proofs.lemmas.Bool.{cases_lt}
 use Rattle.page.specs.History.{History}

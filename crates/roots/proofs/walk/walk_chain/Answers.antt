@@ -12,7 +12,7 @@ use Rattle.roots.specs.Walk.{CanReach, pages_in, pages_so_far}
 use Rattle.roots.proofs.FoundLemmas.{chain_begins, chain_found, chain_more, page_there}
 use Rattle.roots.proofs.ImageLemmas.{live_below}
 use Rattle.roots.proofs.WalkLemmas.{IsNext, begun, next_link, can_go_on, can_reach_same, reaches_failed, not_damaged, read_content, part_long, link_more}
-use Rattle.roots.proofs.WalkLemmas.{all_links, has_read, looks_damaged, looks_failed, looks_later, no_chain}
+use Rattle.roots.proofs.WalkLemmas.{all_links, has_read, looks_damaged, looks_later, no_chain}
 use Rattle.roots.proofs.walk.walk_chain.Goals as goal
 
 pub loop-left-init : goal.loop-left-init
