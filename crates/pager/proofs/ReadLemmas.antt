@@ -1,5 +1,5 @@
 -- A page is read from the cache or from the disk.
-use Rattle.std.proofs.Common.{◌≡◌, ℕ, List, Some, refl, sym, ◌∙◌, ap, subst, inl, inr}
+use Rattle.std.proofs.Common.{◌≡◌, ℕ, List, Some, refl, sym, ◌∙◌, ap, subst, inl, inr, arith}
 use Rattle.std.specs.Prelude.{Result, Ok, Err}
 use Rattle.page.specs.Cache.{kept}
 use Rattle.page.specs.Format.{Sheet}

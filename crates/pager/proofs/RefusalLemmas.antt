@@ -1,9 +1,9 @@
 -- Why a disk isn't opened.
-use Rattle.std.proofs.Common.{◌≡◌, ◌≢◌, ℕ, ◌<◌, List, refl, sym, ◌∙◌, subst, arith}
+use Rattle.std.proofs.Common.{◌≡◌, ◌≢◌, ℕ, ◌<◌, List, refl, sym, ap, ◌∙◌, subst, arith}
 use Rattle.std.specs.Prelude.{Ok, Err}
 use Rattle.page.specs.History.{History, KeepsWord, IsImage, now, reads}
 use Rattle.page.specs.Crash.{ReadsOnly}
-use Rattle.page.proofs.Moments.{goes_further, leaves_further, leaves_now, reads_moments}
+use Rattle.page.proofs.Moments.{goes_further, leaves_further, leaves_now, reads_moments, reads_nothing}
 use Rattle.btree.specs.Keys.{Entry}
 use Rattle.roots.specs.declared.opening.OpenFault.{OpenFault}
 use Rattle.roots.specs.declared.opening.OpenFault.TheVariants as faults
@@ -23,7 +23,7 @@ record IsReadFault (old new : History) (fault : OpenFault) : Type 0 where
   old_format : fault ≢ faults.NewerFormat
 
 -- want of memory comes only where no read failed
-IsClear : History → History → OpenFault → Type 0
+abbrev IsClear : History → History → OpenFault → Type 0
 IsClear old new fault = fault ≡ faults.Memory → KeepsWord new → new.failures ≡ old.failures
 
 read_fault : (old new : History) (fault : OpenFault) → HasCause old new fault → IsClear old new fault → IsReadFault old new fault
@@ -74,6 +74,17 @@ module _ {D : Type 0} (history : D → History) (disk : D) (mid : Store D) (firs
       by_others faults.Damaged a b c d = refl
       by_others faults.NotADatabase a b c d = absurd (c refl)
       by_others faults.NewerFormat a b c d = absurd (d refl)
+
+  -- there was no memory for the cache
+  pub refused_cache : (back : D) → history back ≡ disk_history history mid → IsRefused history disk back faults.Memory
+  refused_cache back same =
+      let h1 = disk_history history mid in
+      refused_reading back faults.Memory (subst (ReadsOnly h1) (sym same) (reads_nothing h1)) (record {
+        on_device = λ is. absurd cc;
+        on_memory = λ _ k. ap (λ (h : History). h.failures) same;
+        known = λ is. absurd cc;
+        old_format = λ is. absurd cc;
+      }) (λ is. absurd cc)
 
   -- where the free pages are to be found
   pub refused_walking : (limit : ℕ) (new : Store D) (back : D) (fault : OpenFault) → history back ≡ disk_history history new

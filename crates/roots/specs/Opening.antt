@@ -16,6 +16,9 @@ pub record IsOpened {D : Type 0} (history : D → History) (disk : D) (store : S
   pub uncounted : failed_reads store ≡ 0
   pub on : GoesOn (history disk) (disk_history history store)
   pub only : OnlySyncs (history disk) (disk_history history store)
+  -- no call failed
+  pub clear : KeepsWord (disk_history history store)
+      → (disk_history history store).failures ≡ (history disk).failures
   pub known : IsKnown (durable_root store)
   -- its root is the one that the disk's sectors give
   pub opens : KeepsWord (disk_history history store)

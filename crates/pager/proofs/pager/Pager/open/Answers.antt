@@ -2,7 +2,7 @@ use Rattle.std.proofs.Common.{◌≡◌, Result, Ok, Err, sym, ap, ◌∙◌, ar
 use Rattle.roots.specs.declared.opening.OpenFault.{OpenFault}
 use Rattle.roots.specs.declared.opening.OpenFault.TheVariants as faults
 use Rattle.pager.proofs.OpenLemmas.{kept_opened, limit_opened, opened_so}
-use Rattle.pager.proofs.RefusalLemmas.{refused_walking}
+use Rattle.pager.proofs.RefusalLemmas.{refused_cache, refused_walking}
 use Rattle.pager.proofs.pager.Pager.open.Goals as goal
 
 err_same : {X : Type 0} {one other : OpenFault} → (let r : Result X OpenFault = Err one in r) ≡ Err other → one ≡ other
@@ -33,3 +33,7 @@ returns-in-Err-free_pages-clause-refused g c =
     c.in-Err-free_pages.ensures.looks.reads c.in-Err-free_pages.ensures.looks.cause
     (λ is. c.in-Err-free_pages.ensures.looks.clear (λ same. let never : faults.Memory ≡ faults.Device = sym is ∙ err_same same in absurd cc))
     c.in-Err-free_pages.ensures.finds
+
+pub returns-in_default-clause-refused : goal.returns-in_default-clause-refused
+returns-in_default-clause-refused g c =
+    refused_cache g.D.Disk.history c.args.disk c.in-Ok.store c.in-Ok.ensures.opened c.into_disk.result (ap g.D.Disk.history c.into_disk.ensures)
