@@ -15,8 +15,7 @@ returns-in-Err-clause-reads g c =
     let history = g.D.Disk.history in
     let old = c.args.store.now in
     let new = c.read.new.self in
-    let only : OnlyRead history old new = record
-    {
+    let only : OnlyRead history old new = record {
       root = c.read.ensures.reads.root;
       stopped = c.read.ensures.reads.stopped;
       reads = c.read.ensures.looks.reads;
@@ -32,8 +31,7 @@ returns-in_default-new-clause-reads g c =
     let history = g.D.Disk.history in
     let old = c.args.store.now in
     let new = c.read.new.self in
-    let only : OnlyRead history old new = record
-    {
+    let only : OnlyRead history old new = record {
       root = c.read.ensures.reads.root;
       stopped = c.read.ensures.reads.stopped;
       reads = c.read.ensures.looks.reads;
@@ -46,8 +44,7 @@ returns-clause-reads g c =
     let history = g.D.Disk.history in
     let old = c.args.store.now in
     let new = c.read.new.self in
-    let only : OnlyRead history old new = record
-    {
+    let only : OnlyRead history old new = record {
       root = c.read.ensures.reads.root;
       stopped = c.read.ensures.reads.stopped;
       reads = c.read.ensures.looks.reads;
