@@ -23,8 +23,8 @@ opened history before disk root h1 ok only opens tick syncs known clear =
     record {
       running = refl;
       uncounted = refl;
-      clear = clear;
       known = known;
+      clear = clear;
       on = goes_further h0 h1 h2 only.on (goes_one h1 h2 ok tick);
       only = then_syncs h0 h1 h2 ok only tick syncs;
       opens = λ k. opens (tick.kept k);

@@ -27,19 +27,21 @@ counts_more history x y z before behind first second = record {
     | inl early ↦ omega (arith, first.failed early, behind)
     | inr late ↦ omega (arith, second.failed (omega (arith, up, late)), before)
   ];
-  counted = λ up. elim (cases_lt (disk_history history y).failures (disk_history history z).failures) [
-    | inl late ↦ elim (second.counted late) [
-      | inl more ↦ inl (omega (arith, more, first.rises))
-      | inr full ↦ inr full
-    ]
-    | inr early ↦ elim (first.counted (omega (arith, up, early))) [
-      | inl more ↦ inl (omega (arith, more, second.rises))
-      | inr full ↦ elim (cases_lt (failed_reads y) (failed_reads z)) [
-        | inl more ↦ inl (omega (arith, more, first.rises))
-        | inr same ↦ inr (omega (arith, full, same, second.rises))
-      ]
-    ]
-  ];
+  counted = λ up.
+      let there = (disk_history history y).failures in
+      elim (cases_lt there (disk_history history z).failures) [
+        | inl late ↦ elim (second.counted late) [
+          | inl more ↦ inl (omega (arith, more, first.rises))
+          | inr full ↦ inr full
+        ]
+        | inr early ↦ elim (first.counted (omega (arith, up, early))) [
+          | inl more ↦ inl (omega (arith, more, second.rises))
+          | inr full ↦ elim (cases_lt (failed_reads y) (failed_reads z)) [
+            | inl more ↦ inl (omega (arith, more, first.rises))
+            | inr same ↦ inr (omega (arith, full, same, second.rises))
+          ]
+        ]
+      ];
 }
 
 -- ---- reads

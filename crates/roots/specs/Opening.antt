@@ -16,10 +16,10 @@ pub record IsOpened {D : Type 0} (history : D → History) (disk : D) (store : S
   pub uncounted : failed_reads store ≡ 0
   pub on : GoesOn (history disk) (disk_history history store)
   pub only : OnlySyncs (history disk) (disk_history history store)
-  -- no call failed
+  pub known : IsKnown (durable_root store)
+  -- no call of the disk failed
   pub clear : KeepsWord (disk_history history store)
       → (disk_history history store).failures ≡ (history disk).failures
-  pub known : IsKnown (durable_root store)
   -- its root is the one that the disk's sectors give
   pub opens : KeepsWord (disk_history history store)
       → OpensAs (reads (now (history disk))) (durable_root store)
@@ -45,3 +45,5 @@ pub record IsRefused {D : Type 0} (history : D → History) (disk back : D)
   pub no_memory : fault ≢ faults.Memory
   pub device : fault ≡ faults.Device → KeepsWord (history back)
       → (history disk).failures < (history back).failures
+  pub clear : fault ≢ faults.Device → KeepsWord (history back)
+      → (history back).failures ≡ (history disk).failures

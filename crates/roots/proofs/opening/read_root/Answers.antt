@@ -1,5 +1,3 @@
-use Rattle.std.proofs.Common.{◌∙◌, Result, Ok, Err}
-use Rattle.std.specs.Prelude.{OnOk}
 use Rattle.page.proofs.Moments.{reads_further, reads_one}
 use Rattle.roots.proofs.opening.read_root.Goals as goal
 
@@ -10,12 +8,3 @@ returns-clause-reads g c =
     let h2 = g.D.Disk.history c.read-2.new.self in
     reads_further h0 h1 h2 (reads_one h0 h1 _ c.read.ensures.time (λ keeps. c.read.ensures.same keeps))
     (reads_one h1 h2 _ c.read-2.ensures.time (λ keeps. c.read-2.ensures.same keeps))
-
-anyway : {X E P : Type 0} (r : Result X E) → P → OnOk r P
-anyway (Ok x) p = p
-anyway (Err e) p = tt
-
-pub returns-clause-clear : goal.returns-clause-clear
-returns-clause-clear g c = λ keeps.
-    anyway c.choose.result
-    (c.in_ok-read-2.ensures.time.failures keeps ∙ c.in_ok-read.ensures.time.failures (c.read-2.ensures.time.kept keeps))

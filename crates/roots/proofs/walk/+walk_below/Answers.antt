@@ -169,7 +169,8 @@ returns-in_err-below-clause-reaches g t c keeps d body part can =
     depth_failed (suc d) (c.args.page ∷ pages_of (suc d) twigs) (pages_so_far c.args.reached.now)
     (pages_so_far c.walk_below.new.reached) c.from_residual-in_err-below.result c.in_err-below.field-0.0 (handed_on _ _ c.from_residual-in_err-below.ensures.1)
     (c.in_err-below.ensures.reaches keeps d a.mid.body
-    (child_there h1 h2 c.args.root (inv.only.reads.same k2) c.args.page c.args.level d low high twigs arms i a child from to e c.child-child.ensures bounds part)
+    (child_there h1 h2 c.args.root (inv.only.reads.same k2) c.args.page c.args.level d low high twigs arms i a child from to e c.child-child.ensures bounds
+    part)
     (child_can c.args.root d twigs arms i a child e c.child-child.ensures c.args.root.pages c.note.new.self c.loop-i.reached can1 inv.marks
     (inv.so_far k2 d twigs e part can1).1)))
     d body (sym (ap content_in c.in-Branch.is) ∙ content)
@@ -214,7 +215,8 @@ returns-then-below-depth-clause-reaches g t c keeps d body part can =
     (pages_of (suc d) twigs) can c.in_ok-note.ensures.marks c.in_ok-note.ensures.noted in
     let a = at_place twigs i (within d arms twigs i e (omega arith)) in
     let there = c.in_ok-below.ensures.reaches keeps d a.mid.body
-    (child_there h1 h2 c.args.root (inv.only.reads.same k2) c.args.page c.args.level d low high twigs arms i a child from to e c.child-child.ensures bounds part)
+    (child_there h1 h2 c.args.root (inv.only.reads.same k2) c.args.page c.args.level d low high twigs arms i a child from to e c.child-child.ensures bounds
+    part)
     (child_can c.args.root d twigs arms i a child e c.child-child.ensures c.args.root.pages c.note.new.self c.loop-i.reached can1 inv.marks
     (inv.so_far k2 d twigs e part can1).1) in
     absurd (omega (arith, there.0, (inv.so_far k2 d twigs e part can1).0 (omega arith))))
