@@ -1,0 +1,19 @@
+use Rattle.engine.proofs.TroublesLemmas.{as_fault_here, dump_told, memory_told}
+use Rattle.engine.proofs.engine.Engine.dump.Goals as goal
+
+pub returns-in-Err-clause-begins : goal.returns-in-Err-clause-begins
+returns-in-Err-clause-begins g c =
+    let goes = c.in-Err.ensures.reads.goes in
+    let tells = as_fault_here g.D.Disk.history c.args.self.now c.walk_through.new.self goes c.in-Err.fault c.told_fault.result c.troubles_of-before.ensures
+    c.troubles_of-in-Err.ensures c.told_fault.ensures in
+    dump_told g.D.Disk.history c.args.self.now c.walk_through.new.self goes c.in-Err.fault c.told_fault.result c.args.namespace.now c.in-Err.ensures tells
+
+pub returns-in-Err-clause-memory : goal.returns-in-Err-clause-memory
+returns-in-Err-clause-memory g c = λ k memory.
+    let goes = c.in-Err.ensures.reads.goes in
+    let tells = as_fault_here g.D.Disk.history c.args.self.now c.walk_through.new.self goes c.in-Err.fault c.told_fault.result c.troubles_of-before.ensures
+    c.troubles_of-in-Err.ensures c.told_fault.ensures in
+    memory_told g.D.Disk.history c.args.self.now c.walk_through.new.self goes c.in-Err.fault c.told_fault.result k tells cc
+
+pub returns-in-Ok-clause-memory : goal.returns-in-Ok-clause-memory
+returns-in-Ok-clause-memory g c = λ k memory. absurd cc
