@@ -5,3 +5,5 @@ pub mod EditPathLemmas
 pub mod UnsetLemmas
 pub mod InsideLemmas
 pub mod RenamingLemmas
+pub mod RenameInsideLemmas
+pub mod UnsetOrderLemmas

@@ -13,6 +13,7 @@ mod copying;
 mod edit;
 mod edit_list;
 mod fields;
+mod inside;
 pub mod laws;
 mod numbers;
 mod operators;
