@@ -76,7 +76,8 @@ leads_same f keeps (name ∷ rest) (array ts) = refl
 leads_same f keeps (name ∷ rest) (document ps) = by (lookup ps name) refl (leads_same f keeps rest)
   where
     by : (o : Option Tree) → lookup ps name ≡ o → ((u : Tree) → leads_to_array rest (inside rest f u) ≡ leads_to_array rest u)
-        → some_passes (leads_to_array rest) (lookup (cut_found (λ t. Some (inside rest f t)) name ps o) name) ≡ some_passes (leads_to_array rest) (lookup ps name)
+        → some_passes (leads_to_array rest) (lookup (cut_found (λ t. Some (inside rest f t)) name ps o) name)
+        ≡ some_passes (leads_to_array rest) (lookup ps name)
     by None e later = refl
     by (Some u) e later =
         ap (some_passes (leads_to_array rest)) (lookup-put ps name (inside rest f u)) ∙ later u

@@ -1,5 +1,5 @@
--- Edits of the fields of one value further down, which is reached once however many they are: all of
--- them take fields away, or all rename some.
+-- Edits of the fields of one value further down, which is reached once however many they are:
+-- all of them take fields away, or all rename some.
 use Rattle.std.specs.Prelude.{ℕ, Bool, true, false, if◌then◌else◌, Option, Some, List, [], ◌∷◌}
 use Rattle.bson.specs.Tree.{Tree, scalar, document, array, Pairs, no_pairs, Items}
 use Rattle.path.specs.Edits.{cut_field, cut_item}

@@ -8,11 +8,13 @@ pub invariant_of-result : goal.invariant_of-result
 invariant_of-result c =
     put_gone_all c.self.inside.gone c.self.inside.kept c.self.inside.moved c.levels-levels.ensures.lawful.lawful c.self.invariant c.args.name.now
     (tree c.args.value) c.put-2.new.document c.put.new.document c.in_ok-put-2.ensures
-    (c.in_ok-put.ensures ∙ ap (λ ps. put ps c.args.name.now (tree c.args.value)) (c.remove-replaced.ensures.rest ∙ ap (cut c.self.inside.moved) c.as_str.ensures.name))
+    (c.in_ok-put.ensures
+    ∙ ap (λ ps. put ps c.args.name.now (tree c.args.value)) (c.remove-replaced.ensures.rest ∙ ap (cut c.self.inside.moved) c.as_str.ensures.name))
 
 pub returns : goal.returns
 returns c =
     put_behind_all c.self.inside.gone c.self.inside.kept c.self.inside.moved c.levels-levels.ensures.lawful.lawful c.self.invariant c.args.name.now
     (tree c.args.value) c.put-2.new.document c.put.new.document c.in_ok-put-2.ensures
-    (c.in_ok-put.ensures ∙ ap (λ ps. put ps c.args.name.now (tree c.args.value)) (c.remove-replaced.ensures.rest ∙ ap (cut c.self.inside.moved) c.as_str.ensures.name))
+    (c.in_ok-put.ensures
+    ∙ ap (λ ps. put ps c.args.name.now (tree c.args.value)) (c.remove-replaced.ensures.rest ∙ ap (cut c.self.inside.moved) c.as_str.ensures.name))
     ∙ ap (λ ps. put (cut ps c.args.name.now) c.args.name.now (tree c.args.value)) c.self.view_is
