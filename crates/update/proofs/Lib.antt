@@ -7,3 +7,4 @@ pub mod InsideLemmas
 pub mod RenamingLemmas
 pub mod RenameInsideLemmas
 pub mod UnsetOrderLemmas
+pub mod ApartLemmas

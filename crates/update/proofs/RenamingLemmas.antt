@@ -265,9 +265,10 @@ pairs_of-both (p ∷ ps) qs = ap (pair p.name (tree p.value)) (pairs_of-both ps 
 
 -- ---- values that are taken out and put back
 
-pub same_first : (ps : Pairs) (t : Tree) → option_map (λ (p : List ℕ × Tree). p.1) (pair_at ps 0) ≡ Some t → with_value ps 0 t ≡ ps
-same_first no_pairs t e = refl
-same_first (pair n u ps) t e = let is : t ≡ u = cc in ap (λ (v : Tree). pair n v ps) is
+pub same_there : (ps : Pairs) (i : ℕ) (t : Tree) → option_map (λ (p : List ℕ × Tree). p.1) (pair_at ps i) ≡ Some t → with_value ps i t ≡ ps
+same_there no_pairs i t e = absurd cc
+same_there (pair n u ps) zero t e = let is : t ≡ u = cc in ap (λ (v : Tree). pair n v ps) is
+same_there (pair n u ps) (suc i) t e = ap (pair n u) (same_there ps i t e)
 
 -- a null where a marked name stands
 pub kept_marks : (marks ps : Pairs) (i : ℕ) (name : List ℕ) (t : Tree) → place ps name ≡ Some i → is_some (lookup marks name) ≡ true

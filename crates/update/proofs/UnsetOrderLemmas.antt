@@ -18,7 +18,7 @@ use Rattle.path.specs.Edits.{if_ok, put_or_cut, cut_found, cut_field, with_found
 use Rattle.path.specs.Parts.{index_of}
 use Rattle.path.specs.declared.refusal.Refusal.{Refusal}
 use Rattle.update.specs.Applying.{apply_edit, apply_edits}
-use Rattle.update.specs.Unsets.{takes_away, is_unset}
+use Rattle.update.specs.Unsets.{takes_away, is_unset, cut_all}
 use Rattle.update.specs.Update.{Path, Action, set, unset, increment, at_most, at_least, push, pull, rename, Edit}
 use Rattle.update.specs.View.{edit_of}
 use Rattle.update.specs.declared.edit.Edit.{Edit as Change}
@@ -212,7 +212,7 @@ off_commute (n ∷ p) (m ∷ q) (array ts) h =
     ap (λ (us : Items). Some (array us)) (items_commute (cut_off p) (cut_off q) (off_null p) (off_null q) ts
     (λ i u e. off_commute p q u (IsTree-item ts i u h e)) (index_of n) (index_of m))
 
-cut_commute : (p q : Path) (ps : Pairs) → IsPairs ps → cut_at p (cut_at q ps) ≡ cut_at q (cut_at p ps)
+pub cut_commute : (p q : Path) (ps : Pairs) → IsPairs ps → cut_at p (cut_at q ps) ≡ cut_at q (cut_at p ps)
 cut_commute [] q ps h = refl
 cut_commute (n ∷ p) [] ps h = refl
 cut_commute (n ∷ p) (m ∷ q) ps h = fields_commute (cut_off p) (cut_off q) n m ps h (λ u k. off_commute p q u k)
@@ -263,15 +263,11 @@ off_lawful (name ∷ rest) (array ts) w h e =
     let is : array (cut_item (cut_off rest) (index_of name) ts) ≡ w = cc in
     subst IsTree is (item_lawful (cut_off rest) (off_lawful rest) (index_of name) ts h)
 
-cut_lawful : (path : Path) (ps : Pairs) → IsPairs ps → IsPairs (cut_at path ps)
+pub cut_lawful : (path : Path) (ps : Pairs) → IsPairs ps → IsPairs (cut_at path ps)
 cut_lawful [] ps h = h
 cut_lawful (name ∷ rest) ps h = field_lawful (cut_off rest) (off_lawful rest) name ps h
 
 -- ---- many, one after the other
-
-abbrev cut_all : List Edit → Pairs → Pairs
-cut_all [] ps = ps
-cut_all (e ∷ es) ps = cut_all es (cut_at e.path ps)
 
 -- two that change places
 second_first : (es : List Edit) (j : ℕ) (x d : Edit) (ps : Pairs) → j < length es → IsPairs ps
@@ -301,7 +297,7 @@ permuted es fs ps moved h = IsPermutation-keeps es (λ l. cut_all l ps ≡ cut_a
 
 -- ---- edits that take something away
 
-only_unset : (action : Action) → takes_away action ≡ true → action ≡ unset
+pub only_unset : (action : Action) → takes_away action ≡ true → action ≡ unset
 only_unset unset e = refl
 only_unset (set t) e = absurd cc
 only_unset (increment n) e = absurd cc
@@ -311,7 +307,7 @@ only_unset (push ts) e = absurd cc
 only_unset (pull c) e = absurd cc
 only_unset (rename new) e = absurd cc
 
-all_cut : (es : List Edit) (ps : Pairs) → list_all is_unset es ≡ true → apply_edits es ps ≡ Ok (cut_all es ps)
+pub all_cut : (es : List Edit) (ps : Pairs) → list_all is_unset es ≡ true → apply_edits es ps ≡ Ok (cut_all es ps)
 all_cut [] ps all = refl
 all_cut (e ∷ es) ps all =
     let both = and_true (is_unset e) (list_all is_unset es) all in
@@ -330,7 +326,7 @@ module _ {X : Type 0} (p : X → Bool) where
   all_permuted : (xs ys : List X) → IsPermutation xs ys → list_all p ys ≡ list_all p xs
   all_permuted xs ys moved = all_none ys ∙ ap not (sym (list_any-IsPermutation (λ x. not (p x)) xs ys moved)) ∙ sym (all_none xs)
 
-all_mapped : (cs : List Change) → list_all (λ c. is_unset (edit_of c)) cs ≡ list_all is_unset (map edit_of cs)
+pub all_mapped : (cs : List Change) → list_all (λ c. is_unset (edit_of c)) cs ≡ list_all is_unset (map edit_of cs)
 all_mapped [] = refl
 all_mapped (c ∷ cs) = ap (λ (b : Bool). is_unset (edit_of c) && b) (all_mapped cs)
 

@@ -35,6 +35,9 @@ renamed (e ∷ es) ps = renamed es (moved_by (last_name e.path) e.action ps)
 
 -- ---- while it is done
 
+abbrev pub rename_of : Path → Path → Edit
+rename_of old new = record { path = old; action = rename new }
+
 -- the pairs that are kept and aren't gone, and those that moved
 abbrev pub whole : Pairs → Pairs → Pairs → Pairs
 whole gone kept moved = append (unmarked gone kept) moved

@@ -6,7 +6,7 @@ use Rattle.std.specs.Str.{bytes_eq}
 use Rattle.bson.specs.Edits.{put}
 use Rattle.bson.specs.Tree.{scalar, null, Pairs, no_pairs, pair, Items}
 use Rattle.bson.specs.Lookup.{lookup}
-use Rattle.path.specs.Edits.{cut_item, cut_off}
+use Rattle.path.specs.Edits.{cut_item, cut_off, cut_at}
 use Rattle.path.specs.Parts.{index_of}
 use Rattle.update.specs.Update.{Path, Action, unset, Edit}
 
@@ -35,6 +35,11 @@ abbrev pub last_name : Path → List ℕ
 last_name [] = []
 last_name (name ∷ []) = name
 last_name (name ∷ next ∷ rest) = last_name (next ∷ rest)
+
+-- without what stands at the paths of these edits
+abbrev pub cut_all : List Edit → Pairs → Pairs
+cut_all [] ps = ps
+cut_all (e ∷ es) ps = cut_all es (cut_at e.path ps)
 
 -- with a null under the last name of each edit's path
 abbrev pub marked : List Edit → Pairs → Pairs

@@ -17,7 +17,7 @@ use path::Part;
 use std::alloc::Global;
 
 /// Takes a field's value out, and leaves null in its place.
-fn take_field(document: &mut Document, at: usize) -> Value
+pub(crate) fn take_field(document: &mut Document, at: usize) -> Value
     requires { at < pairs_len document.old }
     ensures value { option_map (λ p. p.1) (pair_at document.old at) ≡ Some (tree result) }
     ensures levels { levels (tree result) ≤ 99 }
@@ -31,7 +31,7 @@ fn take_field(document: &mut Document, at: usize) -> Value
 }
 
 /// Puts a value in a field's place that nests no deeper than a document allows.
-fn put_field(document: &mut Document, at: usize, value: Value)
+pub(crate) fn put_field(document: &mut Document, at: usize, value: Value)
     requires there { at < pairs_len document.old }
     requires levels { levels (tree value) ≤ 99 }
     ensures { document.new ≡ with_value document.old at (tree value) }

@@ -15,6 +15,7 @@ mod edit_list;
 mod fields;
 mod inside;
 pub mod laws;
+mod moving;
 mod numbers;
 mod operators;
 mod reading;

@@ -23,6 +23,19 @@ use path::{Part, Refusal};
 use std::alloc::Global;
 use std::marker::Model;
 
+/// How many of the first edits do nothing but rename fields.
+pub(crate) fn count_renames(edits: &[Edit]) -> usize
+    ensures { result ≤ length edits.now }
+{
+    'edits: for (count, edit) in edits.iter().enumerate() {
+        match &edit.action {
+            Action::Rename(_) => {}
+            _ => return count,
+        }
+    }
+    edits.len()
+}
+
 /// Whether the edit moves a field of what stands at the end of these parts to another field of it.
 fn is_rename_below(parent: &[Part], edit: &Edit) -> bool
     ensures { result ≡ is_rename_below parent.now (edit_of edit.now) }
@@ -50,7 +63,7 @@ pub(crate) fn count_renames_below(parent: &[Part], edits: &[Edit]) -> usize
 
 /// An edit that changes nothing. After some edits a document of many fields knows where its names stand, and
 /// then misses one that it lacks without a look at all.
-fn touch(document: &mut Document)
+pub(crate) fn touch(document: &mut Document)
     ensures { document.new ≡ document.old }
 {
     let _levels = document.levels();
