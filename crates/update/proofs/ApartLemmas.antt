@@ -1,5 +1,5 @@
 -- What is taken away at one path, and what is put at another that doesn't meet it, may be done in either order.
-use Rattle.std.proofs.Common.{◌≡◌, ◌≢◌, ◌≤◌, ◌<◌, ◌+◌, ℕ, suc, max, Bool, true, false, List, [], ◌∷◌, length, Option, Some, None, Result, Ok, Err}
+use Rattle.std.proofs.Common.{◌≡◌, ◌≢◌, ◌≤◌, ◌+◌, ℕ, max, Bool, true, false, List, [], ◌∷◌, length, Option, Some, None, Result, Ok, Err}
 use Rattle.std.proofs.Common.{refl, sym, ap, subst, ◌∙◌, arith}
 use Rattle.std.specs.List.{list_all, list_any}
 use Rattle.std.specs.Prelude.{if◌then◌else◌, ◌++◌, ◌&&◌, ◌||◌, nat_le}
@@ -23,16 +23,14 @@ use Rattle.update.specs.Reading.{edits_meet, conflicts}
 use Rattle.update.specs.Renames.{moved, rename_at}
 use Rattle.update.specs.Unsets.{is_unset, cut_all}
 use Rattle.update.specs.Update.{Path, Action, unset, rename, Edit, paths_with, paths_of, meets_any}
-use Rattle.update.proofs.InsideLemmas.{put_twice, put_same}
+use Rattle.update.specs.IdEditLaws.{or_none}
+use Rattle.update.proofs.IdLemmas.{bytes_differ}
+use Rattle.update.proofs.InsideLemmas.{put_twice, put_same, some_one, document_one}
 use Rattle.update.proofs.RenamingLemmas.{no_array}
 use Rattle.update.proofs.UnsetLemmas.{cut_other, and_true}
 use Rattle.update.proofs.UnsetOrderLemmas.{cut_commute, cut_lawful, only_unset}
 
 -- ---- paths that don't meet
-
-or_false : (a b : Bool) → (a || b) ≡ false → (a ≡ false) × (b ≡ false)
-or_false false b e = (refl, e)
-or_false true b e = absurd cc
 
 -- neither is empty, and behind a first part that they share they don't meet
 never_first : (g : Path) → meets [] g ≡ false → ⊥
@@ -47,15 +45,12 @@ behind_first a b p g same e =
     let two : bytes_eq b a ≡ true = (bytes_eq-Decides b a).1 (sym same) in
     sym (λ i. (one i && is_front p g) || (two i && is_front g p)) ∙ e
 
-differ : (a b : List ℕ) → bytes_eq a b ≡ false → a ≢ b
-differ a b e same = let f = sym e ∙ (bytes_eq-Decides a b).1 same in absurd cc
-
 turned : (a b : List ℕ) → bytes_eq a b ≡ false → bytes_eq b a ≡ false
 turned a b e = by (bytes_eq b a) refl
   where
     by : (c : Bool) → bytes_eq b a ≡ c → c ≡ false
     by false is = refl
-    by true is = absurd (differ a b e (sym ((bytes_eq-Decides b a).0 is)))
+    by true is = absurd (bytes_differ a b e (sym ((bytes_eq-Decides b a).0 is)))
 
 -- a path that isn't empty leaves something of any value
 record Leaves (g : Path) (t : Tree) : Type 0 where
@@ -68,9 +63,6 @@ leaves (a ∷ p) [] apart t = absurd (never_second a p apart)
 leaves (a ∷ p) (b ∷ g) apart (scalar s) = record { rest = scalar s; is = refl }
 leaves (a ∷ p) (b ∷ g) apart (document ps) = record { rest = document (cut_field (cut_off g) b ps); is = refl }
 leaves (a ∷ p) (b ∷ g) apart (array ts) = record { rest = _; is = refl }
-
-some_same : (t u : Tree) → ◌≡◌ {A = Option Tree} (Some t) (Some u) → t ≡ u
-some_same t u e = cc
 
 module _ (left : Tree → Option Tree) where
   lookup_elsewhere : (a b : List ℕ) → a ≢ b → (ps : Pairs) → lookup (cut_field left b ps) a ≡ lookup ps a
@@ -121,7 +113,7 @@ module _ (left : Tree → Option Tree) where
       by : (c : Bool) → bytes_eq a k ≡ c → (d : Bool) → bytes_eq b k ≡ d → put (cut_field left b ps) a x ≡ cut_field left b (put ps a x)
           → put (cut_field left b (pair k t ps)) a x ≡ cut_field left b (put (pair k t ps) a x)
       by true c true d later =
-          absurd (differ b a apart ((bytes_eq-Decides b k).0 d ∙ sym ((bytes_eq-Decides a k).0 c)))
+          absurd (bytes_differ b a apart ((bytes_eq-Decides b k).0 d ∙ sym ((bytes_eq-Decides a k).0 c)))
       by true c false d later =
           ap (λ (qs : Pairs). put qs a x) (cut_other left b k t ps d) ∙ here (cut_field left b ps) c
           ∙ sym (ap (cut_field left b) (here ps c) ∙ cut_other left b k x ps d)
@@ -144,13 +136,13 @@ stays_same p t u e = record { passes = ap (passes_array p) (sym e); value = λ _
 stays : (p g : Path) → meets p g ≡ false → (t u : Tree) → cut_off g t ≡ Some u → Stays p t u
 stays [] g apart t u is = absurd (never_first g apart)
 stays (a ∷ p) [] apart t u is = absurd (never_second a p apart)
-stays (a ∷ p) (b ∷ g) apart (scalar s) u is = stays_same (a ∷ p) (scalar s) u (some_same (scalar s) u is)
+stays (a ∷ p) (b ∷ g) apart (scalar s) u is = stays_same (a ∷ p) (scalar s) u (some_one (scalar s) u is)
 stays (a ∷ p) (b ∷ g) apart (array ts) u is = record {
-  passes = ap (passes_array (a ∷ p)) (sym (some_same _ u is));
+  passes = ap (passes_array (a ∷ p)) (sym (some_one _ u is));
   value = λ clear. absurd cc;
 }
 stays (a ∷ p) (b ∷ g) apart (document ps) u is =
-    subst (Stays (a ∷ p) (document ps)) (some_same (document (cut_field (cut_off g) b ps)) u is) (by (bytes_eq a b) refl (λ same. stays p g same))
+    subst (Stays (a ∷ p) (document ps)) (some_one (document (cut_field (cut_off g) b ps)) u is) (by (bytes_eq a b) refl (λ same. stays p g same))
   where
     along : (qs : Pairs) → lookup qs a ≡ lookup ps a → Stays (a ∷ p) (document ps) (document qs)
     along qs e = record { passes = ap (some_passes (passes_array p)) e; value = λ _. ap (option_and_then (value_at p)) e }
@@ -172,7 +164,7 @@ stays (a ∷ p) (b ∷ g) apart (document ps) u is =
 
     by : (c : Bool) → bytes_eq a b ≡ c → (meets p g ≡ false → (w x : Tree) → cut_off g w ≡ Some x → Stays p w x)
         → Stays (a ∷ p) (document ps) (document (cut_field (cut_off g) b ps))
-    by false e later = along (cut_field (cut_off g) b ps) (lookup_elsewhere (cut_off g) a b (differ a b e) ps)
+    by false e later = along (cut_field (cut_off g) b ps) (lookup_elsewhere (cut_off g) a b (bytes_differ a b e) ps)
     by true e later =
         let same : a ≡ b = (bytes_eq-Decides a b).0 e in
         let on = behind_first a b p g same apart in
@@ -181,13 +173,13 @@ stays (a ∷ p) (b ∷ g) apart (document ps) u is =
 -- the way to a path is the same once what stands at its end is gone
 way_stays : (p : Path) (t u : Tree) → cut_off p t ≡ Some u → passes_array p u ≡ passes_array p t
 way_stays [] t u is = refl
-way_stays (a ∷ p) (scalar s) u is = ap (passes_array (a ∷ p)) (sym (some_same (scalar s) u is))
-way_stays (a ∷ p) (array ts) u is = ap (passes_array (a ∷ p)) (sym (some_same _ u is))
+way_stays (a ∷ p) (scalar s) u is = ap (passes_array (a ∷ p)) (sym (some_one (scalar s) u is))
+way_stays (a ∷ p) (array ts) u is = ap (passes_array (a ∷ p)) (sym (some_one _ u is))
 way_stays (a ∷ []) (document ps) u is =
-    ap (passes_array (a ∷ [])) (sym (some_same (document (cut_field (cut_off []) a ps)) u is))
+    ap (passes_array (a ∷ [])) (sym (some_one (document (cut_field (cut_off []) a ps)) u is))
     ∙ no_array (lookup (cut_field (cut_off []) a ps) a) ∙ sym (no_array (lookup ps a))
 way_stays (a ∷ b ∷ p) (document ps) u is =
-    ap (passes_array (a ∷ b ∷ p)) (sym (some_same (document (cut_field (cut_off (b ∷ p)) a ps)) u is)) ∙ by (lookup ps a) refl (way_stays (b ∷ p))
+    ap (passes_array (a ∷ b ∷ p)) (sym (some_one (document (cut_field (cut_off (b ∷ p)) a ps)) u is)) ∙ by (lookup ps a) refl (way_stays (b ∷ p))
   where
     left : (w : Tree) → Leaves (b ∷ p) w
     left (scalar s) = record { rest = scalar s; is = refl }
@@ -355,10 +347,10 @@ module _ (v : Tree) where
   commute [] g apart t u is clear low = absurd (never_first g apart)
   commute (a ∷ n) [] apart t u is clear low = absurd (never_second a n apart)
   commute (a ∷ n) (b ∷ g) apart (scalar s) u is clear low =
-      ap (λ (t : Tree). write always (a ∷ n) (Some t)) (sym (some_same (scalar s) u is))
+      ap (λ (t : Tree). write always (a ∷ n) (Some t)) (sym (some_one (scalar s) u is))
   commute (a ∷ n) (b ∷ g) apart (array ts) u is clear low = absurd cc
   commute (a ∷ n) (b ∷ g) apart (document ps) u is clear low =
-      subst (Both (a ∷ n) (b ∷ g) (document ps)) (some_same (document (cut_field (cut_off g) b ps)) u is)
+      subst (Both (a ∷ n) (b ∷ g) (document ps)) (some_one (document (cut_field (cut_off g) b ps)) u is)
       (by (bytes_eq a b) refl (λ same w left cut no_array_there fits. commute n g same w left cut no_array_there fits))
     where
       shared : meets n g ≡ false → ((w left : Tree) → cut_off g w ≡ Some left → passes_array n w ≡ false → levels w ≤ 100 → Both n g w left)
@@ -380,11 +372,12 @@ module _ (v : Tree) where
           (put_further a g ps n w l.rest below here still (write always n (Some w)) (write always n (Some l.rest)) refl refl
           (later w l.rest l.is here (omega (arith, below))))))
 
-      by : (c : Bool) → bytes_eq a b ≡ c → (meets n g ≡ false → (w left : Tree) → cut_off g w ≡ Some left → passes_array n w ≡ false → levels w ≤ 100 → Both n g w left)
+      by : (c : Bool) → bytes_eq a b ≡ c
+          → (meets n g ≡ false → (w left : Tree) → cut_off g w ≡ Some left → passes_array n w ≡ false → levels w ≤ 100 → Both n g w left)
           → Both (a ∷ n) (b ∷ g) (document ps) (document (cut_field (cut_off g) b ps))
       by false e later =
           subst (λ (o : Option Tree). Cuts (b ∷ g) (in_document ps a (within 99 (write always n (lookup ps a))))
-          (in_document (cut_field (cut_off g) b ps) a (within 99 (write always n o)))) (sym (lookup_elsewhere (cut_off g) a b (differ a b e) ps))
+          (in_document (cut_field (cut_off g) b ps) a (within 99 (write always n o)))) (sym (lookup_elsewhere (cut_off g) a b (bytes_differ a b e) ps))
           (put_beside a g ps b (turned a b e) (within 99 (write always n (lookup ps a))))
       by true e later =
           let same : a ≡ b = (bytes_eq-Decides a b).0 e in
@@ -398,9 +391,6 @@ off_is [] g apart ps = absurd (never_first g apart)
 off_is (a ∷ p) [] apart ps = absurd (never_second a p apart)
 off_is (a ∷ p) (b ∷ g) apart ps = refl
 
-document_same : (ps qs : Pairs) → document ps ≡ document qs → ps ≡ qs
-document_same ps qs e = cc
-
 set_commutes : (v : Tree) (n g : Path) → meets n g ≡ false → (ps : Pairs) → passes_array n (document ps) ≡ false → pairs_levels ps ≤ 99
     → set_at n v (cut_at g ps) ≡ if_ok (set_at n v ps) (λ qs. Ok (cut_at g qs))
 set_commutes v [] g apart ps clear low = absurd (never_first g apart)
@@ -412,9 +402,9 @@ set_commutes v (a ∷ n) (b ∷ g) apart ps clear low =
     by : (r s : Result Pairs Refusal) → Cuts v (b ∷ g) (if_ok r (λ (qs : Pairs). Ok (document qs))) (if_ok s (λ (qs : Pairs). Ok (document qs)))
         → s ≡ if_ok r (λ qs. Ok (cut_at (b ∷ g) qs))
     by (Ok qs) (Ok zs) cuts =
-        let same : document (cut_at (b ∷ g) qs) ≡ cuts.0 = some_same (document (cut_at (b ∷ g) qs)) cuts.0 cuts.1 in
+        let same : document (cut_at (b ∷ g) qs) ≡ cuts.0 = some_one (document (cut_at (b ∷ g) qs)) cuts.0 cuts.1 in
         let is : document zs ≡ cuts.0 = cc (cuts.2) in
-        ap Ok (document_same zs (cut_at (b ∷ g) qs) (is ∙ sym same))
+        ap Ok (document_one zs (cut_at (b ∷ g) qs) (is ∙ sym same))
     by (Ok qs) (Err e) cuts = absurd cc
     by (Err e) (Ok zs) cuts = absurd cc
     by (Err e) (Err d) cuts = let is : d ≡ e = cc in ap Err is
@@ -508,17 +498,17 @@ unfolding Apart
 Apart_so p [] all none = tt
 Apart_so p (e ∷ es) all none =
     let both = and_true (is_unset e) (list_all is_unset es) all in
-    let split = or_false (meets_any p (paths_of e)) (list_any (λ d. meets_any p (paths_of d)) es) none in
+    let split = or_none (meets_any p (paths_of e)) (list_any (λ d. meets_any p (paths_of d)) es) none in
     let one : meets_any p (e.path ∷ []) ≡ false = ap (λ (a : Action). meets_any p (paths_with e.path a)) (sym (only_unset e.action both.0)) ∙ split.0 in
-    ((or_false (meets p e.path) false one).0, Apart_so p es both.1 split.1)
+    ((or_none (meets p e.path) false one).0, Apart_so p es both.1 split.1)
 
 none_of_two : {X : Type 0} (f g : X → Bool) (xs : List X) → list_any (λ x. f x || (g x || false)) xs ≡ false
     → (list_any f xs ≡ false) × (list_any g xs ≡ false)
 none_of_two f g [] e = (refl, refl)
 none_of_two f g (x ∷ xs) e =
-    let split = or_false (f x || (g x || false)) (list_any (λ y. f y || (g y || false)) xs) e in
-    let here = or_false (f x) (g x || false) split.0 in
-    let second = or_false (g x) false here.1 in
+    let split = or_none (f x || (g x || false)) (list_any (λ y. f y || (g y || false)) xs) e in
+    let here = or_none (f x) (g x || false) split.0 in
+    let second = or_none (g x) false here.1 in
     let rest = none_of_two f g xs split.1 in
     ((λ i. here.0 i || rest.0 i), (λ i. second.0 i || rest.1 i))
 
@@ -530,7 +520,7 @@ pub record AllApart (old new : Path) (es : List Edit) : Type 0 where
 pub all_apart : (old new : Path) (es : List Edit) → list_all is_unset es ≡ true → conflicts es (record { path = old; action = rename new }) ≡ false
     → AllApart old new es
 all_apart old new es all none =
-    let split = or_false (list_any (edits_meet (record { path = old; action = rename new })) es) (meets new old) none in
+    let split = or_none (list_any (edits_meet (record { path = old; action = rename new })) es) (meets new old) none in
     let each = none_of_two (λ e. meets_any old (paths_of e)) (λ e. meets_any new (paths_of e)) es split.0 in
     record { of_old = Apart_so old es all each.0; of_new = Apart_so new es all each.1; of_both = split.1 }
 
@@ -538,7 +528,7 @@ all_apart old new es all none =
 pub old_alone : (old new : Path) (es : List Edit) → conflicts es (record { path = old; action = rename new }) ≡ false
     → conflicts es (record { path = old; action = unset }) ≡ false
 old_alone old new es none =
-    let split = or_false (list_any (edits_meet (record { path = old; action = rename new })) es) (meets new old) none in
+    let split = or_none (list_any (edits_meet (record { path = old; action = rename new })) es) (meets new old) none in
     let each = none_of_two (λ e. meets_any old (paths_of e)) (λ e. meets_any new (paths_of e)) es split.0 in
     λ i. one_only es each.0 i || false
   where
@@ -546,5 +536,5 @@ old_alone old new es none =
         → list_any (edits_meet (record { path = old; action = unset })) ds ≡ false
     one_only [] e = refl
     one_only (d ∷ ds) e =
-        let here = or_false (meets_any old (paths_of d)) (list_any (λ x. meets_any old (paths_of x)) ds) e in
+        let here = or_none (meets_any old (paths_of d)) (list_any (λ x. meets_any old (paths_of x)) ds) e in
         λ i. (here.0 i || false) || one_only ds here.1 i

@@ -202,7 +202,7 @@ cut_inside (name ∷ parent) (first ∷ next ∷ rest) e t =
     let both = and_true (bytes_eq name first) (is_below parent (next ∷ rest)) e in
     cut_further parent first next name rest (sym ((bytes_eq-Decides name first).0 both.0)) (λ u. cut_inside parent (next ∷ rest) both.1 u) t
 
-some_one : (t u : Tree) → Some t ≡ Some u → t ≡ u
+pub some_one : (t u : Tree) → Some t ≡ Some u → t ≡ u
 some_one t u e = cc
 
 pub cut_at-inside : (parent path : Path) → is_below parent path ≡ true → (ps : Pairs)
@@ -337,8 +337,8 @@ without_items-levels (c ∷ cs) ts =
       cut_off-levels (last_name c.path ∷ []) (array ts) (array (cut_item (cut_off []) (index_of (last_name c.path)) ts)) refl,
     )
 
-moved_found-levels : (a b : List ℕ) (ps : Pairs) → pairs_levels (moved_field a b ps) ≤ pairs_levels ps
-moved_found-levels a b ps = by (lookup ps a) refl
+pub moved_field-levels : (a b : List ℕ) (ps : Pairs) → pairs_levels (moved_field a b ps) ≤ pairs_levels ps
+moved_field-levels a b ps = by (lookup ps a) refl
   where
     by : (o : Option Tree) → lookup ps a ≡ o → pairs_levels (moved_found a b ps o) ≤ pairs_levels ps
     by None e = omega arith
@@ -346,7 +346,7 @@ moved_found-levels a b ps = by (lookup ps a) refl
         omega (arith, pairs_levels-put (cut (cut ps a) b) b t, pairs_levels-cut (cut ps a) b, pairs_levels-cut ps a, lookup-levels ps a t e)
 
 moved_by-levels : (a : List ℕ) (action : Action) (ps : Pairs) → pairs_levels (moved_by a action ps) ≤ pairs_levels ps
-moved_by-levels a (rename new) ps = moved_found-levels a (last_name new) ps
+moved_by-levels a (rename new) ps = moved_field-levels a (last_name new) ps
 moved_by-levels a (set t) ps = omega arith
 moved_by-levels a unset ps = omega arith
 moved_by-levels a (increment n) ps = omega arith

@@ -1,7 +1,7 @@
 -- Renaming fields one after the other, in the document at the end of a path, makes what renaming them there at once makes.
 use Rattle.std.proofs.Common.{◌≡◌, ◌≤◌, ℕ, Bool, true, false, List, [], ◌∷◌, ◌++◌, map, Option, Some, None, Result, Ok, Err}
 use Rattle.std.proofs.Common.{zero, suc, length, take, get_or, refl, sym, ap, ◌∙◌, arith}
-use Rattle.std.specs.Prelude.{if◌then◌else◌, nat_le}
+use Rattle.std.specs.Prelude.{if◌then◌else◌}
 use Rattle.std.specs.List.{list_all}
 use Rattle.std.specs.Option.{option_and_then}
 use Rattle.std.specs.Str.{bytes_eq}
@@ -19,14 +19,14 @@ use Rattle.path.specs.declared.refusal.Refusal.{Refusal}
 use Rattle.path.specs.declared.refusal.Refusal.TheVariants as refusals
 use Rattle.path.proofs.WalkLemmas.{lookup-levels}
 use Rattle.update.specs.Applying.{apply_edits}
-use Rattle.update.specs.Inside.{moves, begins_with_rename, value_after, in_field, inside, leads_to_array}
+use Rattle.update.specs.Inside.{moves, value_after, inside, leads_to_array}
 use Rattle.update.specs.Renames.{moved, rename_at}
 use Rattle.update.specs.Renaming.{is_rename_below, moved_found, moved_field, renamed}
 use Rattle.update.specs.Unsets.{is_below, last_name, marked, unmarked, without_items}
 use Rattle.update.specs.Update.{Path, Action, set, unset, increment, at_most, at_least, push, pull, rename, Edit}
 use Rattle.update.specs.View.{edit_of}
 use Rattle.update.specs.declared.edit.Edit.{Edit as Change}
-use Rattle.update.proofs.InsideLemmas.{put_twice, put_same, inside-none, inside-twice, inside-levels, last, not_below, cut_at-inside, document_one}
+use Rattle.update.proofs.InsideLemmas.{moved_field-levels, put_twice, put_same, inside-none, inside-twice, inside-levels, last, not_below, cut_at-inside, document_one}
 use Rattle.update.proofs.RenamingLemmas.{cut_one, no_array, same_found}
 use Rattle.update.proofs.UnsetLemmas.{and_true, unmarked-none}
 
@@ -98,12 +98,7 @@ module _ (a b : List ℕ) where
 
   moved_in-levels : (t : Tree) → levels (moved_in a b t) ≤ levels t
   moved_in-levels (scalar s) = omega arith
-  moved_in-levels (document ps) = by (lookup ps a) refl
-    where
-      by : (o : Option Tree) → lookup ps a ≡ o → levels (document (moved_found a b ps o)) ≤ levels (document ps)
-      by None e = omega arith
-      by (Some t) e =
-          omega (arith, pairs_levels-put (cut (cut ps a) b) b t, pairs_levels-cut (cut ps a) b, pairs_levels-cut ps a, lookup-levels ps a t e)
+  moved_in-levels (document ps) = omega (arith, moved_field-levels a b ps)
   moved_in-levels (array ts) = omega arith
 
   -- where nothing stands under the old name

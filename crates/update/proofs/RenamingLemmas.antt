@@ -7,7 +7,7 @@ use Rattle.std.specs.Str.{bytes_eq}
 use Rattle.std.proofs.lemmas.Slice.Eq.{bytes_eq-Decides}
 use Rattle.bson.specs.View.{tree, pairs_of}
 use Rattle.bson.specs.declared.value.Pair.{Pair}
-use Rattle.bson.specs.Tree.{Tree, scalar, null, document, Pairs, no_pairs, pair, append}
+use Rattle.bson.specs.Tree.{Tree, scalar, null, Pairs, no_pairs, pair, append}
 use Rattle.bson.specs.Edits.{pairs_len, place, pair_at, with_value, put, cut}
 use Rattle.bson.specs.EditPlaces.{pairs_levels-append}
 use Rattle.bson.specs.EditsLaws.{place-there, place-absent, lookup-put, lookup-put_other, lookup-cut_other}

@@ -1,5 +1,5 @@
 -- What is taken away may be taken away in any order.
-use Rattle.std.proofs.Common.{◌≡◌, ◌≢◌, ◌<◌, ℕ, zero, suc, Bool, true, false, List, [], ◌∷◌, length, map, Option, Some, None, Result, Ok}
+use Rattle.std.proofs.Common.{◌≡◌, ◌≢◌, ◌<◌, ℕ, zero, suc, Bool, true, false, List, [], ◌∷◌, length, map, Option, Some, None, Ok}
 use Rattle.std.proofs.Common.{get_or, set as put_in, refl, sym, ap, subst, ◌∙◌, arith, ◌⊎◌, inl, inr}
 use Rattle.std.specs.Prelude.{if◌then◌else◌, ◌&&◌, ◌||◌, not}
 use Rattle.std.specs.List.{list_all, list_any, swap}
@@ -8,16 +8,15 @@ use Rattle.std.specs.Option.{option_and_then, unwrap_or}
 use Rattle.std.specs.Str.{bytes_eq}
 use Rattle.std.proofs.lemmas.List.Sorted.{IsPermutation-keeps, IsPermutation-map, list_any-IsPermutation}
 use Rattle.std.proofs.lemmas.Slice.Eq.{bytes_eq-Decides}
-use Rattle.bson.specs.Edits.{items_len, item_at, with_item, put, cut}
+use Rattle.bson.specs.Edits.{item_at, with_item, put, cut}
 use Rattle.bson.specs.EditPlaces.{with_item-twice, item_at-with_item, IsItems-with_item}
 use Rattle.bson.specs.EditsLaws.{lookup-put, lookup-cut, IsPairs-put, IsPairs-cut}
 use Rattle.bson.specs.Lawful.{IsName, IsTree, IsPairs, IsItems}
 use Rattle.bson.specs.Lookup.{lookup}
 use Rattle.bson.specs.Tree.{Tree, scalar, null, document, array, Pairs, no_pairs, pair, Items, no_items, item}
-use Rattle.path.specs.Edits.{if_ok, put_or_cut, cut_found, cut_field, with_found, cut_item, cut_off, cut_at}
+use Rattle.path.specs.Edits.{put_or_cut, cut_found, cut_field, with_found, cut_item, cut_off, cut_at}
 use Rattle.path.specs.Parts.{index_of}
-use Rattle.path.specs.declared.refusal.Refusal.{Refusal}
-use Rattle.update.specs.Applying.{apply_edit, apply_edits}
+use Rattle.update.specs.Applying.{apply_edits}
 use Rattle.update.specs.Unsets.{takes_away, is_unset, cut_all}
 use Rattle.update.specs.Update.{Path, Action, set, unset, increment, at_most, at_least, push, pull, rename, Edit}
 use Rattle.update.specs.View.{edit_of}

@@ -1,9 +1,9 @@
-use Rattle.std.proofs.Common.{◌≡◌, ◌++◌, ◌∷◌, [], false, Some, None, Ok, ap, sym, ◌∙◌}
+use Rattle.std.proofs.Common.{◌++◌, ◌∷◌, [], Some, Ok, ap, sym, ◌∙◌}
 use Rattle.std.specs.Prelude.{option_map}
 use Rattle.bson.specs.Tree.{document}
 use Rattle.bson.specs.View.{tree}
 use Rattle.path.specs.Edits.{if_ok, set_at, cut_at}
-use Rattle.path.specs.Place.{value_at, passes_array}
+use Rattle.path.specs.Place.{passes_array}
 use Rattle.update.specs.Reading.{conflicts}
 use Rattle.update.specs.Renames.{rename_at}
 use Rattle.update.specs.Unsets.{cut_all}
