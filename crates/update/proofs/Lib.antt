@@ -8,3 +8,4 @@ pub mod RenamingLemmas
 pub mod RenameInsideLemmas
 pub mod UnsetOrderLemmas
 pub mod ApartLemmas
+pub mod MovingLemmas

@@ -26,7 +26,8 @@ use Rattle.update.specs.Unsets.{is_below, last_name, marked, unmarked, without_i
 use Rattle.update.specs.Update.{Path, Action, set, unset, increment, at_most, at_least, push, pull, rename, Edit}
 use Rattle.update.specs.View.{edit_of}
 use Rattle.update.specs.declared.edit.Edit.{Edit as Change}
-use Rattle.update.proofs.InsideLemmas.{moved_field-levels, put_twice, put_same, inside-none, inside-twice, inside-levels, last, not_below, cut_at-inside, document_one}
+use Rattle.update.proofs.InsideLemmas.{moved_field-levels, put_twice, put_same, inside-none, inside-twice, inside-levels, last, not_below}
+use Rattle.update.proofs.InsideLemmas.{cut_at-inside, document_one}
 use Rattle.update.proofs.RenamingLemmas.{cut_one, no_array, same_found}
 use Rattle.update.proofs.UnsetLemmas.{and_true, unmarked-none}
 

@@ -8,7 +8,7 @@ use Rattle.update.specs.Reading.{conflicts}
 use Rattle.update.specs.Renames.{rename_at}
 use Rattle.update.specs.Unsets.{cut_all}
 use Rattle.update.specs.Update.{unset}
-use Rattle.update.proofs.ApartLemmas.{all_apart, old_alone, renamed_absent, renamed_there, waits_too}
+use Rattle.update.proofs.MovingLemmas.{all_apart, old_alone, renamed_absent, renamed_there, waits_too}
 use Rattle.update.proofs.StepLemmas.{refused}
 use Rattle.update.proofs.moving.move_on.Goals as goal
 
