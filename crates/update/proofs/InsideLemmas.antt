@@ -6,9 +6,9 @@ use Rattle.std.specs.List.{list_all}
 use Rattle.std.specs.Option.{unwrap_or}
 use Rattle.std.specs.Str.{bytes_eq}
 use Rattle.std.proofs.lemmas.Slice.Eq.{bytes_eq-Decides}
-use Rattle.bson.specs.Edits.{items_len, item_at, with_item, put}
+use Rattle.bson.specs.Edits.{items_len, item_at, with_item, put, cut}
 use Rattle.bson.specs.EditPlaces.{with_item-twice, item_at-with_item, items_levels-with_item}
-use Rattle.bson.specs.EditsLaws.{lookup-put, pairs_levels-put}
+use Rattle.bson.specs.EditsLaws.{lookup-put, pairs_levels-put, pairs_levels-cut}
 use Rattle.bson.specs.Lawful.{levels, pairs_levels, items_levels, IsTree, IsPairs, IsItems}
 use Rattle.bson.specs.Lookup.{lookup}
 use Rattle.bson.specs.Tree.{Scalar, Tree, scalar, null, document, array, Pairs, no_pairs, pair, Items, no_items, item}
@@ -17,7 +17,9 @@ use Rattle.path.specs.Parts.{index_of}
 use Rattle.path.proofs.IndexLemmas.{item_at-levels}
 use Rattle.path.proofs.WalkLemmas.{lookup-levels, cut_off-levels}
 use Rattle.update.specs.Applying.{apply_edits}
-use Rattle.update.specs.Unsets.{is_below, is_unset_below, last_name, marked, unmarked, without_items, without, in_field, in_item, inside}
+use Rattle.update.specs.Inside.{moves, begins_with_rename, value_after, in_field, in_item, inside}
+use Rattle.update.specs.Renaming.{moved_found, moved_field, moved_by, renamed}
+use Rattle.update.specs.Unsets.{is_below, is_unset_below, last_name, marked, unmarked, without_items}
 use Rattle.update.specs.Update.{Path, Action, set, unset, increment, at_most, at_least, push, pull, rename, Edit}
 use Rattle.update.specs.View.{edit_of}
 use Rattle.update.specs.declared.edit.Edit.{Edit as Change}
@@ -25,7 +27,7 @@ use Rattle.update.proofs.UnsetLemmas.{unmarked-none, unmarked_levels, marked_mor
 
 -- ---- fields and elements that are there
 
-put_twice : (ps : Pairs) (name : List ℕ) (t u : Tree) → put (put ps name t) name u ≡ put ps name u
+pub put_twice : (ps : Pairs) (name : List ℕ) (t u : Tree) → put (put ps name t) name u ≡ put ps name u
 put_twice no_pairs name t u = ap (λ (b : Bool). if b then pair name u no_pairs else pair name t (pair name u no_pairs)) ((bytes_eq-Decides name name).1 refl)
 put_twice (pair n v ps) name t u = by (bytes_eq name n) refl (put_twice ps name t u)
   where
@@ -34,7 +36,7 @@ put_twice (pair n v ps) name t u = by (bytes_eq name n) refl (put_twice ps name 
     by true e later = ap (λ (c : Bool). if c then pair n u ps else pair n t (put ps name u)) e
     by false e later = ap (λ (c : Bool). if c then pair n u (put ps name t) else pair n v (put (put ps name t) name u)) e ∙ ap (pair n v) later
 
-put_same : (ps : Pairs) (name : List ℕ) (t : Tree) → lookup ps name ≡ Some t → put ps name t ≡ ps
+pub put_same : (ps : Pairs) (name : List ℕ) (t : Tree) → lookup ps name ≡ Some t → put ps name t ≡ ps
 put_same no_pairs name t e = absurd cc
 put_same (pair n v ps) name t e = by (bytes_eq name n) e (put_same ps name t)
   where
@@ -48,12 +50,12 @@ with_same no_items i t e = absurd cc
 with_same (item u ts) zero t e = let is : u ≡ t = cc in ap (λ (w : Tree). item w ts) (sym is)
 with_same (item u ts) (suc i) t e = ap (item u) (with_same ts i t e)
 
-item_near : (ts : Items) (i : ℕ) (t : Tree) → item_at ts i ≡ Some t → i < items_len ts
+pub item_near : (ts : Items) (i : ℕ) (t : Tree) → item_at ts i ≡ Some t → i < items_len ts
 item_near no_items i t e = absurd cc
 item_near (item u ts) zero t e = omega arith
 item_near (item u ts) (suc i) t e = omega (arith, item_near ts i t e)
 
-IsTree-found : (ps : Pairs) (name : List ℕ) (t : Tree) → IsPairs ps → lookup ps name ≡ Some t → IsTree t
+pub IsTree-found : (ps : Pairs) (name : List ℕ) (t : Tree) → IsPairs ps → lookup ps name ≡ Some t → IsTree t
 IsTree-found no_pairs name t h e = absurd cc
 IsTree-found (pair n u ps) name t h e = by (bytes_eq name n) e (IsTree-found ps name t h.3)
   where
@@ -61,7 +63,7 @@ IsTree-found (pair n u ps) name t h e = by (bytes_eq name n) e (IsTree-found ps 
     by true e later = let is : u ≡ t = cc in subst IsTree is h.1
     by false e later = later e
 
-IsTree-item : (ts : Items) (i : ℕ) (t : Tree) → IsItems ts → item_at ts i ≡ Some t → IsTree t
+pub IsTree-item : (ts : Items) (i : ℕ) (t : Tree) → IsItems ts → item_at ts i ≡ Some t → IsTree t
 IsTree-item no_items i t h e = absurd cc
 IsTree-item (item u ts) zero t h e = let is : u ≡ t = cc in subst IsTree is h.0
 IsTree-item (item u ts) (suc i) t h e = IsTree-item ts i t h.1 e
@@ -118,7 +120,7 @@ in_item-none (Some i) ts = by (item_at ts i) refl
 
 -- ---- what is made at the end of a path
 
-inside-none : (path : Path) (t : Tree) → inside path (λ u. u) t ≡ t
+pub inside-none : (path : Path) (t : Tree) → inside path (λ u. u) t ≡ t
 inside-none [] t = refl
 inside-none (name ∷ rest) (scalar s) = refl
 inside-none (name ∷ rest) (document ps) =
@@ -127,7 +129,7 @@ inside-none (name ∷ rest) (array ts) =
     ap array (in_item-same (inside rest (λ u. u)) (λ u. u) (index_of name) ts (λ i u e. inside-none rest u) ∙ in_item-none (index_of name) ts)
 
 module _ (f g : Tree → Tree) where
-  inside-twice : (path : Path) (t : Tree) → inside path g (inside path f t) ≡ inside path (λ u. g (f u)) t
+  pub inside-twice : (path : Path) (t : Tree) → inside path g (inside path f t) ≡ inside path (λ u. g (f u)) t
   inside-twice [] t = refl
   inside-twice (name ∷ rest) (scalar s) = refl
   inside-twice (name ∷ rest) (document ps) =
@@ -147,7 +149,7 @@ module _ (f g : Tree → Tree) where
 
 -- ---- one field, or one element
 
-last : List ℕ → Tree → Tree
+unfoldable pub last : List ℕ → Tree → Tree
 last name (scalar s) = scalar s
 last name (document ps) = document (cut_field (cut_off []) name ps)
 last name (array ts) = array (cut_item (cut_off []) (index_of name) ts)
@@ -185,7 +187,7 @@ module _ (parent : Path) (first next name : List ℕ) (rest : Path) (named : fir
       (cut_item-in (cut_off (next ∷ rest)) (inside parent (last (last_name (next ∷ rest)))) later (index_of first) ts
       ∙ ap (λ (n : List ℕ). in_item (inside parent (last (last_name (next ∷ rest)))) (index_of n) ts) named)
 
-not_below : (parent : Path) → is_below parent [] ≡ true → ⊥
+pub not_below : (parent : Path) → is_below parent [] ≡ true → ⊥
 not_below [] e = absurd cc
 not_below (name ∷ parent) e = absurd cc
 
@@ -200,10 +202,10 @@ cut_inside (name ∷ parent) (first ∷ next ∷ rest) e t =
     let both = and_true (bytes_eq name first) (is_below parent (next ∷ rest)) e in
     cut_further parent first next name rest (sym ((bytes_eq-Decides name first).0 both.0)) (λ u. cut_inside parent (next ∷ rest) both.1 u) t
 
-some_one : (t u : Tree) → Some t ≡ Some u → t ≡ u
+pub some_one : (t u : Tree) → Some t ≡ Some u → t ≡ u
 some_one t u e = cc
 
-cut_at-inside : (parent path : Path) → is_below parent path ≡ true → (ps : Pairs)
+pub cut_at-inside : (parent path : Path) → is_below parent path ≡ true → (ps : Pairs)
     → document (cut_at path ps) ≡ inside parent (last (last_name path)) (document ps)
 cut_at-inside parent [] e ps = absurd (not_below parent e)
 cut_at-inside parent (name ∷ rest) e ps =
@@ -271,21 +273,42 @@ module _ (t : Tree) where
   steps_scalar [] made s so = so
   steps_scalar (c ∷ cs) made s so = steps_scalar cs (λ u. last (last_name c.path) (made u)) s (ap (last (last_name c.path)) so)
 
+abbrev without : List Edit → Tree → Tree
+without es (scalar s) = scalar s
+without es (document ps) = document (unmarked (marked es no_pairs) ps)
+without es (array ts) = array (without_items es ts)
+
 steps_without : (cs : List Change) (t : Tree) → IsTree t → steps cs (λ u. u) t ≡ without (map edit_of cs) t
 steps_without cs (scalar s) h = steps_scalar (scalar s) cs (λ u. u) s refl
 steps_without cs (document ps) h = steps_document (document ps) cs (λ u. u) no_pairs ps h (ap document (sym (unmarked-none ps)))
 steps_without cs (array ts) h = steps_array (array ts) cs (λ u. u) ts refl
 
-document_one : (ps qs : Pairs) → document ps ≡ document qs → ps ≡ qs
+pub document_one : (ps qs : Pairs) → document ps ≡ document qs → ps ≡ qs
 document_one ps qs e = cc
+
+-- what all of them leave of it at once
+module _ (parent : Path) where
+  no_rename : (cs : List Change) → list_all (λ e. is_unset_below parent (edit_of e)) cs ≡ true → begins_with_rename (map edit_of cs) ≡ false
+  no_rename [] e = refl
+  no_rename (c ∷ cs) e =
+      let both = and_true (is_unset_below parent (edit_of c)) (list_all (λ x. is_unset_below parent (edit_of x)) cs) e in
+      ap moves (one_below parent c.path (edit_of c).action both.0).1
+
+  without_after : (cs : List Change) → list_all (λ e. is_unset_below parent (edit_of e)) cs ≡ true → (t : Tree)
+      → without (map edit_of cs) t ≡ value_after (map edit_of cs) t
+  without_after cs e (scalar s) = refl
+  without_after cs e (document ps) =
+      sym (ap (λ (b : Bool). document (if b then renamed (map edit_of cs) ps else unmarked (marked (map edit_of cs) no_pairs) ps)) (no_rename cs e))
+  without_after cs e (array ts) = sym (ap (λ (b : Bool). array (if b then ts else without_items (map edit_of cs) ts)) (no_rename cs e))
 
 -- edits one after the other, and at once
 pub unsets_inside : (parent : Path) (cs : List Change) (ps left : Pairs) → list_all (λ e. is_unset_below parent (edit_of e)) cs ≡ true → IsPairs ps
-    → document left ≡ inside parent (without (map edit_of cs)) (document ps) → apply_edits (map edit_of cs) ps ≡ Ok left
+    → document left ≡ inside parent (value_after (map edit_of cs)) (document ps) → apply_edits (map edit_of cs) ps ≡ Ok left
 unsets_inside parent cs ps left e h so =
     let all = leaves parent cs (λ u. u) ps ps e (sym (inside-none parent (document ps))) in
     all.applied ∙ ap Ok (document_one all.left left (all.same
-    ∙ inside-same (steps cs (λ u. u)) (without (map edit_of cs)) (λ u k. steps_without cs u k) parent (document ps) h ∙ sym so))
+    ∙ inside-same (steps cs (λ u. u)) (value_after (map edit_of cs)) (λ u k. steps_without cs u k ∙ without_after parent cs e u) parent (document ps) h
+    ∙ sym so))
 
 -- ---- levels
 
@@ -314,16 +337,47 @@ without_items-levels (c ∷ cs) ts =
       cut_off-levels (last_name c.path ∷ []) (array ts) (array (cut_item (cut_off []) (index_of (last_name c.path)) ts)) refl,
     )
 
-without-levels : (cs : List Edit) (t : Tree) → levels (without cs t) ≤ levels t
-without-levels cs (scalar s) = omega arith
-without-levels cs (document ps) = omega (arith, unmarked_levels (marked cs no_pairs) ps)
-without-levels cs (array ts) = omega (arith, without_items-levels cs ts)
+pub moved_field-levels : (a b : List ℕ) (ps : Pairs) → pairs_levels (moved_field a b ps) ≤ pairs_levels ps
+moved_field-levels a b ps = by (lookup ps a) refl
+  where
+    by : (o : Option Tree) → lookup ps a ≡ o → pairs_levels (moved_found a b ps o) ≤ pairs_levels ps
+    by None e = omega arith
+    by (Some t) e =
+        omega (arith, pairs_levels-put (cut (cut ps a) b) b t, pairs_levels-cut (cut ps a) b, pairs_levels-cut ps a, lookup-levels ps a t e)
 
-pub inside-levels : (cs : List Edit) (path : Path) (t : Tree) → levels (inside path (without cs) t) ≤ levels t
-inside-levels cs [] t = without-levels cs t
-inside-levels cs (name ∷ rest) (scalar s) = omega arith
-inside-levels cs (name ∷ rest) (document ps) = omega (arith, in_field-levels (inside rest (without cs)) (inside-levels cs rest) name ps)
-inside-levels cs (name ∷ rest) (array ts) = omega (arith, in_item-levels (inside rest (without cs)) (inside-levels cs rest) (index_of name) ts)
+moved_by-levels : (a : List ℕ) (action : Action) (ps : Pairs) → pairs_levels (moved_by a action ps) ≤ pairs_levels ps
+moved_by-levels a (rename new) ps = moved_field-levels a (last_name new) ps
+moved_by-levels a (set t) ps = omega arith
+moved_by-levels a unset ps = omega arith
+moved_by-levels a (increment n) ps = omega arith
+moved_by-levels a (at_most t) ps = omega arith
+moved_by-levels a (at_least t) ps = omega arith
+moved_by-levels a (push ts) ps = omega arith
+moved_by-levels a (pull c) ps = omega arith
+
+renamed-levels : (cs : List Edit) (ps : Pairs) → pairs_levels (renamed cs ps) ≤ pairs_levels ps
+renamed-levels [] ps = omega arith
+renamed-levels (c ∷ cs) ps =
+    omega (arith, renamed-levels cs (moved_by (last_name c.path) c.action ps), moved_by-levels (last_name c.path) c.action ps)
+
+pub value_after-levels : (cs : List Edit) (t : Tree) → levels (value_after cs t) ≤ levels t
+value_after-levels cs (scalar s) = omega arith
+value_after-levels cs (document ps) = by (begins_with_rename cs)
+  where
+    by : (b : Bool) → levels (document (if b then renamed cs ps else unmarked (marked cs no_pairs) ps)) ≤ levels (document ps)
+    by true = omega (arith, renamed-levels cs ps)
+    by false = omega (arith, unmarked_levels (marked cs no_pairs) ps)
+value_after-levels cs (array ts) = by (begins_with_rename cs)
+  where
+    by : (b : Bool) → levels (array (if b then ts else without_items cs ts)) ≤ levels (array ts)
+    by true = omega arith
+    by false = omega (arith, without_items-levels cs ts)
+
+pub inside-levels : (f : Tree → Tree) → ((u : Tree) → levels (f u) ≤ levels u) → (path : Path) (t : Tree) → levels (inside path f t) ≤ levels t
+inside-levels f keeps [] t = keeps t
+inside-levels f keeps (name ∷ rest) (scalar s) = omega arith
+inside-levels f keeps (name ∷ rest) (document ps) = omega (arith, in_field-levels (inside rest f) (inside-levels f keeps rest) name ps)
+inside-levels f keeps (name ∷ rest) (array ts) = omega (arith, in_item-levels (inside rest f) (inside-levels f keeps rest) (index_of name) ts)
 
 pub no_parts : {X : Type 0} (xs : List X) → length xs < 1 → xs ≡ []
 no_parts [] lt = refl

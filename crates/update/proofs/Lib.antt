@@ -5,3 +5,7 @@ pub mod EditPathLemmas
 pub mod UnsetLemmas
 pub mod InsideLemmas
 pub mod RenamingLemmas
+pub mod RenameInsideLemmas
+pub mod UnsetOrderLemmas
+pub mod ApartLemmas
+pub mod MovingLemmas

@@ -1,25 +1,22 @@
 -- Fields that are renamed one after the other: what is kept, and what moved behind it, are the document.
 use Rattle.std.proofs.Common.{◌≡◌, ◌≢◌, ◌<◌, ℕ, zero, suc, Bool, true, false, List, [], ◌∷◌, Option}
-use Rattle.std.proofs.Common.{Some, None, Result, Ok, Err, refl, sym, ap, subst, ◌∙◌, inl, inr, arith}
+use Rattle.std.proofs.Common.{Some, None, refl, sym, ap, subst, ◌∙◌, inl, inr, arith}
 use Rattle.std.specs.Prelude.{if◌then◌else◌, ◌⊎◌, ◌++◌, option_map}
 use Rattle.std.specs.Option.{is_some, option_and_then}
 use Rattle.std.specs.Str.{bytes_eq}
 use Rattle.std.proofs.lemmas.Slice.Eq.{bytes_eq-Decides}
 use Rattle.bson.specs.View.{tree, pairs_of}
 use Rattle.bson.specs.declared.value.Pair.{Pair}
-use Rattle.bson.specs.Tree.{Tree, scalar, null, document, Pairs, no_pairs, pair, append}
+use Rattle.bson.specs.Tree.{Tree, scalar, null, Pairs, no_pairs, pair, append}
 use Rattle.bson.specs.Edits.{pairs_len, place, pair_at, with_value, put, cut}
 use Rattle.bson.specs.EditPlaces.{pairs_levels-append}
 use Rattle.bson.specs.EditsLaws.{place-there, place-absent, lookup-put, lookup-put_other, lookup-cut_other}
 use Rattle.bson.specs.Lawful.{Lacks, IsPairs, IsDocument}
 use Rattle.bson.specs.Lookup.{lookup}
-use Rattle.path.specs.declared.refusal.Refusal.{Refusal}
-use Rattle.path.specs.declared.refusal.Refusal.TheVariants as refusals
-use Rattle.path.specs.Edits.{if_ok, within, set_at, cut_found, cut_off, cut_at}
+use Rattle.path.specs.Edits.{cut_found, cut_off, cut_at}
 use Rattle.path.specs.Place.{value_at, some_passes, passes_array}
-use Rattle.update.specs.Renames.{moved, rename_at}
 use Rattle.update.specs.Renaming.{whole, AreGone}
-use Rattle.update.specs.Unsets.{is_one_name, unmarked}
+use Rattle.update.specs.Unsets.{unmarked}
 use Rattle.update.proofs.UnsetLemmas.{Lacks-unmarked, unmarked_levels, marked_more}
 
 -- ---- two documents of which one stands behind the other
@@ -70,7 +67,7 @@ module _ (name : List ℕ) (qs : Pairs) where
       by true e later = refl
       by false e later = ap (pair n u) (later e)
 
-cut_absent : (ps : Pairs) (name : List ℕ) → lookup ps name ≡ None → cut ps name ≡ ps
+pub cut_absent : (ps : Pairs) (name : List ℕ) → lookup ps name ≡ None → cut ps name ≡ ps
 cut_absent no_pairs name e = refl
 cut_absent (pair n u ps) name e = by (bytes_eq name n) e (cut_absent ps name)
   where
@@ -90,7 +87,7 @@ cut_both ps qs name either = by (lookup ps name) refl either
 
 -- ---- taking away one field
 
-cut_one : (name : List ℕ) (ps : Pairs) → cut_at (name ∷ []) ps ≡ cut ps name
+pub cut_one : (name : List ℕ) (ps : Pairs) → cut_at (name ∷ []) ps ≡ cut ps name
 cut_one name ps = by (lookup ps name) refl
   where
     by : (o : Option Tree) → lookup ps name ≡ o → cut_found (cut_off []) name ps o ≡ cut ps name
@@ -157,30 +154,15 @@ AreGone-put : (gone behind : Pairs) (name : List ℕ) (t u : Tree) → lookup go
 AreGone-put gone behind name t u marked apart other none =
     lookup-put_other behind name other t (λ same. let f = sym marked ∙ ap (lookup gone) (sym same) ∙ none in absurd cc) ∙ apart other none
 
--- ---- a field that is renamed
+-- ---- what stands at a path of one name
 
-no_array : (o : Option Tree) → some_passes (passes_array []) o ≡ false
+pub no_array : (o : Option Tree) → some_passes (passes_array []) o ≡ false
 no_array None = refl
 no_array (Some t) = refl
 
-same_found : (o : Option Tree) → option_and_then (value_at []) o ≡ o
+pub same_found : (o : Option Tree) → option_and_then (value_at []) o ≡ o
 same_found None = refl
 same_found (Some t) = refl
-
--- what a rename makes of what stands at the old name
-onwards : List ℕ → List (List ℕ) → Pairs → Option Tree → Result Pairs Refusal
-onwards a new ps o = if some_passes (passes_array []) o then Err refusals.BadValue else moved (a ∷ []) new (option_and_then (value_at []) o) ps
-
-rename_none : (a : List ℕ) (new : List (List ℕ)) (ps : Pairs) → lookup ps a ≡ None → rename_at (a ∷ []) new ps ≡ Ok ps
-unfolding onwards
-rename_none a new ps e = ap (onwards a new ps) e
-
-module _ (a b : List ℕ) (ps : Pairs) where
-  rename_some : (t : Tree) → lookup ps a ≡ Some t → rename_at (a ∷ []) (b ∷ []) ps ≡ set_at (b ∷ []) t (cut_at (b ∷ []) (cut_at (a ∷ []) ps))
-  unfolding onwards
-  rename_some t e =
-      ap (onwards a (b ∷ []) ps) e
-      ∙ ap (λ (c : Bool). if c then Err refusals.BadValue else set_at (b ∷ []) t (cut_at (b ∷ []) (cut_at (a ∷ []) ps))) (no_array (lookup ps b))
 
 -- ---- a field that is taken out
 
@@ -208,120 +190,44 @@ module _ (gone kept behind : Pairs) (name : List ℕ) where
           kept_one (Some t) k = lookup_before name behind (unmarked gone kept) t (lookup_unmarked gone name kept e ∙ k) ∙ sym k
           kept_one None k = lookup_behind name behind (unmarked gone kept) (lookup_unmarked gone name kept e ∙ k) ∙ apart name e ∙ sym k
 
--- a path of one name, at which these edits are done
-module _ (gone kept behind : Pairs) (h : IsPairs kept) (apart : AreGone behind gone) where
-  last_so : (name : List ℕ) (t : Tree) → set_at (name ∷ []) t (cut_at (name ∷ []) (whole gone kept behind))
-      ≡ if_ok (set_at (name ∷ []) t (cut_at (name ∷ []) behind)) (λ (new : Pairs). Ok (whole (put gone name (scalar null)) kept new))
-  last_so name t =
-      ap (set_at (name ∷ []) t) (cut_one name (whole gone kept behind) ∙ cut_gone gone kept behind name h apart)
-      ∙ by (within 99 (Ok t))
-      ∙ ap (λ (ps : Pairs). if_ok (set_at (name ∷ []) t ps) (λ (new : Pairs). Ok (whole (put gone name (scalar null)) kept new))) (sym (cut_one name behind))
-    where
-      by : (r : Result Tree Refusal) → if_ok r (λ (u : Tree). Ok (put (whole (put gone name (scalar null)) kept (cut behind name)) name u))
-          ≡ if_ok (if_ok r (λ (u : Tree). Ok (put (cut behind name) name u))) (λ (new : Pairs). Ok (whole (put gone name (scalar null)) kept new))
-      by (Ok u) = ap Ok (put_gone (put gone name (scalar null)) kept (cut behind name) name u (scalar null) (lookup-put gone name (scalar null)))
-      by (Err e) = refl
-
-  last_gone : (name : List ℕ) (t : Tree) (new : Pairs) → set_at (name ∷ []) t (cut_at (name ∷ []) behind) ≡ Ok new → AreGone new (put gone name (scalar null))
-  last_gone name t new made = by (within 99 (Ok t)) (ap (set_at (name ∷ []) t) (sym (cut_one name behind)) ∙ made)
-    where
-      by : (r : Result Tree Refusal) → if_ok r (λ (u : Tree). Ok (put (cut behind name) name u)) ≡ Ok new → AreGone new (put gone name (scalar null))
-      by (Err e) made = absurd cc
-      by (Ok u) made =
-          let is : put (cut behind name) name u ≡ new = cc in
-          subst (λ (ps : Pairs). AreGone ps (put gone name (scalar null))) is
-          (AreGone-put (put gone name (scalar null)) (cut behind name) name u (scalar null) (lookup-put gone name (scalar null))
-          (AreGone-cut gone behind name (scalar null) apart))
-
-  -- a field is put behind the others
-  pub last : (path : List (List ℕ)) → is_one_name path ≡ true → (t : Tree) (marks new : Pairs) → set_at path (scalar null) gone ≡ Ok marks
-      → set_at path t (cut_at path behind) ≡ Ok new → (set_at path t (cut_at path (whole gone kept behind)) ≡ Ok (whole marks kept new)) × AreGone new marks
-  last [] one t marks new marked made = absurd cc
-  last (name ∷ other ∷ rest) one t marks new marked made = absurd cc
-  last (name ∷ []) one t marks new marked made =
-      let is : put gone name (scalar null) ≡ marks = cc in (
-        last_so name t ∙ ap (λ (r : Result Pairs Refusal). if_ok r (λ (ps : Pairs). Ok (whole (put gone name (scalar null)) kept ps))) made
-            ∙ ap (λ (m : Pairs). Ok (whole m kept new)) is,
-        subst (AreGone new) is (last_gone name t new made),
-      )
-
-  pub last_refused : (path : List (List ℕ)) → is_one_name path ≡ true → (t : Tree) (e : Refusal) → set_at path t (cut_at path behind) ≡ Err e
-      → set_at path t (cut_at path (whole gone kept behind)) ≡ Err e
-  last_refused [] one t e made = absurd cc
-  last_refused (name ∷ other ∷ rest) one t e made = absurd cc
-  last_refused (name ∷ []) one t e made =
-      last_so name t ∙ ap (λ (r : Result Pairs Refusal). if_ok r (λ (ps : Pairs). Ok (whole (put gone name (scalar null)) kept ps))) made
-
-  -- a field is taken out
-  pub taken_out : (path : List (List ℕ)) → is_one_name path ≡ true → (name : List ℕ) (rest : List (List ℕ)) → name ∷ rest ≡ path
-      → (marks left : Pairs) → set_at path (scalar null) gone ≡ Ok marks
+-- a field is taken out, or put behind the others
+module _ (gone kept behind : Pairs) (h : IsPairs kept) (apart : AreGone behind gone) (name : List ℕ) where
+  pub taken_out : (marks left : Pairs) → marks ≡ put gone name (scalar null)
       → ((m : Pairs) → is_some (lookup m name) ≡ true → unmarked m left ≡ unmarked m kept)
-      → (whole marks left (cut_at path behind) ≡ cut_at path (whole gone kept behind)) × AreGone (cut_at path behind) marks
-  taken_out [] one name rest is marks left marked same = absurd cc
-  taken_out (first ∷ other ∷ more) one name rest is marks left marked same = absurd cc
-  taken_out (first ∷ []) one name rest is marks left marked same =
-      let named : name ≡ first = cc in
-      let made : put gone first (scalar null) ≡ marks = cc in
+      → whole marks left (cut behind name) ≡ cut (whole gone kept behind) name
+  taken_out marks left made same =
       let found : is_some (lookup marks name) ≡ true =
-      ap (λ (m : Pairs). is_some (lookup m name)) (sym made) ∙ ap (λ (n : List ℕ). is_some (lookup (put gone first (scalar null)) n)) named
-      ∙ ap is_some (lookup-put gone first (scalar null)) in (
-        ap (λ (ps : Pairs). append ps (cut_at (first ∷ []) behind)) (same marks found)
-            ∙ ap (λ (m : Pairs). whole m kept (cut_at (first ∷ []) behind)) (sym made)
-            ∙ ap (whole (put gone first (scalar null)) kept) (cut_one first behind)
-            ∙ sym (cut_gone gone kept behind first h apart) ∙ sym (cut_one first (whole gone kept behind)),
-        subst (AreGone (cut_at (first ∷ []) behind)) made
-            (subst (λ (ps : Pairs). AreGone ps (put gone first (scalar null))) (sym (cut_one first behind))
-            (AreGone-cut gone behind first (scalar null) apart)),
-      )
+      ap (λ (m : Pairs). is_some (lookup m name)) made ∙ ap is_some (lookup-put gone name (scalar null)) in
+      ap (λ (ps : Pairs). append ps (cut behind name)) (same marks found)
+      ∙ ap (λ (m : Pairs). whole m kept (cut behind name)) made
+      ∙ sym (cut_gone gone kept behind name h apart)
+
+  pub taken_gone : (marks : Pairs) → marks ≡ put gone name (scalar null) → AreGone (cut behind name) marks
+  taken_gone marks made = subst (AreGone (cut behind name)) (sym made) (AreGone-cut gone behind name (scalar null) apart)
+
+  pub put_behind_all : (t : Tree) (marks new : Pairs) → marks ≡ put gone name (scalar null) → new ≡ put (cut behind name) name t
+      → whole marks kept new ≡ put (cut (whole gone kept behind) name) name t
+  put_behind_all t marks new made is =
+      (λ i. whole (made i) kept (is i))
+      ∙ sym (put_gone (put gone name (scalar null)) kept (cut behind name) name t (scalar null) (lookup-put gone name (scalar null)))
+      ∙ ap (λ (ps : Pairs). put ps name t) (sym (cut_gone gone kept behind name h apart))
+
+  pub put_gone_all : (t : Tree) (marks new : Pairs) → marks ≡ put gone name (scalar null) → new ≡ put (cut behind name) name t → AreGone new marks
+  put_gone_all t marks new made is =
+      subst (λ (m : Pairs). AreGone new m) (sym made) (subst (λ (ps : Pairs). AreGone ps (put gone name (scalar null))) (sym is)
+      (AreGone-put (put gone name (scalar null)) (cut behind name) name t (scalar null) (lookup-put gone name (scalar null))
+      (AreGone-cut gone behind name (scalar null) apart)))
 
   -- its value is what stands behind, or else what is kept
-  pub value_behind : (path : List (List ℕ)) → is_one_name path ≡ true → (t : Tree) → value_at path (document behind) ≡ Some t
-      → value_at path (document (whole gone kept behind)) ≡ Some t
-  value_behind [] one t found = absurd cc
-  value_behind (first ∷ other ∷ more) one t found = absurd cc
-  value_behind (name ∷ []) one t found =
-      same_found (lookup (whole gone kept behind) name) ∙ found_whole gone kept behind name apart
-      ∙ ap (λ (o : Option Tree). or_else o (if is_some (lookup gone name) then None else lookup kept name)) (sym (same_found (lookup behind name)) ∙ found)
+  pub value_behind : (t : Tree) → lookup behind name ≡ Some t → lookup (whole gone kept behind) name ≡ Some t
+  value_behind t found =
+      found_whole gone kept behind name apart
+      ∙ ap (λ (o : Option Tree). or_else o (if is_some (lookup gone name) then None else lookup kept name)) found
 
-  pub value_kept : (path : List (List ℕ)) → is_one_name path ≡ true → (name : List ℕ) (rest : List (List ℕ)) → name ∷ rest ≡ path
-      → value_at path (document behind) ≡ None
-      → value_at path (document (whole gone kept behind)) ≡ (if is_some (lookup gone name) then None else lookup kept name)
-  value_kept [] one name rest is none = absurd cc
-  value_kept (first ∷ other ∷ more) one name rest is none = absurd cc
-  value_kept (first ∷ []) one name rest is none =
-      let named : first ≡ name = cc in
-      same_found (lookup (whole gone kept behind) first) ∙ found_whole gone kept behind first apart
-      ∙ ap (λ (o : Option Tree). or_else o (if is_some (lookup gone first) then None else lookup kept first)) (sym (same_found (lookup behind first)) ∙ none)
-      ∙ ap (λ (n : List ℕ). if is_some (lookup gone n) then None else lookup kept n) named
-
-pub marks_fit : (path : List (List ℕ)) → is_one_name path ≡ true → (marks : Pairs) (e : Refusal) → set_at path (scalar null) marks ≡ Err e → ⊥
-marks_fit [] one marks e made = absurd cc
-marks_fit (name ∷ []) one marks e made = absurd cc
-marks_fit (name ∷ other ∷ rest) one marks e made = absurd cc
-
--- ---- what a rename makes
-
-module _ (old new : List (List ℕ)) (old_one : is_one_name old ≡ true) (new_one : is_one_name new ≡ true) (ps : Pairs) where
-  pub renamed_none : value_at old (document ps) ≡ None → rename_at old new ps ≡ Ok (cut_at old ps)
-  renamed_none none = by old old_one none
-    where
-      by : (path : List (List ℕ)) → is_one_name path ≡ true → value_at path (document ps) ≡ None → rename_at path new ps ≡ Ok (cut_at path ps)
-      by [] one none = absurd cc
-      by (name ∷ other ∷ rest) one none = absurd cc
-      by (name ∷ []) one none =
-          let absent : lookup ps name ≡ None = sym (same_found (lookup ps name)) ∙ none in
-          rename_none name new ps absent ∙ ap Ok (sym (cut_absent ps name absent) ∙ sym (cut_one name ps))
-
-  pub renamed_some : (t : Tree) → value_at old (document ps) ≡ Some t → rename_at old new ps ≡ set_at new t (cut_at new (cut_at old ps))
-  renamed_some t some = by old old_one new new_one some
-    where
-      by : (a : List (List ℕ)) → is_one_name a ≡ true → (b : List (List ℕ)) → is_one_name b ≡ true → value_at a (document ps) ≡ Some t
-          → rename_at a b ps ≡ set_at b t (cut_at b (cut_at a ps))
-      by [] one b two some = absurd cc
-      by (name ∷ other ∷ rest) one b two some = absurd cc
-      by (name ∷ []) one [] two some = absurd cc
-      by (name ∷ []) one (next ∷ other ∷ rest) two some = absurd cc
-      by (name ∷ []) one (next ∷ []) two some = rename_some name next ps t (sym (same_found (lookup ps name)) ∙ some)
+  pub value_kept : lookup behind name ≡ None → lookup (whole gone kept behind) name ≡ (if is_some (lookup gone name) then None else lookup kept name)
+  value_kept none =
+      found_whole gone kept behind name apart
+      ∙ ap (λ (o : Option Tree). or_else o (if is_some (lookup gone name) then None else lookup kept name)) none
 
 -- ---- the whole as one document
 
@@ -359,9 +265,10 @@ pairs_of-both (p ∷ ps) qs = ap (pair p.name (tree p.value)) (pairs_of-both ps 
 
 -- ---- values that are taken out and put back
 
-pub same_first : (ps : Pairs) (t : Tree) → option_map (λ (p : List ℕ × Tree). p.1) (pair_at ps 0) ≡ Some t → with_value ps 0 t ≡ ps
-same_first no_pairs t e = refl
-same_first (pair n u ps) t e = let is : t ≡ u = cc in ap (λ (v : Tree). pair n v ps) is
+pub same_there : (ps : Pairs) (i : ℕ) (t : Tree) → option_map (λ (p : List ℕ × Tree). p.1) (pair_at ps i) ≡ Some t → with_value ps i t ≡ ps
+same_there no_pairs i t e = absurd cc
+same_there (pair n u ps) zero t e = let is : t ≡ u = cc in ap (λ (v : Tree). pair n v ps) is
+same_there (pair n u ps) (suc i) t e = ap (pair n u) (same_there ps i t e)
 
 -- a null where a marked name stands
 pub kept_marks : (marks ps : Pairs) (i : ℕ) (name : List ℕ) (t : Tree) → place ps name ≡ Some i → is_some (lookup marks name) ≡ true

@@ -5,6 +5,7 @@ pub mod EditPaths
 pub mod Fields
 pub mod Fronts
 pub mod IdEditLaws
+pub mod Inside
 pub mod Laws
 pub mod Numbers
 pub mod Operators

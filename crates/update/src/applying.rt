@@ -1,34 +1,31 @@
 //! What an update makes of a document.
 
-ghost use Rattle.std.specs.Prelude.{◌≡◌, map};
+ghost use Rattle.std.specs.Prelude.{◌≡◌, ◌≤◌, true, length, map};
 ghost use Rattle.outcome.specs.Outcome.{Gives};
 ghost use Rattle.update.specs.Applying.{apply_edits, changed, apply};
 ghost use Rattle.update.specs.Stored.{judged};
 ghost use Rattle.update.specs.View.{edit_of, form_of, update_of};
 
-use crate::edit::{Edit, Form, Update};
+use crate::edit::{Edit, Form, MANY, Update};
+use crate::moving::move_all;
 use crate::operators::apply_action;
-use crate::renaming::{count_field_renames, rename_fields};
+use crate::renaming::{count_renames, count_renames_below, rename_below};
 use crate::replacements::replace;
 use crate::stored::{id_first, stored_fault};
-use crate::unsets::{count_unsets_below, unset_below};
+use crate::unsets::{count_unsets, parent_of, unset_all};
 use bson::Document;
-use path::{Part, Path, Refusal};
+use path::{Refusal, passes_array};
 use std::alloc::Global;
 
-/// How many edits are many: fewer are done one after the other.
-const MANY: usize = 16;
-
-/// The parts of a path but the last.
-fn parent_of(path: &Path) -> &[Part] {
-    match path.parts() {
-        [parent @ .., _] => parent,
-        [] => &[],
-    }
+/// Whether the first are many, and half of them all at least.
+fn is_most(first: &[Edit], all: &[Edit]) -> bool
+    ensures { result ≡ true → 16 ≤ length first.now }
+{
+    MANY <= first.len() && all.len() / 2 <= first.len()
 }
 
-/// The edits, in the order written. Of those that take away fields of one document, or rename fields of the document
-/// itself, many are done at once.
+/// The edits, in the order written. Many that take something away, or rename fields of one document, are done at once
+/// where they stand one behind the other.
 fn apply_edits(alloc: Global, edits: &[Edit], document: Document) -> Result<Document, Refusal>
     ensures { Gives Refusal.OutOfMemory (λ d. d) result
         (apply_edits (map edit_of edits.now) document) }
@@ -37,13 +34,17 @@ fn apply_edits(alloc: Global, edits: &[Edit], document: Document) -> Result<Docu
     let mut rest = edits;
     'runs: while let [edit, others @ ..] = rest {
         let parent = parent_of(&edit.path);
-        let (unsets, behind_unsets) = rest.split_at(count_unsets_below(parent, rest));
-        let (renames, behind_renames) = rest.split_at(count_field_renames(rest));
+        let (unsets, behind_unsets) = rest.split_at(count_unsets(rest));
+        let (renames, behind_renames) = rest.split_at(count_renames(rest));
+        let (below, behind_below) = rest.split_at(count_renames_below(parent, rest));
         if MANY <= unsets.len() {
-            document = unset_below(alloc, parent, unsets, document)?;
+            document = unset_all(alloc, unsets, document)?;
             rest = behind_unsets;
+        } else if is_most(below, renames) && !passes_array(&document, &edit.path) {
+            document = rename_below(alloc, parent, below, document)?;
+            rest = behind_below;
         } else if MANY <= renames.len() {
-            document = rename_fields(alloc, renames, document)?;
+            document = move_all(alloc, renames, document)?;
             rest = behind_renames;
         } else {
             document = apply_action(alloc, document, &edit.path, &edit.action)?;

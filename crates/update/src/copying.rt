@@ -37,7 +37,7 @@ impl Edit {
     }
 }
 
-fn copy_edits(alloc: Global, edits: &[Edit]) -> Result<Vec<Edit>, NoMemory>
+pub(crate) fn copy_edits(alloc: Global, edits: &[Edit]) -> Result<Vec<Edit>, NoMemory>
     ensures { IfOk result (λ v. map edit_of v.items ≡ map edit_of edits.now) }
 {
     let mut all = Vec::with_capacity(alloc, edits.len())?;

@@ -9,6 +9,9 @@ use filter::Condition;
 use path::Path;
 use std::alloc::Global;
 
+/// How many edits are many: fewer are done one after the other.
+pub(crate) const MANY: usize = 16;
+
 /// What an edit does at its path.
 #[derive(Debug, Drop)]
 pub(crate) enum Action {

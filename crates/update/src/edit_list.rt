@@ -74,14 +74,14 @@ impl EditList {
     }
 
     /// Whether the edit meets one of these, or the new path of a rename meets its old one.
-    fn conflicts(&self, edit: &Edit) -> bool
+    pub fn conflicts(&self, edit: &Edit) -> bool
         ensures { result ≡ conflicts self.now (edit_of edit.now) }
     {
         conflicts_with(&self.paths, edit)
     }
 
     /// With an edit behind these, none of which it meets.
-    fn with_apart(self, edit: Edit) -> Result<EditList, NoMemory>
+    pub fn with_apart(self, edit: Edit) -> Result<EditList, NoMemory>
         requires { conflicts self (edit_of edit) ≡ false }
         ensures { IfOk result (λ edits. edits ≡ self ++ edit_of edit ∷ []) }
     {

@@ -2,8 +2,9 @@
 //!
 //! `operators` is the table of the operators. Each family has a file that says what it does at a path: `fields`,
 //! `numbers`, `bounds`, `arrays`, `renames`; `replacements` has updates without operators. `reading` reads an update,
-//! `applying` applies it, `unsets` takes many fields away at once, `renaming` renames many, `stored` judges the whole
-//! document, `upserts` makes the document that an upsert starts from.
+//! `applying` applies it, `unsets` takes many fields away at once, `renaming` renames many of one document, `moving` moves
+//! many from one to another, `inside` reaches one further down, `stored` judges the whole document, `upserts` makes the
+//! document that an upsert starts from.
 #![tactic(auto)]
 
 mod applying;
@@ -13,7 +14,9 @@ mod copying;
 mod edit;
 mod edit_list;
 mod fields;
+mod inside;
 pub mod laws;
+mod moving;
 mod numbers;
 mod operators;
 mod reading;

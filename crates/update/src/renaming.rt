@@ -1,44 +1,60 @@
-//! `$rename` of many fields in one pass: one after the other, each would move up all pairs behind it.
+//! `$rename` of many fields of one document in one pass: one after the other, each would move up all pairs behind it.
 
-ghost use Rattle.std.specs.Prelude.{◌≡◌, ◌≤◌, true, if◌then◌else◌, length, take, map, option_map, None, IfOk, IfErr};
+ghost use Rattle.std.specs.Prelude.{◌≡◌, ◌≤◌, true, false, if◌then◌else◌, length, take, map, option_map, None, IfOk, IfSome};
 ghost use Rattle.std.specs.List.{list_all};
 ghost use Rattle.std.specs.Option.{is_some};
 ghost use Rattle.bson.specs.Tree.{Pairs, document};
+ghost use Rattle.bson.specs.Edits.{put, cut};
+ghost use Rattle.bson.specs.Lawful.{levels};
 ghost use Rattle.bson.specs.Lookup.{lookup};
 ghost use Rattle.bson.specs.View.{tree};
 ghost use Rattle.outcome.specs.Outcome.{Gives};
-ghost use Rattle.path.specs.Edits.{cut_at, set_at};
-ghost use Rattle.path.specs.Place.{value_at};
 ghost use Rattle.update.specs.Applying.{apply_edits};
-ghost use Rattle.update.specs.Renames.{rename_at};
-ghost use Rattle.update.specs.Renaming.{is_field_rename};
-ghost use Rattle.update.specs.Unsets.{is_one_name, unmarked};
+ghost use Rattle.update.specs.Inside.{leads_to_array};
+ghost use Rattle.update.specs.Renaming.{is_rename_below, moved_field, renamed};
+ghost use Rattle.update.specs.Unsets.{unmarked};
 ghost use Rattle.update.specs.View.{edit_of};
 
 use crate::edit::{Action, Edit};
-use crate::unsets::unmarked;
+use crate::inside::change_below;
+use crate::unsets::{is_below, last_part, put, unmarked};
 use bson::{Document, NoMemory, Value};
-use path::{Part, Path, Refusal, remove_from, take_from, write_into};
+use path::{Part, Refusal};
 use std::alloc::Global;
 use std::marker::Model;
 
-/// Whether the edit moves a field of the document itself to another.
-fn is_field_rename(edit: &Edit) -> bool
-    ensures { result ≡ is_field_rename (edit_of edit.now) }
+/// How many of the first edits do nothing but rename fields.
+pub(crate) fn count_renames(edits: &[Edit]) -> usize
+    ensures { result ≤ length edits.now }
 {
-    match (&edit.action, edit.path.parts()) {
-        (Action::Rename(new), [_]) => new.parts().len() == 1,
+    'edits: for (count, edit) in edits.iter().enumerate() {
+        match &edit.action {
+            Action::Rename(_) => {}
+            _ => return count,
+        }
+    }
+    edits.len()
+}
+
+/// Whether the edit moves a field of what stands at the end of these parts to another field of it.
+fn is_rename_below(parent: &[Part], edit: &Edit) -> bool
+    ensures { result ≡ is_rename_below parent.now (edit_of edit.now) }
+{
+    match &edit.action {
+        Action::Rename(new) => {
+            is_below(parent, new.parts()) && is_below(parent, edit.path.parts())
+        }
         _ => false,
     }
 }
 
-/// How many of the first edits do nothing but move a field of the document itself to another.
-pub(crate) fn count_field_renames(edits: &[Edit]) -> usize
+/// How many of the first edits do nothing but that.
+pub(crate) fn count_renames_below(parent: &[Part], edits: &[Edit]) -> usize
     ensures within { result ≤ length edits.now }
-    ensures renames { list_all (λ e. is_field_rename (edit_of e)) (take result edits.now) ≡ true }
+    ensures renames { list_all (λ e. is_rename_below parent.now (edit_of e)) (take result edits.now) ≡ true }
 {
     'edits: for (count, edit) in edits.iter().enumerate() {
-        if !is_field_rename(edit) {
+        if !is_rename_below(parent, edit) {
             return count;
         }
     }
@@ -47,7 +63,7 @@ pub(crate) fn count_field_renames(edits: &[Edit]) -> usize
 
 /// An edit that changes nothing. After some edits a document of many fields knows where its names stand, and
 /// then misses one that it lacks without a look at all.
-fn touch(document: &mut Document)
+pub(crate) fn touch(document: &mut Document)
     ensures { document.new ≡ document.old }
 {
     let _levels = document.levels();
@@ -67,9 +83,11 @@ fn touch(document: &mut Document)
 fn take_kept(kept: &mut Document, gone: &Document, name: &Part) -> Option<Value>
     ensures value { option_map tree result
         ≡ (if is_some (lookup gone.now name.now) then None else lookup kept.old name.now) }
+    ensures levels { IfSome result (λ v. levels (tree v) ≤ 99) }
     ensures after { (marks : Pairs) → is_some (lookup marks name.now) ≡ true
         → unmarked marks kept.new ≡ unmarked marks kept.old }
 {
+    let _levels = kept.levels();
     if gone.get(name.as_str()).is_some() {
         return None;
     }
@@ -122,47 +140,48 @@ impl Renaming {
     }
 
     /// Takes a field out.
-    fn take(self, alloc: Global, path: &Path) -> Result<(Renaming, Option<Value>), Refusal>
-        requires { is_one_name path.now ≡ true }
-        ensures left { IfOk result (λ r. r.0 ≡ cut_at path.now self) }
-        ensures taken { IfOk result (λ r. option_map tree r.1 ≡ value_at path.now (document self)) }
-        ensures refusal { IfErr result (λ e. e ≡ Refusal.OutOfMemory) }
+    fn take(self, name: &Part) -> Result<(Renaming, Option<Value>), NoMemory>
+        ensures left { IfOk result (λ r. r.0 ≡ cut self name.now) }
+        ensures taken { IfOk result (λ r. option_map tree r.1 ≡ lookup self name.now) }
+        ensures levels { IfOk result (λ r. IfSome r.1 (λ v. levels (tree v) ≤ 99)) }
     {
         let Renaming { kept, gone, moved } = self;
         let mut kept = kept;
-        let _levels = kept.levels();
-        let (name, _) = path.split_first();
-        let (moved, found) = take_from(moved, path);
+        let mut gone = gone;
+        let mut moved = moved;
+        let _kept_levels = kept.levels();
+        let _moved_levels = moved.levels();
+        let found = moved.remove(name.as_str());
         let taken = match found {
             Some(value) => Some(value),
             None => take_kept(&mut kept, &gone, name),
         };
-        let gone = write_into(alloc, gone, path, Value::Null)?;
+        put(&mut gone, name, Value::Null)?;
         Ok((Renaming { kept, gone, moved }, taken))
     }
 
     /// Puts a field behind the others, in place of the one of its name.
-    fn put_last(self, alloc: Global, path: &Path, value: Value) -> Result<Renaming, Refusal>
-        requires { is_one_name path.now ≡ true }
-        ensures { Gives Refusal.OutOfMemory (λ r. r) result
-            (set_at path.now (tree value) (cut_at path.now self)) }
+    fn put_last(self, name: &Part, value: Value) -> Result<Renaming, NoMemory>
+        requires { levels (tree value) ≤ 99 }
+        ensures { IfOk result (λ r. r ≡ put (cut self name.now) name.now (tree value)) }
     {
         let Renaming { kept, gone, moved } = self;
+        let mut gone = gone;
+        let mut moved = moved;
         let _levels = kept.levels();
-        let gone = write_into(alloc, gone, path, Value::Null)?;
-        let moved = write_into(alloc, remove_from(moved, path), path, value)?;
+        let _replaced = moved.remove(name.as_str());
+        put(&mut moved, name, value)?;
+        put(&mut gone, name, Value::Null)?;
         Ok(Renaming { kept, gone, moved })
     }
 
-    /// Moves the field of the old name to the new one.
-    fn rename(self, alloc: Global, old: &Path, new: &Path) -> Result<Renaming, Refusal>
-        requires old { is_one_name old.now ≡ true }
-        requires new { is_one_name new.now ≡ true }
-        ensures { Gives Refusal.OutOfMemory (λ r. r) result (rename_at old.now new.now self) }
+    /// Moves the field of the old name, where there is one, to the new one.
+    fn rename(self, old: &Part, new: &Part) -> Result<Renaming, NoMemory>
+        ensures { IfOk result (λ r. r ≡ moved_field old.now new.now self) }
     {
-        let (left, taken) = self.take(alloc, old)?;
+        let (left, taken) = self.take(old)?;
         match taken {
-            Some(value) => left.put_last(alloc, new, value),
+            Some(value) => left.put_last(new, value),
             None => Ok(left),
         }
     }
@@ -180,22 +199,38 @@ impl Renaming {
     }
 }
 
-/// The document once these edits have renamed its fields.
-pub(crate) fn rename_fields(
+/// The document once these edits have moved the fields of the last names of their paths.
+pub(crate) fn renamed(
     alloc: Global,
-    edits: &[Edit],
     document: Document,
-) -> Result<Document, Refusal>
-    requires { list_all (λ e. is_field_rename (edit_of e)) edits.now ≡ true }
-    ensures { Gives Refusal.OutOfMemory (λ d. d) result
-        (apply_edits (map edit_of edits.now) document) }
+    edits: &[Edit],
+) -> Result<Document, NoMemory>
+    ensures { IfOk result (λ d. d ≡ renamed (map edit_of edits.now) document) }
 {
     let mut renaming = Renaming::new(alloc, document);
     'edits: for edit in edits {
         match &edit.action {
-            Action::Rename(new) => renaming = renaming.rename(alloc, &edit.path, new)?,
-            _ => unreachable!(),
+            Action::Rename(new) => {
+                renaming = renaming.rename(last_part(&edit.path), last_part(new))?;
+            }
+            _ => {}
         }
     }
-    Ok(renaming.into_document()?)
+    renaming.into_document()
+}
+
+/// The document once these edits have renamed fields, all of what stands at the end of the parts.
+pub(crate) fn rename_below(
+    alloc: Global,
+    parent: &[Part],
+    edits: &[Edit],
+    source: Document,
+) -> Result<Document, Refusal>
+    requires below { list_all (λ e. is_rename_below parent.now (edit_of e)) edits.now ≡ true }
+    requires no_array { leads_to_array parent.now (document source) ≡ false }
+    ensures { Gives Refusal.OutOfMemory (λ d. d) result
+        (apply_edits (map edit_of edits.now) source) }
+{
+    let _levels = source.levels();
+    Ok(change_below(alloc, parent, edits, source)?)
 }

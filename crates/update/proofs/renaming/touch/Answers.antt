@@ -5,7 +5,7 @@ use Rattle.bson.specs.Lawful.{levels}
 use Rattle.bson.specs.Tree.{scalar, null}
 use Rattle.bson.specs.View.{tree}
 use Rattle.path.proofs.WalkLemmas.{pair_at-levels}
-use Rattle.update.proofs.RenamingLemmas.{same_first}
+use Rattle.update.proofs.RenamingLemmas.{same_there}
 use Rattle.update.proofs.renaming.touch.Goals as goal
 
 pub replace_at-requires-in-Ok : goal.replace_at-requires-in-Ok
@@ -22,4 +22,4 @@ unreachable-requires c =
 pub returns : goal.returns
 returns c =
     c.in-Ok-replace_at.ensures.ok ∙ ap (λ ps. with_value ps 0 (tree c.in-Ok.value)) c.in-Ok.ensures.ok
-    ∙ with_value-twice c.args.document.now 0 (scalar null) (tree c.in-Ok.value) ∙ same_first c.args.document.now (tree c.in-Ok.value) c.in-Ok.ensures.old
+    ∙ with_value-twice c.args.document.now 0 (scalar null) (tree c.in-Ok.value) ∙ same_there c.args.document.now 0 (tree c.in-Ok.value) c.in-Ok.ensures.old

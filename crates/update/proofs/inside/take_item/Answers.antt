@@ -1,7 +1,7 @@
 use Rattle.std.proofs.Common.{arith}
 use Rattle.bson.specs.View.{tree}
 use Rattle.path.proofs.IndexLemmas.{item_at-levels}
-use Rattle.update.proofs.unsets.take_item.Goals as goal
+use Rattle.update.proofs.inside.take_item.Goals as goal
 
 pub returns-clause-levels : goal.returns-clause-levels
 returns-clause-levels c =

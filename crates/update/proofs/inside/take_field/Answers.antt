@@ -1,7 +1,7 @@
 use Rattle.std.proofs.Common.{arith}
 use Rattle.bson.specs.View.{tree}
 use Rattle.path.proofs.WalkLemmas.{pair_at-levels}
-use Rattle.update.proofs.unsets.take_field.Goals as goal
+use Rattle.update.proofs.inside.take_field.Goals as goal
 
 pub returns-clause-levels : goal.returns-clause-levels
 returns-clause-levels c =

@@ -1,8 +1,0 @@
-use Rattle.std.proofs.Common.{◌≡◌, true, take}
-use Rattle.std.specs.List.{list_all}
-use Rattle.update.specs.Renaming.{is_field_rename}
-use Rattle.update.specs.View.{edit_of}
-use Rattle.update.proofs.renaming.count_field_renames.Given as goal
-
-abbrev pub invariant-edits : goal.invariant-edits
-invariant-edits l = list_all (λ e. is_field_rename (edit_of e)) (take l.count l.edits) ≡ true

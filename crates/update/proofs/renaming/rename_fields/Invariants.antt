@@ -1,7 +1,0 @@
-use Rattle.std.proofs.Common.{◌≡◌, drop, map}
-use Rattle.update.specs.Applying.{apply_edits}
-use Rattle.update.specs.View.{edit_of}
-use Rattle.update.proofs.renaming.rename_fields.Given as goal
-
-abbrev pub invariant-edits : goal.invariant-edits
-invariant-edits l = apply_edits (map edit_of (drop l.edit-index l.edits)) l.renaming ≡ apply_edits (map edit_of l.edits) l.fn.document
