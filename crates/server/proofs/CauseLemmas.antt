@@ -267,7 +267,7 @@ disk_same {D} history mid new = ap (λ (file : State D). views.disk_history hist
 -- a turn that changed nothing ends without a commit
 pub quiet_commit : {D : Type 0} (history : D → History) (mid new : Engine D) (result : Result (Unit {0}) CommitFault) → has_changes mid ≡ false
     → Commits history result mid new → Continues history mid new
-quiet_commit history mid new result rests commits =
+quiet_commit {D = D} history mid new result rests commits =
     let quiet = commits.quiet rests in
     let done = subst (λ (r : Result (Unit {0}) CommitFault). Commits history r mid new) quiet.0 commits in
     continues_still history mid new (disk_same history mid new quiet.1) (done.running (λ e. absurd cc))
