@@ -95,5 +95,10 @@ module _ {D : Type 0} (history : D → History) (version : Version) (number : �
             home = r.home;
             numbered = r.numbered;
             stored = r.stored;
-            left = record { there = rest_told.there; sort = rest_told.sort; in_order = rest_told.in_order; same = ap (drop b.count) rest_told.same ∙ sym on.left };
+            left = record {
+              there = rest_told.there;
+              sort = rest_told.sort;
+              in_order = rest_told.in_order;
+              same = ap (drop b.count) rest_told.same ∙ sym on.left;
+            };
           }

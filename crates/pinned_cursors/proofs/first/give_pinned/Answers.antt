@@ -15,7 +15,8 @@ use Rattle.queries.specs.Listed.{AreListedIn, IsListedBatch, given_of}
 use Rattle.queries.specs.declared.batches.BatchAsked.{BatchAsked}
 use Rattle.replies.specs.declared.batch_spelling.BatchKind.TheVariants as batches
 use Rattle.pinned_cursors.specs.Opening.{held_walk, way_by}
-use Rattle.pinned_cursors.proofs.FirstLemmas.{behind_left, listed_batch, none_so, some_so, if_none, if_some, pinned_unread, pinned_whole, pinned_many, pinned_open}
+use Rattle.pinned_cursors.proofs.FirstLemmas.{behind_left, listed_batch, none_so, some_so, if_none, if_some, pinned_unread, pinned_whole}
+use Rattle.pinned_cursors.proofs.FirstLemmas.{pinned_many, pinned_open}
 use Rattle.pinned_cursors.proofs.LawfulLemmas.{lawful_opened}
 use Rattle.pinned_cursors.proofs.first.give_pinned.Goals as goal
 
