@@ -1,11 +1,12 @@
 -- What is live stays: a part of a tree in a store is one in every later store.
-use Rattle.std.proofs.Common.{◌≡◌, ℕ, zero, suc, ◌+◌, List, [], ◌∷◌, ◌++◌, drop, append_assoc, Option, Result, Ok, Err, refl, subst, sym, ap, ◌∙◌, arith, inl}
-use Rattle.std.proofs.Common.{inr}
+use Rattle.std.proofs.Common.{◌≡◌, ℕ, zero, suc, ◌+◌, List, [], ◌∷◌, ◌++◌, drop, append_assoc, Option, Result, Ok, Err, refl, subst, sym, ap, ◌∙◌, arith}
+use Rattle.std.proofs.Common.{◌<◌, ◌≤◌, ◌⊎◌, inl, inr}
 use Rattle.std.specs.Result.{IfErr, IsErrAnd}
 use Rattle.page.specs.Content.{Content}
 use Rattle.page.proofs.Moments.{reads_further, reads_nothing}
 use Rattle.btree.specs.Keys.{times}
-use Rattle.btree.specs.Store.{Store, Frame, Grows, HasCause, HasFailed, IsMade, IsRetired, IsSame, KeepsWord, Stays, flag}
+use Rattle.std.proofs.lemmas.Bool.{cases_lt}
+use Rattle.btree.specs.Store.{Store, CountsReads, Frame, Grows, HasCause, HasFailed, IsMade, IsRetired, IsSame, KeepsWord, Stays, flag}
 use Rattle.btree.specs.Tree.{Body, Shows, HasLinks}
 use Rattle.btree.specs.Calls.{IsAnswer, IsPart}
 use Rattle.btree.specs.declared.pages.TreeFault.{TreeFault}
@@ -20,10 +21,58 @@ stays_itself s = record { base = refl; reads = reads_nothing s.history }
 pub stays_trans : (a b c : Store) → Stays a b → Stays b c → Stays a c
 stays_trans a b c h g = record { base = g.base ∙ h.base; reads = reads_further a.history b.history c.history h.reads g.reads }
 
+-- ---- failed reads
+
+-- no read failed
+pub counts_same : (old new : Store) → new.failed_reads ≡ old.failed_reads → new.history.failures ≡ old.history.failures → CountsReads old new
+counts_same old new reads failures = record {
+  rises = omega (arith, reads);
+  failed = λ more. absurd (omega (arith, more, reads));
+  counted = λ more. absurd (omega (arith, more, failures));
+}
+
+-- a count that rose as often as no read failed would be too high; one that is at its greatest value stays there
+pub counts_trans : (a b c : Store) → a.history.failures ≤ b.history.failures → b.history.failures ≤ c.history.failures → CountsReads a b → CountsReads b c
+    → CountsReads a c
+counts_trans a b c fails fails_on h g = record {
+  rises = omega (arith, h.rises, g.rises);
+  failed = λ more. elim (cases_lt a.failed_reads b.failed_reads) [
+    | inl first ↦ omega (arith, h.failed first, fails_on)
+    | inr none ↦ omega (arith, g.failed (omega (arith, none, more)), fails)
+  ];
+  counted = λ more. elim (cases_lt a.history.failures b.history.failures) [
+    | inl first ↦ told_first (h.counted first)
+    | inr none ↦ told_last (g.counted (omega (arith, none, more)))
+  ];
+}
+  where
+    told_first : (a.failed_reads < b.failed_reads) ⊎ (b.failed_reads ≡ 18446744073709551615)
+        → (a.failed_reads < c.failed_reads) ⊎ (c.failed_reads ≡ 18446744073709551615)
+    told_first (inl more) = inl (omega (arith, more, g.rises))
+    told_first (inr most) =
+        elim (cases_lt b.failed_reads c.failed_reads) [
+          | inl more ↦ inl (omega (arith, more, h.rises))
+          | inr none ↦ inr (omega (arith, none, most, g.rises))
+        ]
+
+    told_last : (b.failed_reads < c.failed_reads) ⊎ (c.failed_reads ≡ 18446744073709551615)
+        → (a.failed_reads < c.failed_reads) ⊎ (c.failed_reads ≡ 18446744073709551615)
+    told_last (inl more) = inl (omega (arith, more, h.rises))
+    told_last (inr most) = inr most
+
 -- ---- nothing made, nothing retired
 
 pub same_itself : (s : Store) → KeepsWord s → IsSame s s
-same_itself s k = record { word = k; page = refl; live = refl; made = refl; retired = refl; failures = omega arith; full_takes = omega arith }
+same_itself s k = record {
+  word = k;
+  page = refl;
+  live = refl;
+  made = refl;
+  retired = refl;
+  failures = omega arith;
+  full_takes = omega arith;
+  counts = counts_same s s refl refl;
+}
 
 pub same_trans : (a b c : Store) → IsSame a b → IsSame b c → IsSame a c
 same_trans a b c h g =
@@ -35,6 +84,7 @@ same_trans a b c h g =
       retired = g.retired ∙ h.retired;
       failures = omega (arith, h.failures, g.failures);
       full_takes = omega (arith, h.full_takes, g.full_takes);
+      counts = counts_trans a b c h.failures g.failures h.counts g.counts;
     }
 
 -- ---- the frame
@@ -49,6 +99,7 @@ frame_same old new h =
       retired_on = ([], h.retired);
       failures = h.failures;
       full_takes = h.full_takes;
+      counts = h.counts;
     }
 
 -- more, and more again
@@ -65,6 +116,7 @@ frame_trans a b c h g =
       retired_on = on_further a.retired b.retired c.retired h.retired_on g.retired_on;
       failures = omega (arith, h.failures, g.failures);
       full_takes = omega (arith, h.full_takes, g.full_takes);
+      counts = counts_trans a b c h.failures g.failures h.counts g.counts;
     }
 
 pub frame_itself : (s : Store) → KeepsWord s → Frame s s

@@ -11,7 +11,7 @@ use Rattle.btree.specs.Keys.{times}
 -- Each moment of the device that keeps the pages; numbers that say what was there when a turn
 -- began; the content of each page; the pages that may not be given out, as something still reaches
 -- them; the pages that calls have given out and retired so far, the last one first; how often no
--- page was free, as far as a u64 counts.
+-- page was free, and how often a read of the device has failed, both as far as a u64 counts.
 pub record Store : Type 0 where
   pub history : History
   pub base : List ℕ
@@ -20,6 +20,7 @@ pub record Store : Type 0 where
   pub made : List ℕ
   pub retired : List ℕ
   pub full_takes : ℕ
+  pub failed_reads : ℕ
 
 -- that of pages which no device keeps
 abbrev pub no_device : History
@@ -50,6 +51,13 @@ pub record IsAt (s : Store) (n : ℕ) (content : Content) : Type 0 where
 abbrev pub flag : Bool → ℕ
 flag b = if b then 1 else 0
 
+-- Each read that fails is counted, as far as a u64 counts: the count rises just where one failed.
+pub record CountsReads (old new : Store) : Type 0 where
+  pub rises : old.failed_reads ≤ new.failed_reads
+  pub failed : old.failed_reads < new.failed_reads → old.history.failures < new.history.failures
+  pub counted : old.history.failures < new.history.failures
+      → (old.failed_reads < new.failed_reads) ⊎ (new.failed_reads ≡ 18446744073709551615)
+
 -- THE FRAME: what is live stays, with its content; each page that became live was made once.
 pub record Frame (old new : Store) : Type 0 where
   pub word : KeepsWord old
@@ -60,6 +68,7 @@ pub record Frame (old new : Store) : Type 0 where
   pub retired_on : (more : List ℕ) × (new.retired ≡ more ++ old.retired)
   pub failures : old.history.failures ≤ new.history.failures
   pub full_takes : old.full_takes ≤ new.full_takes
+  pub counts : CountsReads old new
 
 pub record Grows (old new : Store) : Type 0 where
   pub stays : Stays old new
@@ -89,6 +98,7 @@ pub record IsSame (old new : Store) : Type 0 where
   pub retired : new.retired ≡ old.retired
   pub failures : old.history.failures ≤ new.history.failures
   pub full_takes : old.full_takes ≤ new.full_takes
+  pub counts : CountsReads old new
 
 -- nothing has changed, and the fault has its cause
 pub record HasFailed (old new : Store) (e : TreeFault) : Type 0 where

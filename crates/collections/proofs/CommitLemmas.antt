@@ -6,7 +6,7 @@ use Rattle.page.specs.Crash.{ReadsOnly}
 use Rattle.page.specs.History.{History, KeepsWord}
 use Rattle.page.proofs.Moments.{reads_nothing}
 use Rattle.btree.specs.Store.{IsSame, Store as Pages}
-use Rattle.btree.proofs.StoreLemmas.{grows_itself, grows_same}
+use Rattle.btree.proofs.StoreLemmas.{counts_same, grows_itself, grows_same}
 use Rattle.roots.specs.declared.store.CommitFault.{CommitFault}
 use Rattle.roots.specs.Image.{StandsFor}
 use Rattle.roots.specs.Store as stores
@@ -63,6 +63,8 @@ module _ {D : Type 0} (history : D → History) (old : State D) (pager : PagerSt
       retired = ap (λ (s : Pages). s.retired) is;
       failures = omega (arith, ap (λ (s : Pages). s.history.failures) is);
       full_takes = more;
+      counts = counts_same (pages_of history old) (pages_of history new) (ap (λ (s : Pages). s.failed_reads) is)
+          (ap (λ (s : Pages). s.history.failures) is);
     }
 
     counted_on : GoesFrom history old new
@@ -90,6 +92,7 @@ module _ {D : Type 0} (history : D → History) (old : State D) (pager : PagerSt
           disk = ap (λ (p : PagerState D). pager_history history p) is;
           stopped = ap (λ (p : PagerState D). stores.is_stopped p.store) is;
           version = ap (λ (p : PagerState D). (stores.durable_root p.store).generation) is;
+          reads = ap (λ (p : PagerState D). stores.failed_reads p.store) is;
         };
         state = λ start now has. state_stays history old new start now (goes_full more (inr (lacks, is))) refl (λ k. (same k).made) (λ k. (same k).retired) has;
       })

@@ -33,6 +33,7 @@ untouched_so {D = D} history old pager root made retired undone = record {
   disk = ap (λ (p : PagerState D). pager_history history p) undone;
   stopped = ap (λ (p : PagerState D). stores.is_stopped p.store) undone;
   version = ap (λ (p : PagerState D). (stores.durable_root p.store).generation) undone;
+  reads = ap (λ (p : PagerState D). (store_of history p).failed_reads) undone;
 }
 
 pub returns_so : {D : Type 0} (history : D → History) (mark : Mark) (old : State D) (pager : PagerState D)

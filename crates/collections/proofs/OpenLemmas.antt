@@ -43,4 +43,5 @@ refused_so history disk back fault refused = record {
   foreign = refused.foreign;
   later = refused.later;
   device = refused.device;
+  memory = refused.memory;
 }

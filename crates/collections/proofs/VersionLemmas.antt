@@ -165,6 +165,7 @@ module _ {D : Type 0} (history : D → History) (old : State D) (pager : PagerSt
       disk = ap (λ (s : Store D). stores.disk_history history s) same;
       stopped = ap (λ (s : Store D). stores.is_stopped s) same;
       version = ap (λ (s : Store D). (stores.durable_root s).generation) same;
+      reads = ap (λ (s : Store D). stores.failed_reads s) same;
     };
     takes = takes;
     unchanged = ap (λ (s : Store D). not (old.root == (stores.durable_root s).tree)) same;

@@ -16,11 +16,12 @@ pub record IsMarkOf {D : Type 0} (mark : Mark) (c : State D) : Type 0 where
   pub retired : mark.pages.retired ≡ length c.pager.retired
   pub root : mark.root ≡ c.root
 
--- The disk, and what is committed on it, are as they were.
+-- The disk, and what is committed on it, are as they were, and no read of it failed.
 pub record IsUntouched {D : Type 0} (history : D → History) (old new : State D) : Type 0 where
   pub disk : disk_history history new ≡ disk_history history old
   pub stopped : is_stopped new ≡ is_stopped old
   pub version : generation new ≡ generation old
+  pub reads : (pages_of history new).failed_reads ≡ (pages_of history old).failed_reads
 
 -- The collections are those of then, and the turn goes on from there.
 pub record IsBackAt {D : Type 0} (history : D → History) (earlier new : State D) : Type 0 where

@@ -43,7 +43,7 @@ impl<D: Disk> Collections<D> {
     ghost use Rattle.collections.specs.Opening.{HasLimit, IsOpened, IsRefused};
     ghost use Rattle.collections.specs.Trusting.{trusting_state};
     ghost use Rattle.collections.specs.Versions.{CommitsVersions, KeepsSinceStart, KeepsThen, pins_of};
-    ghost use Rattle.collections.specs.View.{disk_history, generation, is_changed, is_stopped};
+    ghost use Rattle.collections.specs.View.{disk_history, generation, is_changed, is_stopped, pages_of};
 
     /// Opens a disk that a crash may have left, as a file of at most so many pages, or those that it has. It reads the list of free
     /// pages, and of the tree the root page alone; each page of the tree where the file has no list. An `Err` hands the disk back.
@@ -89,6 +89,20 @@ impl<D: Disk> Collections<D> {
         ensures { result ≡ is_stopped self.now }
     {
         self.pager.is_stopped()
+    }
+
+    /// How often a read of the disk has failed, as far as a u64 counts.
+    pub fn failed_reads(&self) -> u64
+        ensures { result ≡ (pages_of D.history self.now).failed_reads }
+    {
+        self.pager.failed_reads()
+    }
+
+    /// How often a page was asked for and none was free, as far as a u64 counts.
+    pub fn full_takes(&self) -> u64
+        ensures { result ≡ (pages_of D.history self.now).full_takes }
+    {
+        self.pager.full_takes()
     }
 
     /// The number of the commit that was the last one.

@@ -46,6 +46,7 @@ undone_of_pins history a b c pins undoes = record {
     disk = undoes.untouched.disk ∙ pins.untouched.disk;
     stopped = undoes.untouched.stopped ∙ pins.untouched.stopped;
     version = undoes.untouched.version ∙ pins.untouched.version;
+    reads = undoes.untouched.reads ∙ pins.untouched.reads;
   };
   takes = undoes.takes ∙ pins.takes;
   rests = undoes.rests;
@@ -91,6 +92,7 @@ module _ {D : Type 0} (history : D → History) (old new : Engine D) (h : IsSoun
       done = ap (world_of old.told.value) made;
       stops = λ e. absurd cc;
       memory = λ e. absurd cc;
+      clear = λ e. absurd cc;
       full = λ e. absurd cc;
       version = sym (counted rests);
       ended = idle;
@@ -132,6 +134,7 @@ module _ {D : Type 0} (history : D → History) (old new : Engine D) (h : IsSoun
       disk = undoes.untouched.disk ∙ found.untouched.disk;
       stopped = undoes.untouched.stopped ∙ found.untouched.stopped;
       version = undoes.untouched.version ∙ found.untouched.version;
+      reads = undoes.untouched.reads ∙ found.untouched.reads;
     }
 
     pub state_since : files.FindsNoRoom history old.file mid → (start now : List Collection) → HasState history old.file start now
@@ -190,6 +193,7 @@ module _ {D : Type 0} (history : D → History) (old new : Engine D) (h : IsSoun
           done = tt;
           stops = λ e. absurd (not_device e);
           memory = λ e. back;
+          clear = λ e. disk_same;
           full = λ e. (back, cause (ap fault_of e));
           version = untouched.version;
           ended = ended;
@@ -249,6 +253,7 @@ module _ {D : Type 0} (history : D → History) (old new : Engine D) (h : IsSoun
           done = forth;
           stops = λ e. absurd cc;
           memory = λ e. absurd cc;
+          clear = λ e. absurd cc;
           full = λ e. absurd cc;
           version = saved.version ∙ sym (counted moved);
           ended = ended;
@@ -274,6 +279,7 @@ module _ {D : Type 0} (history : D → History) (old new : Engine D) (h : IsSoun
           done = tt;
           stops = λ e. (forth, off);
           memory = λ e. absurd cc;
+          clear = λ e. absurd cc;
           full = λ e. absurd cc;
           version = saved.still;
           ended = ended;

@@ -139,9 +139,10 @@ module _ {D : Type 0} (history : D → History) (old : Engine D) (h : IsSound hi
           let pins = then.pins in
           continues_further history old read new
           (continues_further history old mid read
-          (continues_still history old mid first.untouched.disk first.untouched.stopped first.untouched.version first.takes)
+          (continues_still history old mid first.untouched.disk first.untouched.stopped first.untouched.version first.takes
+          first.untouched.reads)
           (continues_of history mid read then.on))
-          (continues_still history read new pins.untouched.disk pins.untouched.stopped pins.untouched.version pins.takes)
+          (continues_still history read new pins.untouched.disk pins.untouched.stopped pins.untouched.version pins.takes pins.untouched.reads)
 
       state_pinned : HasState history file old.told.value.start old.told.value.now
       state_pinned =

@@ -54,3 +54,4 @@ pub mod Dumping
 pub mod FileCounts
 pub mod UnindexingLemmas
 pub mod DroppingIndexes
+pub mod TroublesLemmas

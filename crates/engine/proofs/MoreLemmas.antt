@@ -66,7 +66,7 @@ module _ {D : Type 0} (history : D → History) (old : Engine D) (h : IsSound hi
       let pins = gives.goes.pins in
       performs_tied history old new planned r h
       (continues_further history old mid new (continues_of history old mid gives.goes.on)
-      (continues_still history mid new pins.untouched.disk pins.untouched.stopped pins.untouched.version pins.takes))
+      (continues_still history mid new pins.untouched.disk pins.untouched.stopped pins.untouched.version pins.takes pins.untouched.reads))
       (pins.state old.told.value.start old.told.value.now (gives.goes.same old.told.value.start old.told.value.now h.file))
       ((λ i. (pins.unchanged i, pins.takes i)) ∙ gives.goes.unchanged) (gives.tied old.is_changed h.tied) refl refl
       (record { collections = h.lawful; cursors = lawful h.cursors }) (λ k. does r gives.err (gives.answers k old.is_changed h.tied)) (same_world r gives.err)

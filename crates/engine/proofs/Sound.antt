@@ -156,7 +156,7 @@ module _ {D : Type 0} (history : D → History) (old new : Engine D) (planned : 
       → (KeepsWord (disk_history history new) → DoesReading history planned r old new) → OnErr r (world new ≡ world old)
       → PerformsReading history planned r old new
   performs_pins r h pins tied =
-      performs_tied r h (continues_still history old new pins.untouched.disk pins.untouched.stopped pins.untouched.version pins.takes)
+      performs_tied r h (continues_still history old new pins.untouched.disk pins.untouched.stopped pins.untouched.version pins.takes pins.untouched.reads)
       (pins.state (turn_start old) (world old).collections h.file) (λ i. (pins.unchanged i, pins.takes i)) tied
 
   pub performs_in_memory : (r : Result Pairs Refusal) → IsSound history old → Releases (has_changes old) history old.file new.file old.cursors new.cursors

@@ -28,6 +28,8 @@ pub record Commits {D : Type 0} (history : D → History) (result : Result (Unit
   pub stops : result ≡ Err faults.Device
       → (world new ≡ after_commit (world old)) × (is_stopped new ≡ true)
   pub memory : result ≡ Err faults.Memory → world new ≡ after_undo (turn_start old) (world old)
+  -- want of memory hides nothing: the disk wasn't called
+  pub clear : result ≡ Err faults.Memory → disk_history history new ≡ disk_history history old
   -- Full comes only where no greater generation is left, or no page was free
   pub full : result ≡ Err faults.Full → (world new ≡ after_undo (turn_start old) (world old))
       × ((generation old ≡ 2 ^ 64 - 1) ⊎ FoundNoPage history old new)

@@ -40,6 +40,10 @@ generation engine = views.generation (file_of engine)
 abbrev pub full_takes_of : {D : Type 0} → (D → History) → Engine D → ℕ
 full_takes_of history engine = (views.pages_of history (file_of engine)).full_takes
 
+-- how often a read of the disk has failed, as far as a u64 counts
+abbrev pub failed_reads_of : {D : Type 0} → (D → History) → Engine D → ℕ
+failed_reads_of history engine = (views.pages_of history (file_of engine)).failed_reads
+
 -- Until it stops, its file has the collections as they were at the beginning of the turn, and a
 -- tree of those of now; and what is left of a cursor that holds no documents is what its walk is
 -- still to give of the version that is pinned for it. Where its commands have changed nothing, its

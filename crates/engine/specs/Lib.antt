@@ -20,3 +20,4 @@ pub mod Unindexing
 pub mod CheckFaults
 pub mod Dump
 pub mod Checking
+pub mod Troubles

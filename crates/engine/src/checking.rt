@@ -1,13 +1,17 @@
 //! What a file holds, as a check of it tells.
 
-ghost use Rattle.std.specs.Prelude.{◌≡◌, ◌+◌, IfSome, map};
+ghost use Rattle.std.specs.Prelude.{◌≡◌, ◌+◌, Err, IfSome, map};
 ghost use Rattle.engine.specs.Checking.{ChecksFile};
 ghost use Rattle.opening.specs.Totals.{total_indexes};
-ghost use Rattle.engine.specs.Durable.{IsSound};
+ghost use Rattle.engine.specs.Durable.{IsSound, disk_history};
+ghost use Rattle.engine.specs.Troubles.{MetNoFailure};
+ghost use Rattle.engine.specs.declared.check_fault.CheckFault.TheVariants as faults;
+ghost use Rattle.page.specs.History.{KeepsWord};
 ghost use Rattle.opening.specs.Loading.{named_as};
 
 use crate::check_fault::CheckFault;
 use crate::engine::Engine;
+use crate::troubles::{told_fault, troubles_of};
 use opening::{Named, Told, load_file};
 use page::Disk;
 
@@ -43,8 +47,22 @@ fn count_indexes(names: &[Named]) -> Option<u64>
 impl<D: Disk> Engine<D> {
     /// Looks through the whole file and counts what it holds: each page of the committed tree is read from the disk and judged,
     /// then each entry, and no more than a batch of them is held. Documents and entries of indexes agree. `Damaged` where
-    /// something of it is wrong. The file is only read.
+    /// something of it is wrong, `Memory` where memory ran out and no read failed. The file is only read.
     pub fn check(&mut self) -> Result<Counts, CheckFault>
+        requires sound { IsSound D.history self.old }
+        ensures checks { ChecksFile D.history result self.old self.new }
+        ensures memory { KeepsWord (disk_history D.history self.new) → result ≡ Err faults.Memory
+            → MetNoFailure D.history self.old self.new }
+    {
+        let before = troubles_of(&self.file);
+        match self.look_through() {
+            Ok(counts) => Ok(counts),
+            Err(fault) => Err(told_fault(fault, before, troubles_of(&self.file))),
+        }
+    }
+
+    /// The same, but for what is told where memory ran out.
+    fn look_through(&mut self) -> Result<Counts, CheckFault>
         requires sound { IsSound D.history self.old }
         ensures { ChecksFile D.history result self.old self.new }
     {

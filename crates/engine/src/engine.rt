@@ -20,9 +20,12 @@ ghost use Rattle.engine.specs.View.{world, turn_start, reply_of, IsRefusal};
 ghost use Rattle.commands.specs.Command.{IsBounded};
 ghost use Rattle.commands.specs.View.{command_read};
 ghost use Rattle.database_model.specs.Step.{Answers, ChangesNone, WroteNothing, read_and_run, run};
-ghost use Rattle.engine.specs.Durable.{disk_history, file_of, full_takes_of, generation, has_changes, is_stopped, IsSound, KeepsChanges};
+ghost use Rattle.engine.specs.Durable.{disk_history, failed_reads_of, file_of, full_takes_of, generation, has_changes, is_stopped, IsSound, KeepsChanges};
+ghost use Rattle.engine.specs.Troubles.{MetNoTrouble};
 ghost use Rattle.engine.specs.Writing.{FileCause};
+ghost use Rattle.path.specs.declared.refusal.Refusal.TheVariants as refusals;
 
+use crate::troubles::{told, troubles_of};
 use bson::Document;
 use collections::Collections as FileCollections;
 use commands::Command;
@@ -111,6 +114,7 @@ impl<D: Disk> Engine<D> {
         ensures sure { BodyNeedsNoDisk (Ok body.now) → Runs (world self.old)
             (read_and_run (world self.old) connection body.now) (world self.new)
             (outcome_of result) }
+        ensures still { BodyNeedsNoDisk (Ok body.now) → file_of self.new ≡ file_of self.old }
         ensures sendable { IfOk result (λ a. IsSendable (answer_of a)) }
     {
         match Command::read(self.alloc, body) {
@@ -140,6 +144,8 @@ impl<D: Disk> Engine<D> {
         ensures sure { NeedsNoDisk (Ok (command_read command.now)) → Runs (world self.old)
             (run (world self.old) connection (command_read command.now)) (world self.new)
             (outcome_of result) }
+        ensures still { NeedsNoDisk (Ok (command_read command.now))
+            → file_of self.new ≡ file_of self.old }
         ensures sendable { IfOk result (λ a. IsSendable (answer_of a)) }
     {
         match command {
@@ -184,6 +190,8 @@ impl<D: Disk> Engine<D> {
         ensures sure { NeedsNoDisk (Ok (command_read command.now)) → Runs (world self.old)
             (run (world self.old) connection (command_read command.now)) (world self.new)
             (outcome_of result) }
+        ensures still { NeedsNoDisk (Ok (command_read command.now))
+            → file_of self.new ≡ file_of self.old }
         ensures sendable { IfOk result (λ a. IsSendable (answer_of a)) }
     {
         match command {
@@ -205,8 +213,9 @@ impl<D: Disk> Engine<D> {
     }
 
     /// Runs a command and answers it. `OutOfMemory` comes in place of another answer where a growth was refused,
-    /// `StorageFailed` where the device failed, and `Full` where no page of the file is free. A `ping`, a `hello`
-    /// and what is refused before it runs are answered so on any disk.
+    /// `StorageFailed` where the device failed, and `Full` where no page of the file is free; where the device failed
+    /// or no page was free, `OutOfMemory` doesn't come. A `ping`, a `hello` and what is refused before it runs are
+    /// answered so on any disk.
     pub fn execute(&mut self, connection: ConnId, body: &Document) -> Reply
         requires sound { IsSound D.history self.old }
         ensures sound { IsSound D.history self.new }
@@ -229,11 +238,14 @@ impl<D: Disk> Engine<D> {
             (world self.old) connection (Ok body.now) (world self.new) (reply_of result) }
         ensures sure { BodyNeedsNoDisk (Ok body.now) → Answers ForMemory (world self.old) connection
             (Ok body.now) (world self.new) (reply_of result) }
+        ensures memory { KeepsWord (disk_history D.history self.new)
+            → result ≡ Reply.Refused refusals.OutOfMemory → MetNoTrouble D.history self.old self.new }
         ensures sendable { IsSendable (reply_of result) }
     {
+        let before = troubles_of(&self.file);
         match self.run(connection, body) {
             Ok(answer) => Reply::Done(answer),
-            Err(refusal) => Reply::Refused(refusal),
+            Err(refusal) => Reply::Refused(told(refusal, before, troubles_of(&self.file))),
         }
     }
 
@@ -304,6 +316,7 @@ impl<D: Disk> Engine<D> {
         ensures running { is_stopped self.new ≡ is_stopped self.old }
         ensures generation { generation self.new ≡ generation self.old }
         ensures takes { full_takes_of D.history self.new ≡ full_takes_of D.history self.old }
+        ensures reads { failed_reads_of D.history self.new ≡ failed_reads_of D.history self.old }
         ensures world { world self.new ≡ after_undo (turn_start self.old) (world self.old) }
         ensures turn_start { turn_start self.new ≡ (world self.new).collections }
         ensures rests { has_changes self.new ≡ false }
@@ -324,6 +337,7 @@ impl<D: Disk> Engine<D> {
         ensures running { is_stopped self.new ≡ is_stopped self.old }
         ensures generation { generation self.new ≡ generation self.old }
         ensures takes { full_takes_of D.history self.new ≡ full_takes_of D.history self.old }
+        ensures reads { failed_reads_of D.history self.new ≡ failed_reads_of D.history self.old }
         ensures world { world self.new ≡ forget (world self.old) connection }
         ensures turn_start { turn_start self.new ≡ turn_start self.old }
         ensures has_changes { has_changes self.new ≡ has_changes self.old }

@@ -29,6 +29,7 @@ mod looking;
 mod numbering;
 mod refusal;
 mod removing;
+mod troubles;
 mod unindexing;
 mod updates;
 mod walking;

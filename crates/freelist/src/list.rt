@@ -1,5 +1,5 @@
 //! The written list of a file's free pages, and how it is read.
-ghost use Rattle.std.specs.Prelude.{◌≡◌, ◌<◌, ◌≤◌, ◌∷◌, [], ◌++◌, ℕ, Option, Some, Err, IfOk, OnOk, OnErr, IsTrue, length, take, drop, ◌*◌};
+ghost use Rattle.std.specs.Prelude.{◌≡◌, ◌≢◌, ◌<◌, ◌≤◌, ◌∷◌, [], ◌++◌, ℕ, Option, Some, Err, IfOk, OnOk, OnErr, IsTrue, length, take, drop, ◌*◌};
 ghost use Rattle.freelist.specs.FreeList.{ListContent, list_pages, room_for, written};
 ghost use Rattle.freelist.specs.ListReading.{Begins, Marks, Notes, ReadsList, ReadsPart, StepsOn, TellsAll, content_of, free_in, has_unmarked, unmarked};
 ghost use Rattle.freelist.specs.ListWriting.{content_at};
@@ -84,19 +84,27 @@ pub trait ListPages {
     /// The device failed between the first and the second.
     ghost has_failed: { Self → Self → Type 0 };
 
+    /// No call of the device failed between the first and the second.
+    ghost clear: { Self → Self → Type 0 };
+
     /// The page of this number. Device where the device failed; Damaged where it is no page of a list.
     fn read_part(&mut self, alloc: Global, page: u32) -> Result<ListPage, ListFault>
         ensures reads { reads self.old self.new }
         ensures same { keeps_word self.new
             → keeps_word self.old × (contents self.new ≡ contents self.old) }
         ensures part { keeps_word self.new → ReadsPart (contents self.old) page result }
-        ensures device { result ≡ Err faults.Device → has_failed self.old self.new };
+        ensures device { result ≡ Err faults.Device → has_failed self.old self.new }
+        ensures clear { result ≢ Err faults.Device → clear self.old self.new };
 
     ghost stays: { (x : Self) → reads x x };
 
     ghost goes_on: { (x y z : Self) → reads x y → reads y z → reads x z };
 
     ghost failed_later: { (x y z : Self) → reads x y → has_failed y z → has_failed x z };
+
+    ghost stays_clear: { (x : Self) → clear x x };
+
+    ghost clear_on: { (x y z : Self) → clear x y → clear y z → clear x z };
 }
 
 /// Marks a page that isn't marked; whether it is one of the file's, and wasn't marked before.
@@ -225,6 +233,7 @@ impl Reading {
         ensures steps { P.keeps_word source.new
             → StepsOn (P.contents source.old) page self.old self.new result }
         ensures device { result ≡ Err faults.Device → P.has_failed source.old source.new }
+        ensures clear { result ≢ Err faults.Device → P.clear source.old source.new }
         ensures fewer { OnOk result (unmarked self.new.seen.items < unmarked self.old.seen.items) }
     {
         self.note_page(page)?;
@@ -249,6 +258,7 @@ pub fn read_list<P: ListPages>(
     ensures list { P.keeps_word source.new
         → ReadsList (P.contents source.old) page_count first count result }
     ensures device { result ≡ Err faults.Device → P.has_failed source.old source.new }
+    ensures clear { result ≢ Err faults.Device → P.clear source.old source.new }
 {
     let mut reading = Reading::begin(alloc, page_count)?;
     let mut page = first;

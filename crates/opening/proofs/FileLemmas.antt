@@ -79,4 +79,5 @@ open_refused history disk back fault refused = record {
   foreign = refused.foreign;
   later = refused.later;
   device = refused.device;
+  memory = refused.memory;
 }

@@ -3,7 +3,7 @@ use Rattle.std.proofs.Common.{◌≡◌, inl, inr, ℕ, ◌+◌, ◌≤◌, Bool
 use Rattle.std.specs.Prelude.{if◌then◌else◌, ◌&&◌, not}
 use Rattle.std.proofs.lemmas.Bool.{cases_lt}
 use Rattle.page.specs.History.{History, Sector, KeepsWord, now, IsImage, LeftSince, Ticks, Syncs}
-use Rattle.page.specs.Crash.{GoesOn, LeavesOnly, LeavesNow, ReadsOnly, OnlySyncs}
+use Rattle.page.specs.Crash.{GoesOn, LeavesOnly, LeavesNow, ReadsOnly, HasRead, OnlySyncs}
 
 -- before the first call
 pub goes_nowhere : (h : History) → GoesOn h h
@@ -130,6 +130,16 @@ reads_one old new ok tick same = record {
         | inl late ↦ let last : t ≡ new.clock = omega (arith, tick.clock keeps) in ap new.moment last ∙ same keeps
         | inr early ↦ let first : t ≡ old.clock = omega arith in tick.past keeps t early ∙ ap old.moment first
       ];
+}
+
+-- calls that read, none of which failed
+pub read_nothing : (h : History) → HasRead h h
+read_nothing h = record { reads = reads_nothing h; clear = λ keeps. refl }
+
+pub read_further : (a b c : History) → HasRead a b → HasRead b c → HasRead a c
+read_further a b c first second = record {
+  reads = reads_further a b c first.reads second.reads;
+  clear = λ keeps. second.clear keeps ∙ first.clear (second.reads.on.kept keeps);
 }
 
 -- a sync after them

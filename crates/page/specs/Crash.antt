@@ -59,6 +59,11 @@ pub record ReadsOnly (old new : History) : Type 0 where
   pub same : KeepsWord new → now new ≡ now old
   pub still : KeepsWord new → (t : ℕ) → old.clock ≤ t → t ≤ new.clock → new.moment t ≡ now old
 
+-- Calls that only read, and none of them failed.
+pub record HasRead (old new : History) : Type 0 where
+  pub reads : ReadsOnly old new
+  pub clear : KeepsWord new → new.failures ≡ old.failures
+
 -- Until the last call, which synced them, the sectors were as they are.
 pub record OnlySyncs (old new : History) : Type 0 where
   pub still : KeepsWord new → (t : ℕ) → old.clock ≤ t → t < new.clock → new.moment t ≡ now old

@@ -46,6 +46,8 @@ pub fn read_page<D: Disk>(
         → OnOk result (bytes.new ≡ page_at (reads (now (D.history disk.old))) page) }
     ensures failed { KeepsWord (D.history disk.new)
         → OnErr result ((D.history disk.old).failures < (D.history disk.new).failures) }
+    ensures clear { KeepsWord (D.history disk.new)
+        → OnOk result ((D.history disk.new).failures ≡ (D.history disk.old).failures) }
 {
     for i in 0..8u64 {
         let at = 512 * i as usize;

@@ -12,6 +12,7 @@ use Rattle.page.specs.History.{History, KeepsWord, now, reads}
 use Rattle.page.specs.declared.page_fault.PageFault.{PageFault}
 use Rattle.page.proofs.Moments.{reads_nothing}
 use Rattle.btree.specs.Keys.{Entry, times}
+use Rattle.btree.proofs.StoreLemmas.{counts_same}
 use Rattle.btree.specs.Store.{Frame, Grows, IsAt, Stays, flag}
 use Rattle.btree.proofs.OnceLemmas.{map_live}
 use Rattle.btree.proofs.ReachLemmas.{Moves, map_moved}
@@ -188,6 +189,7 @@ module _ {D : Type 0} (history : D → History) (p : State D) (booked : IsBookFo
     retired_on = (reverse (drop few p.retired), retired_on);
     failures = omega arith;
     full_takes = omega arith;
+    counts = counts_same (store_of history q) (store_of history p) refl refl;
   }
 
   pub undone_grows : Grows (store_of history q) (store_of history p)

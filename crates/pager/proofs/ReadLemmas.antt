@@ -1,5 +1,5 @@
 -- A page is read from the cache or from the disk.
-use Rattle.std.proofs.Common.{◌≡◌, ℕ, List, Some, refl, sym, ◌∙◌, ap, subst, inl, inr}
+use Rattle.std.proofs.Common.{◌≡◌, ℕ, List, Some, refl, sym, ◌∙◌, ap, subst, inl, inr, arith}
 use Rattle.std.specs.Prelude.{Result, Ok, Err}
 use Rattle.page.specs.Cache.{kept}
 use Rattle.page.specs.Format.{Sheet}
@@ -28,7 +28,12 @@ not_full opens.NotADatabase = tt
 not_full opens.NewerFormat = tt
 
 pub nothing_read : {D : Type 0} (history : D → History) (store : Store D) → OnlyRead history store store
-nothing_read history store = record { root = refl; stopped = refl; reads = reads_nothing (disk_history history store) }
+nothing_read history store = record {
+  root = refl;
+  stopped = refl;
+  reads = reads_nothing (disk_history history store);
+  noted = λ k. record { rises = omega arith; failed = λ more. absurd (omega (arith, more)); counted = λ more. absurd (omega (arith, more)) };
+}
 
 -- what holds of sectors and a root holds of the same ones
 pub of_same : (P : (ℕ → Sector) → Root → Type 0) (s t : ℕ → Sector) (a b : Root) → s ≡ t → a ≡ b → P s a → P t b

@@ -1,9 +1,9 @@
 -- Why a disk isn't opened.
-use Rattle.std.proofs.Common.{◌≡◌, ◌≢◌, ℕ, ◌<◌, List, refl, sym, ◌∙◌, subst, arith}
+use Rattle.std.proofs.Common.{◌≡◌, ◌≢◌, ℕ, ◌<◌, List, refl, sym, ap, ◌∙◌, subst, arith}
 use Rattle.std.specs.Prelude.{Ok, Err}
 use Rattle.page.specs.History.{History, KeepsWord, IsImage, now, reads}
 use Rattle.page.specs.Crash.{ReadsOnly}
-use Rattle.page.proofs.Moments.{goes_further, leaves_further, leaves_now, reads_moments}
+use Rattle.page.proofs.Moments.{goes_further, leaves_further, leaves_now, reads_moments, reads_nothing}
 use Rattle.btree.specs.Keys.{Entry}
 use Rattle.roots.specs.declared.opening.OpenFault.{OpenFault}
 use Rattle.roots.specs.declared.opening.OpenFault.TheVariants as faults
@@ -18,15 +18,23 @@ use Rattle.pager.specs.Opening.{IsRefused}
 -- a fault that reading a page may give
 record IsReadFault (old new : History) (fault : OpenFault) : Type 0 where
   on_device : fault ≡ faults.Device → KeepsWord new → old.failures < new.failures
+  on_memory : fault ≡ faults.Memory → KeepsWord new → new.failures ≡ old.failures
   known : fault ≢ faults.NotADatabase
   old_format : fault ≢ faults.NewerFormat
 
-read_fault : (old new : History) (fault : OpenFault) → HasCause old new fault → IsReadFault old new fault
-read_fault old new faults.Device cause = record { on_device = λ _. cause; known = λ is. absurd cc; old_format = λ is. absurd cc }
-read_fault old new faults.Memory cause = record { on_device = λ is. absurd cc; known = λ is. absurd cc; old_format = λ is. absurd cc }
-read_fault old new faults.Damaged cause = record { on_device = λ is. absurd cc; known = λ is. absurd cc; old_format = λ is. absurd cc }
-read_fault old new faults.NotADatabase cause = absurd cause
-read_fault old new faults.NewerFormat cause = absurd cause
+-- want of memory comes only where no read failed
+abbrev IsClear : History → History → OpenFault → Type 0
+IsClear old new fault = fault ≡ faults.Memory → KeepsWord new → new.failures ≡ old.failures
+
+read_fault : (old new : History) (fault : OpenFault) → HasCause old new fault → IsClear old new fault → IsReadFault old new fault
+read_fault old new faults.Device cause clear = record
+    { on_device = λ _. cause; on_memory = clear; known = λ is. absurd cc; old_format = λ is. absurd cc }
+read_fault old new faults.Memory cause clear = record
+    { on_device = λ is. absurd cc; on_memory = clear; known = λ is. absurd cc; old_format = λ is. absurd cc }
+read_fault old new faults.Damaged cause clear = record
+    { on_device = λ is. absurd cc; on_memory = clear; known = λ is. absurd cc; old_format = λ is. absurd cc }
+read_fault old new faults.NotADatabase cause clear = absurd cause
+read_fault old new faults.NewerFormat cause clear = absurd cause
 
 -- Reads behind an opened store failed. Where a tree is committed, it isn't damaged.
 module _ {D : Type 0} (history : D → History) (disk : D) (mid : Store D) (first : IsStoreOpened history disk mid) where
@@ -57,6 +65,7 @@ module _ {D : Type 0} (history : D → History) (disk : D) (mid : Store D) (firs
         foreign = λ is. absurd (read_so.known is);
         later = λ is. absurd (read_so.old_format is);
         device = λ is k. omega (arith, read_so.on_device is k, first.on.failures (only.on.kept k));
+        memory = λ is k. read_so.on_memory is k ∙ first.clear (only.on.kept k);
       }
     where
       by_others : (f : OpenFault) → f ≢ faults.Device → f ≢ faults.Memory → f ≢ faults.NotADatabase → f ≢ faults.NewerFormat → f ≡ faults.Damaged
@@ -66,13 +75,26 @@ module _ {D : Type 0} (history : D → History) (disk : D) (mid : Store D) (firs
       by_others faults.NotADatabase a b c d = absurd (c refl)
       by_others faults.NewerFormat a b c d = absurd (d refl)
 
+  -- there was no memory for the cache
+  pub refused_cache : (back : D) → history back ≡ disk_history history mid → IsRefused history disk back faults.Memory
+  refused_cache back same =
+      let h1 = disk_history history mid in
+      refused_reading back faults.Memory (subst (ReadsOnly h1) (sym same) (reads_nothing h1)) (record {
+        on_device = λ is. absurd cc;
+        on_memory = λ _ k. ap (λ (h : History). h.failures) same;
+        known = λ is. absurd cc;
+        old_format = λ is. absurd cc;
+      }) (λ is. absurd cc)
+
   -- where the free pages are to be found
   pub refused_walking : (limit : ℕ) (new : Store D) (back : D) (fault : OpenFault) → history back ≡ disk_history history new
       → ReadsOnly (disk_history history mid) (disk_history history new)
-      → HasCause (disk_history history mid) (disk_history history new) fault → FindsFree history limit (Err fault) mid new → IsRefused history disk back fault
-  refused_walking limit new back fault same only cause finds =
+      → HasCause (disk_history history mid) (disk_history history new) fault
+      → (fault ≡ faults.Memory → KeepsWord (disk_history history new) → (disk_history history new).failures ≡ (disk_history history mid).failures)
+      → FindsFree history limit (Err fault) mid new → IsRefused history disk back fault
+  refused_walking limit new back fault same only cause clear finds =
       let h1 = disk_history history mid in
       let h2 = disk_history history new in
       refused_reading back fault (subst (ReadsOnly h1) (sym same) only)
-      (subst (λ (h : History). IsReadFault h1 h fault) (sym same) (read_fault h1 h2 fault cause))
+      (subst (λ (h : History). IsReadFault h1 h fault) (sym same) (read_fault h1 h2 fault cause clear))
       (λ is k live entries committed. finds.book (subst (λ (h : History). KeepsWord h) same k) live entries committed is)

@@ -13,6 +13,7 @@ use Rattle.page.specs.History.{History, now, reads}
 use Rattle.page.specs.declared.page_cache.PageCache.{PageCache}
 use Rattle.page.proofs.Moments.{reads_nothing}
 use Rattle.btree.specs.Keys.{times}
+use Rattle.btree.proofs.StoreLemmas.{counts_same}
 use Rattle.btree.specs.Store.{HasFailed, HasNoPage, IsAt, IsMade, IsSame, KeepsWord, Stays, flag}
 use Rattle.btree.specs.declared.pages.TreeFault.{TreeFault}
 use Rattle.btree.specs.declared.pages.TreeFault.TheVariants as faults
@@ -169,6 +170,7 @@ module _ {D : Type 0} {listed places : List ℕ} (history : D → History) (stor
       retired_on = ([], refl);
       failures = omega arith;
       full_takes = omega arith;
+      counts = counts_same (store_of history before) (store_of history afterwards) refl refl;
     };
     at = record { number = some_page book sheet.page least; live = is_live; holds = ap content_in sheet_new };
     made = newest;
@@ -246,6 +248,7 @@ module _ {D : Type 0} (history : D → History) (store : Store D) (made : List S
     retired = refl;
     failures = omega arith;
     full_takes = more;
+    counts = counts_same (store_of history start) (store_of history stop) refl refl;
   }
 
   -- what else the book has

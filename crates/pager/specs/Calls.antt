@@ -12,7 +12,7 @@ use Rattle.roots.specs.declared.opening.OpenFault.{OpenFault}
 use Rattle.roots.specs.declared.opening.OpenFault.TheVariants as opens
 use Rattle.roots.specs.declared.store.Store.{Store}
 use Rattle.roots.specs.Image.{sheet_at}
-use Rattle.roots.specs.Store.{disk_history, durable_root, is_stopped}
+use Rattle.roots.specs.Store.{CountsFailed, disk_history, durable_root, is_stopped}
 use Rattle.pager.specs.Kept.{Agrees}
 
 -- a store whose disk was only read
@@ -20,6 +20,7 @@ pub record OnlyRead {D : Type 0} (history : D → History) (old new : Store D) :
   pub root : durable_root new ≡ durable_root old
   pub stopped : is_stopped new ≡ is_stopped old
   pub reads : ReadsOnly (disk_history history old) (disk_history history new)
+  pub noted : KeepsWord (disk_history history new) → CountsFailed history old new
 
 -- what is kept was kept before, or is this page
 abbrev pub Keeps : ℕ → Sheet → PageCache → PageCache → Type 0

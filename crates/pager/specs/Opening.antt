@@ -57,3 +57,6 @@ pub record IsRefused {D : Type 0} (history : D → History) (disk back : D)
       ≡ Err faults.NewerFormat
   pub device : fault ≡ faults.Device → KeepsWord (history back)
       → (history disk).failures < (history back).failures
+  -- want of memory is told only where nothing failed
+  pub memory : fault ≡ faults.Memory → KeepsWord (history back)
+      → (history back).failures ≡ (history disk).failures

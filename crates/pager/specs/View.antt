@@ -11,7 +11,7 @@ use Rattle.freelist.specs.declared.turns.Retirement.{Retirement}
 use Rattle.btree.specs.Store.{Store, flag}
 use Rattle.roots.specs.declared.root.Root.{Root}
 use Rattle.roots.specs.Image.{content_in, sheet_at}
-use Rattle.roots.specs.Store.{disk_history, durable_root, is_stopped}
+use Rattle.roots.specs.Store.{disk_history, durable_root, failed_reads, is_stopped}
 use Rattle.roots.specs.Turn.{made_or, numbers_of}
 use Rattle.pager.specs.State.{State}
 
@@ -58,4 +58,5 @@ store_of history p = record {
   made = reverse (numbers_of p.made);
   retired = reverse p.retired;
   full_takes = p.book.full_takes;
+  failed_reads = failed_reads p.store;
 }

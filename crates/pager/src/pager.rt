@@ -52,7 +52,7 @@ impl<D: Disk> Model for Pager<D> {
 
 impl<D: Disk> Pager<D> {
     ghost use Rattle.std.specs.Prelude.{Bool, IfOk, IfErr, length};
-    ghost use Rattle.roots.specs.Store.{durable_root, is_stopped};
+    ghost use Rattle.roots.specs.Store.{durable_root, failed_reads, is_stopped};
     ghost use Rattle.pager.specs.Asking.{OnlyWrites};
     ghost use Rattle.pager.specs.Capacity.{TreesFit};
     ghost use Rattle.pager.specs.Commit.{Commits, CountsTakes, MovesTurns};
@@ -140,6 +140,20 @@ impl<D: Disk> Pager<D> {
         ensures { result ≡ is_stopped self.now.store }
     {
         self.store.is_stopped()
+    }
+
+    /// How often a read of the disk has failed, as far as a u64 counts.
+    pub fn failed_reads(&self) -> u64
+        ensures { result ≡ failed_reads self.now.store }
+    {
+        self.store.failed_reads()
+    }
+
+    /// How often a page was asked for and none was free, as far as a u64 counts.
+    pub fn full_takes(&self) -> u64
+        ensures { result ≡ self.now.book.full_takes }
+    {
+        self.book.full_takes()
     }
 
     /// Each page of the turn's tree is one of the file's and is reached once, so the tree has few entries.

@@ -10,7 +10,7 @@ use Rattle.pinned_cursors.specs.Turns.{OnlyPins}
 module _ {D : Type 0} (history : D → History) where
   pub no_pins : (file : State D) → OnlyPins history file file
   no_pins file = record {
-    untouched = record { disk = refl; stopped = refl; version = refl };
+    untouched = record { disk = refl; stopped = refl; version = refl; reads = refl };
     takes = refl;
     unchanged = refl;
     state = λ start now has. has;
@@ -34,6 +34,7 @@ module _ {D : Type 0} (history : D → History) where
       disk = b.untouched.disk ∙ a.untouched.disk;
       stopped = b.untouched.stopped ∙ a.untouched.stopped;
       version = b.untouched.version ∙ a.untouched.version;
+      reads = b.untouched.reads ∙ a.untouched.reads;
     };
     takes = b.takes ∙ a.takes;
     unchanged = b.unchanged ∙ a.unchanged;

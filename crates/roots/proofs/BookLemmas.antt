@@ -134,6 +134,7 @@ finds history limit result old new only some tells =
       root = only.root;
       stopped = only.stopped;
       committed = committed_still history old new only;
+      noted = only.noted;
       some = some;
       listed = λ k. pages_by sheets old.root limit result (tells k);
       judged = λ k. judged_by sheets old.root limit result (tells k);

@@ -166,4 +166,5 @@ counts_so history result old new only found = record {
   stands = λ k. counts_there (reads (now (history old.disk))) old.root result (found k);
   counts = λ k live entries committed parts list.
       counted_by (reads (now (history old.disk))) old.root result live parts entries list (committed.keeps.holds (only.disk.on.kept k)) (found k);
+  noted = only.noted;
 }

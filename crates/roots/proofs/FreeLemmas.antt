@@ -19,8 +19,8 @@ use Rattle.roots.specs.declared.walk.Reached.{Reached}
 use Rattle.roots.specs.Found.{HasFoundPart, ReachesDepth}
 use Rattle.roots.specs.Image.{HasList, HoldsMap, HoldsTree, OpensAs, sheet_at}
 use Rattle.roots.specs.Listed.{OnlyReads}
-use Rattle.roots.specs.Store.{IsCommitted, Keeps}
-use Rattle.roots.specs.Walk.{CanReach, IsMarked, Reaches, ReadsSheet, pages_in, pages_so_far}
+use Rattle.roots.specs.Store.{CountsFailed, CountsFault, IsCommitted, Keeps}
+use Rattle.roots.specs.Walk.{CanReach, IsMarked, Looks, Reaches, ReadsSheet, pages_in, pages_so_far}
 
 -- from the root on
 pub reached_all : (h : History) (root : Root) (old new : Reached) (result : Result ℕ OpenFault)
@@ -106,16 +106,55 @@ committed_still history old new only live entries committed = record {
       (still_kept (history old.disk) (history new.disk) old.root live entries only.disk committed.keeps);
 }
 
+-- ---- the count of failed reads
+
+-- the count behind what was read
+abbrev pub IsCounted : {X : Type 0} → Result X OpenFault → ℕ → ℕ → Type 0
+IsCounted (Ok x) old new = new ≡ old
+IsCounted (Err fault) old new = CountsFault fault old new
+
+module _ {D : Type 0} (history : D → History) (old : Store D) (disk : D) (count : ℕ) (keeps : KeepsWord (history disk)) where
+  abbrev Counts : Type 0
+  Counts = CountsFailed history old (record old { disk = disk; failed_reads = count })
+
+  none_failed : count ≡ old.failed_reads → (history disk).failures ≡ (history old.disk).failures → Counts
+  none_failed same clear = record {
+    rises = omega (arith, same);
+    failed = λ up. absurd (omega (arith, up, same));
+    counted = λ up. absurd (omega (arith, up, clear));
+  }
+
+  pub counts_read : {X : Type 0} (result : Result X OpenFault) → Looks result (history old.disk) (history disk)
+      → IsCounted result old.failed_reads count → Counts
+  counts_read (Ok x) looks same = none_failed same (looks.clear (λ is. absurd cc) keeps)
+  counts_read (Err faults.Device) looks more =
+      let failed = looks.cause keeps in
+      elim more [
+        | inl one ↦ record { rises = omega (arith, one); failed = λ up. failed; counted = λ up. inl (omega (arith, one)) }
+        | inr full ↦ record { rises = omega (arith, full.0); failed = λ up. failed; counted = λ up. inr full.1 }
+      ]
+  counts_read (Err faults.Memory) looks same = none_failed same (looks.clear (λ is. absurd cc) keeps)
+  counts_read (Err faults.NotADatabase) looks same = absurd looks.cause
+  counts_read (Err faults.Damaged) looks same = none_failed same (looks.clear (λ is. absurd cc) keeps)
+  counts_read (Err faults.NewerFormat) looks same = absurd looks.cause
+
+pub only_read : {D X : Type 0} (history : D → History) (result : Result X OpenFault) (old : Store D) (disk : D) (count : ℕ)
+    → Looks result (history old.disk) (history disk) → IsCounted result old.failed_reads count
+    → OnlyReads history old (record old { disk = disk; failed_reads = count })
+only_read history result old disk count looks counted =
+    record { disk = looks.reads; root = refl; stopped = refl; noted = λ keeps. counts_read history old disk count keeps result looks counted }
+
 -- a page was read
-pub page_read : {D : Type 0} (history : D → History) (page : ℕ) (result : Result PageImage OpenFault) (old : Store D) (disk : D)
-    → ReadsOnly (history old.disk) (history disk)
+pub page_read : {D : Type 0} (history : D → History) (page : ℕ) (result : Result PageImage OpenFault) (old : Store D) (disk : D) (count : ℕ)
+    → Looks result (history old.disk) (history disk) → IsCounted result old.failed_reads count
     → (KeepsWord (history disk) → MatchResult result (λ image. sheet_at (reads (now (history old.disk))) old.root page ≡ Ok (sheet_of image))
     (λ fault. fault ≡ faults.Damaged → (found : Sheet) → sheet_at (reads (now (history old.disk))) old.root page ≡ Ok found → ⊥))
-    → ReadsSheet history page result old (record old { disk = disk })
-page_read history page result old disk only sheet = record {
+    → ReadsSheet history page result old (record old { disk = disk; failed_reads = count })
+page_read history page result old disk count looks counted sheet = record {
   root = refl;
   stopped = refl;
   committed = λ live entries committed. record
-      { running = committed.running; keeps = still_kept (history old.disk) (history disk) old.root live entries only committed.keeps };
+      { running = committed.running; keeps = still_kept (history old.disk) (history disk) old.root live entries looks.reads committed.keeps };
   sheet = sheet;
+  noted = λ keeps. counts_read history old disk count keeps result looks counted;
 }

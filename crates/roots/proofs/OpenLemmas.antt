@@ -12,8 +12,9 @@ use Rattle.roots.specs.Opening.{IsOpened}
 pub opened : {D : Type 0} {writes : Bool} (history : D → History) (before disk : D) (root : Root) (h1 : History) (ok : Bool) → ReadsOnly (history before) h1
     → (KeepsWord h1 → OpensAs (reads (now (history before))) root) → Ticks writes h1 (history disk) ok
     → (KeepsWord (history disk) → (k : ℕ) → Syncs (now h1 k) (now (history disk) k)) → IsKnown root
-    → IsOpened history before (record { disk = disk; root = root; stopped = false })
-opened history before disk root h1 ok only opens tick syncs known =
+    → (KeepsWord (history disk) → (history disk).failures ≡ (history before).failures)
+    → IsOpened history before (record { disk = disk; root = root; stopped = false; failed_reads = 0 })
+opened history before disk root h1 ok only opens tick syncs known clear =
     let h0 = history before in
     let h2 = history disk in
     let all : KeepsWord h2 → AreDurable (now h2) = λ k. all_durable (now h1) (now h2) (syncs k) in
@@ -21,7 +22,9 @@ opened history before disk root h1 ok only opens tick syncs known =
     let synced : LeavesNow h2 (λ image. image ≡ reads (now h0)) = λ k image is. (λ i j. all k j (image j) (is j) i) ∙ same k in
     record {
       running = refl;
+      uncounted = refl;
       known = known;
+      clear = clear;
       on = goes_further h0 h1 h2 only.on (goes_one h1 h2 ok tick);
       only = then_syncs h0 h1 h2 ok only tick syncs;
       opens = λ k. opens (tick.kept k);

@@ -8,7 +8,7 @@ use Rattle.page.specs.Content.{Arm, Content, Item, branch, chain, inline, leaf, 
 use Rattle.btree.proofs.ListLemmas.{At, each_back, flat_append}
 use Rattle.page.specs.Format.{Sheet}
 use Rattle.page.specs.History.{History, Sector, now, reads}
-use Rattle.page.specs.Crash.{ReadsOnly}
+use Rattle.page.specs.Crash.{HasRead, ReadsOnly}
 use Rattle.page.specs.declared.page_fault.PageFault.{PageFault}
 use Rattle.page.proofs.Moments.{reads_further}
 use Rattle.btree.specs.Keys.{Each, times}
@@ -40,9 +40,24 @@ if_err_later : {X : Type 0} (a b c : History) (result : Result X OpenFault) → 
 if_err_later a b c (Ok x) first second cause = cause
 if_err_later a b c (Err e) first second cause = cause_later a b c e first second cause
 
--- calls that only read, behind others
-pub looks_later : {X : Type 0} (a b c : History) (result : Result X OpenFault) → ReadsOnly a b → Looks result b c → Looks result a c
-looks_later a b c result first looks = record { reads = reads_further a b c first looks.reads; cause = if_err_later a b c result first looks.reads looks.cause }
+-- calls that only read, behind others that have
+pub looks_later : {X : Type 0} (a b c : History) (result : Result X OpenFault) → HasRead a b → Looks result b c → Looks result a c
+looks_later a b c result first looks = record {
+  reads = reads_further a b c first.reads looks.reads;
+  cause = if_err_later a b c result first.reads looks.reads looks.cause;
+  clear = λ ne keeps. looks.clear ne keeps ∙ first.clear (looks.reads.on.kept keeps);
+}
+
+-- what was read where that is done
+pub has_read : {X : Type 0} (a b : History) (x : X) → Looks (Ok x) a b → HasRead a b
+has_read a b x looks = record { reads = looks.reads; clear = looks.clear (λ is. absurd cc) }
+
+-- an end behind it
+pub looks_done : {X : Type 0} (a b : History) (x : X) → HasRead a b → Looks (Ok x) a b
+looks_done a b x first = record { reads = first.reads; cause = tt; clear = λ ne. first.clear }
+
+pub looks_damaged : {X : Type 0} (a b : History) → HasRead a b → Looks {X = X} (Err faults.Damaged) a b
+looks_damaged a b first = record { reads = first.reads; cause = tt; clear = λ ne. first.clear }
 
 -- ---- a value's chain
 
@@ -281,11 +296,13 @@ pub handed_on : {X : Type 0} (result : Result X OpenFault) (f : OpenFault) → I
 handed_on (Ok x) f is = absurd is
 handed_on (Err e) f is = ap Err is
 
-pub looks_failed : {X Y : Type 0} (a b c : History) (result : Result X OpenFault) (e : OpenFault) → result ≡ Err e → ReadsOnly a b → Looks {X = Y} (Err e) b c
+pub looks_failed : {X Y : Type 0} (a b c : History) (result : Result X OpenFault) (e : OpenFault) → result ≡ Err e → HasRead a b → Looks {X = Y} (Err e) b c
     → Looks result a c
 looks_failed a b c result e is first looks = record {
-  reads = reads_further a b c first looks.reads;
-  cause = subst (λ r. IfErr r (HasCause a c)) (sym is) (cause_later a b c e first looks.reads looks.cause);
+  reads = reads_further a b c first.reads looks.reads;
+  cause = subst (λ r. IfErr r (HasCause a c)) (sym is) (cause_later a b c e first.reads looks.reads looks.cause);
+  clear = λ ne keeps.
+      looks.clear (λ device. ne (is ∙ ap Err (let same : e ≡ faults.Device = cc in same))) keeps ∙ first.clear (looks.reads.on.kept keeps);
 }
 
 pub same_pages : (a b : History) (root : Root) → now b ≡ now a → pages_in b root ≡ pages_in a root

@@ -7,8 +7,8 @@ use Rattle.page.specs.History.{History, KeepsWord, now, reads}
 use Rattle.page.specs.Crash.{GoesOn, LeavesOnly, LeavesNow}
 use Rattle.btree.specs.Keys.{Entry}
 use Rattle.roots.specs.Image.{IsOnPages, StandsFor}
-use Rattle.roots.specs.Store.{disk_history, durable_root, is_stopped, IsRunning, HasDeviceCause}
-use Rattle.roots.specs.Store.{IsCommitted, Keeps}
+use Rattle.roots.specs.Store.{disk_history, durable_root, failed_reads, is_stopped, IsRunning}
+use Rattle.roots.specs.Store.{HasDeviceCause, IsCommitted, Keeps}
 use Rattle.roots.specs.Turn.{AreWritten, IsTurn, LieBehind, next_root, numbers_of}
 use Rattle.roots.specs.declared.root.Root.{Root}
 use Rattle.roots.specs.declared.store.Store.{Store}
@@ -31,6 +31,8 @@ pub record CommitsRoot {D : Type 0} (history : D → History) (root_page : ℕ)
       → HasDeviceCause history old new
   pub stops : result ≡ Err faults.Device → is_stopped new ≡ true
   pub idle : is_stopped old ≡ true → new ≡ old
+  -- it reads nothing
+  pub reads : failed_reads new ≡ failed_reads old
 
 -- What reads give after it: the pages that were handed in, where it is done, and in each other page
 -- what was there.

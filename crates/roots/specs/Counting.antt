@@ -5,7 +5,7 @@ use Rattle.btree.specs.Keys.{Entry}
 use Rattle.roots.specs.HeldFile.{Reaches}
 use Rattle.freelist.specs.FreeList.{Part}
 use Rattle.roots.specs.Image.{HasList, reached_by, sheet_at}
-use Rattle.roots.specs.Store.{IsCommitted, disk_history, durable_root, is_stopped}
+use Rattle.roots.specs.Store.{CountsFailed, IsCommitted, disk_history, durable_root, is_stopped}
 use Rattle.roots.specs.declared.counting.PageCounts.{PageCounts}
 use Rattle.roots.specs.declared.opening.OpenFault.{OpenFault}
 use Rattle.roots.specs.declared.opening.OpenFault.TheVariants as faults
@@ -40,3 +40,4 @@ pub record CountsPages {D : Type 0} (history : D → History) (result : Result P
       → HasList (sheet_at (reads (now (disk_history history old))) root) root live parts
       → MatchResult result (AreCounts root (reached_by live parts))
       (λ fault. fault ≢ faults.Damaged)
+  pub noted : KeepsWord (disk_history history new) → CountsFailed history old new

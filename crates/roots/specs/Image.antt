@@ -33,6 +33,7 @@ store_of sheets = record {
   made = [];
   retired = [];
   full_takes = 0;
+  failed_reads = 0;
 }
 
 -- ---- the list of free pages

@@ -10,11 +10,11 @@ use Rattle.freelist.specs.declared.list.FreeList.{FreeList}
 use Rattle.freelist.specs.declared.list_fault.ListFault.{ListFault}
 use Rattle.freelist.specs.declared.list_fault.ListFault.TheVariants as lists
 use Rattle.page.specs.Content.{free_list}
-use Rattle.page.specs.Crash.{ReadsOnly}
+use Rattle.page.specs.Crash.{HasRead, ReadsOnly}
 use Rattle.page.specs.Format.{Sheet}
 use Rattle.page.specs.History.{History, KeepsWord, now, reads}
 use Rattle.roots.specs.Image.{listed_sheet, sheet_at}
-use Rattle.roots.specs.Store.{disk_history, durable_root, is_stopped}
+use Rattle.roots.specs.Store.{CountsFailed, disk_history, durable_root, is_stopped}
 use Rattle.roots.specs.Turn.{AreWritten}
 use Rattle.roots.specs.declared.opening.OpenFault.{OpenFault}
 use Rattle.roots.specs.declared.opening.OpenFault.TheVariants as opens
@@ -64,12 +64,17 @@ pub record OnlyReads {D : Type 0} (history : D → History) (old new : Store D) 
   pub disk : ReadsOnly (disk_history history old) (disk_history history new)
   pub root : durable_root new ≡ durable_root old
   pub stopped : is_stopped new ≡ is_stopped old
+  pub noted : KeepsWord (disk_history history new) → CountsFailed history old new
 
 -- a call of the disk failed
 abbrev pub HasFailed : {D : Type 0} → (D → History) → Store D → Store D → Type 0
 HasFailed history old new =
     KeepsWord (disk_history history new) → KeepsWord (disk_history history old)
     × ((disk_history history old).failures < (disk_history history new).failures)
+
+-- the disk was read, and no call of it failed
+abbrev pub IsClear : {D : Type 0} → (D → History) → Store D → Store D → Type 0
+IsClear history old new = HasRead (disk_history history old) (disk_history history new)
 
 -- why a page of a list wasn't read
 abbrev pub listed_fault : OpenFault → ListFault

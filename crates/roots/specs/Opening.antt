@@ -5,7 +5,7 @@ use Rattle.page.specs.Crash.{GoesOn, LeavesOnly, LeavesNow, OnlySyncs, ReadsOnly
 use Rattle.btree.specs.Keys.{Entry}
 use Rattle.roots.specs.Root.{IsKnown, root_of}
 use Rattle.roots.specs.Image.{OpensAs, HoldsMap, StandsFor, sheet_at}
-use Rattle.roots.specs.Store.{IsRunning, IsCommitted, disk_history, durable_root}
+use Rattle.roots.specs.Store.{IsRunning, IsCommitted, disk_history, durable_root, failed_reads}
 use Rattle.roots.specs.declared.opening.OpenFault.{OpenFault}
 use Rattle.roots.specs.declared.opening.OpenFault.TheVariants as faults
 use Rattle.roots.specs.declared.store.Store.{Store}
@@ -13,9 +13,13 @@ use Rattle.roots.specs.declared.store.Store.{Store}
 -- The disk was opened as this store, by reads and a sync alone.
 pub record IsOpened {D : Type 0} (history : D → History) (disk : D) (store : Store D) : Type 0 where
   pub running : IsRunning store
+  pub uncounted : failed_reads store ≡ 0
   pub on : GoesOn (history disk) (disk_history history store)
   pub only : OnlySyncs (history disk) (disk_history history store)
   pub known : IsKnown (durable_root store)
+  -- no call of the disk failed
+  pub clear : KeepsWord (disk_history history store)
+      → (disk_history history store).failures ≡ (history disk).failures
   -- its root is the one that the disk's sectors give
   pub opens : KeepsWord (disk_history history store)
       → OpensAs (reads (now (history disk))) (durable_root store)
@@ -41,3 +45,5 @@ pub record IsRefused {D : Type 0} (history : D → History) (disk back : D)
   pub no_memory : fault ≢ faults.Memory
   pub device : fault ≡ faults.Device → KeepsWord (history back)
       → (history disk).failures < (history back).failures
+  pub clear : fault ≢ faults.Device → KeepsWord (history back)
+      → (history back).failures ≡ (history disk).failures

@@ -1,10 +1,12 @@
 -- What a store keeps on its disk.
-use Rattle.std.specs.Prelude.{◌≡◌, ◌⊎◌, ℕ, ◌<◌, max, min, Bool, List, true, false}
+use Rattle.std.specs.Prelude.{◌≡◌, ◌⊎◌, ℕ, ◌+◌, ◌<◌, ◌≤◌, max, min, Bool, List, true, false}
 use Rattle.page.specs.History.{History, KeepsWord, now, reads}
 use Rattle.page.specs.Crash.{IsDurable}
 use Rattle.btree.specs.Keys.{Entry}
 use Rattle.freelist.specs.FreeList.{Part}
 use Rattle.roots.specs.Image.{HasList, HoldsMap, IsKept, OpensAs, reached_by, sheet_at}
+use Rattle.roots.specs.declared.opening.OpenFault.{OpenFault}
+use Rattle.roots.specs.declared.opening.OpenFault.TheVariants as faults
 use Rattle.roots.specs.declared.root.Root.{Root}
 use Rattle.roots.specs.declared.store.Config.{Config}
 use Rattle.roots.specs.declared.store.Store.{Store}
@@ -24,6 +26,10 @@ durable_root store = store.root
 -- a write or a sync of the store's has failed
 abbrev pub is_stopped : {D : Type 0} → Store D → Bool
 is_stopped store = store.stopped
+
+-- how often a read of its disk has failed
+abbrev pub failed_reads : {D : Type 0} → Store D → ℕ
+failed_reads store = store.failed_reads
 
 abbrev pub IsRunning : {D : Type 0} → Store D → Type 0
 IsRunning store = is_stopped store ≡ false
@@ -49,3 +55,20 @@ abbrev pub HasDeviceCause : {D : Type 0} → (D → History) → Store D → Sto
 HasDeviceCause history old new =
     (is_stopped old ≡ true)
     ⊎ ((disk_history history old).failed_writes < (disk_history history new).failed_writes)
+
+-- the count behind a fault: one more where the device failed, as far as a u64 counts
+abbrev pub CountsFault : OpenFault → ℕ → ℕ → Type 0
+CountsFault faults.Device old new =
+    (new ≡ old + 1) ⊎ ((new ≡ old) × (new ≡ 18446744073709551615))
+CountsFault faults.Memory old new = new ≡ old
+CountsFault faults.NotADatabase old new = new ≡ old
+CountsFault faults.Damaged old new = new ≡ old
+CountsFault faults.NewerFormat old new = new ≡ old
+
+-- Each read that fails is counted, as far as a u64 counts: the count rises just where one failed.
+pub record CountsFailed {D : Type 0} (history : D → History) (old new : Store D) : Type 0 where
+  pub rises : failed_reads old ≤ failed_reads new
+  pub failed : failed_reads old < failed_reads new
+      → (disk_history history old).failures < (disk_history history new).failures
+  pub counted : (disk_history history old).failures < (disk_history history new).failures
+      → (failed_reads old < failed_reads new) ⊎ (failed_reads new ≡ 18446744073709551615)

@@ -6,5 +6,9 @@ use Rattle.roots.specs.declared.store.Store.{Store}
 
 -- the same store, on the same disk
 abbrev pub trusting_store : {D : Type 0} → Bool → Store D → Store (TrustedDisk D)
-trusting_store b store =
-    record { disk = trusting_disk b store.disk; root = store.root; stopped = store.stopped }
+trusting_store b store = record {
+  disk = trusting_disk b store.disk;
+  root = store.root;
+  stopped = store.stopped;
+  failed_reads = store.failed_reads;
+}

@@ -18,7 +18,7 @@ use Rattle.freelist.specs.FreeList.{IsFreeList, Part, pages_of}
 use Rattle.freelist.specs.Sound.{IsSound}
 use Rattle.roots.specs.HeldFile.{HoldsNoFile, Reaches as ReachesFile}
 use Rattle.roots.specs.Image.{HasList, list_in, reached_by, sheet_at, store_of}
-use Rattle.roots.specs.Store.{IsCommitted, disk_history, durable_root, is_stopped}
+use Rattle.roots.specs.Store.{CountsFailed, IsCommitted, disk_history, durable_root, is_stopped}
 use Rattle.roots.specs.declared.opening.OpenFault.{OpenFault}
 use Rattle.roots.specs.declared.opening.OpenFault.TheVariants as faults
 use Rattle.roots.specs.declared.root.Root.{Root}
@@ -38,6 +38,8 @@ HasCause old new faults.NewerFormat = ⊥
 pub record Looks {X : Type 0} (result : Result X OpenFault) (old new : History) : Type 0 where
   pub reads : ReadsOnly old new
   pub cause : IfErr result (HasCause old new)
+  -- Nothing else is told where a read failed.
+  pub clear : result ≢ Err faults.Device → KeepsWord new → new.failures ≡ old.failures
 
 -- the pages that a file with this root has, as its reads give them
 abbrev pub pages_in : History → Root → Pages
@@ -79,6 +81,7 @@ pub record ReadsSheet {D : Type 0} (history : D → History) (page : ℕ)
       KeepsWord (disk_history history new) → MatchResult result
       (λ image. sheet ≡ Ok (sheet_of image))
       (λ fault. fault ≡ faults.Damaged → (found : Sheet) → sheet ≡ Ok found → ⊥)
+  pub noted : KeepsWord (disk_history history new) → CountsFailed history old new
 
 -- a page of a tree, and not of a value's chain or of a list
 abbrev pub is_of_tree : Content → Bool
@@ -123,6 +126,7 @@ pub record FindsFree {D : Type 0} (history : D → History) (limit : ℕ)
   pub stopped : is_stopped new ≡ is_stopped old
   pub committed : (live : List ℕ) (entries : List Entry) → IsCommitted history old live entries
       → IsCommitted history new live entries
+  pub noted : KeepsWord (disk_history history new) → CountsFailed history old new
   pub some : IfOk result (λ found. IsNewBook (max (max limit (durable_root old).pages) 1) found.0)
   pub listed : let root = durable_root old in
       let sheets = sheet_at (reads (now (disk_history history old))) root in

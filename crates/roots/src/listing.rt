@@ -1,5 +1,5 @@
 //! The list of free pages of a file, read page by page.
-ghost use Rattle.std.specs.Prelude.{◌≡◌, Err, IfErr, IfOk};
+ghost use Rattle.std.specs.Prelude.{◌≡◌, ◌≢◌, Err, IfOk};
 ghost use Rattle.std.specs.Option.{option_map};
 ghost use Rattle.freelist.specs.ListReading.{content_of};
 ghost use Rattle.page.specs.View.{content_of as page_content};
@@ -9,9 +9,9 @@ ghost use Rattle.freelist.specs.declared.list_fault.ListFault.TheVariants as lis
 ghost use Rattle.page.specs.History.{KeepsWord};
 ghost use Rattle.roots.specs.HeldFile.{ChecksStore, FitsTree};
 ghost use Rattle.roots.specs.Image.{listed};
-ghost use Rattle.roots.specs.Listed.{HasFailed, OnlyReads, list_sheets, listed_by, listed_fault, read_fault};
+ghost use Rattle.roots.specs.Listed.{HasFailed, IsClear, OnlyReads, list_sheets, listed_by, listed_fault, read_fault};
 ghost use Rattle.roots.specs.Store.{disk_history, durable_root};
-ghost use Rattle.roots.specs.Walk.{HasCause};
+ghost use Rattle.roots.specs.Walk.{Looks};
 
 use crate::opening::OpenFault;
 use crate::root::Root;
@@ -70,8 +70,8 @@ fn list_fault(fault: OpenFault) -> ListFault
 
 impl<D: Disk> ListPages for Store<D> {
     ghost use Rattle.page.specs.History.{KeepsWord};
-    ghost use Rattle.roots.specs.Listed.{HasFailed, OnlyReads, listed_by};
-    ghost use Rattle.roots.specs.ListedLaws.{fails_later, reads_more, reads_none};
+    ghost use Rattle.roots.specs.Listed.{HasFailed, IsClear, OnlyReads, listed_by};
+    ghost use Rattle.roots.specs.ListedLaws.{clear_more, clear_none, fails_later, reads_more, reads_none};
     ghost use Rattle.roots.specs.Store.{disk_history};
 
     ghost contents = { λ store. listed_by D.history store };
@@ -82,11 +82,17 @@ impl<D: Disk> ListPages for Store<D> {
 
     ghost has_failed = { λ old new. HasFailed D.history old new };
 
+    ghost clear = { λ old new. IsClear D.history old new };
+
     ghost stays = { λ x. reads_none D.history x };
 
     ghost goes_on = { λ x y z. reads_more D.history x y z };
 
     ghost failed_later = { λ x y z. fails_later D.history x y z };
+
+    ghost stays_clear = { λ x. clear_none D.history x };
+
+    ghost clear_on = { λ x y z. clear_more D.history x y z };
 
     fn read_part(&mut self, alloc: Global, page: u32) -> Result<ListPage, ListFault> {
         let image = match self.read(alloc, page) {
@@ -120,6 +126,7 @@ pub(crate) fn read_named<D: Disk>(
     ensures list { let root = durable_root store.old in KeepsWord (disk_history D.history store.new)
         → ReadsList (listed_by D.history store.old) root.pages root.free_list root.free_count result }
     ensures device { result ≡ Err lists.Device → HasFailed D.history store.old store.new }
+    ensures clear { result ≢ Err lists.Device → IsClear D.history store.old store.new }
 {
     let root = store.root();
     if root.free_list == 0 && root.free_count == 0 {
@@ -150,8 +157,8 @@ pub(crate) fn checked_list<D: Disk>(
     tree: &[u32],
 ) -> Result<FreeList, OpenFault>
     ensures reads { OnlyReads D.history store.old store.new }
-    ensures cause { IfErr result (HasCause (disk_history D.history store.old)
-        (disk_history D.history store.new)) }
+    ensures looks { Looks result (disk_history D.history store.old)
+        (disk_history D.history store.new) }
     ensures list { ChecksStore D.history tree.now result store.old store.new }
 {
     let list = match read_named(alloc, store) {

@@ -1,5 +1,5 @@
 //! Which root two sectors give.
-ghost use Rattle.std.specs.Prelude.{◌≡◌, ◌≢◌, ◌<◌, IfOk, IfErr, Err};
+ghost use Rattle.std.specs.Prelude.{◌≡◌, ◌≢◌, ◌<◌, IfOk, IfErr, Err, MatchResult};
 ghost use Rattle.page.specs.History.{KeepsWord, now, reads};
 ghost use Rattle.page.specs.Crash.{ReadsOnly};
 ghost use Rattle.roots.specs.Image.{OpensAs};
@@ -113,6 +113,9 @@ pub(crate) fn read_root<D: Disk>(disk: &mut D) -> Result<Root, OpenFault>
     ensures device { KeepsWord (D.history disk.new)
         → IfErr result (λ fault. fault ≡ OpenFault.Device
         → (D.history disk.old).failures < (D.history disk.new).failures) }
+    ensures clear { let same = (D.history disk.new).failures ≡ (D.history disk.old).failures in
+        KeepsWord (D.history disk.new)
+        → MatchResult result (λ root. same) (λ fault. fault ≢ OpenFault.Device → same) }
     ensures memory { result ≢ Err OpenFault.Memory }
 {
     let mut even = [0; 512];

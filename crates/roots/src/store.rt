@@ -11,7 +11,7 @@ ghost use Rattle.roots.specs.Commit.{CommitsRoot, LeavesPages, MovesDisk, MovesM
 ghost use Rattle.roots.specs.HeldFile.{HoldsNoFile};
 ghost use Rattle.roots.specs.Image.{IsOnPages, sheet_at};
 ghost use Rattle.roots.specs.Opening.{IsOpened, IsRefused};
-ghost use Rattle.roots.specs.Store.{disk_history, durable_root, is_stopped, limit_in};
+ghost use Rattle.roots.specs.Store.{CountsFault, disk_history, durable_root, failed_reads, is_stopped, limit_in};
 ghost use Rattle.roots.specs.Listed.{OnlyReads};
 ghost use Rattle.roots.specs.Walk.{FindsFile, FindsFree, Looks, ReadsSheet};
 ghost use Rattle.roots.specs.Trusting.{trusting_store};
@@ -160,12 +160,24 @@ fn write_commit<D: Disk>(disk: &mut D, made: &[SharedPage], root: Root) -> Resul
     replace(disk, root.generation % 2, &root.sector())
 }
 
+/// How often a read has failed, behind one that was refused so, where so many had failed before.
+fn failed_behind(fault: OpenFault, before: u64) -> u64
+    ensures { CountsFault fault before result }
+{
+    match fault {
+        OpenFault::Device => before.saturating_add(1),
+        _ => before,
+    }
+}
+
 /// A tree on a disk, made durable by one commit after another.
 #[derive(Drop)]
 pub struct Store<D> {
     disk: D,
     root: Root,
     stopped: bool,
+    // how often a read of the disk has failed, as far as a u64 counts
+    failed_reads: u64,
 }
 
 impl<D: Disk> Store<D> {
@@ -184,6 +196,7 @@ impl<D: Disk> Store<D> {
                 disk,
                 root,
                 stopped: false,
+                failed_reads: 0,
             }),
             Err(DeviceFault) => Err((disk, OpenFault::Device)),
         }
@@ -206,6 +219,7 @@ impl<D: Disk> Store<D> {
             disk: TrustedDisk::new(self.disk),
             root: self.root,
             stopped: self.stopped,
+            failed_reads: self.failed_reads,
         }
     }
 
@@ -223,6 +237,13 @@ impl<D: Disk> Store<D> {
         self.stopped
     }
 
+    /// How often a read of the disk has failed since the store was opened, as far as a u64 counts.
+    pub fn failed_reads(&self) -> u64
+        ensures { result ≡ failed_reads self.now }
+    {
+        self.failed_reads
+    }
+
     /// The page of this number, as the disk holds it under the root that was committed last. Damaged where it
     /// is no page of that file.
     pub fn read(&mut self, alloc: Global, page: u32) -> Result<PageImage, OpenFault>
@@ -230,7 +251,13 @@ impl<D: Disk> Store<D> {
             (disk_history D.history self.new) }
         ensures reads { ReadsSheet D.history page result self.old self.new }
     {
-        read_sheet(alloc, &mut self.disk, self.root, page)
+        match read_sheet(alloc, &mut self.disk, self.root, page) {
+            Ok(image) => Ok(image),
+            Err(fault) => {
+                self.failed_reads = failed_behind(fault, self.failed_reads);
+                Err(fault)
+            }
+        }
     }
 
     /// The pages that the committed root reaches: those of its tree, then those of its list of free pages, if
@@ -242,7 +269,13 @@ impl<D: Disk> Store<D> {
         ensures same { OnlyReads D.history self.old self.new }
         ensures finds { FindsFile D.history result self.old self.new }
     {
-        let mut live = reached_pages(alloc, &mut self.disk, self.root)?;
+        let mut live = match reached_pages(alloc, &mut self.disk, self.root) {
+            Ok(live) => live,
+            Err(fault) => {
+                self.failed_reads = failed_behind(fault, self.failed_reads);
+                return Err(fault);
+            }
+        };
         let list = checked_list(alloc, self, &live)?;
         live.extend_from_slice(&list.pages)?;
         Ok((live, list.pages))

@@ -272,6 +272,7 @@ quiet_commit history mid new result rests commits =
     let done = subst (λ (r : Result (Unit {0}) CommitFault). Commits history r mid new) quiet.0 commits in
     continues_still history mid new (disk_same history mid new quiet.1) (done.running (λ e. absurd cc))
     (done.version ∙ ap (λ (b : Bool). if b then generation mid + 1 else generation mid) rests) (done.found (λ e. absurd cc))
+    (ap (λ (file : State D). (views.pages_of history file).failed_reads) quiet.1)
 
 -- a turn that took no message ends without a call of the disk
 pub idle_commit : {D : Type 0} (history : D → History) (old mid new : Engine D) (result : Result (Unit {0}) CommitFault) → has_changes old ≡ false → mid ≡ old

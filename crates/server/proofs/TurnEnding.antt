@@ -11,7 +11,7 @@ use Rattle.database_model.specs.World.{World, are_untouched, after_undo}
 use Rattle.engine.specs.View.{world, turn_start}
 use Rattle.engine.specs.Committing.{Commits}
 use Rattle.engine.specs.Continuing.{Continues}
-use Rattle.engine.specs.Durable.{disk_history, full_takes_of, generation, has_changes, is_stopped, IsRunning, IsSound}
+use Rattle.engine.specs.Durable.{disk_history, failed_reads_of, full_takes_of, generation, has_changes, is_stopped, IsRunning, IsSound}
 use Rattle.engine.specs.declared.engine.Engine.{Engine}
 use Rattle.engine.proofs.Continuing.{continues_further, continues_still}
 use Rattle.path.specs.declared.refusal.Refusal.{Refusal}
@@ -108,12 +108,13 @@ module _ {D : Type 0} (history : D → History) (old mid new : Engine D) (b : Be
   -- memory ran out for a reply
   pub undone : (frames : Given) → frames_in frames.items ≡ refused_frames refusals.OutOfMemory connections → IsSound history new
       → disk_history history new ≡ disk_history history mid → is_stopped new ≡ is_stopped mid → generation new ≡ generation mid
-      → full_takes_of history new ≡ full_takes_of history mid → world new ≡ after_undo (turn_start mid) (world mid)
+      → full_takes_of history new ≡ full_takes_of history mid → failed_reads_of history new ≡ failed_reads_of history mid
+      → world new ≡ after_undo (turn_start mid) (world mid)
       → turn_start new ≡ (world new).collections → has_changes new ≡ false → are_untouched (world new).cursors ≡ true
       → RunsMessages history old connections (Some frames) new left
-  undone frames are sound disk running version takes back ended rests rested =
+  undone frames are sound disk running version takes reads back ended rests rested =
       let after = undo_follows history mid new (on_same (disk_history history mid) (disk_history history new) disk) takes version in
-      let goes = continues_further history old mid new s.goes (continues_still history mid new disk running version takes) in
+      let goes = continues_further history old mid new s.goes (continues_still history mid new disk running version takes reads) in
       record {
         sound = sound;
         settles = record {

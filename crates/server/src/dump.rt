@@ -1,7 +1,11 @@
 //! The documents of a collection, read beside all turns.
 
-ghost use Rattle.std.specs.Prelude.{◌≡◌, ◌++◌, map, string_bytes, IfOk, OnOk};
+ghost use Rattle.std.specs.Prelude.{◌≡◌, ◌++◌, Err, map, string_bytes, IfOk, OnOk};
 ghost use Rattle.engine.specs.Dump.{BeginsDump, GoesOnDumping};
+ghost use Rattle.engine.specs.Durable.{disk_history};
+ghost use Rattle.engine.specs.Troubles.{MetNoFailure};
+ghost use Rattle.engine.specs.declared.check_fault.CheckFault.TheVariants as faults;
+ghost use Rattle.page.specs.History.{KeepsWord};
 ghost use Rattle.server.specs.Dump.{Dumps, ListsRest, dump_line, lines_in};
 ghost use Rattle.server.specs.Durable.{IsSound};
 ghost use Rattle.server.specs.View.{state};
@@ -58,6 +62,9 @@ impl<D: Disk> Core<D> {
         ensures same { state self.new ≡ state self.old }
         ensures begins { BeginsDump (trusted_history D.history) namespace.now result
             self.old.engine self.new.engine }
+        ensures memory { KeepsWord (disk_history (trusted_history D.history) self.new.engine)
+            → result ≡ Err faults.Memory
+            → MetNoFailure (trusted_history D.history) self.old.engine self.new.engine }
     {
         self.engine.dump(namespace)
     }
@@ -69,6 +76,9 @@ impl<D: Disk> Core<D> {
         ensures same { state self.new ≡ state self.old }
         ensures goes_on { GoesOnDumping (trusted_history D.history) walk.old walk.new result
             self.old.engine self.new.engine }
+        ensures memory { KeepsWord (disk_history (trusted_history D.history) self.new.engine)
+            → result ≡ Err faults.Memory
+            → MetNoFailure (trusted_history D.history) self.old.engine self.new.engine }
     {
         self.engine.next_dumped(walk)
     }

@@ -8,7 +8,7 @@ ghost use Rattle.replies.specs.View.{answer_of, IsSendable};
 ghost use Rattle.engine.specs.View.{world, turn_start, reply_of};
 ghost use Rattle.engine.specs.Continuing.{Continues};
 ghost use Rattle.engine.specs.Laws.{BodyOnlyReads};
-ghost use Rattle.engine.specs.Durable.{disk_history, has_changes, is_stopped, IsRunning, IsSound, KeepsChanges};
+ghost use Rattle.engine.specs.Durable.{disk_history, failed_reads_of, has_changes, is_stopped, IsRunning, IsSound, KeepsChanges};
 ghost use Rattle.path.specs.declared.refusal.Refusal.TheVariants.{OutOfMemory};
 ghost use Rattle.std.specs.Prelude.{Result};
 ghost use Rattle.bson.specs.Tree.{Pairs};
@@ -210,6 +210,7 @@ pub(crate) fn forget_closed<D: Disk>(engine: &mut Engine<D>, closed: &[(ConnId, 
     ensures disk { disk_history D.history engine.new ≡ disk_history D.history engine.old }
     ensures running { is_stopped engine.new ≡ is_stopped engine.old }
     ensures moment { engine_moment D.history engine.new ≡ engine_moment D.history engine.old }
+    ensures reads { failed_reads_of D.history engine.new ≡ failed_reads_of D.history engine.old }
     ensures world { world engine.new ≡ forget_all (world engine.old) closed.now }
     ensures idle { turn_start engine.new ≡ (world engine.new).collections }
     ensures rested { are_untouched (world engine.new).cursors ≡ true }

@@ -16,6 +16,7 @@ loop-page-preserved g c = record {
   same = λ w. let before = c.read_next.ensures.same w in
       let same = c.loop-page.invariant.same before.0 in
       (same.0, before.1 ∙ same.1);
+  clear = g.met.P.ListPages.clear_on _ _ _ c.loop-page.invariant.clear (c.in_ok-page.ensures.clear (λ is. absurd cc));
   so = λ w. let before = c.read_next.ensures.same w in
       let same = c.loop-page.invariant.same before.0 in
       goes_on _ _ _ _ _ _ c.loop-page.reading c.read_next.new.self same.1 (c.loop-page.invariant.so before.0) c.loop-page-test.true

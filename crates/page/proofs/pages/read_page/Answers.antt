@@ -39,6 +39,7 @@ loop-i-preserved g c =
     let sector = c.read.new.bytes in
     record {
       only = reads_further h0 h1 h2 c.loop-i.invariant.only (reads_one h1 h2 _ c.read.ensures.time (λ keeps. c.read.ensures.same keeps));
+      clear = λ keeps. c.in_ok-read.ensures.time.failures keeps ∙ c.loop-i.invariant.clear (c.read.ensures.time.kept keeps);
       long = (let same : length c.copy_from_slice.new.self ≡ 512 = omega (arith, c.copy_from_slice.ensures.len) in
           put_long i bytes c.copy_from_slice.new.self (omega arith) same c.loop-i.invariant.long);
       so_far = λ keeps.

@@ -10,6 +10,7 @@ invariant-loop-i g l =
     let h = g.D.Disk.history l.disk in
     record {
       only : ReadsOnly start h;
+      clear : KeepsWord h → h.failures ≡ start.failures;
       long : length l.bytes ≡ 4096;
       so_far : KeepsWord h → take (512 * l.i) l.bytes ≡ bytes_from (reads (now start)) (8 * l.page) l.i;
     }

@@ -15,8 +15,12 @@ returns-in-Err-clause-reads g c =
     let history = g.D.Disk.history in
     let old = c.args.store.now in
     let new = c.read.new.self in
-    let only : OnlyRead history old new = record
-    { root = c.read.ensures.reads.root; stopped = c.read.ensures.reads.stopped; reads = c.read.ensures.looks.reads } in
+    let only : OnlyRead history old new = record {
+      root = c.read.ensures.reads.root;
+      stopped = c.read.ensures.reads.stopped;
+      reads = c.read.ensures.looks.reads;
+      noted = c.read.ensures.reads.noted;
+    } in
     subst (λ (f : TreeFault). ReadsPage history c.args.page (Err f) old new c.args.cache.now c.get.new.self) (sym c.tree_fault.ensures)
     (read_failed history old new only c.args.page (tree_fault c.in-Err.fault) c.args.cache.now c.get.new.self c.get.ensures.same
     (λ k found is. read_cause (history old.disk) (history new.disk) c.in-Err.fault (sheet_in history old c.args.page) found c.in-Err.ensures.looks.cause
@@ -27,8 +31,12 @@ returns-in_default-new-clause-reads g c =
     let history = g.D.Disk.history in
     let old = c.args.store.now in
     let new = c.read.new.self in
-    let only : OnlyRead history old new = record
-    { root = c.read.ensures.reads.root; stopped = c.read.ensures.reads.stopped; reads = c.read.ensures.looks.reads } in
+    let only : OnlyRead history old new = record {
+      root = c.read.ensures.reads.root;
+      stopped = c.read.ensures.reads.stopped;
+      reads = c.read.ensures.looks.reads;
+      noted = c.read.ensures.reads.noted;
+    } in
     read_failed history old new only c.args.page faults.Memory c.args.cache.now c.get.new.self c.get.ensures.same (λ k found is. tt)
 
 pub returns-clause-reads : goal.returns-clause-reads
@@ -36,8 +44,12 @@ returns-clause-reads g c =
     let history = g.D.Disk.history in
     let old = c.args.store.now in
     let new = c.read.new.self in
-    let only : OnlyRead history old new = record
-    { root = c.read.ensures.reads.root; stopped = c.read.ensures.reads.stopped; reads = c.read.ensures.looks.reads } in
+    let only : OnlyRead history old new = record {
+      root = c.read.ensures.reads.root;
+      stopped = c.read.ensures.reads.stopped;
+      reads = c.read.ensures.looks.reads;
+      noted = c.read.ensures.reads.noted;
+    } in
     read_done history old new only c.args.page c.in-Ok-new.shared c.args.cache.now c.get.new.self c.keep_page.new.cache c.get.ensures.same c.keep_page.ensures
     (λ k. c.in-Ok.ensures.reads.sheet k ∙ ap Ok (sym c.in-Ok-new.ensures))
 

@@ -11,6 +11,7 @@ returns-in_err-write_made-clause-calls g c =
     let h1 = g.D.Disk.history c.write_made.new.disk in
     record {
       done = λ keeps. search rules;
+      clear = λ keeps. search rules;
       most = λ keeps. let most : h1.clock ≤ h0.clock + 8 * length c.args.made.now = c.write_made.ensures.calls.most keeps in omega arith;
     }
 

@@ -1,4 +1,4 @@
-use Rattle.std.proofs.Common.{◌≡◌, ◌+◌, ◌*◌, ◌≤◌, arith, ap, rules}
+use Rattle.std.proofs.Common.{◌≡◌, ◌+◌, ◌*◌, ◌≤◌, ◌∙◌, arith, ap, rules}
 use Rattle.page.specs.History.{Sector, now, reads}
 use Rattle.page.proofs.CallLemmas.{calls_all}
 use Rattle.page.proofs.Moments.{goes_further}
@@ -34,6 +34,7 @@ returns-in_err-write_shared-clause-calls g c =
     let e = c.write_shared.ensures in
     record {
       done = λ keeps. search rules;
+      clear = λ keeps. search rules;
       most = λ keeps.
           let one : h2.clock ≤ h1.clock + 8 = e.calls.most keeps in
           let so_far : h1.clock ≡ h0.clock + 8 * c.loop-shared.shared-index = c.loop-shared.invariant.calls (e.on.kept keeps) in omega arith;
@@ -54,6 +55,7 @@ loop-shared-preserved g c =
       calls = λ keeps.
           let one : h2.clock ≡ h1.clock + 8 = c.in_ok-write_shared.ensures.calls.done keeps in
           let so_far : h1.clock ≡ h0.clock + 8 * i = inv.calls (e.on.kept keeps) in omega arith;
+      clear = λ keeps. c.in_ok-write_shared.ensures.calls.clear keeps ∙ inv.clear (e.on.kept keeps);
       any_moment =
           moments_more h0 h1 h2 made _
           (λ k here. on_pages_at made i k x c.shared-item.is (omega arith) here) e.on inv.others e.others inv.any_moment e.any_moment;
@@ -69,3 +71,4 @@ returns-clause-calls g c =
     let h0 = g.D.Disk.history c.args.disk.now in
     let h1 = g.D.Disk.history c.loop-shared.disk in
     calls_all _ h0 h1 _ (λ keeps. let so_far : h1.clock ≡ h0.clock + 8 * c.loop-shared.shared-index = c.loop-shared.invariant.calls keeps in omega arith)
+    (λ keeps. c.loop-shared.invariant.clear keeps)

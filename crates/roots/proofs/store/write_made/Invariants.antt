@@ -12,6 +12,7 @@ invariant-loop-shared g l =
     record {
       on : GoesOn start h;
       calls : KeepsWord h → h.clock ≡ start.clock + 8 * l.shared-index;
+      clear : KeepsWord h → h.failures ≡ start.failures;
       any_moment : LeavesOnly start h (IsImageOutside (now start) (IsOnPages (numbers_of l.made)));
       others : KeepsWord h → (k : ℕ) → (IsOnPages (numbers_of l.made) k → ⊥) → now h k ≡ now start k;
       written : KeepsWord h → LieBehind 0 l.made → AreWritten (reads (now h)) (take l.shared-index l.made);

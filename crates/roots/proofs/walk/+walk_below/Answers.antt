@@ -7,7 +7,7 @@ use Rattle.page.specs.Content.{Arm, branch, leaf}
 use Rattle.page.specs.History.{now, reads}
 use Rattle.page.specs.ImageView.{sheet_of}
 use Rattle.page.specs.View.{content_of as content_in}
-use Rattle.page.proofs.Moments.{reads_further}
+use Rattle.page.proofs.Moments.{read_further}
 use Rattle.roots.specs.declared.opening.OpenFault.TheVariants as faults
 use Rattle.btree.specs.Calls.{IsPart}
 use Rattle.btree.specs.Search.{AreBounds}
@@ -21,8 +21,8 @@ use Rattle.roots.specs.Walk.{CanReach, pages_in, pages_so_far}
 use Rattle.roots.proofs.FoundLemmas.{branch_found, child_can, child_reached, child_there, depth_failed, fan_height, fan_more, leaf_found, no_fan_found}
 use Rattle.roots.proofs.FoundLemmas.{not_past, page_there, part_moved, part_within}
 use Rattle.roots.proofs.ImageLemmas.{live_below}
-use Rattle.roots.proofs.WalkLemmas.{all_taken, at_branch, at_leaf, behind_first, can_first, can_rest, handed_on, looks_failed, not_damaged, read_content}
-use Rattle.roots.proofs.WalkLemmas.{same_pages}
+use Rattle.roots.proofs.WalkLemmas.{all_taken, at_branch, at_leaf, behind_first, can_first, can_rest, handed_on, has_read, looks_damaged, looks_done}
+use Rattle.roots.proofs.WalkLemmas.{looks_failed, not_damaged, read_content, same_pages}
 use Rattle.roots.proofs.walk.+walk_below.Goals as goal
 
 pub returns-then-not-is_within-clause-reaches : goal.returns-then-not-is_within-clause-reaches
@@ -131,7 +131,7 @@ returns-in_err-below-clause-looks g t c =
     let h2 = g.D.Disk.history c.loop-i.disk in
     looks_failed {Y = ℕ} h0 h2 (g.D.Disk.history c.walk_below.new.disk) c.from_residual-in_err-below.result c.in_err-below.field-0.0
     (handed_on _ _ c.from_residual-in_err-below.ensures.1)
-    (reads_further h0 h1 h2 c.read_sheet.ensures.looks.reads c.loop-i.invariant.only) c.in_err-below.ensures.looks
+    (read_further h0 h1 h2 (has_read h0 h1 _ c.in_ok-image.ensures.looks) c.loop-i.invariant.only) c.in_err-below.ensures.looks
 
 within : (d : ℕ) (arms : List Arm) (twigs : List (Twig (Body d))) (i : ℕ) → arms ≡ map arm_of twigs → i < length arms → i < length twigs
 within d arms twigs i e lt = omega (arith, lt, ap length e, long_map (arm_of {B = Body d}) twigs)
@@ -150,7 +150,7 @@ returns-in_err-below-clause-reaches g t c keeps d body part can =
     let arms = c.in-Branch.branch in
     let child = child_arm c.child-child.result in
     let k2 = c.walk_below.ensures.looks.reads.on.kept keeps in
-    let k1 = inv.only.on.kept k2 in
+    let k1 = inv.only.reads.on.kept k2 in
     let bounds : AreBounds low high arms i from to =
     bounds_are low high arms i from to c.low_bound-from.ensures.first c.low_bound-from.ensures.later c.high_bound-to.ensures.last c.high_bound-to.ensures.inner
     in
@@ -169,7 +169,8 @@ returns-in_err-below-clause-reaches g t c keeps d body part can =
     depth_failed (suc d) (c.args.page ∷ pages_of (suc d) twigs) (pages_so_far c.args.reached.now)
     (pages_so_far c.walk_below.new.reached) c.from_residual-in_err-below.result c.in_err-below.field-0.0 (handed_on _ _ c.from_residual-in_err-below.ensures.1)
     (c.in_err-below.ensures.reaches keeps d a.mid.body
-    (child_there h1 h2 c.args.root (inv.only.same k2) c.args.page c.args.level d low high twigs arms i a child from to e c.child-child.ensures bounds part)
+    (child_there h1 h2 c.args.root (inv.only.reads.same k2) c.args.page c.args.level d low high twigs arms i a child from to e c.child-child.ensures bounds
+    part)
     (child_can c.args.root d twigs arms i a child e c.child-child.ensures c.args.root.pages c.note.new.self c.loop-i.reached can1 inv.marks
     (inv.so_far k2 d twigs e part can1).1)))
     d body (sym (ap content_in c.in-Branch.is) ∙ content)
@@ -181,10 +182,9 @@ returns-then-below-depth-clause-looks g t c =
     let h1 = g.D.Disk.history c.read_sheet.new.disk in
     let h2 = g.D.Disk.history c.loop-i.disk in
     let h3 = g.D.Disk.history c.walk_below.new.disk in
-    record {
-      reads = reads_further h0 h2 h3 (reads_further h0 h1 h2 c.read_sheet.ensures.looks.reads c.loop-i.invariant.only) c.walk_below.ensures.looks.reads;
-      cause = tt;
-    }
+    looks_damaged h0 h3
+    (read_further h0 h2 h3 (read_further h0 h1 h2 (has_read h0 h1 _ c.in_ok-image.ensures.looks) c.loop-i.invariant.only)
+    (has_read h2 h3 _ c.in_ok-below.ensures.looks))
 
 pub returns-then-below-depth-clause-reaches : goal.returns-then-below-depth-clause-reaches
 returns-then-below-depth-clause-reaches g t c keeps d body part can =
@@ -200,7 +200,7 @@ returns-then-below-depth-clause-reaches g t c keeps d body part can =
     let arms = c.in-Branch.branch in
     let child = child_arm c.child-child.result in
     let k2 = c.walk_below.ensures.looks.reads.on.kept keeps in
-    let k1 = inv.only.on.kept k2 in
+    let k1 = inv.only.reads.on.kept k2 in
     let bounds : AreBounds low high arms i from to =
     bounds_are low high arms i from to c.low_bound-from.ensures.first c.low_bound-from.ensures.later c.high_bound-to.ensures.last c.high_bound-to.ensures.inner
     in
@@ -215,7 +215,8 @@ returns-then-below-depth-clause-reaches g t c keeps d body part can =
     (pages_of (suc d) twigs) can c.in_ok-note.ensures.marks c.in_ok-note.ensures.noted in
     let a = at_place twigs i (within d arms twigs i e (omega arith)) in
     let there = c.in_ok-below.ensures.reaches keeps d a.mid.body
-    (child_there h1 h2 c.args.root (inv.only.same k2) c.args.page c.args.level d low high twigs arms i a child from to e c.child-child.ensures bounds part)
+    (child_there h1 h2 c.args.root (inv.only.reads.same k2) c.args.page c.args.level d low high twigs arms i a child from to e c.child-child.ensures bounds
+    part)
     (child_can c.args.root d twigs arms i a child e c.child-child.ensures c.args.root.pages c.note.new.self c.loop-i.reached can1 inv.marks
     (inv.so_far k2 d twigs e part can1).1) in
     absurd (omega (arith, there.0, (inv.so_far k2 d twigs e part can1).0 (omega arith))))
@@ -240,7 +241,7 @@ loop-i-preserved g t c =
     bounds_are low high arms i from to c.low_bound-from.ensures.first c.low_bound-from.ensures.later c.high_bound-to.ensures.last c.high_bound-to.ensures.inner
     in
     record {
-      only = reads_further h1 h2 (g.D.Disk.history c.walk_below.new.disk) inv.only c.walk_below.ensures.looks.reads;
+      only = read_further h1 h2 (g.D.Disk.history c.walk_below.new.disk) inv.only (has_read _ _ _ c.in_ok-below.ensures.looks);
       marks = λ limit marked. c.in_ok-below.ensures.marks limit (inv.marks limit marked);
       deep = omega (arith, c.in_ok-below.ensures.depth);
       so_far = λ keeps d twigs e part can.
@@ -249,7 +250,7 @@ loop-i-preserved g t c =
           let so_far = (inv.so_far k2 d twigs e part can).1 in
           let there = c.in_ok-below.ensures.reaches keeps d a.mid.body
           (child_there h1 h2 c.args.root
-          (inv.only.same k2) c.args.page c.args.level d low high twigs arms i a child from to e c.child-child.ensures bounds part)
+          (inv.only.reads.same k2) c.args.page c.args.level d low high twigs arms i a child from to e c.child-child.ensures bounds part)
           (child_can c.args.root d twigs arms i a child e c.child-child.ensures c.args.root.pages c.note.new.self c.loop-i.reached can inv.marks so_far) in (
             (λ some. there.0),
             child_reached d twigs arms i a child e c.child-child.ensures (pages_so_far c.note.new.self) (pages_so_far c.loop-i.reached)
@@ -259,7 +260,7 @@ loop-i-preserved g t c =
           let k2 = c.walk_below.ensures.looks.reads.on.kept keeps in
           let part : HasFoundPart s child.child below from to (pages_so_far c.loop-i.reached) (pages_so_far c.walk_below.new.reached) =
           subst (λ (s : Store). HasFoundPart s child.child below from to (pages_so_far c.loop-i.reached) (pages_so_far c.walk_below.new.reached))
-          (same_pages h1 h2 c.args.root (inv.only.same k2)) (c.in_ok-below.ensures.found keeps) in
+          (same_pages h1 h2 c.args.root (inv.only.reads.same k2)) (c.in_ok-below.ensures.found keeps) in
           let fan : HasFoundFan s below low high arms i (pages_so_far c.note.new.self) (pages_so_far c.loop-i.reached) =
           fan_height s c.loop-i.depth below low high arms i (pages_so_far c.note.new.self) (pages_so_far c.loop-i.reached)
           (elim (cases_lt 0 i) [ inl some ↦ inr (omega (arith, some)) | inr none ↦ inl (omega (arith, none)) ]) (inv.found k2) in
@@ -269,11 +270,10 @@ loop-i-preserved g t c =
 
 pub returns-clause-looks : goal.returns-clause-looks
 returns-clause-looks g t c =
-    record {
-      reads = reads_further (g.D.Disk.history c.args.disk.now) (g.D.Disk.history c.read_sheet.new.disk)
-          (g.D.Disk.history c.loop-i.disk) c.read_sheet.ensures.looks.reads c.loop-i.invariant.only;
-      cause = tt;
-    }
+    let h0 = g.D.Disk.history c.args.disk.now in
+    let h1 = g.D.Disk.history c.read_sheet.new.disk in
+    let h2 = g.D.Disk.history c.loop-i.disk in
+    looks_done h0 h2 _ (read_further h0 h1 h2 (has_read h0 h1 _ c.in_ok-image.ensures.looks) c.loop-i.invariant.only)
 
 pub returns-clause-reaches : goal.returns-clause-reaches
 returns-clause-reaches g t c keeps d body part can =
@@ -283,7 +283,7 @@ returns-clause-reaches g t c keeps d body part can =
     let i = c.loop-i.i in
     let low = c.args.low.now in
     let high = option_map (λ b. b.now) c.args.high in
-    let k1 = inv.only.on.kept keeps in
+    let k1 = inv.only.reads.on.kept keeps in
     let arms = c.in-Branch.branch in
     let many : 2 ≤ length arms = c.len-i-end.ensures.sound.some in
     let content : content_in c.in_ok-image.image.content ≡ content_of d body =
@@ -317,7 +317,7 @@ returns-clause-found g t c keeps =
     let i = c.loop-i.i in
     let low = c.args.low.now in
     let high = option_map (λ b. b.now) c.args.high in
-    let k1 = inv.only.on.kept keeps in
+    let k1 = inv.only.reads.on.kept keeps in
     let arms = c.in-Branch.branch in
     let at : IsAt (pages_in h0 c.args.root) c.args.page (branch arms) =
     subst (IsAt (pages_in h0 c.args.root) c.args.page) (ap content_in c.in-Branch.is)
@@ -333,12 +333,11 @@ pub returns-in_err-walk_leaf-in-Leaf-clause-looks : goal.returns-in_err-walk_lea
 returns-in_err-walk_leaf-in-Leaf-clause-looks g t c =
     looks_failed {Y = Unit {0}} (g.D.Disk.history c.args.disk.now) (g.D.Disk.history c.read_sheet.new.disk) (g.D.Disk.history c.walk_leaf.new.disk)
     c.from_residual-in_err-walk_leaf-in-Leaf.result c.in_err-walk_leaf-in-Leaf.field-0.0 (handed_on _ _ c.from_residual-in_err-walk_leaf-in-Leaf.ensures.1)
-    c.read_sheet.ensures.looks.reads c.in_err-walk_leaf-in-Leaf.ensures.looks
+    (has_read _ _ _ c.in_ok-image.ensures.looks) c.in_err-walk_leaf-in-Leaf.ensures.looks
 
 pub returns-in-Leaf-clause-looks : goal.returns-in-Leaf-clause-looks
 returns-in-Leaf-clause-looks g t c =
-    record {
-      reads = reads_further (g.D.Disk.history c.args.disk.now) (g.D.Disk.history c.read_sheet.new.disk) (g.D.Disk.history c.walk_leaf.new.disk)
-          c.read_sheet.ensures.looks.reads c.walk_leaf.ensures.looks.reads;
-      cause = tt;
-    }
+    let h0 = g.D.Disk.history c.args.disk.now in
+    let h1 = g.D.Disk.history c.read_sheet.new.disk in
+    let h2 = g.D.Disk.history c.walk_leaf.new.disk in
+    looks_done h0 h2 _ (read_further h0 h1 h2 (has_read h0 h1 _ c.in_ok-image.ensures.looks) (has_read h1 h2 _ c.in_ok-walk_leaf-in-Leaf.ensures.looks))

@@ -1,7 +1,7 @@
 use Rattle.std.proofs.Common.{◌≡◌, ◌-◌, ◌+◌, ◌<◌, ◌++◌, ℕ, suc, map, take}
 use Rattle.std.specs.Option.{option_map}
 use Rattle.page.specs.History.{KeepsWord}
-use Rattle.page.specs.Crash.{ReadsOnly}
+use Rattle.page.specs.Crash.{HasRead}
 use Rattle.btree.specs.Calls.{IsPart}
 use Rattle.btree.specs.Tree.{Body, arm_of, pages_of}
 use Rattle.roots.specs.Found.{HasFoundFan}
@@ -17,7 +17,7 @@ invariant-loop-i g l =
     let h = g.D.Disk.history l.disk in
     let high = option_map (λ b. b.now) l.high in
     record {
-      only : ReadsOnly start h;
+      only : HasRead start h;
       marks : (limit : ℕ) → IsMarked limit l.initial.reached → IsMarked limit l.reached;
       deep : l.depth + l.level < 31;
       so_far : KeepsWord h → (d : ℕ) (twigs : Body (suc d)) → l.branch ≡ map arm_of twigs

@@ -1,6 +1,6 @@
 use Rattle.std.proofs.Common.{◌≡◌, ℕ, List, length}
 use Rattle.page.specs.History.{KeepsWord}
-use Rattle.page.specs.Crash.{ReadsOnly}
+use Rattle.page.specs.Crash.{HasRead}
 use Rattle.btree.specs.Tree.{HasLinks, next_of}
 use Rattle.roots.specs.Walk.{IsMarked, pages_in, pages_so_far}
 use Rattle.roots.proofs.FoundLemmas.{ChainSoFar}
@@ -12,7 +12,7 @@ invariant-loop-left g l =
     let start = g.D.Disk.history l.initial.disk in
     let h = g.D.Disk.history l.disk in
     record {
-      only : ReadsOnly start h;
+      only : HasRead start h;
       marks : (limit : ℕ) → IsMarked limit l.initial.reached → IsMarked limit l.reached;
       so_far : KeepsWord h → (links value : List ℕ) → HasLinks (pages_in start l.root) links value → next_of links ≡ l.fn.first → length value ≡ l.fn.len
           → ChainRest (pages_in start l.root) links l.left l.page (pages_so_far l.initial.reached) (pages_so_far l.reached);

@@ -2,7 +2,7 @@ use Rattle.std.proofs.Common.{rules, arith, ◌≡◌, ◌<◌, ℕ, List, map, 
 use Rattle.std.specs.Option.{option_map}
 use Rattle.page.specs.Content.{Item}
 use Rattle.page.specs.CellView.{item_of as cell_item}
-use Rattle.page.proofs.Moments.{reads_further}
+use Rattle.page.proofs.Moments.{read_further}
 use Rattle.btree.specs.Keys.{IsBetween, Pair}
 use Rattle.btree.specs.Store.{Store}
 use Rattle.btree.specs.Tree.{HasChain, item_of}
@@ -10,7 +10,7 @@ use Rattle.btree.proofs.ListLemmas.{At, at_place, each_of_map, long_map}
 use Rattle.roots.specs.Walk.{CanReach, pages_in, pages_so_far}
 use Rattle.roots.specs.Found.{HasFoundValue}
 use Rattle.roots.proofs.FoundLemmas.{all_pairs_found, item_place, no_pairs_found, pairs_more}
-use Rattle.roots.proofs.WalkLemmas.{can_reach_there, each_there, got_there, reached_there, reaches_failed, same_pages}
+use Rattle.roots.proofs.WalkLemmas.{can_reach_there, each_there, got_there, has_read, reached_there, reaches_failed, same_pages}
 use Rattle.roots.proofs.walk.walk_leaf.Goals as goal
 
 within : (items : List Item) (pairs : List Pair) (i : ℕ) → items ≡ map item_of pairs → i < length items → i < length pairs
@@ -26,7 +26,7 @@ returns-in_err-walk_value-clause-reaches g c keeps pairs e shown between can =
     got_there pairs i a item_of c.args.leaf.now (cell_item c.cell-cell.result) e c.cell-cell.ensures in
     let has : HasChain (pages_in (g.D.Disk.history c.loop-i.disk) c.args.root) a.mid =
     subst (λ (s : Store). HasChain s a.mid)
-    (sym (same_pages (g.D.Disk.history c.args.disk.now) (g.D.Disk.history c.loop-i.disk) c.args.root (inv.only.same k1)))
+    (sym (same_pages (g.D.Disk.history c.args.disk.now) (g.D.Disk.history c.loop-i.disk) c.args.root (inv.only.reads.same k1)))
     (each_there pairs i a (HasChain (pages_in (g.D.Disk.history c.args.disk.now) c.args.root)) shown) in
     let there : CanReach c.args.root.pages c.loop-i.reached a.mid.links =
     can_reach_there pairs i a (λ x. x.links) c.args.root.pages c.args.reached.now c.loop-i.reached can inv.marks (inv.so_far k1 pairs e shown between can) in
@@ -38,8 +38,8 @@ loop-i-preserved g c =
     let inv = c.loop-i.invariant in
     let i = c.loop-i.i in
     record {
-      only = reads_further (g.D.Disk.history c.args.disk.now) (g.D.Disk.history c.loop-i.disk)
-          (g.D.Disk.history c.walk_value.new.disk) inv.only c.walk_value.ensures.looks.reads;
+      only = read_further (g.D.Disk.history c.args.disk.now) (g.D.Disk.history c.loop-i.disk)
+          (g.D.Disk.history c.walk_value.new.disk) inv.only (has_read _ _ _ c.in_ok-walk_value.ensures.looks);
       marks = λ limit marked. c.in_ok-walk_value.ensures.marks limit (inv.marks limit marked);
       so_far = λ keeps pairs e shown between can.
           let k1 = c.walk_value.ensures.looks.reads.on.kept keeps in
@@ -48,7 +48,7 @@ loop-i-preserved g c =
           got_there pairs i a item_of c.args.leaf.now (cell_item c.cell-cell.result) e c.cell-cell.ensures in
           let has : HasChain (pages_in (g.D.Disk.history c.loop-i.disk) c.args.root) a.mid =
           subst (λ (s : Store). HasChain s a.mid)
-          (sym (same_pages (g.D.Disk.history c.args.disk.now) (g.D.Disk.history c.loop-i.disk) c.args.root (inv.only.same k1)))
+          (sym (same_pages (g.D.Disk.history c.args.disk.now) (g.D.Disk.history c.loop-i.disk) c.args.root (inv.only.reads.same k1)))
           (each_there pairs i a (HasChain (pages_in (g.D.Disk.history c.args.disk.now) c.args.root)) shown) in
           let so_far = inv.so_far k1 pairs e shown between can in
           let there : CanReach c.args.root.pages c.loop-i.reached a.mid.links =
@@ -61,7 +61,7 @@ loop-i-preserved g c =
           let there : HasFoundValue (pages_in (g.D.Disk.history c.args.disk.now) c.args.root) (cell_item c.cell-cell.result).place
           (pages_so_far c.loop-i.reached) (pages_so_far c.walk_value.new.reached) =
           subst (λ (s : Store). HasFoundValue s (cell_item c.cell-cell.result).place (pages_so_far c.loop-i.reached) (pages_so_far c.walk_value.new.reached))
-          (same_pages (g.D.Disk.history c.args.disk.now) (g.D.Disk.history c.loop-i.disk) c.args.root (inv.only.same k1))
+          (same_pages (g.D.Disk.history c.args.disk.now) (g.D.Disk.history c.loop-i.disk) c.args.root (inv.only.reads.same k1))
           (c.in_ok-walk_value.ensures.found keeps
           (item_place c.args.leaf.now i (cell_item c.cell-cell.result) c.len-i-end.ensures.sound.each c.cell-cell.ensures)) in
           pairs_more (pages_in (g.D.Disk.history c.args.disk.now) c.args.root) c.args.low.now (option_map (λ b. b.now) c.args.high) c.args.leaf.now i

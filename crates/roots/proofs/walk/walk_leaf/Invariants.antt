@@ -1,6 +1,6 @@
 use Rattle.std.proofs.Common.{◌≡◌, ◌++◌, ℕ, zero, List, map, take}
 use Rattle.page.specs.History.{KeepsWord}
-use Rattle.page.specs.Crash.{ReadsOnly}
+use Rattle.page.specs.Crash.{HasRead}
 use Rattle.std.specs.Option.{option_map}
 use Rattle.btree.specs.Keys.{Each, IsBetween, Pair}
 use Rattle.btree.specs.Tree.{Shows, item_of, pages_of, pair_keys}
@@ -13,7 +13,7 @@ invariant-loop-i g l =
     let start = g.D.Disk.history l.initial.disk in
     let h = g.D.Disk.history l.disk in
     record {
-      only : ReadsOnly start h;
+      only : HasRead start h;
       marks : (limit : ℕ) → IsMarked limit l.initial.reached → IsMarked limit l.reached;
       so_far : KeepsWord h → (pairs : List Pair) → l.leaf ≡ map item_of pairs → Shows (pages_in start l.root) zero pairs
           → Each (IsBetween l.low (option_map (λ b. b.now) l.high)) (pair_keys pairs) → CanReach l.root.pages l.initial.reached (pages_of zero pairs)

@@ -17,6 +17,7 @@ closed-preserved g c =
       disk = call.ensures.disk ∙ inv.disk;
       running = call.ensures.running ∙ inv.running;
       moment = still_moment g.D.Disk.history c.closed.engine call.new.self call.ensures.disk call.ensures.generation call.ensures.takes ∙ inv.moment;
+      reads = call.ensures.reads ∙ inv.reads;
       world_is = call.ensures.world ∙ (λ k. forget (inv.world_is k) (c.closed-item.is k).0)
           ∙ sym (forget_all_more (world c.args.engine.now) fs i d c.closed-test.true);
       idle = call.ensures.turn_start ∙ inv.idle ∙ sym (ap (λ (w : World). w.collections) call.ensures.world);

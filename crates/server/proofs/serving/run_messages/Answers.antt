@@ -43,7 +43,7 @@ returns-then-not-serve_connections g c =
     }) in
     let undid = c.undo_turn.ensures in
     undone history e0 e1 c.undo_turn.new.self begins ls _ _ _ _ served took c.args.refusals c.requires.refusals undid.sound undid.disk
-    undid.running undid.generation undid.takes undid.world undid.turn_start undid.rests undid.rested
+    undid.running undid.generation undid.takes undid.reads undid.world undid.turn_start undid.rests undid.rested
 
 pub returns-in-Ok : goal.returns-in-Ok
 returns-in-Ok g c =

@@ -42,3 +42,24 @@ returns-in-ListIndexes-clause-sure g c none = absurd (subst (λ (x : Command). N
 
 pub returns-in-Explain-clause-sure : goal.returns-in-Explain-clause-sure
 returns-in-Explain-clause-sure g c none = absurd (subst (λ (x : Command). NeedsNoDisk (Ok (command_read x))) c.in-Explain.is none)
+
+pub returns-in-Create-clause-still : goal.returns-in-Create-clause-still
+returns-in-Create-clause-still g c none = absurd (subst (λ (x : Command). NeedsNoDisk (Ok (command_read x))) c.in-Create.is none)
+
+pub returns-in-Drop-clause-still : goal.returns-in-Drop-clause-still
+returns-in-Drop-clause-still g c none = absurd (subst (λ (x : Command). NeedsNoDisk (Ok (command_read x))) c.in-Drop.is none)
+
+pub returns-in-ListCollections-clause-still : goal.returns-in-ListCollections-clause-still
+returns-in-ListCollections-clause-still g c none = absurd (subst (λ (x : Command). NeedsNoDisk (Ok (command_read x))) c.in-ListCollections.is none)
+
+pub returns-in-CreateIndexes-clause-still : goal.returns-in-CreateIndexes-clause-still
+returns-in-CreateIndexes-clause-still g c none = absurd (subst (λ (x : Command). NeedsNoDisk (Ok (command_read x))) c.in-CreateIndexes.is none)
+
+pub returns-in-DropIndexes-clause-still : goal.returns-in-DropIndexes-clause-still
+returns-in-DropIndexes-clause-still g c none = absurd (subst (λ (x : Command). NeedsNoDisk (Ok (command_read x))) c.in-DropIndexes.is none)
+
+pub returns-in-ListIndexes-clause-still : goal.returns-in-ListIndexes-clause-still
+returns-in-ListIndexes-clause-still g c none = absurd (subst (λ (x : Command). NeedsNoDisk (Ok (command_read x))) c.in-ListIndexes.is none)
+
+pub returns-in-Explain-clause-still : goal.returns-in-Explain-clause-still
+returns-in-Explain-clause-still g c none = absurd (subst (λ (x : Command). NeedsNoDisk (Ok (command_read x))) c.in-Explain.is none)

@@ -1,9 +1,15 @@
-use Rattle.std.proofs.Common.{inl}
+use Rattle.std.proofs.Common.{◌≡◌, ◌⊎◌, inl, subst, sym}
+use Rattle.database_model.specs.Refusals.{refusal_reply}
+use Rattle.database_model.specs.Step.{RefusedBeside, answered}
+use Rattle.path.specs.declared.refusal.Refusal.{Refusal}
+use Rattle.path.specs.declared.refusal.Refusal.TheVariants as refusals
+use Rattle.engine.specs.Laws.{ForMemory}
 use Rattle.database_model.specs.Step.{read_and_run}
 use Rattle.replies.specs.View.{answer_of}
 use Rattle.engine.specs.View.{world}
 use Rattle.replies.proofs.SpelledSizes.{refusal-sendable}
-use Rattle.engine.proofs.Sound.{answers_done, answers_read, answers_refused, refused_for_memory}
+use Rattle.engine.proofs.Sound.{answers_done, refused_for_memory}
+use Rattle.engine.proofs.TroublesLemmas.{TellsHere, answers_told, answers_told_reading, as_here, met_no_trouble, told_as_met}
 use Rattle.engine.proofs.engine.Engine.execute.Goals as goal
 
 pub returns-in-Ok-clause-answers : goal.returns-in-Ok-clause-answers
@@ -15,12 +21,28 @@ returns-in-Ok-clause-answers g c = λ k.
 
 pub returns-in-Err-clause-answers : goal.returns-in-Err-clause-answers
 returns-in-Err-clause-answers g c = λ k.
+    let history = g.D.Disk.history in
     let old = c.args.self.now in
     let new = c.run.new.self in
-    answers_refused g.D.Disk.history old new (read_and_run (world old) c.args.connection c.args.body.now) c.in-Err.refusal (c.in-Err.ensures.performs.does k)
+    let tells : TellsHere history old new c.in-Err.ensures.performs.goes c.in-Err.refusal c.told.result =
+    as_here history old new c.in-Err.ensures.performs.goes c.in-Err.refusal c.told.result c.troubles_of-before.ensures c.troubles_of-in-Err.ensures c.told.ensures
+    in
+    answers_told history old new c.in-Err.ensures.performs.goes c.in-Err.refusal c.told.result k
+    (read_and_run (world old) c.args.connection c.args.body.now) (c.in-Err.ensures.performs.does k) tells
+
+pub returns-in-Err-clause-memory : goal.returns-in-Err-clause-memory
+returns-in-Err-clause-memory g c = λ k memory.
+    let history = g.D.Disk.history in
+    let old = c.args.self.now in
+    let new = c.run.new.self in
+    let tells : TellsHere history old new c.in-Err.ensures.performs.goes c.in-Err.refusal c.told.result =
+    as_here history old new c.in-Err.ensures.performs.goes c.in-Err.refusal c.told.result c.troubles_of-before.ensures c.troubles_of-in-Err.ensures c.told.ensures
+    in
+    let is : c.told.result ≡ refusals.OutOfMemory = cc in
+    met_no_trouble history old new c.in-Err.ensures.performs.goes c.in-Err.refusal c.told.result k tells is
 
 pub returns-in-Err-clause-sendable : goal.returns-in-Err-clause-sendable
-returns-in-Err-clause-sendable g c = refusal-sendable c.in-Err.refusal
+returns-in-Err-clause-sendable g c = refusal-sendable c.told.result
 
 pub returns-in-Ok-clause-refused : goal.returns-in-Ok-clause-refused
 returns-in-Ok-clause-refused g c refusal = absurd refusal
@@ -43,8 +65,18 @@ returns-in-Ok-clause-sure g c none =
 
 pub returns-in-Err-clause-sure : goal.returns-in-Err-clause-sure
 returns-in-Err-clause-sure g c none =
-    let old = world c.args.self.now in
-    refused_for_memory old (world c.run.new.self) (read_and_run old c.args.connection c.args.body.now) c.in-Err.refusal (c.in-Err.ensures.sure none)
+    let history = g.D.Disk.history in
+    let old = c.args.self.now in
+    let new = c.run.new.self in
+    let tells : TellsHere history old new c.in-Err.ensures.performs.goes c.in-Err.refusal c.told.result =
+    as_here history old new c.in-Err.ensures.performs.goes c.in-Err.refusal c.told.result c.troubles_of-before.ensures c.troubles_of-in-Err.ensures c.told.ensures
+    in
+    let is : c.told.result ≡ c.in-Err.refusal =
+    told_as_met history old new c.in-Err.ensures.performs.goes c.in-Err.refusal c.told.result (c.in-Err.ensures.still none) tells in
+    subst (λ (e : Refusal). ((world new, refusal_reply e) ≡ answered (world old) (read_and_run (world old) c.args.connection c.args.body.now))
+    ⊎ RefusedBeside ForMemory (world old) (answered (world old) (read_and_run (world old) c.args.connection c.args.body.now)).0 (world new) (refusal_reply e))
+    (sym is)
+    (refused_for_memory (world old) (world new) (read_and_run (world old) c.args.connection c.args.body.now) c.in-Err.refusal (c.in-Err.ensures.sure none))
 
 -- ---- a command that only reads
 
@@ -71,4 +103,12 @@ pub returns-in-Err-clause-room : goal.returns-in-Err-clause-room
 returns-in-Err-clause-room g c = λ k only.
     let old = c.args.self.now in
     let new = c.run.new.self in
-    answers_read g.D.Disk.history old new (read_and_run (world old) c.args.connection c.args.body.now) c.in-Err.refusal ((c.in-Err.ensures.reads only).does k)
+    let history = g.D.Disk.history in
+    let tells : TellsHere history old new c.in-Err.ensures.performs.goes c.in-Err.refusal c.told.result =
+    as_here history old new c.in-Err.ensures.performs.goes c.in-Err.refusal c.told.result c.troubles_of-before.ensures c.troubles_of-in-Err.ensures c.told.ensures
+    in
+    answers_told_reading history old new c.in-Err.ensures.performs.goes c.in-Err.refusal c.told.result k
+    (read_and_run (world old) c.args.connection c.args.body.now) ((c.in-Err.ensures.reads only).does k) (c.in-Err.ensures.reads only).takes tells
+
+pub returns-in-Ok-clause-memory : goal.returns-in-Ok-clause-memory
+returns-in-Ok-clause-memory g c = λ k memory. absurd cc

@@ -1,31 +1,20 @@
-use Rattle.std.proofs.Common.{Ok, Err, refl}
-use Rattle.std.specs.Global.{Vec}
-use Rattle.std.proofs.lemmas.Result.{err_from_is_err_and}
-use Rattle.bson.specs.Tree.{Pairs}
-use Rattle.collections.specs.Walk.{IsWalk, StepsOn}
-use Rattle.engine.proofs.Dumping.{batch_dumped, batch_not_dumped}
-use Rattle.engine.proofs.LookingLemmas.{looks_so_of}
+use Rattle.engine.proofs.TroublesLemmas.{as_fault_here, dump_goes_told, memory_told}
 use Rattle.engine.proofs.engine.Engine.next_dumped.Goals as goal
 
-pub returns : goal.returns
-returns g c =
-    let history = g.D.Disk.history in
-    let after = c.next_spelled.new.walk in
-    let old = c.args.self.now in
-    let new = record old { file = c.next_spelled.new.self } in
-    batch_dumped history old new c.args.walk.now after c.in_ok-next_spelled.field-0
-    (looks_so_of history old new c.requires.sound refl refl refl (λ now rest. IsWalk now c.args.walk.now rest)
-    (λ now rest (batch : Vec Pairs). StepsOn 64 after now rest batch.items)
-    (Ok c.in_ok-next_spelled.field-0) c.in_ok-next_spelled.ensures.reads)
+pub returns-in-Err-clause-goes_on : goal.returns-in-Err-clause-goes_on
+returns-in-Err-clause-goes_on g c =
+    let goes = c.in-Err.ensures.reads.goes in
+    let tells = as_fault_here g.D.Disk.history c.args.self.now c.walk_on.new.self goes c.in-Err.fault c.told_fault.result c.troubles_of-before.ensures
+    c.troubles_of-in-Err.ensures c.told_fault.ensures in
+    dump_goes_told g.D.Disk.history c.args.self.now c.walk_on.new.self goes c.in-Err.fault c.told_fault.result c.args.walk.now c.walk_on.new.walk c.in-Err.ensures
+    tells
 
-pub returns-in_err-next_spelled : goal.returns-in_err-next_spelled
-returns-in_err-next_spelled g c =
-    let history = g.D.Disk.history in
-    let after = c.next_spelled.new.walk in
-    let old = c.args.self.now in
-    let new = record old { file = c.next_spelled.new.self } in
-    let p = err_from_is_err_and c.from_residual.result c.from_residual.ensures.1 in
-    rw (p.1, p.2) (batch_not_dumped history old new c.args.walk.now after c.in_err-next_spelled.field-0.0
-    (looks_so_of history old new c.requires.sound refl refl refl (λ now rest. IsWalk now c.args.walk.now rest)
-    (λ now rest (batch : Vec Pairs). StepsOn 64 after now rest batch.items)
-    (Err c.in_err-next_spelled.field-0.0) c.in_err-next_spelled.ensures.reads))
+pub returns-in-Err-clause-memory : goal.returns-in-Err-clause-memory
+returns-in-Err-clause-memory g c = λ k memory.
+    let goes = c.in-Err.ensures.reads.goes in
+    let tells = as_fault_here g.D.Disk.history c.args.self.now c.walk_on.new.self goes c.in-Err.fault c.told_fault.result c.troubles_of-before.ensures
+    c.troubles_of-in-Err.ensures c.told_fault.ensures in
+    memory_told g.D.Disk.history c.args.self.now c.walk_on.new.self goes c.in-Err.fault c.told_fault.result k tells cc
+
+pub returns-in-Ok-clause-memory : goal.returns-in-Ok-clause-memory
+returns-in-Ok-clause-memory g c = λ k memory. absurd cc

@@ -124,3 +124,27 @@ returns-in-Update-clause-sure g c none = absurd (subst (λ (x : Command). NeedsN
 
 pub returns-in-Aggregate-clause-sure : goal.returns-in-Aggregate-clause-sure
 returns-in-Aggregate-clause-sure g c none = absurd (subst (λ (x : Command). NeedsNoDisk (Ok (command_read x))) c.in-Aggregate.is none)
+
+pub returns-in-Insert-clause-still : goal.returns-in-Insert-clause-still
+returns-in-Insert-clause-still g c none = absurd (subst (λ (x : Command). NeedsNoDisk (Ok (command_read x))) c.in-Insert.is none)
+
+pub returns-in-Find-clause-still : goal.returns-in-Find-clause-still
+returns-in-Find-clause-still g c none = absurd (subst (λ (x : Command). NeedsNoDisk (Ok (command_read x))) c.in-Find.is none)
+
+pub returns-in-GetMore-clause-still : goal.returns-in-GetMore-clause-still
+returns-in-GetMore-clause-still g c none = absurd (subst (λ (x : Command). NeedsNoDisk (Ok (command_read x))) c.in-GetMore.is none)
+
+pub returns-in-KillCursors-clause-still : goal.returns-in-KillCursors-clause-still
+returns-in-KillCursors-clause-still g c none = absurd (subst (λ (x : Command). NeedsNoDisk (Ok (command_read x))) c.in-KillCursors.is none)
+
+pub returns-in-Count-clause-still : goal.returns-in-Count-clause-still
+returns-in-Count-clause-still g c none = absurd (subst (λ (x : Command). NeedsNoDisk (Ok (command_read x))) c.in-Count.is none)
+
+pub returns-in-Delete-clause-still : goal.returns-in-Delete-clause-still
+returns-in-Delete-clause-still g c none = absurd (subst (λ (x : Command). NeedsNoDisk (Ok (command_read x))) c.in-Delete.is none)
+
+pub returns-in-Update-clause-still : goal.returns-in-Update-clause-still
+returns-in-Update-clause-still g c none = absurd (subst (λ (x : Command). NeedsNoDisk (Ok (command_read x))) c.in-Update.is none)
+
+pub returns-in-Aggregate-clause-still : goal.returns-in-Aggregate-clause-still
+returns-in-Aggregate-clause-still g c none = absurd (subst (λ (x : Command). NeedsNoDisk (Ok (command_read x))) c.in-Aggregate.is none)

@@ -32,3 +32,6 @@ returns-in-Ok-clause-sure g c none =
     subst (λ (r : Result Command Refusal). Runs w (r >>= (λ command. run w c.args.connection command)) (world c.perform-outcome.new.self)
     (outcome_of c.perform-outcome.result))
     (sym c.in-Ok.ensures.gives) (c.perform-outcome.ensures.sure (subst NeedsNoDisk c.in-Ok.ensures.gives none))
+
+pub returns-in-Ok-clause-still : goal.returns-in-Ok-clause-still
+returns-in-Ok-clause-still g c none = c.perform-outcome.ensures.still (subst NeedsNoDisk c.in-Ok.ensures.gives none)

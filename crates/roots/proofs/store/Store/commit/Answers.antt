@@ -6,17 +6,18 @@ use Rattle.roots.proofs.MovesLemmas.{is_last, failed, done, root_is}
 use Rattle.roots.proofs.store.Store.commit.Goals as goal
 
 pub returns-then-self-clause-calls : goal.returns-then-self-clause-calls
-returns-then-self-clause-calls g c = record { done = λ keeps. tt; most = λ keeps. omega arith }
+returns-then-self-clause-calls g c = record { done = λ keeps. tt; clear = λ keeps. tt; most = λ keeps. omega arith }
 
 pub returns-then-self-2-clause-calls : goal.returns-then-self-2-clause-calls
-returns-then-self-2-clause-calls g c = record { done = λ keeps. tt; most = λ keeps. omega arith }
+returns-then-self-2-clause-calls g c = record { done = λ keeps. tt; clear = λ keeps. tt; most = λ keeps. omega arith }
 
 pub returns-in-Ok-clause-calls : goal.returns-in-Ok-clause-calls
 returns-in-Ok-clause-calls g c =
     calls_all _ (g.D.Disk.history c.args.self.now.disk) (g.D.Disk.history c.write_commit.new.disk) (8 * length c.args.made.now + 3) c.in-Ok.ensures.calls.done
+    c.in-Ok.ensures.calls.clear
 
 pub returns-in-Err-clause-calls : goal.returns-in-Err-clause-calls
-returns-in-Err-clause-calls g c = record { done = λ keeps. tt; most = c.in-Err.ensures.calls.most }
+returns-in-Err-clause-calls g c = record { done = λ keeps. tt; clear = λ keeps. tt; most = c.in-Err.ensures.calls.most }
 
 pub returns-then-self-2-clause-moves : goal.returns-then-self-2-clause-moves
 returns-then-self-2-clause-moves g c before live committed after pages turn =

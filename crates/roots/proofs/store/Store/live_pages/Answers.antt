@@ -2,23 +2,26 @@ use Rattle.std.proofs.Common.{rules, List, ◌++◌, ◌≡◌, ℕ, Ok, Err, su
 use Rattle.page.specs.History.{Sector, now, reads}
 use Rattle.roots.specs.HeldFile.{ChecksList}
 use Rattle.roots.specs.Image.{sheet_at}
-use Rattle.roots.proofs.FreeLemmas.{file_failed}
+use Rattle.roots.proofs.FreeLemmas.{file_failed, only_read}
 use Rattle.roots.proofs.HeldFileLemmas.{all_reached, no_list, no_tree}
 use Rattle.roots.proofs.store.Store.live_pages.Goals as goal
 
-pub returns-in_err-live-clause-finds : goal.returns-in_err-live-clause-finds
-returns-in_err-live-clause-finds g c =
-    let e = c.in_err-live.field-0.0 in
+pub returns-in-Err-clause-same : goal.returns-in-Err-clause-same
+returns-in-Err-clause-same g c =
+    only_read g.D.Disk.history (Err c.in-Err.fault) c.args.self.now c.reached_pages.new.disk c.failed_behind-self.result c.in-Err.ensures.looks
+    c.failed_behind-self.ensures
+
+pub returns-in-Err-clause-finds : goal.returns-in-Err-clause-finds
+returns-in-Err-clause-finds g c =
     let root = c.args.self.now.root in
     let sheets = sheet_at (reads (now (g.D.Disk.history c.args.self.now.disk))) root in
-    λ k. file_failed _ _ c.from_residual.result e (search rules)
-    (no_tree sheets root e (λ pages entries holds. c.in_err-live.ensures.pages k pages entries holds))
+    λ k. no_tree sheets root c.in-Err.fault (λ pages entries holds. c.in-Err.ensures.pages k pages entries holds)
 
 pub returns-in_err-list-clause-finds : goal.returns-in_err-list-clause-finds
 returns-in_err-list-clause-finds g c =
     let e = c.in_err-list.field-0.0 in
     let root = c.args.self.now.root in
-    let live = c.in_ok-live.live.items in
+    let live = c.in-Ok.live.items in
     let history = g.D.Disk.history in
     let sheets = sheet_at (reads (now (history c.args.self.now.disk))) root in
     λ k. let mid = c.in_err-list.ensures.reads.disk.on.kept k in
@@ -26,13 +29,13 @@ returns-in_err-list-clause-finds g c =
     subst (λ (s : ℕ → Sector). ChecksList (sheet_at (reads s) root) root live (Err e)) (c.reached_pages.ensures.looks.reads.same mid)
     (subst (λ (t : List ℕ). ChecksList (sheet_at (reads (now (history c.reached_pages.new.disk))) root) root t (Err e)) c.deref.ensures.value
     (c.in_err-list.ensures.list k)) in
-    file_failed _ _ c.from_residual-in_err-list.result e (search rules)
-    (no_list sheets root live e (λ pages entries holds. c.in_ok-live.ensures.pages mid pages entries holds) there)
+    file_failed _ _ c.from_residual.result e (search rules)
+    (no_list sheets root live e (λ pages entries holds. c.in-Ok.ensures.pages mid pages entries holds) there)
 
 pub returns-clause-finds : goal.returns-clause-finds
 returns-clause-finds g c =
     let root = c.args.self.now.root in
-    let live = c.in_ok-live.live.items in
+    let live = c.in-Ok.live.items in
     let list = c.in_ok-list.list in
     let history = g.D.Disk.history in
     let sheets = sheet_at (reads (now (history c.args.self.now.disk))) root in
@@ -42,4 +45,4 @@ returns-clause-finds g c =
     (subst (λ (t : List ℕ). ChecksList (sheet_at (reads (now (history c.reached_pages.new.disk))) root) root t (Ok list)) c.deref.ensures.value
     (c.in_ok-list.ensures.list k)) in
     let all : c.extend_from_slice.new.self.items ≡ live ++ list.pages.items = search rules in
-    all_reached sheets root live c.extend_from_slice.new.self _ list (c.in_ok-live.ensures.found mid) there all (search rules)
+    all_reached sheets root live c.extend_from_slice.new.self _ list (c.in-Ok.ensures.found mid) there all (search rules)

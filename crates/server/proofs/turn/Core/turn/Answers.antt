@@ -202,7 +202,7 @@ returns g c =
     let behind : Continues history core.engine c.run_messages.new.engine → Continues history core.engine c.forget_closed.new.engine =
     λ goes. continues_further history core.engine c.run_messages.new.engine c.forget_closed.new.engine goes
     (continues_still history c.run_messages.new.engine c.forget_closed.new.engine forgot.disk forgot.running
-    (ap (λ (m : Moment). m.generation) forgot.moment) (ap (λ (m : Moment). m.full_takes) forgot.moment)) in
+    (ap (λ (m : Moment). m.generation) forgot.moment) (ap (λ (m : Moment). m.full_takes) forgot.moment) forgot.reads) in
     record {
       sound = record {
         engine = forgot.sound;
