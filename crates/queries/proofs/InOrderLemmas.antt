@@ -30,7 +30,7 @@ use Rattle.entries.specs.State.{key_of}
 use Rattle.entries.specs.StateReads.{find_document}
 use Rattle.entries.proofs.MemberLemmas.{Among, among_each, among_flat, among_image, among_map, among_of, contains_of, of_all}
 use Rattle.entries.proofs.ReadLaws.{document_some}
-use Rattle.collections.proofs.IndexTextLemmas.{same_front}
+use Rattle.collections.proofs.BehindLemmas.{same_front}
 use Rattle.planner.specs.AnswerLaws.{IsNotedFor, answer_cmp}
 use Rattle.planner.specs.FirstIds.{AreAllOf, AreFirstReadFrom, LeadToFirst}
 use Rattle.planner.specs.FoundIds.{ids_of}

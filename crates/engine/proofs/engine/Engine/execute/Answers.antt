@@ -24,10 +24,11 @@ returns-in-Err-clause-answers g c = λ k.
     let history = g.D.Disk.history in
     let old = c.args.self.now in
     let new = c.run.new.self in
-    let tells : TellsHere history old new c.in-Err.ensures.performs.goes c.in-Err.refusal c.told.result =
-    as_here history old new c.in-Err.ensures.performs.goes c.in-Err.refusal c.told.result c.troubles_of-before.ensures c.troubles_of-in-Err.ensures c.told.ensures
-    in
-    answers_told history old new c.in-Err.ensures.performs.goes c.in-Err.refusal c.told.result k
+    let goes = c.in-Err.ensures.performs.goes in
+    let told = c.told.result in
+    let tells : TellsHere history old new goes c.in-Err.refusal told =
+    as_here history old new goes c.in-Err.refusal told c.troubles_of-before.ensures c.troubles_of-in-Err.ensures c.told.ensures in
+    answers_told history old new goes c.in-Err.refusal told k
     (read_and_run (world old) c.args.connection c.args.body.now) (c.in-Err.ensures.performs.does k) tells
 
 pub returns-in-Err-clause-memory : goal.returns-in-Err-clause-memory
@@ -35,11 +36,12 @@ returns-in-Err-clause-memory g c = λ k memory.
     let history = g.D.Disk.history in
     let old = c.args.self.now in
     let new = c.run.new.self in
-    let tells : TellsHere history old new c.in-Err.ensures.performs.goes c.in-Err.refusal c.told.result =
-    as_here history old new c.in-Err.ensures.performs.goes c.in-Err.refusal c.told.result c.troubles_of-before.ensures c.troubles_of-in-Err.ensures c.told.ensures
-    in
-    let is : c.told.result ≡ refusals.OutOfMemory = cc in
-    met_no_trouble history old new c.in-Err.ensures.performs.goes c.in-Err.refusal c.told.result k tells is
+    let goes = c.in-Err.ensures.performs.goes in
+    let told = c.told.result in
+    let tells : TellsHere history old new goes c.in-Err.refusal told =
+    as_here history old new goes c.in-Err.refusal told c.troubles_of-before.ensures c.troubles_of-in-Err.ensures c.told.ensures in
+    let is : told ≡ refusals.OutOfMemory = cc in
+    met_no_trouble history old new goes c.in-Err.refusal told k tells is
 
 pub returns-in-Err-clause-sendable : goal.returns-in-Err-clause-sendable
 returns-in-Err-clause-sendable g c = refusal-sendable c.told.result
@@ -68,11 +70,12 @@ returns-in-Err-clause-sure g c none =
     let history = g.D.Disk.history in
     let old = c.args.self.now in
     let new = c.run.new.self in
-    let tells : TellsHere history old new c.in-Err.ensures.performs.goes c.in-Err.refusal c.told.result =
-    as_here history old new c.in-Err.ensures.performs.goes c.in-Err.refusal c.told.result c.troubles_of-before.ensures c.troubles_of-in-Err.ensures c.told.ensures
-    in
-    let is : c.told.result ≡ c.in-Err.refusal =
-    told_as_met history old new c.in-Err.ensures.performs.goes c.in-Err.refusal c.told.result (c.in-Err.ensures.still none) tells in
+    let goes = c.in-Err.ensures.performs.goes in
+    let told = c.told.result in
+    let tells : TellsHere history old new goes c.in-Err.refusal told =
+    as_here history old new goes c.in-Err.refusal told c.troubles_of-before.ensures c.troubles_of-in-Err.ensures c.told.ensures in
+    let is : told ≡ c.in-Err.refusal =
+    told_as_met history old new goes c.in-Err.refusal told (c.in-Err.ensures.still none) tells in
     subst (λ (e : Refusal). ((world new, refusal_reply e) ≡ answered (world old) (read_and_run (world old) c.args.connection c.args.body.now))
     ⊎ RefusedBeside ForMemory (world old) (answered (world old) (read_and_run (world old) c.args.connection c.args.body.now)).0 (world new) (refusal_reply e))
     (sym is)
@@ -104,10 +107,11 @@ returns-in-Err-clause-room g c = λ k only.
     let old = c.args.self.now in
     let new = c.run.new.self in
     let history = g.D.Disk.history in
-    let tells : TellsHere history old new c.in-Err.ensures.performs.goes c.in-Err.refusal c.told.result =
-    as_here history old new c.in-Err.ensures.performs.goes c.in-Err.refusal c.told.result c.troubles_of-before.ensures c.troubles_of-in-Err.ensures c.told.ensures
-    in
-    answers_told_reading history old new c.in-Err.ensures.performs.goes c.in-Err.refusal c.told.result k
+    let goes = c.in-Err.ensures.performs.goes in
+    let told = c.told.result in
+    let tells : TellsHere history old new goes c.in-Err.refusal told =
+    as_here history old new goes c.in-Err.refusal told c.troubles_of-before.ensures c.troubles_of-in-Err.ensures c.told.ensures in
+    answers_told_reading history old new goes c.in-Err.refusal told k
     (read_and_run (world old) c.args.connection c.args.body.now) ((c.in-Err.ensures.reads only).does k) (c.in-Err.ensures.reads only).takes tells
 
 pub returns-in-Ok-clause-memory : goal.returns-in-Ok-clause-memory
