@@ -28,7 +28,7 @@ use Rattle.entries.proofs.FoundLawLemmas.{found_collection}
 use Rattle.planner.proofs.AnswerLemmas.{kept_are_noted}
 use Rattle.pinned_cursors.specs.Batches.{ReadsThenPins}
 use Rattle.pinned_cursors.specs.First.{GivesFirst, GivesNone, IsFirstGiven, OrNone}
-use Rattle.pinned_cursors.specs.Opening.{IsLeftOf, way_in_order}
+use Rattle.pinned_cursors.specs.Opening.{IsLeftOf, that_keep, way_in_order}
 use Rattle.pinned_cursors.specs.Turns.{OnlyPins}
 use Rattle.queries.specs.InOrder.{IsOrderOf}
 use Rattle.queries.specs.Listed.{id_text_of}
@@ -213,3 +213,12 @@ module _ {D : Type 0} (history : D → History) (old : Engine D) (h : IsSound hi
       may_first (Ok None) none lawful = first_spared none
       may_first (Ok (Some reply)) gives lawful = performs_first (Ok reply) gives lawful
       may_first (Err e) gives lawful = performs_first (Err e) gives lawful
+
+      -- those cursors that keep documents are the same
+      pub may_keep : (r : Result (Option Pairs) Refusal)
+          → OrNone (λ x. GivesFirst history connection name number p way gs most x old.file file old.cursors held)
+          (GivesNone history old.file file old.cursors held) r
+          → that_keep held ≡ that_keep old.cursors
+      may_keep (Ok None) none = ap that_keep none.same
+      may_keep (Ok (Some reply)) gives = gives.keep
+      may_keep (Err e) gives = gives.keep

@@ -120,13 +120,14 @@ fn pinned_order(
     let projection = left.walk.projection.copy()?;
     let index = left.walk.index.copy()?;
     let last = Vec::from_slice(alloc, left.walk.last)?;
+    let limit = left.walk.limit.saturating_sub(left.count);
     Ok(PinnedOrder {
         version,
         number: left.number,
         filter,
         projection,
         index,
-        limit: left.walk.limit.saturating_sub(left.count),
+        limit,
         from: left.from,
         last,
         rest,

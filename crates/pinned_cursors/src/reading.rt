@@ -61,13 +61,14 @@ fn order_on(pinned: &PinnedOrder) -> OrderedWalk<'_>
     ensures from { result.from.now ≡ pinned.now.from.items }
     ensures last { result.last.now ≡ pinned.now.last.items }
 {
+    let from = pinned.from.as_slice();
     OrderedWalk {
         filter: &pinned.filter,
         projection: &pinned.projection,
         index: &pinned.index,
         skip: 0,
         limit: pinned.limit,
-        from: &pinned.from,
+        from,
         last: &pinned.last,
     }
 }

@@ -1,4 +1,4 @@
-use Rattle.std.proofs.Common.{Option, Some, None, Ok, ap, subst}
+use Rattle.std.proofs.Common.{Option, Some, None, Ok, ap, subst, ◌∙◌}
 use Rattle.std.proofs.lemmas.Result.{err_from_is_err_and}
 use Rattle.bson.specs.Tree.{Pairs}
 use Rattle.commands.specs.Find.{Find}
@@ -44,3 +44,8 @@ returns-in-None-clause-performs g c =
     let planned = run_find (world old) c.args.connection asked in
     performs_after history old mid new alike there planned c.find_sorted.result c.find_sorted.ensures.performs
     (λ k. ap (λ (w : World). run_find w c.args.connection asked) (world_alike history old mid new alike there planned))
+
+-- ---- the cursors that keep documents
+
+pub returns-in-None-clause-keep : goal.returns-in-None-clause-keep
+returns-in-None-clause-keep g c = c.find_sorted.ensures.keep ∙ c.in_ok-found.ensures.keep

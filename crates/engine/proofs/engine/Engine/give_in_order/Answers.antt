@@ -10,7 +10,7 @@ use Rattle.pinned_cursors.specs.Opening.{way_in_order}
 use Rattle.statements.proofs.KeptLemmas.{stored_at}
 use Rattle.engine.specs.View.{world}
 use Rattle.engine.proofs.Finding.{found_within}
-use Rattle.engine.proofs.FirstLemmas.{left_in_order, may_first}
+use Rattle.engine.proofs.FirstLemmas.{left_in_order, may_first, may_keep}
 use Rattle.engine.proofs.LookingLemmas.{performs_refused, reads_nothing}
 use Rattle.engine.proofs.engine.Engine.give_in_order.Goals as goal
 
@@ -49,3 +49,25 @@ returns-clause-performs g c =
     old.file file old.cursors held) (GivesNone history old.file file old.cursors held) r)
     c.all_asked-rest.ensures c.give_first_in_order.ensures.gives)
     c.give_first_in_order.ensures.lawful
+
+-- ---- the cursors that keep documents
+
+pub returns-clause-keep : goal.returns-clause-keep
+returns-clause-keep g c =
+    let history = g.D.Disk.history in
+    let old = c.args.self.now in
+    let name = c.args.namespace.now in
+    let q = c.args.query.now in
+    let home = c.args.home.now in
+    let walk = c.whole_order.result in
+    let file = c.give_first_in_order.new.file in
+    let held = c.give_first_in_order.new.cursors in
+    let r = c.give_first_in_order.result in
+    let running = sym c.is_stopped.ensures ∙ c.if-is_stopped.false in
+    may_keep history old c.requires.sound c.args.connection name q c.args.most file held home.number walk.projection.now (way_in_order walk)
+    (λ k. left_in_order history old c.requires.sound c.args.connection name q c.args.most home c.args.order.now walk running k (c.requires.home k)
+    c.requires.order c.whole_order.ensures) r
+    (subst
+    (λ (ds : List Pairs). OrNone (λ x. GivesFirst history c.args.connection name home.number walk.projection.now (way_in_order walk) ds c.args.most x
+    old.file file old.cursors held) (GivesNone history old.file file old.cursors held) r)
+    c.all_asked-rest.ensures c.give_first_in_order.ensures.gives)
