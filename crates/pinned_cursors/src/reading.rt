@@ -17,7 +17,8 @@ use page::Disk;
 use pager::Version;
 use path::Refusal;
 use queries::{
-    BatchAsked, GivenBatch, Listed, OrderedWalk, Walk, batch_in_order, batch_of_listed, batch_of_version,
+    BatchAsked, GivenBatch, Listed, OrderedWalk, Walk, batch_in_order, batch_of_listed,
+    batch_of_version,
 };
 use replies::BatchKind;
 use std::alloc::Global;

@@ -39,8 +39,8 @@ returns-in_default-clause-gives g c =
     record { on = reads.on; unchanged = reads.unchanged; state = reads.same; same = refl }
 
 -- all was given
-pub returns-in_default-2-clause-gives : goal.returns-in_default-2-clause-gives
-returns-in_default-2-clause-gives g c =
+pub returns-in_default-next-clause-gives : goal.returns-in_default-next-clause-gives
+returns-in_default-next-clause-gives g c =
     let history = g.D.Disk.history in
     let w = c.args.left.now.walk in
     let number = c.args.left.now.number in
@@ -52,7 +52,7 @@ returns-in_default-2-clause-gives g c =
     pinned_whole history c.args.version number w.projection.now (way_in_order w) c.args.rest.value c.args.file.now c.batch_in_order.new.file
     c.args.asked.now.connection c.args.asked.now.namespace.now c.args.asked.now.most c.args.cursors.now asked refl refl refl b
     (in_order_batch history c.args.version number w c.args.rest.value asked c.args.file.now c.batch_in_order.new.file (Ok b) reads)
-    c.in_default-2.is
+    c.in_default-next.is
 
 pub returns-then-is_none-clause-gives : goal.returns-then-is_none-clause-gives
 returns-then-is_none-clause-gives g c =
@@ -67,7 +67,7 @@ returns-then-is_none-clause-gives g c =
     pinned_many history c.args.version number w.projection.now (way_in_order w) c.args.rest.value c.args.file.now c.batch_in_order.new.file
     c.args.asked.now.connection c.args.asked.now.namespace.now c.args.asked.now.most c.args.cursors.now asked refl refl refl b
     (in_order_batch history c.args.version number w c.args.rest.value asked c.args.file.now c.batch_in_order.new.file (Ok b) reads)
-    c.in-Some-2.from c.in-Some-2.is
+    c.in-Some-next.from c.in-Some-next.is
     (if_none c.next_number-number.result
     (is_refused c.args.asked.now.connection (cursors_of c.args.cursors.now) c.args.cursors.now.next ≡ true)
     (none_so c.next_number-number.result c.is_none.result c.is_none.ensures c.if-is_none.true)
@@ -102,12 +102,12 @@ returns-clause-gives g c =
     c.in_ok-read.ensures.reads in
     let free = some_so c.next_number-number.result c.is_none.result c.is_none.ensures c.if-is_none.false in
     let next = if_some c.next_number-number.result free.0 (λ (n : ℕ). n ≡ c.args.cursors.now.next) free.1 c.next_number-number.ensures.some in
-    let behind = further b.count c.in-Some-2.from.items (way_in_order w) in
+    let behind = further b.count c.in-Some-next.from.items (way_in_order w) in
     pinned_open history c.args.version number w.projection.now (way_in_order w) c.args.rest.value c.args.file.now c.batch_in_order.new.file
     c.args.asked.now.connection c.args.asked.now.namespace.now c.args.asked.now.most c.args.cursors.now asked refl refl refl b
     (in_order_batch history c.args.version number w c.args.rest.value asked c.args.file.now c.batch_in_order.new.file (Ok b) reads)
-    c.in-Some-2.from c.in-Some-2.is behind
-    (behind_in_order history c.args.version number w c.args.rest.value asked c.args.file.now c.batch_in_order.new.file b c.in-Some-2.from c.in-Some-2.is
+    c.in-Some-next.from c.in-Some-next.is behind
+    (behind_in_order history c.args.version number w c.args.rest.value asked c.args.file.now c.batch_in_order.new.file b c.in-Some-next.from c.in-Some-next.is
     reads)
     (c.unwrap_or.ensures ∙ ap (λ (o : Option ℕ). unwrap_or o 0) free.1 ∙ next)
     (subst (λ (n : ℕ). n < 2 ^ 63) next
