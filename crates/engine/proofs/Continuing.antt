@@ -1,5 +1,5 @@
 -- What goes on with an engine that only reads its disk and commits nothing.
-use Rattle.std.proofs.Common.{◌≡◌, ℕ, List, ◌∷◌, refl, sym, subst, ◌∙◌, arith}
+use Rattle.std.proofs.Common.{◌≡◌, ℕ, List, ◌∷◌, refl, sym, ap, subst, ◌∙◌, arith}
 use Rattle.page.specs.Crash.{ReadsOnly}
 use Rattle.page.specs.History.{History}
 use Rattle.page.proofs.Moments.{reads_further, reads_nothing}

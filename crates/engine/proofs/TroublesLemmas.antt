@@ -52,8 +52,8 @@ module _ {D : Type 0} (history : D → History) (old new : Engine D) (goes : Con
 
   -- by the counts that were read
   pub as_here : {before now : Troubles} → before ≡ troubles_at history old → now ≡ troubles_at history new → Tells met before now told → TellsHere
-  as_here is_before is_now tells =
-      subst (λ (t : Troubles). Tells met t (troubles_at history new) told) is_before (subst (λ (t : Troubles). Tells met _ t told) is_now tells)
+  as_here {before = before} is_before is_now tells =
+      subst (λ (t : Troubles). Tells met t (troubles_at history new) told) is_before (subst (λ (t : Troubles). Tells met before t told) is_now tells)
 
   -- what may be answered with a refusal that may come beside the definition's answer
   abbrev IsAnswered : (World → Refusal → Type 0) → Result (World × Pairs) Refusal → Refusal → Type 0
@@ -119,8 +119,8 @@ module _ {D : Type 0} (history : D → History) (old new : Engine D) (goes : Goe
 
   pub as_fault_here : {before now : Troubles} → before ≡ troubles_at history old → now ≡ troubles_at history new → TellsFault met before now told
       → TellsFaultHere
-  as_fault_here is_before is_now tells =
-      subst (λ (t : Troubles). TellsFault met t (troubles_at history new) told) is_before (subst (λ (t : Troubles). TellsFault met _ t told) is_now tells)
+  as_fault_here {before = before} is_before is_now tells =
+      subst (λ (t : Troubles). TellsFault met t (troubles_at history new) told) is_before (subst (λ (t : Troubles). TellsFault met before t told) is_now tells)
 
   failed_more : KeepsWord (disk_history history new) → failed_reads_of history old < failed_reads_of history new
       → (disk_history history old).failures < (disk_history history new).failures

@@ -8,7 +8,7 @@ returns-in-Err-clause-begins g c =
     let fault = c.told_fault.result in
     let goes = c.in-Err.ensures.reads.goes in
     let tells = as_fault_here g.D.Disk.history old new goes c.in-Err.fault fault c.troubles_of-before.ensures
-    c.troubles_of-in-Err.ensures c.told_fault.ensures in
+    c.troubles_of.ensures c.told_fault.ensures in
     dump_told g.D.Disk.history old new goes c.in-Err.fault fault c.args.namespace.now c.in-Err.ensures tells
 
 pub returns-in-Err-clause-memory : goal.returns-in-Err-clause-memory
@@ -18,7 +18,7 @@ returns-in-Err-clause-memory g c = λ k memory.
     let fault = c.told_fault.result in
     let goes = c.in-Err.ensures.reads.goes in
     let tells = as_fault_here g.D.Disk.history old new goes c.in-Err.fault fault c.troubles_of-before.ensures
-    c.troubles_of-in-Err.ensures c.told_fault.ensures in
+    c.troubles_of.ensures c.told_fault.ensures in
     memory_told g.D.Disk.history old new goes c.in-Err.fault fault k tells cc
 
 pub returns-in-Ok-clause-memory : goal.returns-in-Ok-clause-memory

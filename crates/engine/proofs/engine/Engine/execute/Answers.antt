@@ -27,7 +27,7 @@ returns-in-Err-clause-answers g c = λ k.
     let goes = c.in-Err.ensures.performs.goes in
     let told = c.told.result in
     let tells : TellsHere history old new goes c.in-Err.refusal told =
-    as_here history old new goes c.in-Err.refusal told c.troubles_of-before.ensures c.troubles_of-in-Err.ensures c.told.ensures in
+    as_here history old new goes c.in-Err.refusal told c.troubles_of-before.ensures c.troubles_of.ensures c.told.ensures in
     answers_told history old new goes c.in-Err.refusal told k
     (read_and_run (world old) c.args.connection c.args.body.now) (c.in-Err.ensures.performs.does k) tells
 
@@ -39,7 +39,7 @@ returns-in-Err-clause-memory g c = λ k memory.
     let goes = c.in-Err.ensures.performs.goes in
     let told = c.told.result in
     let tells : TellsHere history old new goes c.in-Err.refusal told =
-    as_here history old new goes c.in-Err.refusal told c.troubles_of-before.ensures c.troubles_of-in-Err.ensures c.told.ensures in
+    as_here history old new goes c.in-Err.refusal told c.troubles_of-before.ensures c.troubles_of.ensures c.told.ensures in
     let is : told ≡ refusals.OutOfMemory = cc in
     met_no_trouble history old new goes c.in-Err.refusal told k tells is
 
@@ -73,7 +73,7 @@ returns-in-Err-clause-sure g c none =
     let goes = c.in-Err.ensures.performs.goes in
     let told = c.told.result in
     let tells : TellsHere history old new goes c.in-Err.refusal told =
-    as_here history old new goes c.in-Err.refusal told c.troubles_of-before.ensures c.troubles_of-in-Err.ensures c.told.ensures in
+    as_here history old new goes c.in-Err.refusal told c.troubles_of-before.ensures c.troubles_of.ensures c.told.ensures in
     let is : told ≡ c.in-Err.refusal =
     told_as_met history old new goes c.in-Err.refusal told (c.in-Err.ensures.still none) tells in
     subst (λ (e : Refusal). ((world new, refusal_reply e) ≡ answered (world old) (read_and_run (world old) c.args.connection c.args.body.now))
@@ -110,7 +110,7 @@ returns-in-Err-clause-room g c = λ k only.
     let goes = c.in-Err.ensures.performs.goes in
     let told = c.told.result in
     let tells : TellsHere history old new goes c.in-Err.refusal told =
-    as_here history old new goes c.in-Err.refusal told c.troubles_of-before.ensures c.troubles_of-in-Err.ensures c.told.ensures in
+    as_here history old new goes c.in-Err.refusal told c.troubles_of-before.ensures c.troubles_of.ensures c.told.ensures in
     answers_told_reading history old new goes c.in-Err.refusal told k
     (read_and_run (world old) c.args.connection c.args.body.now) ((c.in-Err.ensures.reads only).does k) (c.in-Err.ensures.reads only).takes tells
 
