@@ -43,7 +43,7 @@ returns-in_default-clause-gives g c =
     first_spared g.D.Disk.history c.args.asked.now.connection c.args.asked.now.namespace.now left.number left.walk.projection.now
     (way_in_order left.walk) c.args.rest.value c.args.asked.now.most c.args.file.now c.args.cursors.now (sym c.is_stopped.ensures ∙ c.if-is_stopped.false)
     c.in_ok-version.version c.pin.new.self c.may_give_pinned.new.file c.in_ok-version.ensures
-    c.may_give_pinned.new.cursors none c.unpin-2.new.self c.unpin-2.ensures
+    c.may_give_pinned.new.cursors none c.unpin-in_default.new.self c.unpin-in_default.ensures
 
 pub returns-then-given-clause-gives : goal.returns-then-given-clause-gives
 returns-then-given-clause-gives g c =
@@ -71,4 +71,4 @@ returns-clause-gives g c =
     first_whole g.D.Disk.history c.args.asked.now.connection c.args.asked.now.namespace.now left.number left.walk.projection.now
     (way_in_order left.walk) c.args.rest.value c.args.asked.now.most c.args.file.now c.args.cursors.now (sym c.is_stopped.ensures ∙ c.if-is_stopped.false)
     c.in_ok-version.version c.pin.new.self c.may_give_pinned.new.file c.in_ok-version.ensures c.in-Some.given
-    c.may_give_pinned.new.cursors gives c.if-given.false c.unpin-3.new.self c.unpin-3.ensures
+    c.may_give_pinned.new.cursors gives c.if-given.false c.unpin-2.new.self c.unpin-2.ensures
