@@ -5,7 +5,8 @@ use Rattle.bson.specs.Tree.{Pairs}
 use Rattle.pager.specs.declared.version.Version.{Version}
 use Rattle.database_model.specs.World.{at_rest}
 use Rattle.database_model.specs.Cursors.{new_cursor}
-use Rattle.cursors.specs.Held.{Way, through, listed, HeldWalk, HeldCursor, Held, held_at}
+use Rattle.cursors.specs.Held.{Way, through, listed, ordered, HeldWalk, HeldCursor, Held}
+use Rattle.cursors.specs.Held.{held_at}
 
 -- a new cursor stands behind all others
 abbrev pub opened : Held → ℕ → List ℕ → List Pairs → Option HeldWalk → Held
@@ -24,10 +25,12 @@ after h n walk = record {
   walk = walk;
 }
 
--- the way on after n documents: it goes on from this key text, or by the other texts of its list
+-- the way on after n documents: it goes on from this key text, that of a document or of an entry,
+-- or by the other texts of its list
 abbrev pub further : ℕ → List ℕ → Way → Way
 further n from (through rules limit _) = through rules (limit - n) from
 further n from (listed texts) = listed (drop n texts)
+further n from (ordered rules i _ limit _ last) = ordered rules i 0 (limit - n) from last
 
 -- the walk gave n documents, and goes on from this key text
 abbrev pub onwards : ℕ → List ℕ → HeldWalk → HeldWalk

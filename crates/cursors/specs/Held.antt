@@ -3,16 +3,20 @@
 use Rattle.std.specs.Prelude.{ℕ, List, map, Option, None, slice_index_or}
 use Rattle.filter.specs.Condition.{Conditions}
 use Rattle.projection.specs.Projection.{Projection}
+use Rattle.index.specs.Definition.{Definition}
 use Rattle.pager.specs.declared.version.Version.{Version}
 use Rattle.database_model.specs.World.{Cursor, CursorTable}
 use Rattle.database_model.specs.Cursors.{no_cursor}
 
 -- In which way a cursor goes on in a collection: through it from a key text on, where so many of
--- the documents that pass the filter may still come (0: all); or by the key texts of the `_id`s of
--- those that are left, in their order.
+-- the documents that pass the filter may still come (0: all); by the key texts of the `_id`s of
+-- those that are left, in their order; or through the entries of an index, from the text of one on,
+-- up to all that go on from a last text, where of the documents that pass the filter so many are
+-- left out at the front, and so many may still come.
 pub data Way : Type 0 where
   through : Conditions → ℕ → List ℕ → Way
   listed : List (List ℕ) → Way
+  ordered : Conditions → Definition → ℕ → ℕ → List ℕ → List ℕ → Way
 
 -- How a cursor goes on: in a pinned version, in the collection of this number, in this way. Of each
 -- document comes what the projection leaves.

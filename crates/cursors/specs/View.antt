@@ -1,8 +1,9 @@
 -- What walks, and what cursors go on by, stand for.
 use Rattle.std.specs.Prelude.{List, Option, Some, None}
 use Rattle.bson.specs.Tree.{Pairs}
-use Rattle.cursors.specs.Held.{HeldWalk, through, listed}
+use Rattle.cursors.specs.Held.{HeldWalk, through, listed, ordered}
 use Rattle.cursors.specs.declared.list.PinnedList.{PinnedList}
+use Rattle.cursors.specs.declared.order.PinnedOrder.{PinnedOrder}
 use Rattle.cursors.specs.declared.walk.PinnedWalk.{PinnedWalk}
 use Rattle.cursors.specs.declared.source.Source.{Source}
 use Rattle.cursors.specs.declared.source.Source.TheVariants as sources
@@ -23,13 +24,23 @@ list_of l = record {
   way = listed l.texts;
 }
 
+abbrev pub order_of : PinnedOrder → HeldWalk
+order_of o = record {
+  version = o.version;
+  number = o.number;
+  projection = o.projection;
+  way = ordered o.filter o.index 0 o.limit o.from.items o.last.items;
+}
+
 -- the documents that are left
 abbrev pub rest_in : Source → List Pairs
 rest_in (sources.Kept rest) = rest
 rest_in (sources.Pinned w) = w.rest.value
 rest_in (sources.Listed l) = l.rest.value
+rest_in (sources.Ordered o) = o.rest.value
 
 abbrev pub walk_in : Source → Option HeldWalk
 walk_in (sources.Kept rest) = None
 walk_in (sources.Pinned w) = Some (walk_of w)
 walk_in (sources.Listed l) = Some (list_of l)
+walk_in (sources.Ordered o) = Some (order_of o)

@@ -17,12 +17,13 @@ ghost use Rattle.replies.specs.View.{batch_name, projected, IsSendable};
 ghost use Rattle.cursors.specs.Held.{cursors_of, held_at, table_of};
 ghost use Rattle.cursors.specs.Changes.{advanced_kept, all_at_rest, gone_on, onwards, opened, pinned_by, rested, without};
 ghost use Rattle.cursors.specs.Ending.{first_ended, given_back, left};
-ghost use Rattle.cursors.specs.View.{list_of, rest_in, walk_in, walk_of};
+ghost use Rattle.cursors.specs.View.{list_of, order_of, rest_in, walk_in, walk_of};
 
 use crate::ending::Ends;
 use crate::kept::KeptDocuments;
 use crate::list::PinnedList;
 use crate::open_cursor::OpenCursor;
+use crate::order::PinnedOrder;
 use crate::source::Source;
 use crate::walk::PinnedWalk;
 use bson::{NoMemory, SpelledDocument};
@@ -214,6 +215,27 @@ impl Cursors {
         ensures err { OnErr result (self.new ≡ self.old) }
     {
         self.open(connection, namespace, Source::Listed(list))
+    }
+
+    /// Opens a cursor that goes on in the order of an index of a pinned version. An `Err` leaves all as it was.
+    pub fn open_ordered(
+        &mut self,
+        connection: ConnId,
+        namespace: &str,
+        order: PinnedOrder,
+    ) -> Result<(), NoMemory>
+        requires number { self.old.next < 2 ^ 63 }
+        requires within { All IsWithin order.rest.value }
+        ensures ok { OnOk result (self.new ≡ opened self.old connection namespace.now
+            order.rest.value (Some (order_of order))) }
+        ensures table { OnOk result (table_of self.new ≡ record {
+          list = cursors_of self.old
+              ++ new_cursor self.old.next connection namespace.now order.rest.value ∷ [];
+          next = self.old.next + 1;
+        }) }
+        ensures err { OnErr result (self.new ≡ self.old) }
+    {
+        self.open(connection, namespace, Source::Ordered(order))
     }
 
     /// The reply with a first batch of documents of which a projection is given, and how many they are.

@@ -151,6 +151,7 @@ impl OpenCursor {
             Source::Kept(_) => None,
             Source::Pinned(walk) => Some(walk.version),
             Source::Listed(list) => Some(list.version),
+            Source::Ordered(order) => Some(order.version),
         }
     }
 

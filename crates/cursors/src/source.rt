@@ -6,6 +6,7 @@ ghost use Rattle.cursors.specs.View.{rest_in, walk_in};
 
 use crate::kept::KeptDocuments;
 use crate::list::PinnedList;
+use crate::order::PinnedOrder;
 use crate::walk::PinnedWalk;
 
 /// What an open cursor gives its documents from.
@@ -17,6 +18,8 @@ pub enum Source {
     Pinned(PinnedWalk),
     /// From a version of the collections that is pinned, by a list of `_id`s.
     Listed(PinnedList),
+    /// From a version of the collections that is pinned, in the order of an index.
+    Ordered(PinnedOrder),
 }
 
 impl Source {
@@ -30,6 +33,7 @@ impl Source {
             Source::Kept(_) => unreachable!("it reads a pinned version"),
             Source::Pinned(walk) => walk.go_on(count, from),
             Source::Listed(list) => list.go_on(count),
+            Source::Ordered(order) => order.go_on(count, from),
         }
     }
 }

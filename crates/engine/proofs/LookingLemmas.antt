@@ -1,12 +1,12 @@
 -- What was read of the file was read of the engine, and how calls add up that follow one another.
-use Rattle.std.proofs.Common.{◌≡◌, inl, inr, ℕ, List, Result, Ok, Err, refl, ap, subst, sym, ◌∙◌}
+use Rattle.std.proofs.Common.{◌≡◌, inl, inr, ℕ, List, Option, Some, None, Result, Ok, Err, refl, ap, subst, sym, ◌∙◌, arith}
 use Rattle.std.specs.Prelude.{MatchResult, OnErr}
 use Rattle.bson.specs.Tree.{Pairs}
 use Rattle.page.specs.History.{History, KeepsWord}
 use Rattle.path.specs.declared.refusal.Refusal.{Refusal}
 use Rattle.path.specs.declared.refusal.Refusal.TheVariants as refusals
 use Rattle.entries.specs.State.{Collection}
-use Rattle.collections.specs.Calls.{GoesFrom, HasReadCause, IsUnchanged, Reads}
+use Rattle.collections.specs.Calls.{GoesFrom, HasFailed, HasReadCause, IsUnchanged, Reads}
 use Rattle.collections.specs.Reading.{ReadsOf}
 use Rattle.collections.specs.Standing.{HasState}
 use Rattle.std.specs.Prelude.{Bool}
@@ -16,7 +16,7 @@ use Rattle.engine.specs.Durable.{file_of, has_changes, IsSound}
 use Rattle.opening.specs.Known.{Known}
 use Rattle.database_model.specs.Lawful.{IsLawfulState, AreLawfulCursors}
 use Rattle.engine.specs.Looking.{Looks, LooksOf, OnlyReads}
-use Rattle.engine.specs.Performing.{DoesReading, PerformsReading}
+use Rattle.engine.specs.Performing.{DoesReading, MayPerform, PerformsReading, StaysAlike}
 use Rattle.replies.specs.View.{with_ok}
 use Rattle.engine.specs.View.{world, world_of, turn_start}
 use Rattle.database_model.specs.World.{World}
@@ -26,7 +26,7 @@ use Rattle.pinned_cursors.proofs.TurnTied.{tied_on}
 use Rattle.engine.specs.declared.engine.Engine.{Engine}
 use Rattle.queries.proofs.ReadingLemmas.{goes_itself, goes_on, widen_before, word_before}
 use Rattle.engine.proofs.Continuing.{continues_further, continues_of}
-use Rattle.engine.proofs.OnlyReading.{cause_from, does_any}
+use Rattle.engine.proofs.OnlyReading.{does_any}
 
 -- ---- what was read of the file
 
@@ -166,42 +166,86 @@ pub performs_memory : {D : Type 0} (history : D → History) (old new : Engine D
     → e ≡ refusals.OutOfMemory → OnlyReads history old new → PerformsReading history planned (Err e) old new
 performs_memory history old new planned e is reads = performs_refused history old new planned e reads (λ k. inl is)
 
--- What was done behind what was read, where it was planned of the same world.
-module _ {D : Type 0} (history : D → History) (old mid new : Engine D) (reads : OnlyReads history old mid)
+-- What was done behind what left all alike, where it was planned of the same world.
+module _ {D : Type 0} (history : D → History) (old mid new : Engine D) (alike : StaysAlike history old mid)
     (there planned : Result (World × Pairs) Refusal) where
-  pub performs_behind : (r : Result Pairs Refusal) → PerformsReading history there r mid new
+  pub world_alike : world mid ≡ world old
+  world_alike = λ i. world_of (alike.told i) (table_of (alike.cursors i))
+
+  pub performs_after : (r : Result Pairs Refusal) → PerformsReading history there r mid new
       → (KeepsWord (disk_history history (file_of new)) → there ≡ planned) → PerformsReading history planned r old new
-  performs_behind r done same =
+  performs_after r done same =
       let does : KeepsWord (disk_history history (file_of new)) → DoesReading history planned r old new =
       λ k. either r (same k) (done.performs.goes.reads.on.kept k) (done.does k) in
       record {
         performs = record {
           sound = done.performs.sound;
-          goes = continues_further history old mid new (continues_of history old mid reads.goes) done.performs.goes;
-          start = done.performs.start ∙ start_same history old mid reads;
+          goes = continues_further history old mid new alike.goes done.performs.goes;
+          start = done.performs.start ∙ ap (λ (t : Known). t.start) alike.told;
           does = λ k. does_any history old new planned r (does k);
           left = unchanged r done.performs.left;
           refused = kept r done.performs.refused;
-          keeps = λ t. done.changes ∙ reads.changes ∙ t;
+          keeps = λ t. done.changes ∙ alike.changes ∙ t;
         };
-        changes = done.changes ∙ reads.changes;
-        takes = done.takes ∙ reads.takes;
+        changes = done.changes ∙ alike.changes;
+        takes = done.takes ∙ alike.takes;
         does = does;
       }
     where
       unchanged : (x : Result Pairs Refusal) → OnErr x (world new ≡ world mid) → OnErr x (world new ≡ world old)
       unchanged (Ok reply) h = tt
-      unchanged (Err e) h = h ∙ world_same history old mid reads
+      unchanged (Err e) h = h ∙ world_alike
 
       kept : (x : Result Pairs Refusal) → OnErr x (has_changes new ≡ has_changes mid) → OnErr x (has_changes new ≡ has_changes old)
       kept (Ok reply) h = tt
-      kept (Err e) h = h ∙ reads.changes
+      kept (Err e) h = h ∙ alike.changes
+
+      failed : KeepsWord (disk_history history (file_of mid)) → HasFailed history (file_of mid) (file_of new) → HasFailed history (file_of old) (file_of new)
+      failed k (inl stopped) = inl (sym alike.goes.running ∙ stopped)
+      failed k (inr more) = inr (omega (arith, more, alike.goes.reads.on.failures k))
+
+      cause : KeepsWord (disk_history history (file_of mid)) → (e : Refusal) → HasReadCause history (file_of mid) (file_of new) e
+          → HasReadCause history (file_of old) (file_of new) e
+      cause k e (inl memory) = inl memory
+      cause k e (inr (is, fails)) = inr (is, failed k fails)
 
       either : (x : Result Pairs Refusal) → there ≡ planned → KeepsWord (disk_history history (file_of mid)) → DoesReading history there x mid new
           → DoesReading history planned x old new
       either (Ok reply) is k does = ap with_ok (sym is) ∙ does
-      either (Err e) is k (unchanged, inl refused) = (unchanged ∙ world_same history old mid reads, inl (sym is ∙ refused))
-      either (Err e) is k (unchanged, inr cause) = (
-        unchanged ∙ world_same history old mid reads,
-        inr (cause_from history (file_of old) (file_of mid) (file_of new) reads.goes k e cause),
-      )
+      either (Err e) is k (unchanged, inl refused) = (unchanged ∙ world_alike, inl (sym is ∙ refused))
+      either (Err e) is k (unchanged, inr fails) = (unchanged ∙ world_alike, inr (cause k e fails))
+
+-- what was only read left it so
+pub alike_read : {D : Type 0} (history : D → History) (old new : Engine D) → OnlyReads history old new → StaysAlike history old new
+alike_read history old new reads = record {
+  sound = reads.sound;
+  goes = continues_of history old new reads.goes;
+  told = reads.told;
+  cursors = reads.cursors;
+  changes = reads.changes;
+  takes = reads.takes;
+}
+
+-- one behind the other
+pub alike_on : {D : Type 0} (history : D → History) (a b c : Engine D) → StaysAlike history a b → StaysAlike history b c → StaysAlike history a c
+alike_on history a b c first then = record {
+  sound = then.sound;
+  goes = continues_further history a b c first.goes then.goes;
+  told = then.told ∙ first.told;
+  cursors = then.cursors ∙ first.cursors;
+  changes = then.changes ∙ first.changes;
+  takes = then.takes ∙ first.takes;
+}
+
+module _ {D : Type 0} (history : D → History) (old mid new : Engine D) (reads : OnlyReads history old mid)
+    (there planned : Result (World × Pairs) Refusal) where
+  pub performs_behind : (r : Result Pairs Refusal) → PerformsReading history there r mid new
+      → (KeepsWord (disk_history history (file_of new)) → there ≡ planned) → PerformsReading history planned r old new
+  performs_behind = performs_after history old mid new (alike_read history old mid reads) there planned
+
+  -- the same of what may be done in one way
+  pub may_behind : (r : Result (Option Pairs) Refusal) → MayPerform history there r mid new
+      → (KeepsWord (disk_history history (file_of new)) → there ≡ planned) → MayPerform history planned r old new
+  may_behind (Ok None) alike same = alike_on history old mid new (alike_read history old mid reads) alike
+  may_behind (Ok (Some reply)) done same = performs_behind (Ok reply) done same
+  may_behind (Err e) done same = performs_behind (Err e) done same

@@ -168,7 +168,7 @@ at_home now name home f Q h = subst Q (sym (documents_found now name f.collectio
 module _ {D : Type 0} (history : D → History) (mid : Engine D) (h : IsSound history mid) (name : List ℕ) (home : Catalogued)
     (at : HasHome (world mid).collections name home) where
   -- in this way, of the one of that name
-  left_of_home : (p : Projection) (way : Way) (rest : List Pairs) → IsLeftBy way p at.collection.documents rest
+  pub left_of_home : (p : Projection) (way : Way) (rest : List Pairs) → IsLeftBy way p at.collection rest
       → IsLeftOf history mid.file home.number p way rest
   left_of_home p way rest left = record {
     start = mid.told.value.start;

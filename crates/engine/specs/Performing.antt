@@ -1,5 +1,5 @@
 -- What running a command does to an engine.
-use Rattle.std.specs.Prelude.{◌≡◌, ◌⊎◌, Result, Ok, Err, OnErr}
+use Rattle.std.specs.Prelude.{◌≡◌, ◌⊎◌, Option, Result, Ok, Err, OnErr}
 use Rattle.bson.specs.Tree.{Pairs}
 use Rattle.commands.specs.Command as commands
 use Rattle.page.specs.History.{History, KeepsWord}
@@ -9,6 +9,7 @@ use Rattle.collections.specs.Calls.{HasReadCause}
 use Rattle.engine.specs.Durable.{disk_history, file_of, full_takes_of, has_changes, IsSound}
 use Rattle.engine.specs.Durable.{KeepsChanges}
 use Rattle.database_model.specs.Step.{answered}
+use Rattle.pinned_cursors.specs.First.{OrNone}
 use Rattle.replies.specs.View.{with_ok}
 use Rattle.engine.specs.View.{world, turn_start}
 use Rattle.database_model.specs.World.{World}
@@ -66,3 +67,18 @@ pub record PerformsReading {D : Type 0} (history : D → History)
   pub changes : has_changes new ≡ has_changes old
   pub takes : full_takes_of history new ≡ full_takes_of history old
   pub does : KeepsWord (disk_history history new) → DoesReading history planned result old new
+
+-- The engine is as it was: its disk was read at most, and pins came and went.
+pub record StaysAlike {D : Type 0} (history : D → History) (old new : Engine D) : Type 0 where
+  pub sound : IsSound history new
+  pub goes : Continues history old new
+  pub told : new.told.value ≡ old.told.value
+  pub cursors : new.cursors ≡ old.cursors
+  pub changes : has_changes new ≡ has_changes old
+  pub takes : full_takes_of history new ≡ full_takes_of history old
+
+-- The command was run in one way, or not in that way: then all is as it was.
+abbrev pub MayPerform : {D : Type 0} → (D → History) → Result (World × Pairs) Refusal
+    → Result (Option Pairs) Refusal → Engine D → Engine D → Type 0
+MayPerform history planned result old new =
+    OrNone (λ r. PerformsReading history planned r old new) (StaysAlike history old new) result

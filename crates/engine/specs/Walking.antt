@@ -11,6 +11,8 @@ use Rattle.entries.specs.declared.catalogue_reading.Catalogued.{Catalogued}
 use Rattle.engine.specs.TakingOut.{HasHome}
 use Rattle.queries.specs.Listed.{id_text_of}
 use Rattle.queries.specs.declared.batches.Walk.{Walk}
+use Rattle.queries.specs.declared.in_order.OrderedWalk.{OrderedWalk}
+use Rattle.queries.specs.declared.index_order.IndexOrder.{IndexOrder}
 
 -- The walk is from the beginning, and gives what the query asks for.
 pub record IsWholeWalk (q : Query) (walk : Walk) : Type 0 where
@@ -19,6 +21,16 @@ pub record IsWholeWalk (q : Query) (walk : Walk) : Type 0 where
   pub skip : walk.skip ≡ q.skip
   pub limit : walk.limit ≡ q.limit
   pub from : walk.from.now ≡ []
+
+-- The same of a walk in the order of an index.
+pub record IsWholeOrder (q : Query) (o : IndexOrder) (walk : OrderedWalk) : Type 0 where
+  pub filter : walk.filter.now ≡ q.filter
+  pub projection : walk.projection.now ≡ q.projection
+  pub index : walk.index.now ≡ o.index.now
+  pub skip : walk.skip ≡ q.skip
+  pub limit : walk.limit ≡ q.limit
+  pub from : walk.from.now ≡ o.first.items
+  pub last : walk.last.now ≡ o.last.items
 
 -- the first of the documents that pass, up to so many, where they can be told without a walk
 abbrev pub AreFirst : ℕ → Conditions → List Pairs → Option (Vec Pairs) → Type 0

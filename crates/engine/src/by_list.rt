@@ -42,7 +42,7 @@ fn rest_of<'a>(projection: &'a Projection, documents: &'a [SpelledDocument]) -> 
 }
 
 /// What a query gives of the documents of the collection of a name.
-fn all_asked<'a>(told: &'a Told, namespace: &'a str, query: &'a Query) -> Rest
+pub(crate) fn all_asked<'a>(told: &'a Told, namespace: &'a str, query: &'a Query) -> Rest
     ensures { result.value
         ≡ query_result query.now (documents_of told.now.value.now namespace.now) }
 {

@@ -78,7 +78,11 @@ impl<D: Disk> Engine<D> {
         if keeps_id_order(&query.sort) {
             return self.find_walking(connection, namespace, query, most);
         }
-        self.find_sorted(connection, namespace, query, most)
+        let found = self.find_in_order(connection, namespace, query, most)?;
+        match found {
+            Some(reply) => Ok(reply),
+            None => self.find_sorted(connection, namespace, query, most),
+        }
     }
 
     /// Gives a first batch of no document: there is no collection of the name.

@@ -18,6 +18,7 @@ mod explaining;
 mod find;
 mod get_more;
 mod hello;
+mod in_order;
 mod indexing;
 mod insert;
 mod kill_cursors;

@@ -1,4 +1,5 @@
--- A first batch of the documents of a list is read from the version that is pinned, and a cursor is opened on the others.
+-- A first batch is read from the version that is pinned, of the documents of a list or in the order of an index, and a cursor is opened
+-- on the others.
 use Rattle.std.proofs.Common.{◌≡◌, inl, inr, ℕ, ◌<◌, ◌≤◌, Bool, true, false, List, length, drop, take}
 use Rattle.std.proofs.Common.{Option, Some, None, Result, Ok, Err, refl, sym, ap, subst, ◌∙◌, arith}
 use Rattle.std.specs.Prelude.{◌⊎◌, ◌^◌, not, is_some, codes, IfNone, IfSome, MatchOption, MatchResult}
@@ -10,7 +11,8 @@ use Rattle.btree.specs.Keys.{times}
 use Rattle.pager.specs.declared.version.Version.{Version}
 use Rattle.path.specs.declared.refusal.Refusal.{Refusal}
 use Rattle.path.specs.declared.refusal.Refusal.TheVariants as refusals
-use Rattle.collections.specs.Calls.{GoesFrom, HasReadCause, HasFailed}
+use Rattle.collections.specs.Calls.{GoesFrom, HasReadCause, HasFailed, IsUnchanged}
+use Rattle.collections.specs.Standing.{HasState}
 use Rattle.collections.specs.State.{State}
 use Rattle.collections.specs.Versions.{PinsNow, ReadsVersion, UnpinsVersion}
 use Rattle.collections.specs.View.{disk_history, is_stopped}
@@ -22,20 +24,24 @@ use Rattle.replies.specs.FirstBatch.{IsNoBatch}
 use Rattle.replies.specs.View.{batch_name}
 use Rattle.replies.specs.declared.batch_spelling.BatchKind.TheVariants as batches
 use Rattle.projection.specs.Projection.{Projection}
+use Rattle.entries.specs.State.{Collection}
+use Rattle.queries.specs.InOrder.{IsOrderedBatch}
 use Rattle.queries.specs.Listed.{AreListedIn, Chosen, IsListedBatch, given_of}
 use Rattle.queries.specs.declared.batches.BatchAsked.{BatchAsked}
 use Rattle.queries.specs.declared.batches.GivenBatch.{GivenBatch}
-use Rattle.cursors.specs.Changes.{opened}
+use Rattle.queries.specs.declared.in_order.OrderedWalk.{OrderedWalk}
+use Rattle.cursors.specs.Changes.{further, opened}
 use Rattle.cursors.specs.Held.{Held, HeldCursor, HeldWalk, Way, listed, cursors_of, table_of}
 use Rattle.cursors.specs.TableLaws.{opened_in_table}
 use Rattle.pinned_cursors.specs.Batches.{ReadsThenPins}
-use Rattle.pinned_cursors.specs.First.{GivesFirst, GivesPinned, KeepsPin}
-use Rattle.pinned_cursors.specs.Opening.{IsLeftOf, Tells, held_walk, that_keep}
+use Rattle.pinned_cursors.specs.First.{GivesFirst, GivesNone, GivesPinned, KeepsPin, PinnedNone}
+use Rattle.pinned_cursors.specs.Opening.{IsLeftOf, Tells, held_walk, that_keep, way_in_order}
 use Rattle.pinned_cursors.specs.Tied.{AreTied, ListsRest, ReadsRest, TiedBeside, pins_by}
 use Rattle.pinned_cursors.specs.Turns.{OnlyPins}
 use Rattle.pinned_cursors.specs.declared.first.FirstGiven.{FirstGiven}
 use Rattle.pinned_cursors.proofs.NextLemmas.{lists_on}
 use Rattle.pinned_cursors.proofs.OpeningLemmas.{opened_keeps, reads_left}
+use Rattle.pinned_cursors.proofs.OrderLemmas.{ReadsOrdered, batch_is, ordered_there, others_in_order, rest_told, walks_in_order}
 use Rattle.pinned_cursors.proofs.TiedLemmas.{each_on, keeps_on, tied_opened, tied_pinned, tied_unpinned}
 use Rattle.pinned_cursors.proofs.TurnLemmas.{no_pins, nothing_read, pins_of_stays}
 
@@ -68,25 +74,37 @@ module _ {A : Type 0} where
 
 -- ---- in the version that is pinned
 
+-- A batch was read of what a walk is to give.
+pub record ReadsBatch {D : Type 0} (history : D → History) (w : HeldWalk) (documents : List Pairs) (asked : BatchAsked) (result : Result GivenBatch Refusal)
+    (old new : State D) : Type 0 where
+  pub on : GoesFrom history old new
+  pub unchanged : IsUnchanged history old new
+  pub same : (start now : List Collection) → HasState history old start now → HasState history new start now
+  pub answers : KeepsWord (disk_history history new) → ReadsRest true history old w documents
+      → MatchResult result (IsListedBatch asked documents) (HasReadCause history old new)
+
 module _ {D : Type 0} (history : D → History) (version : Version) (number : ℕ) (p : Projection) (texts : List (List ℕ)) (documents : List Pairs)
     (old new : State D) where
-  abbrev its : HeldWalk
-  its = held_walk version number p (listed texts)
+  abbrev pub its_list : HeldWalk
+  its_list = held_walk version number p (listed texts)
 
-  -- the reading of the batch
-  abbrev pub ReadsListed : BatchAsked → Result GivenBatch Refusal → Type 0
-  ReadsListed asked result = ReadsVersion history version (AreListedIn number texts) (λ now chosen b. IsListedBatch asked (given_of p chosen) b) result old new
+  -- that of a list
+  pub listed_batch : (asked : BatchAsked) (result : Result GivenBatch Refusal)
+      → ReadsVersion history version (AreListedIn number texts) (λ now chosen b. IsListedBatch asked (given_of p chosen) b) result old new
+      → ReadsBatch history its_list documents asked result old new
+  listed_batch asked result reads = record {
+    on = reads.on;
+    unchanged = reads.unchanged;
+    same = reads.same;
+    answers = λ k r.
+        let l : ListsRest texts p r.home.documents documents = r.left in
+        let chosen : Chosen = record { home = r.home; documents = l.some } in
+        subst (λ (ds : List Pairs). MatchResult result (IsListedBatch asked ds) (HasReadCause history old new)) (sym l.same)
+        (reads.answers k r.collections r.had chosen
+        (record { numbered = r.numbered; stored = r.stored; listed = l.there }));
+  }
 
-  listed_there : (asked : BatchAsked) (result : Result GivenBatch Refusal) → ReadsListed asked result → KeepsWord (disk_history history new)
-      → ReadsRest true history old its documents → MatchResult result (IsListedBatch asked documents) (HasReadCause history old new)
-  listed_there asked result reads k r =
-      let l : ListsRest texts p r.home.documents documents = r.left in
-      let chosen : Chosen = record { home = r.home; documents = l.some } in
-      subst (λ (ds : List Pairs). MatchResult result (IsListedBatch asked ds) (HasReadCause history old new)) (sym l.same)
-      (reads.answers k r.collections r.had chosen
-      (record { numbered = r.numbered; stored = r.stored; listed = l.there }))
-
-  behind_left : (passing : Bool) (n : ℕ) → GoesFrom history old new → ReadsRest passing history old its documents
+  pub behind_left : (passing : Bool) (n : ℕ) → GoesFrom history old new → ReadsRest passing history old its_list documents
       → ReadsRest passing history new (held_walk version number p (listed (drop n texts))) (drop n documents)
   behind_left passing n goes r = record {
     collections = r.collections;
@@ -97,13 +115,48 @@ module _ {D : Type 0} (history : D → History) (version : Version) (number : �
     left = lists_on texts p r.home.documents documents n r.left;
   }
 
+module _ {D : Type 0} (history : D → History) (version : Version) (number : ℕ) (w : OrderedWalk) (documents : List Pairs) (asked : BatchAsked)
+    (old new : State D) where
+  -- that in the order of an index
+  pub in_order_batch : (result : Result GivenBatch Refusal) → ReadsOrdered history version number w asked old new result
+      → ReadsBatch history (walks_in_order history version number w asked old new) documents asked result old new
+  in_order_batch result reads = record {
+    on = reads.on;
+    unchanged = reads.unchanged;
+    same = reads.same;
+    answers = λ k r. at result r (ordered_there history version number w asked old new documents true r result reads k);
+  }
+    where
+      at : (q : Result GivenBatch Refusal) (r : ReadsRest true history old (walks_in_order history version number w asked old new) documents)
+          → MatchResult q (λ b. IsOrderedBatch (rest_told history version number w asked old new documents true r).sort w asked r.home.documents b)
+          (HasReadCause history old new)
+          → MatchResult q (IsListedBatch asked documents) (HasReadCause history old new)
+      at (Ok b) r h = batch_is history version number w asked old new documents true r b h
+      at (Err e) r cause = cause
+
+  pub behind_in_order : (b : GivenBatch) (text : Vec ℕ) → b.next ≡ Some text → ReadsOrdered history version number w asked old new (Ok b) → (passing : Bool)
+      → KeepsWord (disk_history history new) → ReadsRest passing history old (walks_in_order history version number w asked old new) documents
+      → ReadsRest passing history new (held_walk version number w.projection.now (further b.count text.items (way_in_order w))) (drop b.count documents)
+  behind_in_order b text is reads passing k r =
+      others_in_order history version number w asked old new documents passing r b
+      (ordered_there history version number w asked old new documents passing r (Ok b) reads k) reads.on text is
+
+module _ {D : Type 0} (history : D → History) (version : Version) (number : ℕ) (p : Projection) (way : Way) (documents : List Pairs)
+    (old new : State D) where
+  abbrev its : HeldWalk
+  its = held_walk version number p way
+
   module _ (connection : ℕ) (namespace : List ℕ) (most : ℕ) (held : Held) (asked : BatchAsked) (kind : asked.kind ≡ batches.First)
       (named : asked.namespace.now ≡ namespace) (most_is : asked.most ≡ most) where
     abbrev Gives : Result FirstGiven Refusal → Held → Type 0
     Gives result after = GivesPinned history connection namespace its documents most result old new held after
 
+    -- the reading of the batch
+    abbrev Reads : Result GivenBatch Refusal → Type 0
+    Reads q = ReadsBatch history its documents asked q old new
+
     -- nothing was given
-    gives_none : (q : Result GivenBatch Refusal) → ReadsListed asked q → (e : Refusal) (after : Held) → after ≡ held
+    gives_none : (q : Result GivenBatch Refusal) → Reads q → (e : Refusal) (after : Held) → after ≡ held
         → (KeepsWord (disk_history history new) → ReadsRest true history old its documents
         → HasReadCause history old new e ⊎ IsNoBatch (table_of held) connection documents most e)
         → Gives (Err e) after
@@ -117,12 +170,12 @@ module _ {D : Type 0} (history : D → History) (version : Version) (number : �
       pin = tt;
     }
 
-    pub pinned_unread : (e : Refusal) → ReadsListed asked (Err e) → Gives (Err e) held
-    pinned_unread e reads = gives_none (Err e) reads e held refl (λ k r. inl (listed_there asked (Err e) reads k r))
+    pub pinned_unread : (e : Refusal) → Reads (Err e) → Gives (Err e) held
+    pinned_unread e reads = gives_none (Err e) reads e held refl (λ k r. inl (reads.answers k r))
 
-    module _ (b : GivenBatch) (reads : ReadsListed asked (Ok b)) where
+    module _ (b : GivenBatch) (reads : Reads (Ok b)) where
       there : KeepsWord (disk_history history new) → ReadsRest true history old its documents → IsListedBatch asked documents b
-      there k r = listed_there asked (Ok b) reads k r
+      there = reads.answers
 
       counted : IsListedBatch asked documents b → b.count ≡ batch_of most documents
       counted batch = batch.counted ∙ ap (λ (m : ℕ). batch_of m documents) most_is
@@ -170,11 +223,14 @@ module _ {D : Type 0} (history : D → History) (version : Version) (number : �
             (λ k r. let batch = there k r in
             inr (inr (refl, subst (λ (n : ℕ). n < length documents) (counted batch) (more batch), refused)))
 
-        pub pinned_open : asked.number ≡ held.next → held.next < 2 ^ 63 → is_refused connection (cursors_of held) held.next ≡ false → (after : Held)
-            → after ≡ opened held connection namespace (drop b.count documents) (Some (held_walk version number p (listed (drop b.count texts))))
+        pub pinned_open : (behind : Way)
+            → ((passing : Bool) → KeepsWord (disk_history history new) → ReadsRest passing history old its documents
+            → ReadsRest passing history new (held_walk version number p behind) (drop b.count documents))
+            → asked.number ≡ held.next → held.next < 2 ^ 63 → is_refused connection (cursors_of held) held.next ≡ false → (after : Held)
+            → after ≡ opened held connection namespace (drop b.count documents) (Some (held_walk version number p behind))
             → Gives (Ok (record { reply = b.reply; is_open = true })) after
-        pinned_open number_is below free after same =
-            let on : HeldWalk = held_walk version number p (listed (drop b.count texts)) in
+        pinned_open behind others number_is below free after same =
+            let on : HeldWalk = held_walk version number p behind in
             let h : HeldCursor = record { cursor = new_cursor held.next connection namespace (drop b.count documents); walk = Some on } in
             record {
               on = reads.on;
@@ -195,7 +251,7 @@ module _ {D : Type 0} (history : D → History) (version : Version) (number : �
                     opened = λ _. ap table_of same ∙ opened_in_table held connection namespace (drop b.count documents) (Some on);
                   };
               pin = λ changed rest tied. subst (λ (x : Held). AreTied changed history new x.list) (sym same)
-                  (tied_opened history changed new held.list h on refl tied (λ running k. behind_left changed b.count reads.on (rest running k)));
+                  (tied_opened history changed new held.list h on refl tied (λ running k. others changed k (rest running k)));
             }
 
 -- ---- the pin around it
@@ -269,6 +325,20 @@ module _ {D : Type 0} (history : D → History) (connection : ℕ) (namespace : 
 
       then_pins : (new : State D) → OnlyPins history read new → ReadsThenPins history pinned new
       then_pins new pins = record { read = read; on = gives.on; unchanged = gives.unchanged; same = gives.same; pins = pins }
+
+    -- Nothing was given, and the pin ended.
+    pub first_spared : (after : Held) → PinnedNone history pinned read held after → (new : State D) → UnpinsVersion history version read new
+        → GivesNone history old new held after
+    first_spared after none new unpin =
+        record {
+          pinned = pinned;
+          first = only;
+          goes = record { read = read; on = none.on; unchanged = none.unchanged; same = none.state; pins = pins_of_stays history read new unpin.stays };
+          same = none.same;
+          tied = λ changed tied. subst (λ (x : Held). AreTied changed history new x.list) (sym none.same)
+              (tied_unpinned history changed read new version held.list unpin
+              (beside_on history changed pinned read version held.list none.on (tied_pinned history changed old pinned version held.list pin tied)));
+        }
 
     -- It was refused, and the pin ended.
     pub first_refused : (e : Refusal) (after : Held) → Pinned (Err e) after → (new : State D) → UnpinsVersion history version read new

@@ -8,3 +8,4 @@ pub mod NextLemmas
 pub mod LawfulLemmas
 pub mod KeptLemmas
 pub mod FirstLemmas
+pub mod OrderLemmas

@@ -27,6 +27,8 @@ use Rattle.projection.specs.Projection.{Projection, project}
 use Rattle.queries.specs.Asking.{IsAskedIn}
 use Rattle.queries.specs.Batches.{GoesOn, IsGivenBatch, rest_of, walk_rest}
 use Rattle.queries.specs.Listed.{AreListedIn, Chosen, IsListedBatch, given_of, id_text_of}
+use Rattle.queries.specs.InOrder.{IsOrderedBatch}
+use Rattle.queries.specs.declared.in_order.OrderedWalk.{OrderedWalk}
 use Rattle.queries.specs.declared.listed.Listed.{Listed}
 use Rattle.queries.proofs.ListedLemmas.{as_many}
 use Rattle.queries.specs.declared.batches.BatchAsked.{BatchAsked}
@@ -36,9 +38,11 @@ use Rattle.cursors.specs.Changes.{after, further, gone_on, onwards, without}
 use Rattle.cursors.specs.Held.{Held, HeldCursor, HeldWalk, Way, through, listed, cursors_of, held_at, no_held_cursor, table_of}
 use Rattle.cursors.specs.TableLaws.{ended_in_table, gone_on_in_table}
 use Rattle.pinned_cursors.specs.Batches.{GivesNext, IsNextBatch, ReadsAt, ReadsThenPins}
+use Rattle.pinned_cursors.specs.Opening.{held_walk, way_in_order}
 use Rattle.pinned_cursors.specs.Tied.{AreTied, IsLeftBy, IsTied, ListsRest, ReadsRest, passes, with_pin}
 use Rattle.pinned_cursors.specs.Turns.{OnlyPins, Releases}
 use Rattle.pinned_cursors.proofs.ListLemmas.{each_at}
+use Rattle.pinned_cursors.proofs.OrderLemmas.{ReadsOrdered, batch_is, ordered_there, others_in_order, rest_is, rest_told}
 use Rattle.pinned_cursors.proofs.TiedLemmas.{has_either, has_now, keeps_on, reads_to, tied_set}
 use Rattle.pinned_cursors.proofs.TurnLemmas.{no_pins, nothing_read}
 use Rattle.pinned_cursors.proofs.TurnTied.{tied_on}
@@ -98,15 +102,15 @@ module _ {D : Type 0} (history : D → History) (h : HeldCursor) (w : HeldWalk) 
   -- ---- by its walk
 
   module _ (walk : Walk) (its : IsWalkOf w walk) (goes : GoesFrom history old new) where
-    left_by : (ds rest : List Pairs) → IsLeftBy w.way w.projection ds rest → rest ≡ rest_of walk ds
-    left_by ds rest left =
-        subst (λ (x : Way). IsLeftBy x w.projection ds rest) its.way left
-        ∙ (λ i. walk_rest walk.filter.now (sym its.projection i) (sym its.skip i) walk.limit walk.from.now ds)
+    left_by : (home : Collection) (rest : List Pairs) → IsLeftBy w.way w.projection home rest → rest ≡ rest_of walk home.documents
+    left_by home rest left =
+        subst (λ (x : Way). IsLeftBy x w.projection home rest) its.way left
+        ∙ (λ i. walk_rest walk.filter.now (sym its.projection i) (sym its.skip i) walk.limit walk.from.now home.documents)
 
     next_so : (passing : Bool) (r : ReadsRest passing history old w h.cursor.rest) (b : GivenBatch) → IsGivenBatch walk asked r.home.documents b
         → IsNextBatch passing history new h w namespace most b
     next_so passing r b given =
-        let left : rest_of walk r.home.documents ≡ h.cursor.rest = sym (left_by r.home.documents h.cursor.rest r.left) in
+        let left : rest_of walk r.home.documents ≡ h.cursor.rest = sym (left_by r.home h.cursor.rest r.left) in
         record {
           counted = given.counted ∙ (λ i. batch_of (asks.most_is i) (left i));
           says = given.says
@@ -120,10 +124,10 @@ module _ {D : Type 0} (history : D → History) (h : HeldCursor) (w : HeldWalk) 
             → MatchOption next (length h.cursor.rest ≤ b.count)
             (λ text. (b.count < length h.cursor.rest) × ReadsRest passing history new (onwards b.count text.items w) (drop b.count h.cursor.rest))
         by_next None none =
-            let left : rest_of walk r.home.documents ≡ h.cursor.rest = sym (left_by r.home.documents h.cursor.rest r.left) in
+            let left : rest_of walk r.home.documents ≡ h.cursor.rest = sym (left_by r.home h.cursor.rest r.left) in
             subst (λ (xs : List Pairs). length xs ≤ b.count) left none
         by_next (Some text) on =
-            let left : rest_of walk r.home.documents ≡ h.cursor.rest = sym (left_by r.home.documents h.cursor.rest r.left) in
+            let left : rest_of walk r.home.documents ≡ h.cursor.rest = sym (left_by r.home h.cursor.rest r.left) in
             let behind : drop b.count h.cursor.rest ≡ walk_rest walk.filter.now w.projection 0 (walk.limit - b.count) text.items r.home.documents =
             ap (drop b.count) (sym left) ∙ sym on.left
             ∙ (λ i. walk_rest walk.filter.now (its.projection i) 0 (walk.limit - b.count) text.items r.home.documents) in (
@@ -134,7 +138,7 @@ module _ {D : Type 0} (history : D → History) (h : HeldCursor) (w : HeldWalk) 
                 home = r.home;
                 numbered = r.numbered;
                 stored = r.stored;
-                left = subst (λ (x : Way). IsLeftBy (further b.count text.items x) w.projection r.home.documents (drop b.count h.cursor.rest)) (sym its.way)
+                left = subst (λ (x : Way). IsLeftBy (further b.count text.items x) w.projection r.home (drop b.count h.cursor.rest)) (sym its.way)
                     behind;
               },
             )
@@ -168,7 +172,7 @@ module _ {D : Type 0} (history : D → History) (h : HeldCursor) (w : HeldWalk) 
             → MatchResult result (IsNextBatch passing history new h w namespace most) (HasReadCause history old new)
         right k passing r =
             let l : ListsRest (texts_of list.ids.now) w.projection r.home.documents h.cursor.rest =
-            subst (λ (x : Way). IsLeftBy x w.projection r.home.documents h.cursor.rest) its.way r.left in
+            subst (λ (x : Way). IsLeftBy x w.projection r.home h.cursor.rest) its.way r.left in
             let chosen : Chosen = record { home = r.home; documents = l.some } in
             at result l (reads.answers k r.collections (has_now history passing old w.version r.collections r.had) chosen
             (record { numbered = r.numbered; stored = r.stored; listed = l.there }))
@@ -201,10 +205,58 @@ module _ {D : Type 0} (history : D → History) (h : HeldCursor) (w : HeldWalk) 
                     home = r.home;
                     numbered = r.numbered;
                     stored = r.stored;
-                    left = subst (λ (x : Way). IsLeftBy (further b.count text.items x) w.projection r.home.documents (drop b.count h.cursor.rest)) (sym its.way)
+                    left = subst (λ (x : Way). IsLeftBy (further b.count text.items x) w.projection r.home (drop b.count h.cursor.rest)) (sym its.way)
                         (lists_on (texts_of list.ids.now) w.projection r.home.documents h.cursor.rest b.count l);
                   },
                 )
+
+  -- ---- in the order of an index
+
+  module _ (walk : OrderedWalk) (same_walk : w ≡ held_walk w.version w.number walk.projection.now (way_in_order walk)) where
+    abbrev in_order : HeldWalk
+    in_order = held_walk w.version w.number walk.projection.now (way_in_order walk)
+
+    next_ordered : (passing : Bool) (r : ReadsRest passing history old in_order h.cursor.rest) (b : GivenBatch) → GoesFrom history old new
+        → IsOrderedBatch (rest_told history w.version w.number walk asked old new h.cursor.rest passing r).sort walk asked r.home.documents b
+        → IsNextBatch passing history new h w namespace most b
+    next_ordered passing r b goes given =
+        let batch : IsListedBatch asked h.cursor.rest b =
+        batch_is history w.version w.number walk asked old new h.cursor.rest passing r b given in
+        record {
+          counted = batch.counted ∙ ap (λ (m : ℕ). batch_of m h.cursor.rest) asks.most_is;
+          says = batch.says
+              ∙ (λ i. ok_reply (batch_reply (batch_name (asks.kind i)) b.count h.cursor.rest (asks.number i) (asks.namespace_is i)));
+          few = omega (arith, given.few, ap length (rest_is history w.version w.number walk asked old new h.cursor.rest passing r b given));
+          next = by b.next refl batch.next;
+        }
+      where
+        by : (o : Option (Vec ℕ)) → b.next ≡ o → MatchOption o (length h.cursor.rest ≤ b.count) (λ _. b.count < length h.cursor.rest)
+            → MatchOption o (length h.cursor.rest ≤ b.count)
+            (λ text. (b.count < length h.cursor.rest) × ReadsRest passing history new (onwards b.count text.items w) (drop b.count h.cursor.rest))
+        by None is none = none
+        by (Some text) is more = (
+          more,
+          subst (λ (x : HeldWalk). ReadsRest passing history new (onwards b.count text.items x) (drop b.count h.cursor.rest)) (sym same_walk)
+              (others_in_order history w.version w.number walk asked old new h.cursor.rest passing r b given goes text is),
+        )
+
+    pub reads_ordered : (result : Result GivenBatch Refusal) → ReadsOrdered history w.version w.number walk asked old new result
+        → ReadsAt history h namespace most result old new
+    reads_ordered result reads = reads_of result reads.on reads.unchanged reads.same right
+      where
+        right : KeepsWord (disk_history history new) → (passing : Bool) → ReadsRest passing history old w h.cursor.rest
+            → MatchResult result (IsNextBatch passing history new h w namespace most) (HasReadCause history old new)
+        right k passing r =
+            let o : ReadsRest passing history old in_order h.cursor.rest =
+            subst (λ (x : HeldWalk). ReadsRest passing history old x h.cursor.rest) same_walk r in
+            at result o (ordered_there history w.version w.number walk asked old new h.cursor.rest passing o result reads k)
+          where
+            at : (q : Result GivenBatch Refusal) (o : ReadsRest passing history old in_order h.cursor.rest)
+                → MatchResult q (λ b. IsOrderedBatch (rest_told history w.version w.number walk asked old new h.cursor.rest passing o).sort walk asked
+                o.home.documents b) (HasReadCause history old new)
+                → MatchResult q (IsNextBatch passing history new h w namespace most) (HasReadCause history old new)
+            at (Ok b) o given = next_ordered passing o b reads.on given
+            at (Err e) o cause = cause
 
 -- ---- how many documents
 

@@ -1,6 +1,7 @@
 -- What giving a first batch of the documents of a list does, and opening a cursor on the others.
 use Rattle.std.specs.Prelude.{◌≡◌, ◌⊎◌, ℕ, ◌+◌, ◌<◌, ◌≤◌, Bool, true, false, List, [], ◌∷◌, ◌++◌}
-use Rattle.std.specs.Prelude.{Result, IfOk, OnErr, MatchResult, drop, length}
+use Rattle.std.specs.Prelude.{Option, Some, None, Result, Ok, Err, IfOk, OnErr, MatchResult, drop}
+use Rattle.std.specs.Prelude.{length}
 use Rattle.bson.specs.Tree.{Pairs}
 use Rattle.page.specs.History.{History, KeepsWord}
 use Rattle.path.specs.declared.refusal.Refusal.{Refusal}
@@ -55,6 +56,23 @@ pub record GivesFirst {D : Type 0} (history : D → History) (connection : ℕ)
       → (changed : Bool) → Tells changed old → AreTied changed history old before.list
       → AreTied changed history new after.list
 
+-- Nothing was given, and the cursors are as they were. Between pins that came and went, the file
+-- was read.
+pub record GivesNone {D : Type 0} (history : D → History) (old new : State D)
+    (before after : Held) : Type 0 where
+  pub pinned : State D
+  pub first : OnlyPins history old pinned
+  pub goes : ReadsThenPins history pinned new
+  pub same : after ≡ before
+  pub tied : (changed : Bool) → AreTied changed history old before.list
+      → AreTied changed history new after.list
+
+-- what is so of a result that may be none
+abbrev pub OrNone : {X E : Type 0} → (Result X E → Type 0) → Type 0 → Result (Option X) E → Type 0
+OrNone Is OfNone (Ok None) = OfNone
+OrNone Is OfNone (Ok (Some x)) = Is (Ok x)
+OrNone Is OfNone (Err e) = Is (Err e)
+
 -- ---- in the version that is pinned for it
 
 -- The cursors are as they were, or the pin is that of the new one.
@@ -83,3 +101,12 @@ pub record GivesPinned {D : Type 0} (history : D → History) (connection : ℕ)
   pub pin : IfOk result (λ g. (changed : Bool) → (is_stopped new ≡ false
       → KeepsWord (disk_history history new) → ReadsRest changed history old w documents)
       → KeepsPin changed history w.version before after g.is_open new)
+
+-- Nothing was given, and nothing changes.
+pub record PinnedNone {D : Type 0} (history : D → History) (old new : State D)
+    (before after : Held) : Type 0 where
+  pub on : GoesFrom history old new
+  pub unchanged : IsUnchanged history old new
+  pub state : (start now : List Collection) → HasState history old start now
+      → HasState history new start now
+  pub same : after ≡ before

@@ -14,11 +14,14 @@ use Rattle.database_model.specs.Lawful.{IsStored}
 use Rattle.pager.specs.declared.version.Version.{Version}
 use Rattle.index.specs.View.{texts_of}
 use Rattle.projection.specs.Projection.{Projection}
-use Rattle.cursors.specs.Held.{Held, HeldCursor, HeldWalk, Way, through, listed, cursors_of}
-use Rattle.cursors.specs.Held.{table_of}
+use Rattle.cursors.specs.Changes.{further}
+use Rattle.cursors.specs.Held.{Held, HeldCursor, HeldWalk, Way, through, listed, ordered}
+use Rattle.cursors.specs.Held.{cursors_of, table_of}
 use Rattle.pinned_cursors.specs.Tied.{AreTied, IsLeftBy}
 use Rattle.pinned_cursors.specs.Turns.{OnlyPins}
+use Rattle.queries.specs.declared.in_order.OrderedWalk.{OrderedWalk}
 use Rattle.pinned_cursors.specs.declared.opening.ListLeft.{ListLeft}
+use Rattle.pinned_cursors.specs.declared.opening.OrderSoFar.{OrderSoFar}
 use Rattle.pinned_cursors.specs.declared.opening.WalkSoFar.{WalkSoFar}
 
 -- how a cursor goes on behind a batch of a walk
@@ -29,6 +32,14 @@ way_behind left =
 -- how it goes on by a list
 abbrev pub way_by : ListLeft → Way
 way_by left = listed (texts_of left.texts.items)
+
+-- what comes in the order of an index, and how a cursor goes on there behind a batch
+abbrev pub way_in_order : OrderedWalk → Way
+way_in_order w =
+    ordered w.filter.now w.index.now w.skip w.limit w.from.now w.last.now
+
+abbrev pub order_behind : OrderSoFar → Way
+order_behind left = further left.count left.from.items (way_in_order left.walk)
 
 -- how a cursor goes on in a version
 abbrev pub held_walk : Version → ℕ → Projection → Way → HeldWalk
@@ -44,7 +55,7 @@ pub record IsLeftOf {D : Type 0} (history : D → History) (file : State D) (num
   pub home : Collection
   pub numbered : IsNumbered now home number
   pub stored : All IsStored home.documents
-  pub left : IsLeftBy way p home.documents rest
+  pub left : IsLeftBy way p home rest
 
 -- the cursors that keep documents
 abbrev pub that_keep : Held → List HeldCursor

@@ -1,6 +1,6 @@
 -- Cursors that hold no documents, and the file in which the versions that they read are pinned.
 use Rattle.std.specs.Prelude.{◌≡◌, ◌&&◌, ⊤, ℕ, Bool, true, false, All, List, [], ◌∷◌, map}
-use Rattle.std.specs.Prelude.{Option, Some, None, MatchOption}
+use Rattle.std.specs.Prelude.{Option, Some, None, MatchOption, Contains}
 use Rattle.std.specs.List.{AllByRecursion}
 use Rattle.bson.specs.Tree.{Pairs}
 use Rattle.page.specs.History.{History, KeepsWord}
@@ -12,10 +12,14 @@ use Rattle.collections.specs.State.{State}
 use Rattle.collections.specs.Versions.{HasSinceStart, HasVersion, pins_of}
 use Rattle.collections.specs.View.{disk_history, is_stopped}
 use Rattle.database_model.specs.Lawful.{IsStored}
+use Rattle.filter.specs.Condition.{Conditions}
+use Rattle.index.specs.Definition.{Definition}
+use Rattle.sort.specs.Sort.{SortField}
 use Rattle.projection.specs.Projection.{Projection, project}
 use Rattle.queries.specs.Batches.{walk_rest}
+use Rattle.queries.specs.InOrder.{IsInOrder, ordered_rest}
 use Rattle.queries.specs.Listed.{HasListed}
-use Rattle.cursors.specs.Held.{HeldCursor, HeldWalk, Way, through, listed}
+use Rattle.cursors.specs.Held.{HeldCursor, HeldWalk, Way, through, listed, ordered}
 
 -- The texts are those of some of the documents, and this is what a projection leaves of them.
 pub record ListsRest (texts : List (List ℕ)) (p : Projection) (ds rest : List Pairs) : Type 0 where
@@ -23,10 +27,21 @@ pub record ListsRest (texts : List (List ℕ)) (p : Projection) (ds rest : List 
   pub there : HasListed ds texts some
   pub same : rest ≡ map (project p) some
 
--- what is still to be given in this way of the documents of a collection
-abbrev pub IsLeftBy : Way → Projection → List Pairs → List Pairs → Type 0
-IsLeftBy (through rules limit from) p ds rest = rest ≡ walk_rest rules p 0 limit from ds
-IsLeftBy (listed texts) p ds rest = ListsRest texts p ds rest
+-- The collection has the index, which is in the order of a sort, and this is what comes in that
+-- order from an entry on.
+pub record OrdersRest (rules : Conditions) (i : Definition) (skip limit : ℕ) (from last : List ℕ)
+    (p : Projection) (c : Collection) (rest : List Pairs) : Type 0 where
+  pub there : Contains c.indexes i
+  pub sort : List SortField
+  pub in_order : IsInOrder rules sort i last
+  pub same : rest ≡ ordered_rest rules sort p skip limit i from c.documents
+
+-- what is still to be given in this way of a collection
+abbrev pub IsLeftBy : Way → Projection → Collection → List Pairs → Type 0
+IsLeftBy (through rules limit from) p c rest = rest ≡ walk_rest rules p 0 limit from c.documents
+IsLeftBy (listed texts) p c rest = ListsRest texts p c.documents rest
+IsLeftBy (ordered rules i skip limit from last) p c rest =
+    OrdersRest rules i skip limit from last p c rest
 
 -- What is asked of a version: that it has these collections; and, where taking back the turn ends
 -- no cursor that reads it, that it has had them since the turn began.
@@ -44,7 +59,7 @@ pub record ReadsRest {D : Type 0} (passing : Bool) (history : D → History) (fi
   pub home : Collection
   pub numbered : IsNumbered collections home w.number
   pub stored : All IsStored home.documents
-  pub left : IsLeftBy w.way w.projection home.documents rest
+  pub left : IsLeftBy w.way w.projection home rest
 
 -- Where the turn has changed something, taking it back ends each cursor that it opened or advanced.
 abbrev pub passes : Bool → HeldCursor → Bool

@@ -28,9 +28,9 @@ pub struct FirstAsked<'a> {
 
 /// A first batch, and whether a cursor was opened behind it.
 #[derive(Drop)]
-struct FirstGiven {
-    reply: SpelledDocument,
-    is_open: bool,
+pub(crate) struct FirstGiven {
+    pub(crate) reply: SpelledDocument,
+    pub(crate) is_open: bool,
 }
 
 /// Gives a first batch of the documents of a list that are looked up in a pinned version, and opens a cursor on the others; `TooMany`

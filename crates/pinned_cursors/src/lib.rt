@@ -3,11 +3,13 @@
 
 mod ending;
 mod first;
+mod first_in_order;
 mod giving;
 mod opening;
 mod reading;
 
 pub use ending::end_all;
 pub use first::{FirstAsked, give_first};
+pub use first_in_order::{InOrder, give_first_in_order};
 pub use giving::give_next;
 pub use opening::{ListLeft, WalkSoFar, open_listed, open_pinned};

@@ -3,17 +3,18 @@
 ghost use Rattle.std.specs.Prelude.{◌≡◌, ◌<◌, ◌^◌, All, IfOk, OnErr, OnOk, Some};
 ghost use Rattle.database_model.specs.Lawful.{IsWithin};
 ghost use Rattle.cursors.specs.Changes.{opened};
-ghost use Rattle.cursors.specs.View.{list_of, walk_of};
-ghost use Rattle.pinned_cursors.specs.Opening.{OpensPinned, held_walk, way_behind, way_by};
+ghost use Rattle.cursors.specs.View.{list_of, order_of, walk_of};
+ghost use Rattle.pinned_cursors.specs.Opening.{OpensPinned, held_walk, order_behind, way_behind, way_by};
 
 use bson::NoMemory;
 use collections::Collections;
-use cursors::{Cursors, PinnedList, PinnedWalk, Rest, TextList};
+use cursors::{Cursors, PinnedList, PinnedOrder, PinnedWalk, Rest, TextList};
 use page::Disk;
 use pager::Version;
 use projection::Projection;
-use queries::Walk;
+use queries::{OrderedWalk, Walk};
 use replies::ConnId;
+use std::alloc::Global;
 
 /// What a cursor is opened on: what a walk through a collection has left behind a batch.
 #[derive(Drop)]
@@ -57,6 +58,18 @@ impl<'a> ListLeft<'a> {
     }
 }
 
+/// What a cursor is opened on: what a walk in the order of an index has left behind a batch.
+#[derive(Drop)]
+pub(crate) struct OrderSoFar<'a> {
+    /// The number of the collection.
+    pub(crate) number: u32,
+    pub(crate) walk: OrderedWalk<'a>,
+    /// How many documents the batch gave.
+    pub(crate) count: usize,
+    /// The text of the entry from which the walk goes on.
+    pub(crate) from: Vec<u8>,
+}
+
 /// The walk by which a cursor goes on in a pinned version.
 fn pinned_walk(version: Version, left: WalkSoFar<'_>, rest: Rest) -> Result<PinnedWalk, NoMemory>
     ensures walk { IfOk result (λ w. walk_of w ≡ held_walk version left.entry.number
@@ -88,6 +101,35 @@ fn pinned_list(version: Version, left: ListLeft<'_>, rest: Rest) -> Result<Pinne
         number: left.number,
         projection,
         texts: TextList::new(left.texts),
+        rest,
+    })
+}
+
+/// The walk in the order of an index by which it does.
+fn pinned_order(
+    alloc: Global,
+    version: Version,
+    left: OrderSoFar<'_>,
+    rest: Rest,
+) -> Result<PinnedOrder, NoMemory>
+    ensures order { IfOk result (λ o. order_of o ≡ held_walk version left.entry.number
+        left.entry.walk.projection.now (order_behind left.entry)) }
+    ensures gives { IfOk result (λ o. o.rest.value ≡ rest.value) }
+{
+    let filter = left.walk.filter.copy()?;
+    let projection = left.walk.projection.copy()?;
+    let index = left.walk.index.copy()?;
+    let last = Vec::from_slice(alloc, left.walk.last)?;
+    let limit = left.walk.limit.saturating_sub(left.count);
+    Ok(PinnedOrder {
+        version,
+        number: left.number,
+        filter,
+        projection,
+        index,
+        limit,
+        from: left.from,
+        last,
         rest,
     })
 }
@@ -130,6 +172,27 @@ pub(crate) fn open_list(
 {
     let list = pinned_list(version, left, rest)?;
     cursors.open_listed(connection, namespace, list)
+}
+
+/// Opens a cursor that goes on in the order of an index of a pinned version. An `Err` leaves all as it was.
+pub(crate) fn open_order(
+    alloc: Global,
+    cursors: &mut Cursors,
+    version: Version,
+    connection: ConnId,
+    namespace: &str,
+    left: OrderSoFar<'_>,
+    rest: Rest,
+) -> Result<(), NoMemory>
+    requires number { cursors.old.next < 2 ^ 63 }
+    requires within { All IsWithin rest.value }
+    ensures ok { OnOk result (cursors.new ≡ opened cursors.old connection namespace.now rest.value
+        (Some (held_walk version left.entry.number left.entry.walk.projection.now
+        (order_behind left.entry)))) }
+    ensures err { OnErr result (cursors.new ≡ cursors.old) }
+{
+    let order = pinned_order(alloc, version, left, rest)?;
+    cursors.open_ordered(connection, namespace, order)
 }
 
 /// Pins the collections as they are now, and opens a cursor that goes on in them by what a walk has left.

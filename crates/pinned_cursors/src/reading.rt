@@ -1,19 +1,25 @@
 //! Cursors that hold no documents give their next batches.
 
 ghost use Rattle.std.specs.Prelude.{◌≡◌, ◌≢◌, ◌<◌, ◌≤◌, ◌^◌, IfOk, None, length};
+ghost use Rattle.collections.specs.Versions.{ReadsVersion};
 ghost use Rattle.cursors.specs.Held.{cursors_of, held_at};
 ghost use Rattle.index.specs.View.{texts_of};
 ghost use Rattle.database_model.specs.Lawful.{AreLawfulCursors};
 ghost use Rattle.pinned_cursors.specs.Batches.{GivesNext, ReadsAt};
+ghost use Rattle.queries.specs.InOrder.{IsOrderedBatch, IsOrderedIn};
 ghost use Rattle.replies.specs.View.{IsSendable};
 
 use crate::ending::end;
 use bson::SpelledDocument;
 use collections::Collections;
-use cursors::{Cursors, PinnedList, PinnedWalk, Source};
+use cursors::{Cursors, PinnedList, PinnedOrder, PinnedWalk, Source};
 use page::Disk;
+use pager::Version;
 use path::Refusal;
-use queries::{BatchAsked, GivenBatch, Listed, Walk, batch_of_listed, batch_of_version};
+use queries::{
+    BatchAsked, GivenBatch, Listed, OrderedWalk, Walk, batch_in_order, batch_of_listed,
+    batch_of_version,
+};
 use replies::BatchKind;
 use std::alloc::Global;
 
@@ -43,6 +49,52 @@ fn list_on(pinned: &PinnedList) -> Listed<'_>
     Listed {
         ids: pinned.texts.left(),
         projection: &pinned.projection,
+    }
+}
+
+/// The walk in the order of an index by which it goes on.
+fn order_on(pinned: &PinnedOrder) -> OrderedWalk<'_>
+    ensures filter { result.filter.now ≡ pinned.now.filter }
+    ensures projection { result.projection.now ≡ pinned.now.projection }
+    ensures index { result.index.now ≡ pinned.now.index }
+    ensures skip { result.skip ≡ 0 }
+    ensures limit { result.limit ≡ pinned.now.limit }
+    ensures from { result.from.now ≡ pinned.now.from.items }
+    ensures last { result.last.now ≡ pinned.now.last.items }
+{
+    let from = pinned.from.as_slice();
+    OrderedWalk {
+        filter: &pinned.filter,
+        projection: &pinned.projection,
+        index: &pinned.index,
+        skip: 0,
+        limit: pinned.limit,
+        from,
+        last: &pinned.last,
+    }
+}
+
+/// The next batch in the order of an index of a version's collection of a number, however many entries are read for it.
+fn next_in_order<D: Disk>(
+    alloc: Global,
+    file: &mut Collections<D>,
+    version: Version,
+    number: u32,
+    walk: &OrderedWalk<'_>,
+    asked: &BatchAsked<'_>,
+) -> Result<GivenBatch, Refusal>
+    requires short { length asked.now.namespace.now ≤ 255 }
+    requires number { asked.now.number < 2 ^ 63 }
+    ensures reads { ReadsVersion D.history version (IsOrderedIn number walk.now)
+        (λ now o b. IsOrderedBatch o.sort walk.now asked.now o.home.documents b)
+        result file.old file.new }
+    ensures sendable { IfOk result (λ b. IsSendable b.reply) }
+{
+    // each time reads an entry at least, and no collection has so many
+    let found = batch_in_order(alloc, file, version, number, walk, asked, u32::MAX)?;
+    match found {
+        Some(batch) => Ok(batch),
+        None => Err(Refusal::OutOfMemory),
     }
 }
 
@@ -77,6 +129,10 @@ fn read_at<D: Disk>(
         Source::Listed(pinned) => {
             let listed = list_on(pinned);
             batch_of_listed(alloc, file, pinned.version, pinned.number, &listed, &asked)
+        }
+        Source::Ordered(pinned) => {
+            let walk = order_on(pinned);
+            next_in_order(alloc, file, pinned.version, pinned.number, &walk, &asked)
         }
     }
 }

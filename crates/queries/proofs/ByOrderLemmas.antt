@@ -33,6 +33,8 @@ use Rattle.queries.specs.Asking.{IsAsked}
 use Rattle.index.specs.View.{texts_of}
 use Rattle.queries.specs.declared.by_order.FirstIds.{FirstIds}
 use Rattle.queries.specs.ByIndex.{AreFirstIds, IsRangeOf, LeadInOrder}
+use Rattle.queries.specs.InOrder.{IsOrderOf}
+use Rattle.queries.specs.declared.index_order.IndexOrder.{IndexOrder}
 use Rattle.queries.proofs.ByIndexLemmas.{told}
 use Rattle.queries.proofs.LookingUpLemmas.{IsTold, found_first, one_at_most}
 use Rattle.queries.proofs.ReadingLemmas.{IsOther}
@@ -109,6 +111,24 @@ module _ (rs : Conditions) (sort : List SortField) (home : Catalogued) (r : Rang
     where
       same : is.definition ≡ index
       same = ap (λ (o : Option Definition). unwrap_or o is.definition) (sym is.index ∙ named)
+
+-- the order of the index that the planner chose
+pub order_chosen : (rs : Conditions) (sort : List SortField) (indexes : List Definition) (r : Range) (o : IndexOrder) → IsRangeOf rs sort indexes r
+    → r.index ≡ Some o.index.now → r.is_sorted ≡ true → o.first.items ≡ first_key (fields_of r.index) r → o.last.items ≡ last_key (fields_of r.index) r
+    → IsOrderOf rs sort indexes o
+order_chosen rs sort indexes r o is named sorted begins ends =
+    let same : is.definition ≡ o.index.now = ap (λ (x : Option Definition). unwrap_or x is.definition) (sym is.index ∙ named) in
+    let given : r ≡ range_in rs sort (Some o.index.now) = is.given ∙ ap (λ (d : Definition). range_in rs sort (Some d)) same in
+    let fields : fields_of r.index ≡ o.index.now.fields = ap fields_of named in
+    record {
+      there = subst (λ (d : Definition). Contains indexes d) same is.there;
+      in_order = record {
+        sorted = subst (λ (x : Range). x.is_sorted ≡ true) given sorted;
+        spellable = subst IsSpellable given is.spellable;
+        ends = ends ∙ (λ k. last_key (fields k) (given k));
+      };
+      begins = begins ∙ (λ k. first_key (fields k) (given k));
+    }
 
 -- the entries that were read between the ends of the range
 pub first_in_span : (r : Range) (index : Definition) (at : Indexed) (first last : List ℕ) (are_all : Bool) (texts ids : List (List ℕ)) → r.index ≡ Some index

@@ -1,7 +1,7 @@
 -- Entries of an index are read a few at a time, until a batch of their documents is full.
-use Rattle.std.proofs.Common.{◌≡◌, ℕ, true, false, List, [], Option, Some, None, Result, Ok, Err}
+use Rattle.std.proofs.Common.{◌≡◌, inl, ℕ, true, false, List, [], Option, Some, None, Result, Ok, Err}
 use Rattle.std.proofs.Common.{refl, sym, ap, subst, ◌∙◌}
-use Rattle.std.specs.Prelude.{All, IfSome, MatchOption, is_some, ◌||◌}
+use Rattle.std.specs.Prelude.{All, IfSome, MatchOption, MatchResult, is_some, ◌||◌}
 use Rattle.std.specs.Global.{Vec}
 use Rattle.std.specs.Option.{option_map}
 use Rattle.std.specs.Ordering.{on}
@@ -10,13 +10,12 @@ use Rattle.page.specs.History.{History, KeepsWord}
 use Rattle.pager.specs.declared.version.Version.{Version}
 use Rattle.path.specs.declared.refusal.Refusal.{Refusal}
 use Rattle.path.specs.declared.refusal.Refusal.TheVariants as refusals
-use Rattle.sort.specs.Sort.{SortField}
 use Rattle.index.specs.Definition.{Definition}
 use Rattle.index.specs.View.{texts_of}
-use Rattle.entries.specs.LawfulState.{IsKept}
+use Rattle.entries.specs.LawfulState.{IsKept, IsLawfulState}
 use Rattle.entries.specs.State.{Collection}
 use Rattle.entries.proofs.FoundLawLemmas.{found_collection}
-use Rattle.collections.specs.Calls.{GoesFrom, IsUnchanged}
+use Rattle.collections.specs.Calls.{GoesFrom, HasReadCause, IsUnchanged}
 use Rattle.collections.specs.IndexTexts.{AreReadNext, Indexed, IsNumberedIndex}
 use Rattle.collections.specs.Standing.{HasState}
 use Rattle.collections.specs.State.{State}
@@ -26,8 +25,8 @@ use Rattle.collections.specs.declared.index_texts.NextTexts.{NextTexts}
 use Rattle.collections.proofs.VersionLemmas.{versions_stay}
 use Rattle.replies.specs.OpenBatch.{IsOpen}
 use Rattle.queries.specs.Batches.{Gives, IsBegun, IsEnded, is_over, is_reached}
-use Rattle.queries.specs.InOrder.{AreLed, AreLedIn, GivesLed, HasReadBelow, HasReadFirst, IsInOrder, IsIndexedIn}
-use Rattle.queries.specs.InOrder.{IsOrderedBatch, IsTextLeft}
+use Rattle.queries.specs.InOrder.{AreLed, AreLedIn, GivesLed, HasReadBelow, HasReadFirst, IsIndexedIn}
+use Rattle.queries.specs.InOrder.{IsOrderedBatch, IsOrderedIn, IsTextLeft, Sorted}
 use Rattle.queries.specs.declared.batches.BatchAsked.{BatchAsked}
 use Rattle.queries.specs.declared.batches.GivenBatch.{GivenBatch}
 use Rattle.queries.specs.declared.batches.Giving.{Giving}
@@ -215,25 +214,49 @@ module _ {D : Type 0} (history : D → History) (version : Version) (number : �
             none_told None n e l h = h
             none_told (Some t) n e l h = absurd cc
 
--- the batch of what was read
-pub ordered_read : {D : Type 0} (history : D → History) (version : Version) (number : ℕ) (sort : List SortField) (w : OrderedWalk) (asked : BatchAsked)
-    (walk : Walk) (begun done : Giving) (left : Option (Vec ℕ)) (ended b : GivenBatch) → walk.filter.now ≡ w.filter.now
-    → walk.projection.now ≡ w.projection.now → walk.skip ≡ w.skip → walk.limit ≡ w.limit → IsBegun walk asked begun → IsEnded done asked ended
-    → b.reply ≡ ended.reply → b.count ≡ ended.count → b.next ≡ left → IsInOrder w.filter.now sort w.index.now w.last.now → (old new : State D)
-    → ReadsVersion history version (IsIndexedIn number w.index.now) (λ now c (found : Option (Option (Vec ℕ))). (s : Giving) → Gives s [] begun
-    → IfSome found (HasReadFirst s done w.from.now w.last.now (record { collection = c; definition = w.index.now }))) (Ok (Some left)) old new
-    → ReadsVersion history version (IsIndexedIn number w.index.now)
-    (λ now c (found : Option GivenBatch). IfSome found (IsOrderedBatch sort w asked c.documents)) (Ok (Some b)) old new
-ordered_read history version number sort w asked walk begun done left ended b same_filter same_projection same_skip same_limit is_begun end reply count next is
-    old new reads =
-    version_from history version (IsIndexedIn number w.index.now) (λ now c (found : Option (Option (Vec ℕ))). (s : Giving) → Gives s [] begun
-    → IfSome found (HasReadFirst s done w.from.now w.last.now (record { collection = c; definition = w.index.now })))
-    (IsIndexedIn number w.index.now) (λ now c (found : Option GivenBatch). IfSome found (IsOrderedBatch sort w asked c.documents)) old new
-    (Ok (Some left)) (Ok (Some b)) reads
-    (λ now state c asks. record {
-      other = c;
-      was = asks;
-      right = λ read.
-          ordered_batch sort w asked walk begun done left ended b same_filter same_projection same_skip same_limit is_begun end reply count next c
-          (found_collection now c.name c state asks.numbered.found).0 asks.listed asks.stored is (read begun (begins walk asked begun is_begun));
-    })
+-- ---- the batch of what was read
+
+module _ {D : Type 0} (history : D → History) (version : Version) (number : ℕ) (w : OrderedWalk) (asked : BatchAsked) (begun done : Giving)
+    (old new : State D) where
+  abbrev FirstRead : List Collection → Collection → Option (Option (Vec ℕ)) → Type 0
+  FirstRead now c found = (s : Giving) → Gives s [] begun
+      → IfSome found (HasReadFirst s done w.from.now w.last.now (record { collection = c; definition = w.index.now }))
+
+  abbrev pub ReadsEntries : Result (Option (Option (Vec ℕ))) Refusal → Type 0
+  ReadsEntries s = ReadsVersion history version (IsIndexedIn number w.index.now) FirstRead s old new
+
+  abbrev pub ReadsBatch : Result (Option GivenBatch) Refusal → Type 0
+  ReadsBatch r = ReadsVersion history version (IsOrderedIn number w)
+      (λ now o (found : Option GivenBatch). IfSome found (IsOrderedBatch o.sort w asked o.home.documents)) r old new
+
+  from_entries : (s : Result (Option (Option (Vec ℕ))) Refusal) (r : Result (Option GivenBatch) Refusal) → ReadsEntries s
+      → ((now : List Collection) → IsLawfulState now → (o : Sorted) → IsOrderedIn number w now o
+      → MatchResult s (FirstRead now o.home) (HasReadCause history old new)
+      → MatchResult r (λ found. IfSome found (IsOrderedBatch o.sort w asked o.home.documents)) (HasReadCause history old new)) → ReadsBatch r
+  from_entries s r reads on =
+      version_from history version (IsIndexedIn number w.index.now) FirstRead (IsOrderedIn number w)
+      (λ now o (found : Option GivenBatch). IfSome found (IsOrderedBatch o.sort w asked o.home.documents)) old new s r reads
+      (λ now state o asks. record { other = o.home; was = asks.indexed; right = on now state o asks })
+
+  -- reading them was refused
+  pub entries_refused : (e : Refusal) → ReadsEntries (Err e) → ReadsBatch (Err e)
+  entries_refused e reads = from_entries (Err e) (Err e) reads (λ now state o asks cause. cause)
+
+  -- memory ran out behind it
+  pub entries_memory : (s : Result (Option (Option (Vec ℕ))) Refusal) (e : Refusal) → e ≡ refusals.OutOfMemory → ReadsEntries s → ReadsBatch (Err e)
+  entries_memory s e is reads = from_entries s (Err e) reads (λ now state o asks read. inl is)
+
+  -- the batch isn't over
+  pub entries_many : (s : Result (Option (Option (Vec ℕ))) Refusal) → s ≡ Ok None → ReadsEntries s → ReadsBatch (Ok None)
+  entries_many s is reads =
+      from_entries (Ok None) (Ok None) (subst ReadsEntries is reads) (λ now state o asks read. tt)
+
+  pub ordered_read : (walk : Walk) (left : Option (Vec ℕ)) (ended b : GivenBatch) → walk.filter.now ≡ w.filter.now
+      → walk.projection.now ≡ w.projection.now → walk.skip ≡ w.skip → walk.limit ≡ w.limit → IsBegun walk asked begun → IsEnded done asked ended
+      → b.reply ≡ ended.reply → b.count ≡ ended.count → b.next ≡ left → ReadsEntries (Ok (Some left)) → ReadsBatch (Ok (Some b))
+  ordered_read walk left ended b same_filter same_projection same_skip same_limit is_begun end reply count next reads =
+      from_entries (Ok (Some left)) (Ok (Some b)) reads
+      (λ now state o asks read.
+      ordered_batch o.sort w asked walk begun done left ended b same_filter same_projection same_skip same_limit is_begun end reply count next o.home
+      (found_collection now o.home.name o.home state asks.indexed.numbered.found).0 asks.indexed.listed asks.indexed.stored asks.in_order
+      (read begun (begins walk asked begun is_begun)))

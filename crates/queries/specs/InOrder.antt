@@ -20,7 +20,7 @@ use Rattle.collections.specs.IndexTexts.{Indexed, IsTextFrom}
 use Rattle.collections.specs.Reading.{IsNumbered}
 use Rattle.planner.specs.KeyRange.{IsSpellable}
 use Rattle.planner.specs.KeyScan.{id_text}
-use Rattle.planner.specs.KeySpan.{last_key}
+use Rattle.planner.specs.KeySpan.{first_key, last_key}
 use Rattle.planner.specs.Plan.{range_in}
 use Rattle.planner.specs.RangeReading.{LiesBetween}
 use Rattle.database_model.specs.Cursors.{batch_of, batch_reply}
@@ -34,6 +34,7 @@ use Rattle.queries.specs.declared.batches.BatchAsked.{BatchAsked}
 use Rattle.queries.specs.declared.batches.GivenBatch.{GivenBatch}
 use Rattle.queries.specs.declared.batches.Giving.{Giving}
 use Rattle.queries.specs.declared.in_order.OrderedWalk.{OrderedWalk}
+use Rattle.queries.specs.declared.index_order.IndexOrder.{IndexOrder}
 
 -- ---- what is given in the order of a sort, from an entry of an index on
 
@@ -79,6 +80,26 @@ pub record IsIndexedIn (number : ℕ) (i : Definition) (now : List Collection)
   pub numbered : IsNumbered now c number
   pub listed : Contains c.indexes i
   pub stored : All IsStored c.documents
+
+-- a collection, and a sort
+pub record Sorted : Type 0 where
+  pub home : Collection
+  pub sort : List SortField
+
+-- the collection of this number, in whose index the entries stand in the order of the sort
+pub record IsOrderedIn (number : ℕ) (w : OrderedWalk) (now : List Collection)
+    (asked : Sorted) : Type 0 where
+  pub indexed : IsIndexedIn number w.index.now now asked.home
+  pub in_order : IsInOrder w.filter.now asked.sort w.index.now w.last.now
+
+-- It is the order of one of the indexes, from the first text of what the filter and the sort ask of
+-- it to the last one.
+pub record IsOrderOf (rules : Conditions) (sort : List SortField) (indexes : List Definition)
+    (o : IndexOrder) : Type 0 where
+  pub there : Contains indexes o.index.now
+  pub in_order : IsInOrder rules sort o.index.now o.last.items
+  pub begins : o.first.items
+      ≡ first_key o.index.now.fields (range_in rules sort (Some o.index.now))
 
 -- ---- a batch of it
 

@@ -1,14 +1,13 @@
 //! Batches of documents in the order of an index: its entries are read a few at a time, and the document of each is looked up in a
 //! version of the collections, until the batch is full.
 
-ghost use Rattle.std.specs.Prelude.{◌≡◌, ◌<◌, ◌≤◌, ◌^◌, [], IfOk, IfSome, List, None, OnOk, false, length};
+ghost use Rattle.std.specs.Prelude.{◌≡◌, ◌<◌, ◌≤◌, ◌^◌, [], IfOk, IfSome, None, OnOk, false, length};
 ghost use Rattle.collections.specs.Versions.{ReadsVersion};
 ghost use Rattle.index.specs.View.{texts_of};
 ghost use Rattle.replies.specs.OpenBatch.{IsOpen};
 ghost use Rattle.replies.specs.View.{IsSendable};
-ghost use Rattle.sort.specs.Sort.{SortField};
 ghost use Rattle.queries.specs.Batches.{Gives, is_over};
-ghost use Rattle.queries.specs.InOrder.{AreLedIn, GivesLed, GivesOne, HasReadFirst, IsInOrder, IsIndexedIn, IsLedIn, IsOrderedBatch};
+ghost use Rattle.queries.specs.InOrder.{AreLedIn, GivesLed, GivesOne, HasReadFirst, IsIndexedIn, IsLedIn, IsOrderedBatch, IsOrderedIn};
 
 use crate::batches::{BatchAsked, GivenBatch, Giving, Walk, begun, ended};
 use bson::NoMemory;
@@ -167,10 +166,8 @@ pub fn batch_in_order<D: Disk>(
 ) -> Result<Option<GivenBatch>, Refusal>
     requires short { length asked.now.namespace.now ≤ 255 }
     requires number { asked.now.number < 2 ^ 63 }
-    ensures reads { (sort : List SortField)
-        → IsInOrder walk.now.filter.now sort walk.now.index.now walk.now.last.now
-        → ReadsVersion D.history version (IsIndexedIn number walk.now.index.now)
-        (λ now c found. IfSome found (IsOrderedBatch sort walk.now asked.now c.documents))
+    ensures reads { ReadsVersion D.history version (IsOrderedIn number walk.now)
+        (λ now o found. IfSome found (IsOrderedBatch o.sort walk.now asked.now o.home.documents))
         result file.old file.new }
     ensures sendable { IfOk result (λ found. IfSome found (λ b. IsSendable b.reply)) }
 {

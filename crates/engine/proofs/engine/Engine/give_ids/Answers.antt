@@ -11,7 +11,7 @@ use Rattle.pinned_cursors.specs.First.{GivesFirst}
 use Rattle.statements.proofs.KeptLemmas.{stored_at}
 use Rattle.engine.specs.View.{world}
 use Rattle.engine.proofs.Finding.{found_within}
-use Rattle.engine.proofs.FirstLemmas.{performs_first}
+use Rattle.engine.proofs.FirstLemmas.{left_of_list, performs_first}
 use Rattle.engine.proofs.engine.Engine.give_ids.Goals as goal
 
 pub give_first-requires-clause-within : goal.give_first-requires-clause-within
@@ -35,12 +35,13 @@ returns-clause-performs g c =
     let asked = subst
     (λ (ds : List Pairs). GivesFirst history c.args.connection name home.number c.query.inside.projection way ds c.args.most r old.file file old.cursors held)
     c.all_asked-rest.ensures c.give_first.ensures.gives in
-    performs_first history old c.requires.sound c.args.connection name q c.args.most home (texts_of c.args.texts.items) file held r
+    performs_first history old c.requires.sound c.args.connection name q c.args.most file held home.number q.projection way
+    (λ k. left_of_list history old c.requires.sound c.args.connection name q c.args.most home (texts_of c.args.texts.items) (c.requires.there k)) r
     (subst
     (λ (x : Query). GivesFirst history c.args.connection name home.number x.projection way (query_result q (documents_of (world old).collections name))
     c.args.most r old.file file old.cursors held)
     c.query.view_is asked)
-    c.give_first.ensures.lawful c.requires.there
+    c.give_first.ensures.lawful
 
 -- ---- the cursors that keep documents
 
