@@ -41,8 +41,8 @@ give_in_order-requires-clause-home g c = λ k.
     (has_home (world old).collections name c.in-Some.home
     (subst (IsCatalogueOf name (world old).collections) c.in-Some.is (first.answers k)))
 
-pub returns-in-Some-2-clause-performs : goal.returns-in-Some-2-clause-performs
-returns-in-Some-2-clause-performs g c =
+pub returns-in-Some-order-clause-performs : goal.returns-in-Some-order-clause-performs
+returns-in-Some-order-clause-performs g c =
     let history = g.D.Disk.history in
     let old = c.args.self.now in
     let mid = c.catalogued.new.self in
@@ -52,8 +52,8 @@ returns-in-Some-2-clause-performs g c =
     c.give_in_order.result c.give_in_order.ensures.performs
     (λ k. ap (λ (w : World). run_find w c.args.connection asked) (world_same history old mid reads))
 
-pub returns-in-None-clause-performs : goal.returns-in-None-clause-performs
-returns-in-None-clause-performs g c = alike_read g.D.Disk.history c.args.self.now c.catalogued.new.self c.in_ok-home.ensures.looks.reads
+pub returns-clause-performs : goal.returns-clause-performs
+returns-clause-performs g c = alike_read g.D.Disk.history c.args.self.now c.catalogued.new.self c.in_ok-home.ensures.looks.reads
 
 -- ---- the cursors that keep documents
 
@@ -66,8 +66,8 @@ returns-in_default-clause-keep g c = ap that_keep c.in_ok-home.ensures.looks.rea
 pub returns-in_err-order-clause-keep : goal.returns-in_err-order-clause-keep
 returns-in_err-order-clause-keep g c = ap that_keep c.in_ok-home.ensures.looks.reads.cursors
 
-pub returns-in-Some-2-clause-keep : goal.returns-in-Some-2-clause-keep
-returns-in-Some-2-clause-keep g c = c.give_in_order.ensures.keep ∙ ap that_keep c.in_ok-home.ensures.looks.reads.cursors
+pub returns-in-Some-order-clause-keep : goal.returns-in-Some-order-clause-keep
+returns-in-Some-order-clause-keep g c = c.give_in_order.ensures.keep ∙ ap that_keep c.in_ok-home.ensures.looks.reads.cursors
 
-pub returns-in-None-clause-keep : goal.returns-in-None-clause-keep
-returns-in-None-clause-keep g c = ap that_keep c.in_ok-home.ensures.looks.reads.cursors
+pub returns-clause-keep : goal.returns-clause-keep
+returns-clause-keep g c = ap that_keep c.in_ok-home.ensures.looks.reads.cursors
