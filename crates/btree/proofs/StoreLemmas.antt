@@ -27,7 +27,7 @@ stays_trans a b c h g = record { base = g.base ∙ h.base; reads = reads_further
 pub counts_same : (old new : Store) → new.failed_reads ≡ old.failed_reads → new.history.failures ≡ old.history.failures → CountsReads old new
 counts_same old new reads failures = record {
   rises = omega (arith, reads);
-  failed = λ more. absurd (omega (arith, more, reads));
+  paced = omega (arith, reads, failures);
   counted = λ more. absurd (omega (arith, more, failures));
 }
 
@@ -36,10 +36,7 @@ pub counts_trans : (a b c : Store) → a.history.failures ≤ b.history.failures
     → CountsReads a c
 counts_trans a b c fails fails_on h g = record {
   rises = omega (arith, h.rises, g.rises);
-  failed = λ more. elim (cases_lt a.failed_reads b.failed_reads) [
-    | inl first ↦ omega (arith, h.failed first, fails_on)
-    | inr none ↦ omega (arith, g.failed (omega (arith, none, more)), fails)
-  ];
+  paced = omega (arith, h.paced, g.paced);
   counted = λ more. elim (cases_lt a.history.failures b.history.failures) [
     | inl first ↦ told_first (h.counted first)
     | inr none ↦ told_last (g.counted (omega (arith, none, more)))

@@ -51,10 +51,11 @@ pub record IsAt (s : Store) (n : ℕ) (content : Content) : Type 0 where
 abbrev pub flag : Bool → ℕ
 flag b = if b then 1 else 0
 
--- Each read that fails is counted, as far as a u64 counts: the count rises just where one failed.
+-- Each read that fails is counted, as far as a u64 counts: the count rises where one failed, and
+-- no faster than the device fails.
 pub record CountsReads (old new : Store) : Type 0 where
   pub rises : old.failed_reads ≤ new.failed_reads
-  pub failed : old.failed_reads < new.failed_reads → old.history.failures < new.history.failures
+  pub paced : new.failed_reads + old.history.failures ≤ old.failed_reads + new.history.failures
   pub counted : old.history.failures < new.history.failures
       → (old.failed_reads < new.failed_reads) ⊎ (new.failed_reads ≡ 18446744073709551615)
 

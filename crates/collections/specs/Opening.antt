@@ -11,7 +11,7 @@ use Rattle.collections.specs.State.{State}
 use Rattle.collections.specs.Holding.{Holds}
 use Rattle.collections.specs.Standing.{HasState}
 use Rattle.collections.specs.Versions.{pins_of}
-use Rattle.collections.specs.View.{disk_history, is_changed, is_stopped}
+use Rattle.collections.specs.View.{disk_history, is_changed, is_stopped, pages_of}
 
 -- The disk was opened, by reads and a sync alone.
 pub record IsOpened {D : Type 0} (history : D → History) (disk : D)
@@ -19,6 +19,9 @@ pub record IsOpened {D : Type 0} (history : D → History) (disk : D)
   pub running : is_stopped c ≡ false
   pub rests : is_changed c ≡ false
   pub pins : pins_of c ≡ []
+  -- both counts begin at nothing: pages asked for in vain, and reads that failed
+  pub no_full_takes : (pages_of history c).full_takes ≡ 0
+  pub no_failed_reads : KeepsWord (disk_history history c) → (pages_of history c).failed_reads ≡ 0
   pub on : GoesOn (history disk) (disk_history history c)
   -- a turn begins with what was read
   pub begun : (collections : List Collection)

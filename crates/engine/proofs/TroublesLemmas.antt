@@ -1,5 +1,5 @@
 -- What a command is answered that met more than want of memory.
-use Rattle.std.proofs.Common.{◌≡◌, ◌⊎◌, ◌<◌, ◌≤◌, ◌-◌, ◌^◌, ℕ, List, inl, inr, Result, Err, refl, ap, subst, sym, ◌∙◌, arith}
+use Rattle.std.proofs.Common.{◌≡◌, ◌⊎◌, ◌<◌, ◌≤◌, ◌+◌, ◌-◌, ◌^◌, ℕ, List, inl, inr, Result, Err, refl, ap, subst, sym, ◌∙◌, arith}
 use Rattle.std.proofs.lemmas.Bool.{cases_lt}
 use Rattle.bson.specs.Tree.{Pairs}
 use Rattle.page.specs.History.{History, KeepsWord}
@@ -30,6 +30,14 @@ use Rattle.engine.proofs.Sound.{answers_read, answers_refused}
 
 abbrev pub troubles_at : {D : Type 0} → (D → History) → Engine D → Troubles
 troubles_at history engine = record { failed_reads = failed_reads_of history engine; full_takes = full_takes_of history engine }
+
+-- where more reads were counted, the device has failed more often
+failed_more : {D : Type 0} (history : D → History) (old new : Engine D) → CountsReads (pages_of history (file_of old)) (pages_of history (file_of new))
+    → failed_reads_of history old < failed_reads_of history new → (disk_history history old).failures < (disk_history history new).failures
+failed_more history old new counts more =
+    let paced : failed_reads_of history new + (disk_history history old).failures ≤ failed_reads_of history old + (disk_history history new).failures
+        = counts.paced in
+    omega (arith, paced, more)
 
 -- no read failed where no more were counted
 pub met_no_failure : {D : Type 0} (history : D → History) (old new : Engine D) → Continues history old new → KeepsWord (disk_history history new)
@@ -73,7 +81,7 @@ module _ {D : Type 0} (history : D → History) (old new : Engine D) (goes : Con
         subst (IsAnswered (FileCause history (file_of old) (file_of new)) planned) (sym is)
         (inr (record {
           refusal = refusals.StorageFailed;
-          cause = (inr (inl refl), λ word. inl (inr (inl (refl, inr (counts.failed more)))));
+          cause = (inr (inl refl), λ word. inl (inr (inl (refl, inr (failed_more history old new counts more)))));
           same = does.0;
           says = refl;
         }))
@@ -94,7 +102,7 @@ module _ {D : Type 0} (history : D → History) (old new : Engine D) (goes : Con
         subst (IsAnswered (λ w. HasReadCause history (file_of old) (file_of new)) planned) (sym same) (answers_read history old new planned met does)
     answers_told_reading planned does takes (inr (inl (is, more))) =
         subst (IsAnswered (λ w. HasReadCause history (file_of old) (file_of new)) planned) (sym is)
-        (inr (record { refusal = refusals.StorageFailed; cause = inr (refl, inr (counts.failed more)); same = does.0; says = refl }))
+        (inr (record { refusal = refusals.StorageFailed; cause = inr (refl, inr (failed_more history old new counts more)); same = does.0; says = refl }))
     answers_told_reading planned does takes (inr (inr (is, more))) = absurd (omega (arith, more, takes))
 
     -- want of memory is told only where nothing else was met
@@ -122,14 +130,10 @@ module _ {D : Type 0} (history : D → History) (old new : Engine D) (goes : Goe
   as_fault_here {before = before} is_before is_now tells =
       subst (λ (t : Troubles). TellsFault met t (troubles_at history new) told) is_before (subst (λ (t : Troubles). TellsFault met before t told) is_now tells)
 
-  failed_more : KeepsWord (disk_history history new) → failed_reads_of history old < failed_reads_of history new
-      → (disk_history history old).failures < (disk_history history new).failures
-  failed_more k more = (goes.frame k).counts.failed more
-
   cause_told : (IsMissing : Type 0) → KeepsWord (disk_history history new) → HasFaultCause history IsMissing old new met → TellsFaultHere
       → HasFaultCause history IsMissing old new told
   cause_told IsMissing k cause (inl (same, none)) = subst (HasFaultCause history IsMissing old new) (sym same) cause
-  cause_told IsMissing k cause (inr (is, more)) = subst (HasFaultCause history IsMissing old new) (sym is) (inr (failed_more k more))
+  cause_told IsMissing k cause (inr (is, more)) = subst (HasFaultCause history IsMissing old new) (sym is) (inr (failed_more history old new (goes.frame k).counts more))
 
   pub memory_told : KeepsWord (disk_history history new) → TellsFaultHere → told ≡ faults.Memory → MetNoFailure history old new
   memory_told k (inl (same, none)) memory = met_no_failure history old new (continues_of history old new goes) k (none (sym same ∙ memory))

@@ -8,7 +8,8 @@ use Rattle.entries.specs.State.{Collection}
 use Rattle.collections.specs.Trusting as files
 use Rattle.opening.specs.Holding.{Holds}
 use Rattle.engine.specs.View.{world, turn_start}
-use Rattle.engine.specs.Durable.{disk_history, file_of, has_changes, IsRunning, IsSound}
+use Rattle.engine.specs.Durable.{disk_history, failed_reads_of, file_of, full_takes_of}
+use Rattle.engine.specs.Durable.{has_changes, IsRunning, IsSound}
 use Rattle.engine.specs.declared.engine.Engine.{Engine}
 
 -- each moment of the disk itself so far
@@ -27,6 +28,10 @@ pub record IsOpened {D : Type 0} (history : D → History) (disk : D)
   pub idle : turn_start engine ≡ (world engine).collections
   pub cursors : ((world engine).cursors ≡ []) × ((world engine).next ≡ 1)
   pub rests : has_changes engine ≡ false
+  -- both counts begin at nothing: pages asked for in vain, and reads that failed
+  pub no_full_takes : full_takes_of (trusted_history history) engine ≡ 0
+  pub no_failed_reads : KeepsWord (disk_history (trusted_history history) engine)
+      → failed_reads_of (trusted_history history) engine ≡ 0
   pub on : GoesOn (history disk) (inner_history history engine)
   -- where the disk holds collections it is trusted, and these are the engine's
   pub trusted : (cs : List Collection) → Holds (reads (now (history disk))) cs

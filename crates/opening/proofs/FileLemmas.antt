@@ -50,6 +50,8 @@ module _ {D : Type 0} (history : D → History) (disk : D) (c : State D) (opened
     running = opened.running;
     rests = opened.rests;
     pins = opened.pins;
+    no_full_takes = opened.no_full_takes;
+    no_failed_reads = λ k. opened.no_failed_reads (inner_word k).0;
     on = opened.on;
     trusted = λ cs h.
         ((some_tested image).1 (cs, h.file, held_stored image cs h), gives_stored image cs h.file (held_stored image cs h));

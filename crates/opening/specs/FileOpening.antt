@@ -15,7 +15,7 @@ use Rattle.collections.specs.State.{State}
 use Rattle.collections.specs.Standing.{HasState}
 use Rattle.collections.specs.Trusting.{inner_history, is_trusted}
 use Rattle.collections.specs.Versions.{pins_of}
-use Rattle.collections.specs.View.{disk_history, is_changed, is_stopped}
+use Rattle.collections.specs.View.{disk_history, is_changed, is_stopped, pages_of}
 use Rattle.trusted_disk.specs.Trusting.{trusted_history}
 use Rattle.trusted_disk.specs.declared.disk.TrustedDisk.{TrustedDisk}
 use Rattle.opening.specs.Holding.{Holds}
@@ -96,6 +96,10 @@ pub record IsFileOpened {D : Type 0} (history : D → History) (disk : D)
   pub running : is_stopped kept ≡ false
   pub rests : is_changed kept ≡ false
   pub pins : pins_of kept ≡ []
+  -- both counts begin at nothing: pages asked for in vain, and reads that failed
+  pub no_full_takes : (pages_of (trusted_history history) kept).full_takes ≡ 0
+  pub no_failed_reads : KeepsWord (disk_history (trusted_history history) kept)
+      → (pages_of (trusted_history history) kept).failed_reads ≡ 0
   pub on : GoesOn (history disk) (inner_history history kept)
   pub trusted : (cs : List Collection) → Holds (reads (now (history disk))) cs
       → (is_trusted kept ≡ true) × (known.now ≡ cs)

@@ -61,7 +61,7 @@ module _ {D : Type 0} (history : D → History) (store new : Store D) (only : On
           retired = refl;
           failures = only.reads.on.failures k;
           full_takes = omega arith;
-          counts = (let noted = only.noted k in record { rises = noted.rises; failed = noted.failed; counted = noted.counted });
+          counts = (let noted = only.noted k in record { rises = noted.rises; paced = noted.paced; counted = noted.counted });
         }
 
     pub counts_so : (result : Result PageCounts OpenFault) → Looks result (disk_history history store) (disk_history history new)

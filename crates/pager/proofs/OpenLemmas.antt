@@ -23,7 +23,7 @@ use Rattle.roots.specs.declared.root.Root.{Root}
 use Rattle.roots.specs.declared.store.Store.{Store}
 use Rattle.roots.specs.Image.{HasList, HoldsMap, OpensAs, reached_by, sheet_at}
 use Rattle.roots.specs.Opening.{IsOpened as IsStoreOpened}
-use Rattle.roots.specs.Store.{IsCommitted, disk_history, durable_root}
+use Rattle.roots.specs.Store.{IsCommitted, disk_history, durable_root, failed_reads}
 use Rattle.roots.specs.Walk.{FindsFree}
 use Rattle.roots.proofs.CountLemmas.{reached_once, room_most}
 use Rattle.pager.specs.Kept.{AreListed, IsBookFor, IsKept}
@@ -154,8 +154,9 @@ module _ {D : Type 0} (history : D → History) (disk : D) (mid new : Store D) (
       holds_then k = subst (λ (r : Root). HoldsMap (sheet_at (reads (now (history disk))) r) r live entries) finds.root (holds k)
 
   pub opened_so : (made : List Sheet) (retired : List ℕ) → made ≡ [] → retired ≡ []
+      → (KeepsWord (disk_history history new) → (disk_history history new).failures ≡ (disk_history history mid).failures)
       → IsOpened history disk (record { store = new; made = made; retired = retired; book = book })
-  opened_so made retired none empty =
+  opened_so made retired none empty clear =
       let h0 = history disk in
       let h1 = disk_history history mid in
       let h2 = disk_history history new in
@@ -164,6 +165,8 @@ module _ {D : Type 0} (history : D → History) (disk : D) (mid new : Store D) (
         made = refl;
         retired = refl;
         pins = finds.some.pins;
+        no_full_takes = finds.some.full_takes;
+        no_failed_reads = unfailed;
         on = goes_further h0 h1 h2 first.on only.on;
         opens = λ k. subst (OpensAs (reads (now h0))) (sym finds.root) (first.opens (only.on.kept k));
         begun = begins;
@@ -173,3 +176,6 @@ module _ {D : Type 0} (history : D → History) (disk : D) (mid new : Store D) (
             (λ k image left. leaves_now h0 h1 (IsImage (now h0)) first.on (first.any_moment readable) (only.on.kept k) image
             (reads_moments h1 h2 only k image left));
       })
+    where
+      unfailed : KeepsWord (disk_history history new) → failed_reads new ≡ 0
+      unfailed k = omega (arith, (finds.noted k).paced, first.uncounted, clear k)

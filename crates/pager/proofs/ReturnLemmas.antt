@@ -182,7 +182,7 @@ module _ {D : Type 0} (history : D → History) (earlier old : State D) (orderly
       retired = ap reverse retired_same;
       failures = (grows.frame k).failures;
       full_takes = (grows.frame k).full_takes;
-      counts = (let counts = (grows.frame k).counts in record { rises = counts.rises; failed = counts.failed; counted = counts.counted });
+      counts = (let counts = (grows.frame k).counts in record { rises = counts.rises; paced = counts.paced; counted = counts.counted });
     }
 
   pub grows_back : Grows (store_of history earlier) (store_of history last)

@@ -7,7 +7,7 @@ use Rattle.roots.specs.Root.{root_of}
 use Rattle.roots.specs.declared.opening.OpenFault.{OpenFault}
 use Rattle.roots.specs.declared.opening.OpenFault.TheVariants as faults
 use Rattle.roots.specs.Image.{HoldsMap, OpensAs, StandsFor, sheet_at}
-use Rattle.roots.specs.Store.{IsRunning, durable_root}
+use Rattle.roots.specs.Store.{IsRunning, durable_root, failed_reads}
 use Rattle.pager.specs.State.{State}
 use Rattle.pager.specs.Turn.{IsBegun}
 use Rattle.pager.specs.View.{pager_history}
@@ -24,6 +24,9 @@ pub record IsOpened {D : Type 0} (history : D → History) (disk : D) (pager : S
   pub made : pager.made ≡ []
   pub retired : pager.retired ≡ []
   pub pins : pager.book.pins ≡ []
+  -- both counts begin at nothing: pages asked for in vain, and reads that failed
+  pub no_full_takes : pager.book.full_takes ≡ 0
+  pub no_failed_reads : KeepsWord (pager_history history pager) → failed_reads pager.store ≡ 0
   pub on : GoesOn (history disk) (pager_history history pager)
   -- its root is the one that the disk's sectors give
   pub opens : KeepsWord (pager_history history pager)

@@ -120,7 +120,7 @@ module _ {D : Type 0} (history : D → History) (old : Store D) (disk : D) (coun
   none_failed : count ≡ old.failed_reads → (history disk).failures ≡ (history old.disk).failures → Counts
   none_failed same clear = record {
     rises = omega (arith, same);
-    failed = λ up. absurd (omega (arith, up, same));
+    paced = omega (arith, same, clear);
     counted = λ up. absurd (omega (arith, up, clear));
   }
 
@@ -130,8 +130,8 @@ module _ {D : Type 0} (history : D → History) (old : Store D) (disk : D) (coun
   counts_read (Err faults.Device) looks more =
       let failed = looks.cause keeps in
       elim more [
-        | inl one ↦ record { rises = omega (arith, one); failed = λ up. failed; counted = λ up. inl (omega (arith, one)) }
-        | inr full ↦ record { rises = omega (arith, full.0); failed = λ up. failed; counted = λ up. inr full.1 }
+        | inl one ↦ record { rises = omega (arith, one); paced = omega (arith, one, failed); counted = λ up. inl (omega (arith, one)) }
+        | inr full ↦ record { rises = omega (arith, full.0); paced = omega (arith, full.0, failed); counted = λ up. inr full.1 }
       ]
   counts_read (Err faults.Memory) looks same = none_failed same (looks.clear (λ is. absurd cc) keeps)
   counts_read (Err faults.NotADatabase) looks same = absurd looks.cause

@@ -13,7 +13,7 @@ use Rattle.roots.specs.declared.store.Store.{Store}
 pub counts_none : {D : Type 0} (history : D → History) (x : Store D) → CountsFailed history x x
 counts_none history x = record {
   rises = omega arith;
-  failed = λ up. absurd (omega (arith, up));
+  paced = omega arith;
   counted = λ up. absurd (omega (arith, up));
 }
 
@@ -23,10 +23,7 @@ pub counts_more : {D : Type 0} (history : D → History) (x y z : Store D)
     → CountsFailed history x y → CountsFailed history y z → CountsFailed history x z
 counts_more history x y z before behind first second = record {
   rises = omega (arith, first.rises, second.rises);
-  failed = λ up. elim (cases_lt (failed_reads x) (failed_reads y)) [
-    | inl early ↦ omega (arith, first.failed early, behind)
-    | inr late ↦ omega (arith, second.failed (omega (arith, up, late)), before)
-  ];
+  paced = omega (arith, first.paced, second.paced);
   counted = λ up.
       let there = (disk_history history y).failures in
       elim (cases_lt there (disk_history history z).failures) [

@@ -65,10 +65,11 @@ CountsFault faults.NotADatabase old new = new ≡ old
 CountsFault faults.Damaged old new = new ≡ old
 CountsFault faults.NewerFormat old new = new ≡ old
 
--- Each read that fails is counted, as far as a u64 counts: the count rises just where one failed.
+-- Each read that fails is counted, as far as a u64 counts: the count rises where one failed, and
+-- no faster than the device fails.
 pub record CountsFailed {D : Type 0} (history : D → History) (old new : Store D) : Type 0 where
   pub rises : failed_reads old ≤ failed_reads new
-  pub failed : failed_reads old < failed_reads new
-      → (disk_history history old).failures < (disk_history history new).failures
+  pub paced : failed_reads new + (disk_history history old).failures
+      ≤ failed_reads old + (disk_history history new).failures
   pub counted : (disk_history history old).failures < (disk_history history new).failures
       → (failed_reads old < failed_reads new) ⊎ (failed_reads new ≡ 18446744073709551615)

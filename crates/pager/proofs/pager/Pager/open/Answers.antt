@@ -19,6 +19,7 @@ returns-clause-opened g c =
     opened_so g.D.Disk.history c.args.disk c.in-Ok.store c.free_pages.new.self c.in-Ok-free_pages.found c.min.result
     (omega arith) c.in-Ok.ensures.opened c.free_pages.ensures.looks.reads c.in-Ok-free_pages.ensures.finds
     c.new-2.result.items c.new-3.result.items c.new-2.ensures.items c.new-3.ensures.items
+    (c.in-Ok-free_pages.ensures.looks.clear (λ is. absurd cc))
 
 pub returns-clause-limit : goal.returns-clause-limit
 returns-clause-limit g c =
