@@ -133,7 +133,8 @@ module _ {D : Type 0} (history : D → History) (old new : Engine D) (goes : Goe
   cause_told : (IsMissing : Type 0) → KeepsWord (disk_history history new) → HasFaultCause history IsMissing old new met → TellsFaultHere
       → HasFaultCause history IsMissing old new told
   cause_told IsMissing k cause (inl (same, none)) = subst (HasFaultCause history IsMissing old new) (sym same) cause
-  cause_told IsMissing k cause (inr (is, more)) = subst (HasFaultCause history IsMissing old new) (sym is) (inr (failed_more history old new (goes.frame k).counts more))
+  cause_told IsMissing k cause (inr (is, more)) =
+      subst (HasFaultCause history IsMissing old new) (sym is) (inr (failed_more history old new (goes.frame k).counts more))
 
   pub memory_told : KeepsWord (disk_history history new) → TellsFaultHere → told ≡ faults.Memory → MetNoFailure history old new
   memory_told k (inl (same, none)) memory = met_no_failure history old new (continues_of history old new goes) k (none (sym same ∙ memory))
