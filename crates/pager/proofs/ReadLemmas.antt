@@ -32,7 +32,7 @@ nothing_read history store = record {
   root = refl;
   stopped = refl;
   reads = reads_nothing (disk_history history store);
-  noted = λ k. record { rises = omega arith; failed = λ more. absurd (omega (arith, more)); counted = λ more. absurd (omega (arith, more)) };
+  noted = λ k. record { rises = omega arith; paced = omega arith; counted = λ more. absurd (omega (arith, more)) };
 }
 
 -- what holds of sectors and a root holds of the same ones
