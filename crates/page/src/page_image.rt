@@ -142,6 +142,21 @@ fn linked_head(kind: u8, count: u16, page: u32, generation: u64, next: u32) -> [
     head
 }
 
+/// Writes a page that holds these bytes of a chain, and names the page that goes on.
+fn write_chain_page(generation: u64, page: u32, next: u32, content: &[u8], bytes: &mut [u8; 4096])
+    requires { length content.now ≤ 4076 }
+    ensures { bytes.new ≡ page_bytes (record {
+      page = page;
+      generation = generation;
+      content = chain next content.now;
+    }) }
+{
+    let count = content.len();
+    *bytes = [0; 4096];
+    bytes[..20].copy_from_slice(&linked_head(3, count as u16, page, generation, next));
+    bytes[20..20 + count].copy_from_slice(content);
+}
+
 /// A page that holds these bytes of a chain, and names the page that goes on.
 pub fn chain_page(generation: u64, page: u32, next: u32, content: &[u8]) -> [u8; 4096]
     requires { length content.now ≤ 4076 }
@@ -151,23 +166,47 @@ pub fn chain_page(generation: u64, page: u32, next: u32, content: &[u8]) -> [u8;
       content = chain next content.now;
     }) }
 {
-    let count = content.len();
     let mut bytes = [0; 4096];
-    bytes[..20].copy_from_slice(&linked_head(3, count as u16, page, generation, next));
-    bytes[20..20 + count].copy_from_slice(content);
+    write_chain_page(generation, page, next, content, &mut bytes);
     bytes
 }
 
-/// A page of the tree: its header, and the 4,080 bytes behind it.
-fn tree_page(kind: u8, count: usize, page: u32, generation: u64, body: &[u8]) -> [u8; 4096]
+/// Writes a page of the tree: its header, and the 4,080 bytes behind it.
+fn write_tree_page(
+    kind: u8,
+    count: usize,
+    page: u32,
+    generation: u64,
+    body: &[u8],
+    bytes: &mut [u8; 4096],
+)
     requires count { count < 2 ^ 16 }
     requires body { length body.now ≡ 4080 }
-    ensures { result ≡ header kind count page generation ++ body.now }
+    ensures { bytes.new ≡ header kind count page generation ++ body.now }
 {
-    let mut bytes = [0; 4096];
     bytes[..16].copy_from_slice(&page_head(kind, count as u16, page, generation));
     bytes[16..].copy_from_slice(body);
-    bytes
+}
+
+/// Writes a page of the free list that holds these numbers, and names the list's next page.
+fn write_free_list_page(
+    generation: u64,
+    page: u32,
+    next: u32,
+    numbers: &[u32],
+    bytes: &mut [u8; 4096],
+)
+    requires { length numbers.now ≤ 1019 }
+    ensures { bytes.new ≡ page_bytes (record {
+      page = page;
+      generation = generation;
+      content = free_list next numbers.now;
+    }) }
+{
+    let count = numbers.len();
+    *bytes = [0; 4096];
+    bytes[..20].copy_from_slice(&linked_head(4, count as u16, page, generation, next));
+    LittleEndian::write_u32_into(numbers, &mut bytes[20..20 + 4 * count]);
 }
 
 /// A page of the free list that holds these numbers, and names the list's next page.
@@ -179,10 +218,8 @@ pub fn free_list_page(generation: u64, page: u32, next: u32, numbers: &[u32]) ->
       content = free_list next numbers.now;
     }) }
 {
-    let count = numbers.len();
     let mut bytes = [0; 4096];
-    bytes[..20].copy_from_slice(&linked_head(4, count as u16, page, generation, next));
-    LittleEndian::write_u32_into(numbers, &mut bytes[20..20 + 4 * count]);
+    write_free_list_page(generation, page, next, numbers, &mut bytes);
     bytes
 }
 
@@ -207,20 +244,22 @@ impl PageImage {
     pub fn write(&self, bytes: &mut [u8; 4096])
         ensures { bytes.new ≡ page_bytes (sheet_of self.now) }
     {
-        *bytes = match &self.content {
+        let (page, generation) = (self.page, self.generation);
+        match &self.content {
             PageContent::Leaf(leaf) => {
-                tree_page(1, leaf.len(), self.page, self.generation, leaf.bytes())
+                write_tree_page(1, leaf.len(), page, generation, leaf.bytes(), bytes)
             }
             PageContent::Branch(branch) => {
-                tree_page(2, branch.len(), self.page, self.generation, branch.bytes())
+                write_tree_page(2, branch.len(), page, generation, branch.bytes(), bytes)
             }
-            PageContent::Chain { next, bytes } => {
-                chain_page(self.generation, self.page, *next, bytes)
-            }
+            PageContent::Chain {
+                next,
+                bytes: content,
+            } => write_chain_page(generation, page, *next, content, bytes),
             PageContent::FreeList { next, pages } => {
-                free_list_page(self.generation, self.page, *next, pages)
+                write_free_list_page(generation, page, *next, pages, bytes)
             }
-        };
+        }
     }
 
     /// The page of this number that these bytes are, in a file whose root has this generation.

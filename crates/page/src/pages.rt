@@ -28,9 +28,8 @@ pub fn write_page<D: Disk>(disk: &mut D, page: u32, bytes: &[u8; 4096]) -> Resul
 {
     for i in 0..8u64 {
         let at = 512 * i as usize;
-        let mut sector = [0; 512];
-        sector.copy_from_slice(&bytes[at..at + 512]);
-        disk.write(8 * page as u64 + i, &sector)?;
+        let sector = bytes[at..].first_chunk::<512>().unwrap();
+        disk.write(8 * page as u64 + i, sector)?;
     }
     Ok(())
 }

@@ -2,7 +2,7 @@ use Rattle.std.proofs.Common.{◌≡◌, ℕ, suc, ◌+◌, ◌-◌, ◌≤◌, 
 use Rattle.std.proofs.lemmas.List.{drop-replicate}
 use Rattle.byteorder.specs.Endian.{little_bytes}
 use Rattle.page.specs.Format.{header, page_bytes}
-use Rattle.page.proofs.page_image.chain_page.Goals as goal
+use Rattle.page.proofs.page_image.write_chain_page.Goals as goal
 
 tail_zeros : (n : ℕ) → n ≤ 4076 → drop {A = ℕ} (20 + n - 20) (replicate 4076 0) ≡ replicate (4080 - suc (suc (suc (suc n)))) 0
 tail_zeros n le =

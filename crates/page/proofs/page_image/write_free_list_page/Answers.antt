@@ -4,7 +4,7 @@ use Rattle.std.specs.List.{flat_map}
 use Rattle.byteorder.specs.Endian.{little_bytes}
 use Rattle.page.specs.Format.{header, page_bytes}
 use Rattle.page.proofs.CellLemmas.{numbers_len}
-use Rattle.page.proofs.page_image.free_list_page.Goals as goal
+use Rattle.page.proofs.page_image.write_free_list_page.Goals as goal
 
 tail_zeros : (numbers : List ℕ) → length numbers ≤ 1019
     → drop {A = ℕ} (20 + 4 * length numbers - 20) (replicate 4076 0) ≡ replicate (4080 - suc (suc (suc (suc (length (flat_map (little_bytes 4) numbers)))))) 0
