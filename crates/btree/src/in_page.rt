@@ -1,6 +1,6 @@
 // Edits of a leaf that stays one page: the cells that stay are copied as runs of bytes.
 ghost use Rattle.std.specs.Prelude.{◌≡◌, ◌∷◌, [], ◌+◌, ◌≤◌, ◌<◌, ◌^◌, ℕ, List, Option, Some, zero, length, map, true, IfOk};
-ghost use Rattle.std.specs.Option.{option_map};
+ghost use Rattle.std.specs.Option.{option_map, unwrap_or};
 ghost use Rattle.page.specs.Content.{IsLeaf, item_size, total};
 ghost use Rattle.btree.specs.Calls.{IsEdited, IsPutIn, IsTakenOut, Yields};
 ghost use Rattle.btree.specs.EditView.{HasRoom, edit_in};
@@ -20,7 +20,7 @@ use crate::parts::child_unit;
 use crate::search::{leaf_cell, leaf_key, place_of_key};
 use crate::{Pages, TreeFault};
 use page::{Cell, Leaf, PageContent};
-use std::alloc::Global;
+use std::alloc::{AllocError, Global};
 
 // The bytes of a cell of this key and value; none where there is no value.
 fn cell_bytes(key: &[u8], value: Option<&[u8]>) -> usize
@@ -61,36 +61,59 @@ pub(crate) fn has_room(leaf: &Leaf, edits: &[Edit<'_>]) -> bool
     true
 }
 
-// Takes the cell of a key out, if there is one, and retires its value. Gives the place where the key belongs.
+// The leaf without the cell of a key, whose value is retired; None where no cell has it. Gives the place where the key
+// belongs.
 fn cut_key<P: Pages>(
     alloc: Global,
     pages: &mut P,
-    leaf: Leaf,
+    leaf: &Leaf,
     key: &[u8],
-) -> Result<(Leaf, usize), TreeFault>
-    requires { 2 ≤ length leaf }
+) -> Result<(Option<Leaf>, usize), TreeFault>
+    requires { 2 ≤ length leaf.now }
     ensures grows { Grows (P.store pages.old) (P.store pages.new) }
     ensures few { Costs (P.store pages.old) (P.store pages.new) 0 }
-    ensures len { IfOk result (λ cut. length leaf ≤ length cut.0 + 1) }
-    ensures size { IfOk result (λ cut. total item_size cut.0 ≤ total item_size leaf) }
-    ensures sound { IfOk result (λ cut. IsLeaf cut.0) }
-    ensures gap { IfOk result (λ cut. IsGap cut.0 key.now cut.1) }
-    ensures takes { (pairs : List Pair) → leaf ≡ map item_of pairs → Rises (pair_keys pairs)
+    ensures len { IfOk result (λ cut. length leaf.now ≤ length (unwrap_or cut.0 leaf.now) + 1) }
+    ensures size { IfOk result (λ cut.
+        total item_size (unwrap_or cut.0 leaf.now) ≤ total item_size leaf.now) }
+    ensures sound { IfOk result (λ cut. IsLeaf (unwrap_or cut.0 leaf.now)) }
+    ensures gap { IfOk result (λ cut. IsGap (unwrap_or cut.0 leaf.now) key.now cut.1) }
+    ensures takes { (pairs : List Pair) → leaf.now ≡ map item_of pairs → Rises (pair_keys pairs)
         → Shows (P.store pages.old) zero pairs
         → Yields (P.store pages.old) (P.store pages.new) (λ cut.
-        IsTakenOut (P.store pages.old) (P.store pages.new) key.now pairs cut.0 cut.1) result }
+        IsTakenOut (P.store pages.old) (P.store pages.new) key.now pairs
+        (unwrap_or cut.0 leaf.now) cut.1) result }
 {
-    let at = place_of_key(&leaf, key);
+    let at = place_of_key(leaf, key);
     if at >= leaf.len() {
-        return Ok((leaf, at));
+        return Ok((None, at));
     }
-    let cell = leaf_cell(&leaf, at);
+    let cell = leaf_cell(leaf, at);
     if !cell.key.cmp(key).is_eq() {
-        return Ok((leaf, at));
+        return Ok((None, at));
     }
     retire_value(pages, cell.stored)?;
     let left = leaf.without(alloc, at)?;
-    Ok((left, at))
+    Ok((Some(left), at))
+}
+
+// What was made of a leaf, or the leaf as it was.
+fn made_of<'a>(made: &'a Option<Leaf>, leaf: &'a Leaf) -> &'a Leaf
+    ensures { result.now ≡ unwrap_or made.now leaf.now }
+{
+    match made {
+        Some(made) => made,
+        None => leaf,
+    }
+}
+
+// The same, as a leaf of its own.
+fn made_or_copy(alloc: Global, made: Option<Leaf>, leaf: &Leaf) -> Result<Leaf, AllocError>
+    ensures { IfOk result (λ own. own ≡ unwrap_or made leaf.now) }
+{
+    match made {
+        Some(made) => Ok(made),
+        None => leaf.copy(alloc),
+    }
 }
 
 // Puts a cell with this key and value in.
@@ -124,26 +147,29 @@ fn put_cell<P: Pages>(
 fn edit_leaf<P: Pages>(
     alloc: Global,
     pages: &mut P,
-    leaf: Leaf,
+    leaf: &Leaf,
     edit: Edit<'_>,
 ) -> Result<Leaf, TreeFault>
     requires has { HasRoom edit }
-    requires two { 2 ≤ length leaf }
-    requires room { total item_size leaf + edit_room (edit_in edit) ≤ 4080 }
+    requires two { 2 ≤ length leaf.now }
+    requires room { total item_size leaf.now + edit_room (edit_in edit) ≤ 4080 }
     ensures grows { Grows (P.store pages.old) (P.store pages.new) }
     ensures few { Costs (P.store pages.old) (P.store pages.new) (edit_pages (edit_in edit.entry)) }
-    ensures len { IfOk result (λ made. length leaf ≤ length made + 1) }
+    ensures len { IfOk result (λ made. length leaf.now ≤ length made + 1) }
     ensures size { IfOk result (λ made. total item_size made
-        ≤ total item_size leaf + edit_room (edit_in edit.entry)) }
-    ensures edits { (pairs : List Pair) → leaf ≡ map item_of pairs → Rises (pair_keys pairs)
+        ≤ total item_size leaf.now + edit_room (edit_in edit.entry)) }
+    ensures edits { (pairs : List Pair) → leaf.now ≡ map item_of pairs → Rises (pair_keys pairs)
         → Shows (P.store pages.old) zero pairs
         → Yields (P.store pages.old) (P.store pages.new) (λ made. IsEdited (P.store pages.old)
         (P.store pages.new) (edit_in edit.entry ∷ []) pairs made) result }
 {
     let (left, at) = cut_key(alloc, pages, leaf, edit.key)?;
     match edit.value {
-        None => Ok(left),
-        Some(value) => put_cell(alloc, pages, &left, at, edit.key, value),
+        None => {
+            let made = made_or_copy(alloc, left, leaf)?;
+            Ok(made)
+        }
+        Some(value) => put_cell(alloc, pages, made_of(&left, leaf), at, edit.key, value),
     }
 }
 
@@ -165,12 +191,13 @@ pub(crate) fn edit_page<P: Pages>(
         → Yields (P.store pages.old) (P.store pages.new) (λ made. IsEdited (P.store pages.old)
         (P.store pages.new) (map edit_in edits.now) pairs made) result }
 {
-    let mut edited = leaf.copy(alloc)?;
+    let mut edited = None;
     for edit in edits {
-        let next = edit_leaf(alloc, pages, edited, *edit)?;
-        edited = next;
+        let next = edit_leaf(alloc, pages, made_of(&edited, leaf), *edit)?;
+        edited = Some(next);
     }
-    Ok(edited)
+    let made = made_or_copy(alloc, edited, leaf)?;
+    Ok(made)
 }
 
 /// A leaf as a child of the page above it, written to a page of its own, or, where it has little and no more is to

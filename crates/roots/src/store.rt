@@ -97,8 +97,12 @@ pub fn end_of(made: &[SharedPage]) -> u32
     }
 }
 
-/// Writes a page.
-fn write_shared<D: Disk>(disk: &mut D, shared: &SharedPage) -> Result<(), DeviceFault>
+/// Writes a page, which these bytes hold from then on.
+fn write_shared<D: Disk>(
+    disk: &mut D,
+    shared: &SharedPage,
+    bytes: &mut [u8; 4096],
+) -> Result<(), DeviceFault>
     ensures on { GoesOn (D.history disk.old) (D.history disk.new) }
     ensures calls { MakesCalls 8 result (D.history disk.old) (D.history disk.new) }
     ensures any_moment { let before = now (D.history disk.old) in
@@ -113,9 +117,8 @@ fn write_shared<D: Disk>(disk: &mut D, shared: &SharedPage) -> Result<(), Device
         → OnErr result ((D.history disk.old).failed_writes < (D.history disk.new).failed_writes) }
 {
     let image = shared.image();
-    let mut bytes = [0; 4096];
-    image.write(&mut bytes);
-    write_page(disk, image.page, &bytes)
+    image.write(bytes);
+    write_page(disk, image.page, bytes)
 }
 
 /// Writes pages in their order.
@@ -136,8 +139,9 @@ fn write_made<D: Disk>(disk: &mut D, made: &[SharedPage]) -> Result<(), DeviceFa
     ensures failed { KeepsWord (D.history disk.new)
         → OnErr result ((D.history disk.old).failed_writes < (D.history disk.new).failed_writes) }
 {
+    let mut bytes = [0; 4096];
     for shared in made {
-        write_shared(disk, shared)?;
+        write_shared(disk, shared, &mut bytes)?;
     }
     Ok(())
 }
