@@ -22,7 +22,7 @@ use path::{Path, Refusal, remove_from, write_into, write_new};
 use std::alloc::Global;
 
 /// An operator of updates.
-#[derive(Clone, Copy, Debug, PartialEq, Eq)]
+#[derive(Clone, Copy)]
 pub(crate) enum Operator {
     Set,
     Unset,
