@@ -256,6 +256,49 @@ module _ (v : Tree) where
       let d = deep n None inner.0 refl fits.is in
       subst (Deep (a ∷ n) None) (ap document made ∙ whole) (record { upper = omega (arith, d.upper); lower = omega (arith, d.lower) })
 
+  -- what stands at another path, and the way to it, once the value is there
+  record StaysBeside (p : Path) (o : Option Tree) (x : Tree) : Type 0 where
+    passes : passes_array p x ≡ some_passes (passes_array p) o
+    value : value_at p x ≡ option_and_then (value_at p) o
+
+  beside_field : (a b : List ℕ) (p n : Path) → meets (a ∷ p) (b ∷ n) ≡ false → (ps : Pairs) (y : Tree)
+      → (meets p n ≡ false → StaysBeside p (lookup ps b) y) → StaysBeside (a ∷ p) (Some (document ps)) (document (put ps b y))
+  beside_field a b p n apart ps y later = by (bytes_eq a b) refl
+    where
+      by : (c : Bool) → bytes_eq a b ≡ c → StaysBeside (a ∷ p) (Some (document ps)) (document (put ps b y))
+      by false e =
+          let same = lookup-put_other ps b a y (bytes_differ a b e) in
+          record { passes = ap (some_passes (passes_array p)) same; value = ap (option_and_then (value_at p)) same }
+      by true e =
+          let same : a ≡ b = (bytes_eq-Decides a b).0 e in
+          let s = later (behind_first a b p n same apart) in
+          subst (λ (k : List ℕ). StaysBeside (k ∷ p) (Some (document ps)) (document (put ps b y))) (sym same) (record {
+            passes = ap (some_passes (passes_array p)) (lookup-put ps b y) ∙ s.passes;
+            value = ap (option_and_then (value_at p)) (lookup-put ps b y) ∙ s.value;
+          })
+
+  stays_beside : (p n : Path) → meets p n ≡ false → (o : Option Tree) (x : Tree) → no_way_array n o ≡ false → write always n o ≡ Ok x → StaysBeside p o x
+  stays_beside [] n apart o x clear is = absurd (never_first n apart)
+  stays_beside (a ∷ p) [] apart o x clear is = absurd (never_second a p apart)
+  stays_beside (a ∷ p) (b ∷ n) apart (Some (scalar s)) x clear is = absurd cc
+  stays_beside (a ∷ p) (b ∷ n) apart (Some (array ts)) x clear is = absurd cc
+  stays_beside (a ∷ p) (b ∷ n) apart (Some (document ps)) x clear is =
+      let outer = if_ok_value (if_ok (within 99 (write always n (lookup ps b))) (λ (u : Tree). Ok (put ps b u))) (λ (qs : Pairs). Ok (document qs)) x is in
+      let inner = if_ok_value (within 99 (write always n (lookup ps b))) (λ (u : Tree). Ok (put ps b u)) outer.0 outer.1 in
+      let fits = within_so (write always n (lookup ps b)) inner.0 inner.1 in
+      let made : put ps b inner.0 ≡ outer.0 = cc (inner.2) in
+      let whole : document outer.0 ≡ x = cc (outer.2) in
+      subst (StaysBeside (a ∷ p) (Some (document ps))) (ap document made ∙ whole)
+      (beside_field a b p n apart ps inner.0 (λ same. stays_beside p n same (lookup ps b) inner.0 clear fits.is))
+  stays_beside (a ∷ p) (b ∷ n) apart None x clear is =
+      let outer = if_ok_value (if_ok (within 99 (write always n None)) (λ (u : Tree). Ok (put no_pairs b u))) (λ (qs : Pairs). Ok (document qs)) x is in
+      let inner = if_ok_value (within 99 (write always n None)) (λ (u : Tree). Ok (put no_pairs b u)) outer.0 outer.1 in
+      let fits = within_so (write always n None) inner.0 inner.1 in
+      let made : put no_pairs b inner.0 ≡ outer.0 = cc (inner.2) in
+      let whole : document outer.0 ≡ x = cc (outer.2) in
+      let s = beside_field a b p n apart no_pairs inner.0 (λ same. stays_beside p n same None inner.0 refl fits.is) in
+      subst (StaysBeside (a ∷ p) None) (ap document made ∙ whole) (record { passes = s.passes; value = s.value })
+
   -- nothing stands at another path in documents that were made on the way
   fresh : (n g : Path) → meets n g ≡ false → (x : Tree) → write always n None ≡ Ok x → cut_off g x ≡ Some x
   fresh [] g apart x is = absurd (never_first g apart)
@@ -405,3 +448,21 @@ set_commutes v (a ∷ n) (b ∷ g) apart ps clear low =
 
 pub cut_at-levels : (p g : Path) → meets p g ≡ false → (ps : Pairs) → pairs_levels (cut_at g ps) ≤ pairs_levels ps
 cut_at-levels p g apart ps = omega (arith, cut_off-levels g (document ps) (document (cut_at g ps)) (off_is p g apart ps))
+
+-- what was put leaves what stands at another path
+pub set_stays : (v : Tree) (p n : Path) → meets p n ≡ false → (ps qs : Pairs) → passes_array n (document ps) ≡ false → set_at n v ps ≡ Ok qs
+    → Stays p (document ps) (document qs)
+set_stays v [] n apart ps qs clear is = absurd (never_first n apart)
+set_stays v (a ∷ p) [] apart ps qs clear is = absurd (never_second a p apart)
+set_stays v (a ∷ p) (b ∷ n) apart ps qs clear is =
+    let s = stays_beside v (a ∷ p) (b ∷ n) apart (Some (document ps)) (document qs) clear
+    (ap (λ (r : Result Pairs Refusal). if_ok r (λ (us : Pairs). Ok (document us))) is) in
+    record { passes = s.passes; value = λ _. s.value }
+
+pub set_levels : (v : Tree) (n : Path) (ps qs : Pairs) → set_at n v ps ≡ Ok qs → pairs_levels ps ≤ 99 → pairs_levels qs ≤ 99
+set_levels v [] ps qs is low = let same : ps ≡ qs = cc in omega (arith, low, ap pairs_levels same)
+set_levels v (b ∷ n) ps qs is low =
+    let inner = if_ok_value (within 99 (write (always v) n (lookup ps b))) (λ (u : Tree). Ok (put ps b u)) qs is in
+    let fits = within_so v (write (always v) n (lookup ps b)) inner.0 inner.1 in
+    let made : put ps b inner.0 ≡ qs = cc (inner.2) in
+    omega (arith, low, fits.low, pairs_levels-put ps b inner.0, ap pairs_levels made)

@@ -7,6 +7,7 @@ pub mod Fronts
 pub mod IdEditLaws
 pub mod Inside
 pub mod Laws
+pub mod Moving
 pub mod Numbers
 pub mod Operators
 pub mod Reading

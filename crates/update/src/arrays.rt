@@ -8,6 +8,7 @@ ghost use Rattle.outcome.specs.Outcome.{Gives};
 ghost use Rattle.filter.specs.View.{condition_of};
 ghost use Rattle.update.specs.Arrays.{only_one, items_to_push, each_items, items_without, pull_at};
 
+use crate::touching::touch_at;
 use bson::{Array, BuildFault, Document, NoMemory, Value};
 use filter::{Condition, has_operators};
 use path::{NewValue, Path, Refusal, value_at, write_new};
@@ -148,7 +149,7 @@ pub(crate) fn pull_at(
         (pull_at path.now (condition_of condition.now) document) }
 {
     if value_at(&document, path).is_none() {
-        return Ok(document);
+        return Ok(touch_at(document, path));
     }
     write_new(alloc, document, path, Pulled { condition })
 }

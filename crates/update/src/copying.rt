@@ -2,7 +2,7 @@
 
 ghost use Rattle.std.specs.Prelude.{◌≡◌, IfOk, map};
 ghost use Rattle.bson.specs.View.{items_of};
-ghost use Rattle.update.specs.View.{action_of, edit_of, form_of, update_of};
+ghost use Rattle.update.specs.View.{action_of, edit_of, update_of};
 
 use crate::arrays::copies;
 use crate::edit::{Action, Edit, Form, Update};
@@ -47,25 +47,21 @@ pub(crate) fn copy_edits(alloc: Global, edits: &[Edit]) -> Result<Vec<Edit>, NoM
     Ok(all)
 }
 
-impl Form {
-    fn copy(&self, alloc: Global) -> Result<Form, NoMemory>
-        ensures { IfOk result (λ f. form_of f ≡ form_of self.now) }
-    {
-        match self {
-            Form::Edits(edits) => Ok(Form::Edits(copy_edits(alloc, edits)?)),
-            Form::Replacement(new) => Ok(Form::Replacement(new.copy()?)),
-        }
-    }
-}
-
 impl Update {
     /// An equal update of its own.
     pub fn copy(&self) -> Result<Update, NoMemory>
         ensures { IfOk result (λ u. update_of u ≡ update_of self.now) }
     {
-        Ok(Update {
-            alloc: self.alloc,
-            form: self.form.copy(self.alloc)?,
-        })
+        let alloc = self.alloc;
+        match &self.form {
+            Form::Edits(edits) => {
+                let form = Form::Edits(copy_edits(alloc, edits)?);
+                Ok(Update { alloc, form })
+            }
+            Form::Replacement(new) => {
+                let form = Form::Replacement(new.copy()?);
+                Ok(Update { alloc, form })
+            }
+        }
     }
 }

@@ -13,7 +13,7 @@ use std::alloc::Global;
 pub(crate) const MANY: usize = 16;
 
 /// What an edit does at its path.
-#[derive(Debug, Drop)]
+#[derive(Drop)]
 pub(crate) enum Action {
     /// Puts a value there.
     Set(Value),
@@ -34,13 +34,13 @@ pub(crate) enum Action {
 }
 
 /// What is done at one path.
-#[derive(Debug, Drop)]
+#[derive(Drop)]
 pub(crate) struct Edit {
     pub path: Path,
     pub action: Action,
 }
 
-#[derive(Debug, Drop)]
+#[derive(Drop)]
 pub(crate) enum Form {
     /// Edits, in the order written.
     Edits(Vec<Edit>),
@@ -49,7 +49,7 @@ pub(crate) enum Form {
 }
 
 /// An update: edits at paths of which none is, or leads to, another, or a document that takes the place of another.
-#[derive(Debug, Drop)]
+#[derive(Drop)]
 pub struct Update {
     pub(crate) alloc: Global,
     pub(crate) form: Form,

@@ -1,10 +1,10 @@
 //! Updates: reading one, and what it makes of a document (MongoDB manual, "Update Operators").
 //!
-//! `operators` is the table of the operators. Each family has a file that says what it does at a path: `fields`,
-//! `numbers`, `bounds`, `arrays`, `renames`; `replacements` has updates without operators. `reading` reads an update,
-//! `applying` applies it, `unsets` takes many fields away at once, `renaming` renames many of one document, `moving` moves
-//! many from one to another, `inside` reaches one further down, `stored` judges the whole document, `upserts` makes the
-//! document that an upsert starts from.
+//! `operators` is the table of the operators. Each family that does more at a path than put a value there, or take it
+//! away, has a file for it: `numbers`, `bounds`, `arrays`, `renames`; `replacements` has updates without operators.
+//! `reading` reads an update, `applying` applies it, `unsets` takes many fields away at once, `renaming` renames many of
+//! one document, `moving` moves many from one to another, `inside` reaches one further down, `touching` has edits that
+//! change nothing, `stored` judges the whole document, `upserts` makes the document that an upsert starts from.
 #![tactic(auto)]
 
 mod applying;
@@ -13,7 +13,6 @@ mod bounds;
 mod copying;
 mod edit;
 mod edit_list;
-mod fields;
 mod inside;
 pub mod laws;
 mod moving;
@@ -25,6 +24,7 @@ mod renaming;
 mod replacements;
 mod stored;
 mod sums;
+mod touching;
 mod unsets;
 mod upserts;
 

@@ -1,95 +1,69 @@
-//! `$rename` of many fields from one document to another, or within several by turns: what moves is copied to its new
-//! path at once, and all old ones are taken away at the end, which `unsets` does in one pass for each document.
+//! `$rename` of many fields from one document to another, or within several by turns: what moves is copied from where it
+//! stands. At the end all old paths and all new ones are taken away, which `unsets` does in one pass for each document,
+//! and what moved is put at its new paths in the order written.
 
-ghost use Rattle.std.specs.Prelude.{◌≡◌, ◌&&◌, not, true, false, map, Ok};
-ghost use Rattle.std.specs.List.{list_all};
+ghost use Rattle.std.specs.Prelude.{◌≡◌, ◌&&◌, ◌++◌, ◌∷◌, [], not, false, map, Ok, IfOk};
 ghost use Rattle.bson.specs.Tree.{document};
-ghost use Rattle.bson.specs.View.{tree};
 ghost use Rattle.outcome.specs.Outcome.{Gives};
+ghost use Rattle.path.specs.Edits.{if_ok};
 ghost use Rattle.path.specs.Place.{passes_array};
 ghost use Rattle.update.specs.Applying.{apply_edit, apply_edits};
+ghost use Rattle.update.specs.Moving.{unset_of, move_of, put_all, all_moved, MayMove, GivesMoves};
 ghost use Rattle.update.specs.Reading.{conflicts};
 ghost use Rattle.update.specs.Renames.{rename_at};
 ghost use Rattle.update.specs.Renaming.{rename_of};
-ghost use Rattle.update.specs.Unsets.{cut_all, is_unset};
+ghost use Rattle.update.specs.Unsets.{cut_all};
 ghost use Rattle.update.specs.View.{edit_of};
 
 use crate::edit::{Action, Edit};
 use crate::edit_list::EditList;
-use crate::inside::{put_field, take_field};
 use crate::operators::apply_action;
-use crate::renaming::touch;
+use crate::touching::touch_at;
 use crate::unsets::unset_all;
-use bson::{Document, Value};
-use path::{Part, Path, Refusal, passes_array, remove_from, value_at, write_into};
+use bson::{Document, NoMemory, Value};
+use path::{Path, Refusal, passes_array, value_at, write_into};
 use std::alloc::Global;
 use std::marker::Model;
 
-/// The value, in which an edit that changes nothing was made in each document on the way.
-#[cycle(touching)]
-fn touch_inside(value: Value, parts: &[Part]) -> Value
-    ensures { tree result ≡ tree value }
-{
-    let [part, rest @ ..] = parts else {
-        return value;
-    };
-    match value {
-        Value::Document(document) => Value::Document(touch_in_field(document, part, rest)),
-        other => other,
-    }
-}
+/// A field that moves.
+#[derive(Drop)]
+pub(crate) struct Moved {
+    /// Its new path.
+    path: Path,
 
-#[cycle(touching)]
-fn touch_in_field(document: Document, part: &Part, rest: &[Part]) -> Document
-    ensures { result ≡ document }
-{
-    let mut document = document;
-    let Some(at) = document.position(part.as_str()) else {
-        touch(&mut document);
-        return document;
-    };
-    let old = take_field(&mut document, at);
-    let same = touch_inside(old, rest);
-    put_field(&mut document, at, same);
-    document
-}
-
-/// The document, in which an edit that changes nothing was made in each document on the way: of those that were edited
-/// often it is known where their names stand.
-fn touch_at(document: Document, path: &Path) -> Document
-    ensures { result ≡ document }
-{
-    let (part, rest) = path.split_first();
-    touch_in_field(document, part, rest)
+    value: Value,
 }
 
 /// A document of which fields move.
 struct Moving {
-    /// The document with the fields where they moved to, and also still where they were.
+    /// The document before.
     document: Document,
 
-    /// Their old paths, which are to be taken away.
+    /// The old paths of these fields and their new ones, at which nothing is to be left.
     gone: EditList,
+
+    /// What is put there then.
+    moved: Vec<Moved>,
 }
 
 impl Model for Moving {
-    ghost use Rattle.std.specs.Prelude.{◌≡◌, true};
-    ghost use Rattle.std.specs.List.{list_all};
-    ghost use Rattle.bson.specs.Tree.{Pairs};
-    ghost use Rattle.bson.specs.TreeCode.{coded_pairs};
-    ghost use Rattle.update.specs.Unsets.{cut_all, is_unset};
+    ghost use Rattle.std.specs.Prelude.{map};
+    ghost use Rattle.std.specs.Coded.{codes};
+    ghost use Rattle.bson.specs.TreeCode.{coded_pairs, coded_tree};
+    ghost use Rattle.update.specs.Moving.{Moves, MayMove, move_of};
+    ghost use Rattle.update.specs.UpdateCode.{coded_edit};
 
-    ghost Value = { Pairs };
+    ghost Value = { Moves };
 
-    ghost coded = { coded_pairs };
+    ghost coded = { Prim.hlevel (codes, coded_pairs, coded_tree, coded_edit) };
 
-    ghost view = { λ a. cut_all a.gone a.document };
+    ghost view = { λ a. (a.document, (a.gone, map move_of a.moved.items)) };
 
-    ghost invariant = { λ a. list_all is_unset a.gone ≡ true };
+    ghost invariant = { λ a. MayMove a.document a.gone (map move_of a.moved.items) };
 }
 
-/// Whether the old path may wait until the end: the rename meets none that waits, and leads through no array.
-fn may_wait(source: &Document, gone: &EditList, edit: &Edit, new: &Path) -> bool
+/// Whether the field may move with the others: its paths meet none of theirs and lead through no array.
+fn may_move(source: &Document, gone: &EditList, edit: &Edit, new: &Path) -> bool
     ensures { result ≡ (not (conflicts gone.now (edit_of edit.now))
         && (not (passes_array edit.now.path (document source.now))
         && not (passes_array new.now (document source.now)))) }
@@ -97,64 +71,99 @@ fn may_wait(source: &Document, gone: &EditList, edit: &Edit, new: &Path) -> bool
     !gone.conflicts(edit) && !passes_array(source, &edit.path) && !passes_array(source, new)
 }
 
-/// Copies what stands at the old path to the new one, last in its document.
-fn move_on(
-    alloc: Global,
+/// With an edit behind these that takes away what stands at the path.
+fn with_unset(gone: EditList, path: &Path) -> Result<EditList, NoMemory>
+    requires { conflicts gone (unset_of path.now) ≡ false }
+    ensures { IfOk result (λ edits. edits ≡ gone ++ unset_of path.now ∷ []) }
+{
+    gone.with_apart(Edit {
+        path: path.copy()?,
+        action: Action::Unset,
+    })
+}
+
+/// The fields that move, and the one at the old path, where there is one.
+fn with_move(
     source: Document,
     gone: EditList,
+    moved: Vec<Moved>,
     old: &Path,
     new: &Path,
 ) -> Result<Moving, Refusal>
-    requires unsets { list_all is_unset gone ≡ true }
+    requires may { MayMove source gone (map move_of moved.items) }
     requires apart { conflicts gone (rename_of old.now new.now) ≡ false }
     requires old { passes_array old.now (document source) ≡ false }
     requires new { passes_array new.now (document source) ≡ false }
-    ensures { Gives Refusal.OutOfMemory (λ m. m) result (rename_at old.now new.now (cut_all gone source)) }
+    ensures { GivesMoves result
+        (if_ok (put_all (map move_of moved.items) (cut_all gone source)) (rename_at old.now new.now)) }
 {
+    let mut moved = moved;
     let source = touch_at(source, old);
+    let source = touch_at(source, new);
     let _levels = source.levels();
     let found = value_at(&source, old);
     let Some(value) = found else {
         return Ok(Moving {
             document: source,
             gone,
+            moved,
         });
     };
     let value = value.copy()?;
-    let waiting = Edit {
-        path: old.copy()?,
-        action: Action::Unset,
-    };
-    let gone = gone.with_apart(waiting)?;
-    let left = remove_from(source, new);
-    let document = write_into(alloc, left, new, value)?;
-    let _after = document.levels();
-    Ok(Moving { document, gone })
+    let gone = with_unset(gone, old)?;
+    let gone = with_unset(gone, new)?;
+    moved.push(Moved {
+        path: new.copy()?,
+        value,
+    })?;
+    Ok(Moving {
+        document: source,
+        gone,
+        moved,
+    })
+}
+
+/// The document with each value at its new path, in order.
+fn put_all(alloc: Global, moved: Vec<Moved>, document: Document) -> Result<Document, Refusal>
+    ensures { Gives Refusal.OutOfMemory (λ d. d) result (put_all (map move_of moved.items) document) }
+{
+    let mut document = document;
+    'moved: for field in moved {
+        let Moved { path, value } = field;
+        document = write_into(alloc, document, &path, value)?;
+    }
+    Ok(document)
 }
 
 impl Moving {
-    /// The document, of which no field has moved yet.
+    /// The document, of which no field moves yet.
     fn new(alloc: Global, document: Document) -> Moving
-        ensures { result ≡ document }
+        ensures { all_moved result ≡ Ok document }
     {
         Moving {
             document,
             gone: EditList::new(alloc),
+            moved: Vec::new(alloc),
         }
     }
 
-    /// The document itself.
+    /// The document once the fields have moved.
     fn into_document(self, alloc: Global) -> Result<Document, Refusal>
-        ensures { Gives Refusal.OutOfMemory (λ d. d) result (Ok self) }
+        ensures { Gives Refusal.OutOfMemory (λ d. d) result (all_moved self) }
     {
-        let Moving { document, gone } = self;
+        let Moving {
+            document,
+            gone,
+            moved,
+        } = self;
         let edits = gone.into_edits();
-        unset_all(alloc, &edits, document)
+        let left = unset_all(alloc, &edits, document)?;
+        put_all(alloc, moved, left)
     }
 
-    /// The document after the edit, which is done on the document itself.
+    /// The document after the edit, which is done once the fields have moved.
     fn with_edit(self, alloc: Global, edit: &Edit) -> Result<Moving, Refusal>
-        ensures { Gives Refusal.OutOfMemory (λ m. m) result (apply_edit (edit_of edit.now) self) }
+        ensures { GivesMoves result (if_ok (all_moved self) (apply_edit (edit_of edit.now))) }
     {
         let document = self.into_document(alloc)?;
         let document = apply_action(alloc, document, &edit.path, &edit.action)?;
@@ -163,16 +172,25 @@ impl Moving {
 
     /// The document after the edit.
     fn after(self, alloc: Global, edit: &Edit) -> Result<Moving, Refusal>
-        ensures { Gives Refusal.OutOfMemory (λ m. m) result (apply_edit (edit_of edit.now) self) }
+        ensures { GivesMoves result (if_ok (all_moved self) (apply_edit (edit_of edit.now))) }
     {
         let Action::Rename(new) = &edit.action else {
             return self.with_edit(alloc, edit);
         };
-        let Moving { document, gone } = self;
-        if may_wait(&document, &gone, edit, new) {
-            return move_on(alloc, document, gone, &edit.path, new);
+        let Moving {
+            document,
+            gone,
+            moved,
+        } = self;
+        if may_move(&document, &gone, edit, new) {
+            return with_move(document, gone, moved, &edit.path, new);
         }
-        Moving { document, gone }.with_edit(alloc, edit)
+        Moving {
+            document,
+            gone,
+            moved,
+        }
+        .with_edit(alloc, edit)
     }
 }
 

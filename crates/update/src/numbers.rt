@@ -10,7 +10,7 @@ use bson::Value;
 use path::{NewValue, Refusal};
 
 /// An int32 or an int64.
-#[derive(Clone, Copy, Debug, Drop)]
+#[derive(Clone, Copy, Drop)]
 pub(crate) enum Number {
     Int32(i32),
     Int64(i64),

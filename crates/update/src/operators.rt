@@ -13,17 +13,16 @@ ghost use Rattle.update.specs.View.{action_of};
 use crate::arrays::{Pushed, items_to_push, pull_at};
 use crate::bounds::{Lowered, Raised};
 use crate::edit::Action;
-use crate::fields::{set_field, unset_field};
 use crate::numbers::{Incremented, Number};
 use crate::renames::rename_at;
 use crate::stored::ID;
 use bson::{Document, Value};
 use filter::{Condition, path_in};
-use path::{Path, Refusal, write_new};
+use path::{Path, Refusal, remove_from, write_into, write_new};
 use std::alloc::Global;
 
 /// An operator of updates.
-#[derive(Clone, Copy, Debug, PartialEq, Eq)]
+#[derive(Clone, Copy)]
 pub(crate) enum Operator {
     Set,
     Unset,
@@ -83,8 +82,8 @@ pub(crate) fn apply_action(
         (apply_action path.now (action_of action.now) document) }
 {
     match action {
-        Action::Set(value) => set_field(alloc, document, path, value),
-        Action::Unset => unset_field(document, path),
+        Action::Set(value) => write_into(alloc, document, path, value.copy()?),
+        Action::Unset => Ok(remove_from(document, path)),
         Action::Increment(by) => write_new(alloc, document, path, Incremented { by: *by }),
         Action::AtMost(operand) => write_new(alloc, document, path, Lowered { operand }),
         Action::AtLeast(operand) => write_new(alloc, document, path, Raised { operand }),

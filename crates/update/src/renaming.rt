@@ -17,6 +17,7 @@ ghost use Rattle.update.specs.View.{edit_of};
 
 use crate::edit::{Action, Edit};
 use crate::inside::change_below;
+use crate::touching::touch;
 use crate::unsets::{is_below, last_part, put, unmarked};
 use bson::{Document, NoMemory, Value};
 use path::{Part, Refusal};
@@ -59,24 +60,6 @@ pub(crate) fn count_renames_below(parent: &[Part], edits: &[Edit]) -> usize
         }
     }
     edits.len()
-}
-
-/// An edit that changes nothing. After some edits a document of many fields knows where its names stand, and
-/// then misses one that it lacks without a look at all.
-pub(crate) fn touch(document: &mut Document)
-    ensures { document.new ≡ document.old }
-{
-    let _levels = document.levels();
-    if document.is_empty() {
-        return;
-    }
-    match document.replace_at(0, Value::Null) {
-        Ok(value) => match document.replace_at(0, value) {
-            Ok(_) => {}
-            Err(_) => unreachable!(),
-        },
-        Err(_) => unreachable!(),
-    }
 }
 
 /// Takes the value of a field out that isn't gone, and leaves null in its place.

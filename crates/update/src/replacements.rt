@@ -4,8 +4,6 @@ ghost use Rattle.std.specs.Prelude.{◌≡◌, IfOk, option_map};
 ghost use Rattle.bson.specs.Tree.{pair};
 ghost use Rattle.bson.specs.View.{tree};
 ghost use Rattle.outcome.specs.Outcome.{Gives};
-ghost use Rattle.filter.specs.Matches.{is_equal};
-ghost use Rattle.value_order.specs.Order.{compare};
 ghost use Rattle.update.specs.Fronts.{MayStand};
 ghost use Rattle.update.specs.Replacements.{replace};
 ghost use Rattle.update.specs.Stored.{id_name, without, first_pair};
@@ -16,15 +14,6 @@ use path::Refusal;
 use std::alloc::Global;
 use std::cmp::Ordering;
 use value_order::compare;
-
-fn is_equal(a: &Value, b: &Value) -> bool
-    ensures { result ≡ is_equal (compare (tree a.now) (tree b.now)) }
-{
-    match compare(a, b) {
-        Ordering::Equal => true,
-        Ordering::Less | Ordering::Greater => false,
-    }
-}
 
 /// A copy of the document with this `_id` first in place of its own.
 fn copy_with_id(alloc: Global, id: Option<&Value>, new: &Document) -> Result<Document, NoMemory>
@@ -58,8 +47,9 @@ pub(crate) fn replace(alloc: Global, new: &Document, old: &Document) -> Result<D
         return Ok(copy_with_id(alloc, given, new)?);
     };
     if let Some(id) = given {
-        if !is_equal(kept, id) {
-            return Err(Refusal::ImmutableField);
+        match compare(kept, id) {
+            Ordering::Equal => {}
+            Ordering::Less | Ordering::Greater => return Err(Refusal::ImmutableField),
         }
     }
     Ok(copy_with_id(alloc, Some(kept), new)?)

@@ -5,7 +5,7 @@ ghost use Rattle.std.specs.Option.{unwrap_or};
 ghost use Rattle.bson.specs.Edits.{pairs_len};
 ghost use Rattle.update.specs.Fronts.{to_front};
 ghost use Rattle.bson.specs.View.{tree, pairs_of, items_of};
-ghost use Rattle.update.specs.Stored.{name_fault, tree_fault, pairs_fault, items_fault, id_of, id_fault};
+ghost use Rattle.update.specs.Stored.{name_fault, tree_fault, pairs_fault, items_fault, id_of};
 ghost use Rattle.update.specs.Stored.{id_first, limits_fault, stored_fault};
 
 use bson::{Document, NoMemory, Pair, Value};
@@ -99,15 +99,6 @@ pub fn id_of(document: &Document) -> Option<&Value>
     }
 }
 
-fn id_fault(document: &Document) -> Option<Refusal>
-    ensures { result ≡ id_fault (id_of document.now) }
-{
-    match id_of(document) {
-        Some(_) => None,
-        None => Some(Refusal::BadValue),
-    }
-}
-
 /// Why a document may not be stored, if it may not: the first of `limits_fault`, `names_fault`, and `BadValue` where
 /// `_id` is missing or an array.
 #[tactic(auto, unfolding(crate::specs::Stored::stored_fault))]
@@ -120,7 +111,10 @@ pub fn stored_fault(document: &Document, limit: u32) -> Option<Refusal>
     if let Some(refusal) = names_fault(document) {
         return Some(refusal);
     }
-    id_fault(document)
+    match id_of(document) {
+        Some(_) => None,
+        None => Some(Refusal::BadValue),
+    }
 }
 
 /// The place that `_id` is to leave so that it stands first; `None` where the document stands as it is stored.

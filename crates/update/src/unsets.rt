@@ -179,21 +179,6 @@ pub(crate) fn without_items(array: Array, edits: &[Edit]) -> Array
     array
 }
 
-/// The document without what these edits take away, all below what stands at the end of the parts.
-fn unset_below(
-    alloc: Global,
-    parent: &[Part],
-    edits: &[Edit],
-    document: Document,
-) -> Result<Document, Refusal>
-    requires { list_all (λ e. is_unset_below parent.now (edit_of e)) edits.now ≡ true }
-    ensures { Gives Refusal.OutOfMemory (λ d. d) result
-        (apply_edits (map edit_of edits.now) document) }
-{
-    let _levels = document.levels();
-    Ok(change_below(alloc, parent, edits, document)?)
-}
-
 /// The edits, in the order written. Many that take away fields of one document, one behind the other, are done at once.
 fn unset_runs(alloc: Global, edits: &[Edit], document: Document) -> Result<Document, Refusal>
     ensures { Gives Refusal.OutOfMemory (λ d. d) result
@@ -205,7 +190,8 @@ fn unset_runs(alloc: Global, edits: &[Edit], document: Document) -> Result<Docum
         let parent = parent_of(&edit.path);
         let (run, behind) = rest.split_at(count_unsets_below(parent, rest));
         if MANY <= run.len() {
-            document = unset_below(alloc, parent, run, document)?;
+            let _levels = document.levels();
+            document = change_below(alloc, parent, run, document)?;
             rest = behind;
         } else {
             document = apply_action(alloc, document, &edit.path, &edit.action)?;
@@ -236,6 +222,6 @@ pub(crate) fn unset_all(
 {
     let _levels = document.levels();
     let mut sorted = copy_edits(alloc, edits)?;
-    sorted.sort_by(|a, b| by_parent(a, b))?;
+    sorted.sort_by(by_parent)?;
     unset_runs(alloc, &sorted, document)
 }

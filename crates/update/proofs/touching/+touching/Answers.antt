@@ -6,7 +6,7 @@ use Rattle.bson.specs.Edits.{place, pairs_len, with_value}
 use Rattle.bson.specs.EditPlaces.{pairs_len-with_value, with_value-twice}
 use Rattle.path.proofs.WalkLemmas.{place_within}
 use Rattle.update.proofs.RenamingLemmas.{same_there}
-use Rattle.update.proofs.moving.+touching.Goals as goal
+use Rattle.update.proofs.touching.+touching.Goals as goal
 
 pub touch_in_field-take_field-old-requires : goal.touch_in_field-take_field-old-requires
 touch_in_field-take_field-old-requires t c =

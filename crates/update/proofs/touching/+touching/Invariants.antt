@@ -1,5 +1,5 @@
 use Rattle.std.proofs.Common.{◌+◌, ◌*◌, length}
-use Rattle.update.proofs.moving.+touching.Given as goal
+use Rattle.update.proofs.touching.+touching.Given as goal
 
 abbrev pub decreases-touch_inside : goal.decreases-touch_inside
 decreases-touch_inside l = 2 * length l.parts.now

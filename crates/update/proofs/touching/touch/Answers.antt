@@ -6,7 +6,7 @@ use Rattle.bson.specs.Tree.{scalar, null}
 use Rattle.bson.specs.View.{tree}
 use Rattle.path.proofs.WalkLemmas.{pair_at-levels}
 use Rattle.update.proofs.RenamingLemmas.{same_there}
-use Rattle.update.proofs.renaming.touch.Goals as goal
+use Rattle.update.proofs.touching.touch.Goals as goal
 
 pub replace_at-requires-in-Ok : goal.replace_at-requires-in-Ok
 replace_at-requires-in-Ok c =
