@@ -1,4 +1,4 @@
--- What entries make of a fold to which they are lent as documents.
+-- What entries make of a fold to which they are lent, as they are or as documents.
 use Rattle.std.proofs.Common.{◌≡◌, ℕ, suc, ◌<◌, ◌^◌, List, [], ◌∷◌, ◌++◌, length, map, refl, sym, ◌∙◌, ap, subst, arith, inl, inr}
 use Rattle.std.specs.Prelude.{true, false, Option, Some, None, is_some, All, Result, Ok, Err, IfErr, OnOk, MatchOption}
 use Rattle.std.specs.Option.{option_map}
@@ -90,24 +90,24 @@ module _ {F : Type 0} (makes : F → List Pairs → F → Type 0) (start now : L
 
 -- ---- the entries of a tree
 
-pub looks_lent : {D F : Type 0} (history : D → History) (makes : F → List Pairs → F → Type 0) (start now : Lending F) (bounds : Bounds) (root : ℕ)
+pub looks_folded : {D F : Type 0} (history : D → History) (makes : F → List Entry → F → Type 0) (start now : F) (bounds : Bounds) (root : ℕ)
     (result : Result (Unit {0}) TreeFault) (old new : PagerState D) → Grows (store_of history old) (store_of history new)
     → (KeepsStore (store_of history new) → IsSame (store_of history old) (store_of history new))
     → (store_of history new).full_takes ≡ (store_of history old).full_takes → IfErr result IsNotFull
     → (root ≡ 0 → (result ≡ Ok tt) × (now ≡ start))
     → ((d : ℕ) (body : Body d) → IsTree (store_of history old) root d body
-    → Yields (store_of history old) (store_of history new) (λ done. Lends makes start (between bounds (entries_of d body)) now) result)
-    → Lends makes start [] start → LooksUp history root (λ entries (u : Unit {0}). Lends makes start (between bounds entries) now) result old new
-looks_lent {D} {F} history makes start now bounds root result old new grows same takes full empty folds none =
+    → Yields (store_of history old) (store_of history new) (λ done. makes start (between bounds (entries_of d body)) now) result)
+    → makes start [] start → LooksUp history root (λ entries (u : Unit {0}). makes start (between bounds entries) now) result old new
+looks_folded {D} {F} history makes start now bounds root result old new grows same takes full empty folds none =
     record { grows = grows; same = same; takes = takes; full = full; yields = λ pages entries has k. by_map entries k pages has }
   where
     by_map : (entries : List Entry) → KeepsStore (store_of history new) → (pages : List ℕ) → HasMap (store_of history old) root pages entries
-        → IsAnswer (store_of history old) (store_of history new) (λ (u : Unit {0}). Lends makes start (between bounds entries) now) result
+        → IsAnswer (store_of history old) (store_of history new) (λ (u : Unit {0}). makes start (between bounds entries) now) result
     by_map entries k pages (inl (zero, none_there)) =
         let e = empty zero in
-        rw e.0 (subst (λ es. Lends makes start (between bounds es) now) (sym none_there.1) (subst (Lends makes start []) (sym e.1) none))
+        rw e.0 (subst (λ es. makes start (between bounds es) now) (sym none_there.1) (subst (makes start []) (sym e.1) none))
     by_map entries k pages (inr tree) =
-        subst (λ es. IsAnswer (store_of history old) (store_of history new) (λ (u : Unit {0}). Lends makes start (between bounds es) now) result)
+        subst (λ es. IsAnswer (store_of history old) (store_of history new) (λ (u : Unit {0}). makes start (between bounds es) now) result)
         (sym tree.entries_are) (folds tree.d tree.body tree.tree k)
 
 -- ---- the documents of a collection

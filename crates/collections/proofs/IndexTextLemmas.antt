@@ -1,7 +1,7 @@
 -- The texts that a range of entries tells of an index are those of its documents.
-use Rattle.std.proofs.Common.{◌≡◌, ℕ, ◌+◌, ◌<◌, ◌≤◌, ◌^◌, Bool, true, false, not, ◌&&◌, List, [], ◌∷◌, ◌++◌, length, map, drop, Option, Some, None}
+use Rattle.std.proofs.Common.{◌≡◌, ℕ, ◌+◌, ◌<◌, ◌≤◌, ◌^◌, Bool, true, false, not, ◌&&◌, List, [], ◌∷◌, ◌++◌, length, drop, Option, Some, None}
 use Rattle.std.proofs.Common.{◌⊎◌, inl, inr, ⊎_elim, refl, sym, ap, subst, ◌∙◌, arith, append_assoc}
-use Rattle.std.specs.Prelude.{is_some, Contains, IfOk, MatchOption, Result, Ok, Err}
+use Rattle.std.specs.Prelude.{is_some, Contains, MatchOption}
 use Rattle.std.specs.Int.{w32, to_be_bytes}
 use Rattle.std.specs.Option.{option_map}
 use Rattle.std.specs.Ordering.{is_lt, ordering_reverse}
@@ -11,15 +11,14 @@ use Rattle.std.proofs.lemmas.Cmp.{tied_itself}
 use Rattle.bson.specs.Tree.{Pairs}
 use Rattle.value_order.specs.KeyText.{tree_text}
 use Rattle.btree.specs.Keys.{Entry, IsUnder, Rises, is_within, key_cmp, window}
-use Rattle.btree.specs.Scan.{entry_in, within}
-use Rattle.btree.specs.declared.scanning.Batch.{Batch}
-use Rattle.btree.specs.declared.scanning.Range.{Range}
+use Rattle.btree.specs.Calls.{IsBatch}
+use Rattle.btree.specs.Fold.{between}
+use Rattle.btree.specs.declared.folding.Bounds.{Bounds}
 use Rattle.std.specs.Cmp.Lexicographic.{nat_list_cmp_total}
 use Rattle.std.specs.Global.{Vec}
 use Rattle.btree.proofs.KeyLemmas.{three, under_then_up_to, under_trans}
 use Rattle.index.specs.Definition.{Definition}
 use Rattle.index.specs.View.{texts_of}
-use Rattle.path.specs.declared.refusal.Refusal.{Refusal}
 use Rattle.index.specs.KeyTexts.{encoded_keys}
 use Rattle.entries.specs.LawfulState.{IsKept}
 use Rattle.entries.specs.OtherKeys.{IsEndOf}
@@ -35,8 +34,9 @@ use Rattle.entries.proofs.MemberLemmas.{Among, among_append, among_each, among_f
 use Rattle.entries.proofs.WindowLemmas.{among_window, inside_there, is_inside, window_among, window_rises}
 use Rattle.collections.specs.IndexTexts.{AreFirstTexts, AreNextTexts, AreTextsBelow, AreTextsBetween, Indexed, IsEntryText, IsNumberedIndex, IsTextFrom}
 use Rattle.collections.specs.IndexTexts.{LiesBetween, next_behind, text_behind, texts_behind}
-use Rattle.collections.specs.Reading.{IsBatchOf, IsInTree, OrMemory}
-use Rattle.collections.specs.declared.index_texts.NextTexts.{NextTexts}
+use Rattle.collections.specs.ReadTexts.{AreTextsRead}
+use Rattle.collections.specs.Reading.{IsInTree}
+use Rattle.collections.specs.declared.index_texts.TextReading.{TextReading}
 use Rattle.collections.proofs.BehindLemmas.{either_text, text_there, texts_told, texts_there, same_front, texts_rise, lower, front_or_above}
 use Rattle.collections.proofs.BehindLemmas.{front_between, all_told, few_told, within_end, IsAfter, IsFront, front_of, rises_front, each_back, rises_back}
 use Rattle.collections.proofs.BehindLemmas.{front_below}
@@ -47,10 +47,11 @@ front_rest : (m n : ℕ) (rest : List ℕ) → key_under m n [] ++ rest ≡ key_
 front_rest m n rest =
     append_assoc (to_be_bytes w32 m) (to_be_bytes w32 n ++ []) rest ∙ ap (λ (l : List ℕ). to_be_bytes w32 m ++ l) (append_assoc (to_be_bytes w32 n) [] rest)
 
-module _ (now : List Collection) (at : Indexed) (first last : List ℕ) (range : Range) (batch : Batch) (p : IsInTree (IsBatchOf range) now batch)
+module _ (now : List Collection) (at : Indexed) (first last : List ℕ) (bounds : Bounds) (limit : ℕ) (read : List Entry) (next : Option (List ℕ))
+    (p : IsInTree (λ entries (u : Unit {0}). IsBatch limit (between bounds entries) read next) now tt)
     (place : IsNumberedIndex at.collection.number at.definition.number now at)
-    (from : range.from.now ≡ key_under at.collection.number at.definition.number first)
-    (ends : IsEndOf (key_under at.collection.number at.definition.number last) (option_map (λ b. b.now) range.to)) where
+    (from : bounds.from.now ≡ key_under at.collection.number at.definition.number first)
+    (ends : IsEndOf (key_under at.collection.number at.definition.number last) (option_map (λ b. b.now) bounds.to)) where
   abbrev c : Collection
   c = at.collection
 
@@ -61,16 +62,10 @@ module _ (now : List Collection) (at : Indexed) (first last : List ℕ) (range :
   front = key_under c.number i.number []
 
   abbrev to : Option (List ℕ)
-  to = option_map (λ b. b.now) range.to
+  to = option_map (λ b. b.now) bounds.to
 
-  abbrev read : List Entry
-  read = map entry_in batch.entries.items
-
-  abbrev next : Option (List ℕ)
-  next = option_map (λ v. v.items) batch.next
-
-  at_front : IsFront range.limit (window range.from.now to p.entries) read next
-  at_front = front_of range.limit (within range p.entries) read next p.right
+  at_front : IsFront limit (window bounds.from.now to p.entries) read next
+  at_front = front_of limit (between bounds p.entries) read next p.right
 
   kept : IsKept c
   kept = (found_collection now c.name c p.state place.numbered.found).0
@@ -119,13 +114,13 @@ module _ (now : List Collection) (at : Indexed) (first last : List ℕ) (range :
       )
 
   -- it lies in the range
-  in_range : (text : List ℕ) → LiesBetween first last text → is_inside range.from.now to (key_under c.number i.number text) ≡ true
+  in_range : (text : List ℕ) → LiesBetween first last text → is_inside bounds.from.now to (key_under c.number i.number text) ≡ true
   in_range text lies =
       (λ t. not (low t) && high t)
     where
-      low : is_lt (key_cmp (key_under c.number i.number text) range.from.now) ≡ false
+      low : is_lt (key_cmp (key_under c.number i.number text) bounds.from.now) ≡ false
       low =
-          ap (λ (k : List ℕ). is_lt (key_cmp k range.from.now)) (sym (front_rest c.number i.number text))
+          ap (λ (k : List ℕ). is_lt (key_cmp k bounds.from.now)) (sym (front_rest c.number i.number text))
           ∙ ap (λ (k : List ℕ). is_lt (key_cmp (front ++ text) k)) (from ∙ sym (front_rest c.number i.number first))
           ∙ ap is_lt (same_front front text first) ∙ lies.0
 
@@ -136,31 +131,31 @@ module _ (now : List Collection) (at : Indexed) (first last : List ℕ) (range :
 
   -- the keys in the range rise
   up : Rises (entry_keys (read ++ at_front.rest))
-  up = subst (λ (xs : List Entry). Rises (entry_keys xs)) at_front.is (window_rises range.from.now to p.entries p.spells.rises)
+  up = subst (λ (xs : List Entry). Rises (entry_keys xs)) at_front.is (window_rises bounds.from.now to p.entries p.spells.rises)
 
   -- one that lies between the ends was read, or stands behind what was read
   either_place : (text : List ℕ) → IsEntryText c.documents i text → LiesBetween first last text
       → (x : Entry) × (x.key ≡ key_under c.number i.number text) × (Among x read ⊎ Among x at_front.rest)
   either_place text h lies =
       let x = entry_of text h in
-      let inside : is_inside range.from.now to x.0.key ≡ true = ap (is_inside range.from.now to) x.2 ∙ in_range text lies in (
+      let inside : is_inside bounds.from.now to x.0.key ≡ true = ap (is_inside bounds.from.now to) x.2 ∙ in_range text lies in (
         x.0,
         x.2,
         among_append x.0 read at_front.rest
-            (subst (λ (xs : List Entry). Among x.0 xs) at_front.is (window_among range.from.now to p.entries x.0 (in_tree x.0 x.1) inside)),
+            (subst (λ (xs : List Entry). Among x.0 xs) at_front.is (window_among bounds.from.now to p.entries x.0 (in_tree x.0 x.1) inside)),
       )
 
   there_by : (text : List ℕ) (x : Entry) → x.key ≡ key_under c.number i.number text → Among x read → Contains (texts_behind front read) text
   there_by text x is there = contains_of (texts_behind front read) text (texts_there front read x text there (is ∙ sym (front_rest c.number i.number text)))
 
   -- all that were read, and those behind, are in the range
-  ranged : (x : Entry) → Among x (read ++ at_front.rest) → Among x p.entries × (is_inside range.from.now to x.key ≡ true)
-  ranged x there = among_window range.from.now to p.entries x (subst (λ (xs : List Entry). Among x xs) (sym at_front.is) there)
+  ranged : (x : Entry) → Among x (read ++ at_front.rest) → Among x p.entries × (is_inside bounds.from.now to x.key ≡ true)
+  ranged x there = among_window bounds.from.now to p.entries x (subst (λ (xs : List Entry). Among x xs) (sym at_front.is) there)
 
   from_first : (x : Entry) → Among x (read ++ at_front.rest) → is_lt (key_cmp x.key (front ++ first)) ≡ false
   from_first x there =
       ap (λ (k : List ℕ). is_lt (key_cmp x.key k)) (front_rest c.number i.number first ∙ sym from)
-      ∙ not_and (is_lt (key_cmp x.key range.from.now)) (is_within to x.key) (ranged x there).1
+      ∙ not_and (is_lt (key_cmp x.key bounds.from.now)) (is_within to x.key) (ranged x there).1
     where
       not_and : (a b : Bool) → (not a && b) ≡ true → a ≡ false
       not_and true b e = absurd cc
@@ -183,9 +178,9 @@ module _ (now : List Collection) (at : Indexed) (first last : List ℕ) (range :
       let x = either_place text h lies in ⊎_elim (λ there. there_by text x.0 x.1 there) (λ behind. absurd (none text x.0 x.1 behind)) x.2
 
   abbrev Behind : Option (List ℕ) → Type 0
-  Behind o = MatchOption o AreAllRead (AreTextsBelow first range.limit at (texts_behind front read))
+  Behind o = MatchOption o AreAllRead (AreTextsBelow first limit at (texts_behind front read))
 
-  module _ (after : Entry) (others : List Entry) (rest_is : at_front.rest ≡ after ∷ others) (full : length read ≡ range.limit) where
+  module _ (after : Entry) (others : List Entry) (rest_is : at_front.rest ≡ after ∷ others) (full : length read ≡ limit) where
     after_there : Among after (read ++ at_front.rest)
     after_there = among_back after read at_front.rest (subst (λ (xs : List Entry). Among after xs) (sym rest_is) (inl refl))
       where
@@ -214,7 +209,7 @@ module _ (now : List Collection) (at : Indexed) (first last : List ℕ) (range :
           (ap (λ (k : List ℕ). key_cmp k after.key) (is ∙ sym (front_rest c.number i.number text)) ∙ above text)
     ]
 
-    below_after : (text : List ℕ) → after.key ≡ front ++ text → AreTextsBelow first range.limit at (texts_behind front read) text
+    below_after : (text : List ℕ) → after.key ≡ front ++ text → AreTextsBelow first limit at (texts_behind front read) text
     below_after text is = record {
       there = text_from after after_there text is;
       below = λ other h.
@@ -224,13 +219,13 @@ module _ (now : List Collection) (at : Indexed) (first last : List ℕ) (range :
           let y = entry_of other h.0 in
           let key : y.0.key ≡ front ++ other = y.2 ∙ sym (front_rest c.number i.number other) in
           let lower_key : IsUnder y.0.key after.key = (λ t. key_cmp (key t) (is t)) ∙ same_front front other text ∙ under in
-          let low : is_lt (key_cmp y.0.key range.from.now) ≡ false =
+          let low : is_lt (key_cmp y.0.key bounds.from.now) ≡ false =
           (λ t. is_lt (key_cmp (key t) ((from ∙ sym (front_rest c.number i.number first)) t))) ∙ ap is_lt (same_front front other first) ∙ h.1 in
-          let inside : is_inside range.from.now to y.0.key ≡ true =
-          (λ t. not (low t) && within_too to after.key y.0.key (and_true (not (is_lt (key_cmp after.key range.from.now))) (is_within to after.key)
+          let inside : is_inside bounds.from.now to y.0.key ≡ true =
+          (λ t. not (low t) && within_too to after.key y.0.key (and_true (not (is_lt (key_cmp after.key bounds.from.now))) (is_within to after.key)
           (ranged after after_there).1) lower_key t) in
           let there = among_append y.0 read at_front.rest
-          (subst (λ (xs : List Entry). Among y.0 xs) at_front.is (window_among range.from.now to p.entries y.0 (in_tree y.0 y.1) inside)) in
+          (subst (λ (xs : List Entry). Among y.0 xs) at_front.is (window_among bounds.from.now to p.entries y.0 (in_tree y.0 y.1) inside)) in
           ⊎_elim (λ g. there_by other y.0 y.2 g) (λ behind. absurd (lower y.0.key after.key (over_after y.0 behind) lower_key)) there;
       full = all_told front first read (λ x there. front_between front x.key first text (from_first x (among_front x read at_front.rest there))
           (ap (key_cmp x.key) (sym is) ∙ before_after x there)) ∙ full;
@@ -255,11 +250,11 @@ module _ (now : List Collection) (at : Indexed) (first last : List ℕ) (range :
       | inr none ↦ subst Behind (sym none) (all_read (none_after none))
     ]
 
-  behind_read : (o : Option (List ℕ)) → MatchOption o (at_front.rest ≡ []) (IsAfter range.limit read at_front.rest) → Behind (next_behind front o)
+  behind_read : (o : Option (List ℕ)) → MatchOption o (at_front.rest ≡ []) (IsAfter limit read at_front.rest) → Behind (next_behind front o)
   behind_read None none = all_read (λ text x is there. absurd (subst (λ (xs : List Entry). Among x xs) none there))
   behind_read (Some key) one = subst (λ (k : List ℕ). Behind (text_behind front k)) one.key_is (behind_after one.after one.others one.is one.full)
 
-  pub texts_right : AreNextTexts first last range.limit at (next_behind front next) (texts_behind front read)
+  pub texts_right : AreNextTexts first last limit at (next_behind front next) (texts_behind front read)
   texts_right = record {
     rise = texts_rise front read (rises_front read at_front.rest up);
     given = λ text h.
@@ -269,36 +264,30 @@ module _ (now : List Collection) (at : Indexed) (first last : List ℕ) (range :
     behind = behind_read next at_front.behind;
   }
 
--- what is made of a batch of entries
-pub told_next : (number index : ℕ) (batch : Batch) (r : Result NextTexts Refusal) (IsRight : NextTexts → Type 0)
-    → OrMemory (λ found. texts_of found.texts.items ≡ texts_behind (key_under number index []) (map entry_in batch.entries.items)) r
-    → IfOk r (λ found. option_map (λ v. v.items) found.next ≡ next_behind (key_under number index []) (option_map (λ v. v.items) batch.next))
-    → ((found : NextTexts) → texts_of found.texts.items ≡ texts_behind (key_under number index []) (map entry_in batch.entries.items)
-    → option_map (λ v. v.items) found.next ≡ next_behind (key_under number index []) (option_map (λ v. v.items) batch.next) → IsRight found)
-    → OrMemory IsRight r
-told_next number index batch (Ok found) IsRight texts behind on = on found texts behind
-told_next number index batch (Err e) IsRight memory behind on = memory
-
 -- by the numbers that are asked for
-pub texts_asked : (now : List Collection) (at : Indexed) (number index : ℕ) (first last : List ℕ) (range : Range) (batch : Batch)
-    (told : Option (List ℕ)) (texts : List (List ℕ)) → IsInTree (IsBatchOf range) now batch → IsNumberedIndex number index now at
-    → range.from.now ≡ key_under number index first → IsEndOf (key_under number index last) (option_map (λ b. b.now) range.to)
-    → texts ≡ texts_behind (key_under number index []) (map entry_in batch.entries.items)
-    → told ≡ next_behind (key_under number index []) (option_map (λ v. v.items) batch.next)
-    → AreNextTexts first last range.limit at told texts
-texts_asked now at number index first last range batch told texts p place from ends texts_is told_is =
+pub texts_asked : (now : List Collection) (at : Indexed) (number index : ℕ) (first last : List ℕ) (bounds : Bounds) (start read : TextReading)
+    (told : Option (List ℕ)) → IsInTree (λ entries (u : Unit {0}). AreTextsRead start (between bounds entries) read) now tt
+    → IsNumberedIndex number index now at
+    → bounds.from.now ≡ key_under number index first → IsEndOf (key_under number index last) (option_map (λ b. b.now) bounds.to)
+    → start.front.now ≡ key_under number index []
+    → told ≡ next_behind (key_under number index []) (option_map (λ v. v.items) read.next)
+    → AreNextTexts first last start.most at told (texts_of read.texts.items)
+texts_asked now at number index first last bounds start read told p place from ends fronts_are told_is =
     let numbers : number ≡ at.collection.number = sym place.numbered.same in
     let indexes : index ≡ at.definition.number = sym place.same in
     let own : IsNumberedIndex at.collection.number at.definition.number now at =
     record { numbered = record { found = place.numbered.found; same = refl }; listed = place.listed; same = refl } in
-    let right = texts_right now at first last range batch p own (from ∙ (λ t. key_under (numbers t) (indexes t) first))
-    (subst (λ (k : List ℕ). IsEndOf k (option_map (λ b. b.now) range.to)) (λ t. key_under (numbers t) (indexes t) last) ends) in
+    let next : Option (List ℕ) = option_map (λ v. v.items) read.next in
+    let entries : List Entry = p.right.entries in
+    let batch : IsInTree (λ es (u : Unit {0}). IsBatch start.most (between bounds es) entries next) now tt =
+    record { entries = p.entries; spells = p.spells; state = p.state; right = p.right.batch } in
+    let right = texts_right now at first last bounds start.most entries next batch own (from ∙ (λ t. key_under (numbers t) (indexes t) first))
+    (subst (λ (k : List ℕ). IsEndOf k (option_map (λ b. b.now) bounds.to)) (λ t. key_under (numbers t) (indexes t) last) ends) in
     let fronts : key_under number index [] ≡ key_under at.collection.number at.definition.number [] = λ t. key_under (numbers t) (indexes t) [] in
-    subst (λ (o : Option (List ℕ)). AreNextTexts first last range.limit at o texts)
-    (sym (told_is ∙ ap (λ (k : List ℕ). next_behind k (option_map (λ v. v.items) batch.next)) fronts))
-    (subst (AreNextTexts first last range.limit at
-    (next_behind (key_under at.collection.number at.definition.number []) (option_map (λ v. v.items) batch.next)))
-    (sym (texts_is ∙ ap (λ (k : List ℕ). texts_behind k (map entry_in batch.entries.items)) fronts)) right)
+    subst (λ (o : Option (List ℕ)). AreNextTexts first last start.most at o (texts_of read.texts.items))
+    (sym (told_is ∙ ap (λ (k : List ℕ). next_behind k next) fronts))
+    (subst (AreNextTexts first last start.most at (next_behind (key_under at.collection.number at.definition.number []) next))
+    (sym (p.right.texts ∙ ap (λ (k : List ℕ). texts_behind k entries) (fronts_are ∙ fronts))) right)
 
 -- ---- the first ones of all
 

@@ -1,22 +1,27 @@
 //! What the entries of an index tell, from one text up to another.
 
-ghost use Rattle.std.specs.Prelude.{◌≡◌, ◌++◌, [], IfOk, IfSome, OnOk, map, option_map};
+ghost use Rattle.std.specs.Prelude.{◌≡◌, ◌++◌, ◌∷◌, [], ℕ, List, IfOk, IfSome, OnOk, option_map};
 ghost use Rattle.std.specs.Option.{option_to_list};
-ghost use Rattle.btree.specs.Scan.{entry_in};
+ghost use Rattle.btree.specs.Fold.{between, entry_at};
+ghost use Rattle.btree.specs.Keys.{Entry};
 ghost use Rattle.entries.specs.OtherKeys.{IsEndOf};
 ghost use Rattle.entries.specs.StateEntries.{key_under};
 ghost use Rattle.index.specs.View.{texts_of};
-ghost use Rattle.collections.specs.Below.{ReadsBelow};
-ghost use Rattle.collections.specs.IndexTexts.{AreFirstTexts, AreNextTexts, AreTextsBetween, IsNumberedIndex, next_behind, text_behind, texts_behind};
-ghost use Rattle.collections.specs.Reading.{OrMemory, ReadsOf};
+ghost use Rattle.collections.specs.Below.{IsNothing, ReadsBelow};
+ghost use Rattle.collections.specs.IndexTexts.{AreFirstTexts, AreNextTexts, AreTextsBetween, IsNumberedIndex, next_behind, text_behind};
+ghost use Rattle.collections.specs.Reading.{IsInTree, LooksUp, ReadsOf};
+ghost use Rattle.collections.specs.ReadTexts.{AreTextsRead};
+ghost use Rattle.collections.specs.declared.index_texts.TextReading.{TextReading};
 
+use crate::applying::refusal_of;
 use crate::collections::Collections;
 use bson::NoMemory;
-use btree::{Batch, Entry, Range};
+use btree::{Bounds, Fold, TreeFault, fold_entries};
 use entries::{end_of, first_key, index_key};
 use page::Disk;
+use pager::Pager;
 use path::Refusal;
-use std::alloc::Global;
+use std::alloc::{AllocError, Global};
 
 /// What a key goes on with from a front.
 fn text_behind<'a>(front: &[u8], key: &'a [u8]) -> Option<&'a [u8]>
@@ -42,16 +47,87 @@ fn push_text(texts: &mut Vec<Vec<u8>>, front: &[u8], key: &[u8]) -> Result<(), N
     Ok(())
 }
 
-/// What the keys of entries go on with from a front.
-fn texts_behind(alloc: Global, front: &[u8], entries: &[Entry]) -> Result<Vec<Vec<u8>>, Refusal>
-    ensures { OrMemory (λ texts. texts_of texts.items
-        ≡ texts_behind front.now (map entry_in entries.now)) result }
+/// The texts of entries of an index as far as they are read, and the key of the first entry for which there is no room.
+#[derive(Drop)]
+struct TextReading<'a> {
+    alloc: Global,
+    /// What stands before each text.
+    front: &'a [u8],
+    /// So many entries have room.
+    most: usize,
+    /// So many were read.
+    count: usize,
+    texts: Vec<Vec<u8>>,
+    next: Option<Vec<u8>>,
+}
+
+/// Before any entry is read.
+fn none_read(alloc: Global, front: &[u8], most: usize) -> TextReading<'_>
+    ensures front { result.front.now ≡ front.now }
+    ensures most { result.most ≡ most }
+    ensures none { AreTextsRead result [] result }
 {
-    let mut texts = Vec::with_capacity(alloc, entries.len())?;
-    'entries: for entry in entries {
-        push_text(&mut texts, front, &entry.key)?;
+    TextReading {
+        alloc,
+        front,
+        most,
+        count: 0,
+        texts: Vec::new(alloc),
+        next: None,
     }
-    Ok(texts)
+}
+
+impl TextReading<'_> {
+    /// Reads the next entry.
+    fn read_key(&mut self, key: &[u8]) -> Result<(), NoMemory>
+        ensures { (start : TextReading) (all : List Entry) (value : List ℕ)
+            → AreTextsRead start all self.old
+            → OnOk result (AreTextsRead start (all ++ entry_at key.now value ∷ []) self.new) }
+    {
+        if self.next.is_some() {
+            return Ok(());
+        }
+        if self.most <= self.count {
+            self.next = Some(Vec::from_slice(self.alloc, key)?);
+            return Ok(());
+        }
+        push_text(&mut self.texts, self.front, key)?;
+        self.count += 1;
+        Ok(())
+    }
+}
+
+impl Fold for TextReading<'_> {
+    ghost makes = { AreTextsRead };
+
+    fn is_done(&self) -> bool {
+        self.next.is_some()
+    }
+
+    fn take_key(&mut self, key: &[u8]) -> Result<bool, AllocError> {
+        self.read_key(key)?;
+        Ok(true)
+    }
+
+    fn take(&mut self, key: &[u8], _value: &[u8]) -> Result<(), AllocError> {
+        self.read_key(key)
+    }
+}
+
+/// Reads the texts of the entries between bounds of the tree below a root page.
+fn read_below<D: Disk>(
+    alloc: Global,
+    pager: &mut Pager<D>,
+    root: u32,
+    bounds: Bounds<'_>,
+    reading: &mut TextReading<'_>,
+) -> Result<(), TreeFault>
+    requires { AreTextsRead reading.old [] reading.old }
+    ensures { LooksUp D.history root
+        (λ entries _. AreTextsRead reading.old (between bounds.entry entries) reading.new)
+        result pager.old pager.new }
+{
+    fold_entries(alloc, pager, root, bounds, reading)
 }
 
 /// What the next key goes on with from a front, where there is one and it does.
@@ -77,19 +153,6 @@ fn next_behind(
 pub struct NextTexts {
     pub texts: Vec<Vec<u8>>,
     pub next: Option<Vec<u8>>,
-}
-
-/// What the keys of a batch of entries of an index go on with, and the key behind them.
-fn texts_in(alloc: Global, number: u32, index: u32, batch: &Batch) -> Result<NextTexts, Refusal>
-    ensures texts { OrMemory (λ found. texts_of found.texts.items
-        ≡ texts_behind (key_under number index []) (map entry_in batch.now.entries.items)) result }
-    ensures next { IfOk result (λ found. option_map (λ v. v.items) found.next
-        ≡ next_behind (key_under number index []) (option_map (λ v. v.items) batch.now.next)) }
-{
-    let front = first_key(alloc, number, index)?;
-    let texts = texts_behind(alloc, &front, &batch.entries)?;
-    let next = next_behind(alloc, &front, &batch.next)?;
-    Ok(NextTexts { texts, next })
 }
 
 /// The keys in the tree from one text of an index up to another and all that goes on from it.
@@ -124,6 +187,27 @@ pub struct FirstTexts {
 }
 
 impl<D: Disk> Collections<D> {
+    /// Reads the texts of the entries between bounds of the tree below a root page.
+    fn read_from(
+        &mut self,
+        root: u32,
+        bounds: Bounds<'_>,
+        reading: &mut TextReading<'_>,
+    ) -> Result<(), Refusal>
+        requires { AreTextsRead reading.old [] reading.old }
+        ensures { ReadsBelow D.history root IsNothing (λ now asked. IsInTree
+            (λ entries _. AreTextsRead reading.old (between bounds.entry entries) reading.new) now)
+            result self.old self.new }
+    {
+        if self.pager.is_stopped() {
+            return Err(Refusal::StorageFailed);
+        }
+        match read_below(self.alloc, &mut self.pager, root, bounds, reading) {
+            Ok(()) => Ok(()),
+            Err(fault) => Err(refusal_of(fault)),
+        }
+    }
+
     /// The texts of the entries of an index in the tree below a root page, from one text on, in ascending order, at most so many; at the
     /// end those up to another text and all that goes on from it.
     pub(crate) fn texts_from(
@@ -141,13 +225,16 @@ impl<D: Disk> Collections<D> {
             result self.old self.new }
     {
         let keys = keys_between(self.alloc, number, index, first, last)?;
-        let range = Range {
+        let front = first_key(self.alloc, number, index)?;
+        let bounds = Bounds {
             from: &keys.from,
             to: keys.to.as_deref(),
-            limit: most,
         };
-        let batch = self.entries_from(root, range)?;
-        texts_in(self.alloc, number, index, &batch)
+        let mut reading = none_read(self.alloc, &front, most);
+        self.read_from(root, bounds, &mut reading)?;
+        let TextReading { texts, next, .. } = reading;
+        let next = next_behind(self.alloc, &front, &next)?;
+        Ok(NextTexts { texts, next })
     }
 
     /// The texts of the entries of an index from one text up to another and all that goes on from it, in ascending order: the first ones,
