@@ -36,7 +36,7 @@ failed_more : {D : Type 0} (history : D → History) (old new : Engine D) → Co
     → failed_reads_of history old < failed_reads_of history new → (disk_history history old).failures < (disk_history history new).failures
 failed_more history old new counts more =
     let paced : failed_reads_of history new + (disk_history history old).failures ≤ failed_reads_of history old + (disk_history history new).failures
-        = counts.paced in
+    = counts.paced in
     omega (arith, paced, more)
 
 -- no read failed where no more were counted
