@@ -58,7 +58,7 @@ fn goes_to_the_left<P: Pages>(
     if left.units.is_empty() || right.units.is_empty() {
         return Ok(false);
     }
-    if below.rank == left.rank {
+    if below.rank == left.rank && below.rank == right.rank {
         return Ok(false);
     }
     if is_full(below) {
