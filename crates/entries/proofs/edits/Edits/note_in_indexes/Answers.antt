@@ -15,10 +15,12 @@ indexes-preserved c =
     let n = c.args.number in
     let id = c.args.id.now in
     step T (edit_by c.args.what) n id c.args.indexes.now c.args.keys.now c.args.self.now
-    (edits_by c.args.what (entries_in_all n id c.args.indexes.now (map T c.args.keys.now))) c.indexes.at c.index-indexes-at.result c.index-keys-at.result c.indexes.self
+    (edits_by c.args.what (entries_in_all n id c.args.indexes.now (map T c.args.keys.now))) c.indexes.at c.index-indexes-at.result c.index-keys-at.result
+    c.indexes.self
     c.note_keys.new.self
     c.indexes-test.true c.requires.one_each c.index-indexes-at.is c.index-keys-at.is c.indexes.invariant
-    (c.in_ok-note_keys.ensures.ok ∙ (λ t. with_edits (edits_by c.args.what (entries_at n (c.number.ensures.number t) id (texts_of (c.deref.ensures.value t)))) c.indexes.self))
+    (c.in_ok-note_keys.ensures.ok ∙ (λ t. with_edits (edits_by c.args.what (entries_at n (c.number.ensures.number t) id (texts_of (c.deref.ensures.value t))))
+    c.indexes.self))
 
 pub note_keys-requires : goal.note_keys-requires
 note_keys-requires c = record {
@@ -33,7 +35,8 @@ returns-in_err-note_keys-clause-err c =
     let id = c.args.id.now in
     on_err c.from_residual.result
     (cut_off T (edit_by c.args.what) n id c.args.indexes.now c.args.keys.now c.args.self.now
-    (edits_by c.args.what (entries_in_all n id c.args.indexes.now (map T c.args.keys.now))) c.indexes.at c.index-indexes-at.result c.index-keys-at.result c.indexes.self
+    (edits_by c.args.what (entries_in_all n id c.args.indexes.now (map T c.args.keys.now))) c.indexes.at c.index-indexes-at.result c.index-keys-at.result
+    c.indexes.self
     c.note_keys.new.self
     c.indexes-test.true c.requires.one_each c.index-indexes-at.is c.index-keys-at.is c.indexes.invariant
     (subst (λ (es : List Edit). NotesSome c.indexes.self es c.note_keys.new.self)

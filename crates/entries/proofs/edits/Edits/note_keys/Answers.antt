@@ -29,7 +29,8 @@ pub returns-in_err-note_entry-clause-err : goal.returns-in_err-note_entry-clause
 returns-in_err-note_entry-clause-err c =
     on_err c.from_residual.result
     (stays c.args.self.now
-    (all c.args.what c.args.number c.args.index c.args.id.now c.args.keys.now) _ c.note_entry.new.self c.keys.self c.keys.invariant c.in_err-note_entry.ensures.err)
+    (all c.args.what c.args.number c.args.index c.args.id.now c.args.keys.now) _ c.note_entry.new.self c.keys.self c.keys.invariant
+    c.in_err-note_entry.ensures.err)
 
 pub returns-clause-ok : goal.returns-clause-ok
 returns-clause-ok c =

@@ -25,7 +25,8 @@ pub returns-clause-err : goal.returns-clause-err
 returns-clause-err c =
     let same = entries_of_one c.args.number c.args.id.now c.args.index.now c.number.result c.args.document.now
     (texts_of c.args.keys.now) c.number.ensures.number c.requires.keyed c.requires.text in
-    if_err c.note_keys.result (λ some. subst (λ (es : List Edit). NotesSome c.args.self.now es c.note_keys.new.self) (ap puts same) some) c.note_keys.ensures.err
+    if_err c.note_keys.result (λ some. subst (λ (es : List Edit). NotesSome c.args.self.now es c.note_keys.new.self) (ap puts same) some)
+    c.note_keys.ensures.err
 
 pub returns-clause-goes : goal.returns-clause-goes
 returns-clause-goes c =
