@@ -98,7 +98,7 @@ small_items : (items : List Item) → AllByRecursion IsItem items → Each IsStu
 small_items [] h = tt
 small_items (x ∷ xs) h = (record { size = h.0.size; load = h.0.place }, small_items xs h.1)
 
-arms_total : (arms : List Arm) → stubs_size (map arm_stub arms) ≡ total arm_size arms
+pub arms_total : (arms : List Arm) → stubs_size (map arm_stub arms) ≡ total arm_size arms
 arms_total [] = refl
 arms_total (x ∷ xs) = omega (arith, arms_total xs)
 

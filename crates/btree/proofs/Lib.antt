@@ -1,4 +1,7 @@
 mod ScanLemmas
+pub mod AroundFew
+pub mod AroundLemmas
+pub mod BetweenLemmas
 pub mod CapacityLemmas
 pub mod ChainLemmas
 pub mod ChangeLemmas

@@ -1,13 +1,10 @@
 -- A branch of which one child changes.
-use Rattle.std.proofs.Common.{◌≡◌, ℕ, zero, suc, ◌+◌, ◌-◌, ◌^◌, ◌<◌, ◌≤◌, ◌⊎◌, take, drop, get_or, List, [], ◌∷◌, ◌++◌, length, map, Option, Some, None}
-use Rattle.std.proofs.Common.{Result, Ok, Err}
+use Rattle.std.proofs.Common.{◌≡◌, ℕ, zero, suc, ◌+◌, ◌-◌, ◌^◌, ◌<◌, ◌≤◌, ◌⊎◌, drop, get_or, List, [], ◌∷◌, ◌++◌, length, map, Option, Some, None}
 use Rattle.std.proofs.Common.{refl, sym, ap, ◌∙◌, subst, arith, inl, inr, append-nil, append_assoc}
 use Rattle.std.specs.List.{AllByRecursion}
 use Rattle.page.specs.ChildPage.{with_child}
 use Rattle.page.specs.Content.{Arm, IsArm, IsBranch, branch, first_key}
 use Rattle.btree.specs.declared.editing.Edit.{Edit as ProgramEdit}
-use Rattle.btree.specs.declared.loose.Loose.{Loose}
-use Rattle.btree.specs.declared.pages.TreeFault.{TreeFault}
 use Rattle.btree.specs.Change.{IsBehind, edit_keys}
 use Rattle.btree.specs.EditView.{edit_in}
 use Rattle.btree.specs.Keys.{Each, Edit, Entry, IsBetween, IsNotUnder, IsUnder, IsWithin, Rises, change, entry_of, times}
@@ -16,10 +13,10 @@ use Rattle.btree.specs.OneChild.{AreAt, IsAmid, IsPageOf}
 use Rattle.btree.specs.Search.{IsChildPlace}
 use Rattle.btree.specs.Store.{Frame, IsAt, IsMade, Store}
 use Rattle.btree.specs.Tree.{Body, IsSound, Shows, Twig, arm_of, entries_of, pages_of, pairs_of, with_low}
-use Rattle.btree.specs.Turn.{AreTurned, IsHeld, IsTurned, IsUpTo, Sheaf, sheaf_in}
+use Rattle.btree.specs.Turn.{AreTurned, IsHeld, IsTurned, IsUpTo, Sheaf}
 use Rattle.btree.proofs.ChangingLemmas.{begins, behind_later}
-use Rattle.btree.proofs.EndLemmas.{drop_here, last_off, take_here, within_up_to}
-use Rattle.btree.proofs.HeldLemmas.{IsTurn, arm_there, glue_held, held_later, under_long}
+use Rattle.btree.proofs.EndLemmas.{last_off, within_up_to}
+use Rattle.btree.proofs.HeldLemmas.{arm_there, glue_held, held_later, under_long}
 use Rattle.btree.proofs.KeyLemmas.{not_under_itself, not_under_trans, not_both}
 use Rattle.btree.proofs.ListLemmas.{at_place, each_map, get_here, get_mapped, long_append, map_map, times_append}
 use Rattle.btree.proofs.LooseLemmas.{bare_pages, bare_pairs, bare_shows, bare_sound}
@@ -202,10 +199,26 @@ rekeyed s base key between entries pages rank page st h deep load inside little 
       pages_are = λ n. omega (arith, o.pages_are n, none.1 n, ap (times n) (append-nil (page ∷ pages_of o.d o.body)));
     }
 
+-- the same entries and pages
+pub same_held : (s : Store) (base : ℕ) (low : List ℕ) (high : Option (List ℕ)) (entries entries' : List Entry) (pages pages' : List ℕ) (x : Sheaf)
+    → IsHeld s base low high entries pages x → entries ≡ entries' → ((n : ℕ) → times n pages ≡ times n pages')
+    → IsHeld s base low high entries' pages' x
+same_held s base low high entries entries' pages pages' x h same there = record {
+  d = h.d;
+  body = h.body;
+  rank_is = h.rank_is;
+  stubs_are = h.stubs_are;
+  small = h.small;
+  spread = h.spread;
+  shown = h.shown;
+  entries_are = h.entries_are ∙ same;
+  pages_are = λ n. h.pages_are n ∙ there n;
+}
+
 -- what is held, and what is behind it
-behind_glued : (s : Store) (base : ℕ) (key : List ℕ) (between high : Option (List ℕ)) (mid last : List Entry) (mid_pages last_pages : List ℕ) (x : Sheaf)
+pub behind_glued : (s : Store) (base : ℕ) (key : List ℕ) (between high : Option (List ℕ)) (mid last : List Entry) (mid_pages last_pages : List ℕ) (x : Sheaf)
     (right : List Stub) → IsHeld s base key between mid mid_pages x
-    → IsBehind s base between high last last_pages (record { rank = x.rank; stubs = right }) → IsWithin between key
+    → IsBehind s base between high last last_pages (record { rank = x.rank; stubs = right }) → IsUpTo key between
     → IsHeld s base key high (mid ++ last) (mid_pages ++ last_pages) (record { rank = x.rank; stubs = x.stubs ++ right })
 behind_glued s base key between high mid last mid_pages last_pages x right h (inl e) inside =
     let g = subst (λ b. IsHeld s base key b mid mid_pages x) e.1 h in
@@ -224,7 +237,7 @@ behind_glued s base key between high mid last mid_pages last_pages x right h (in
 behind_glued s base key between high mid last mid_pages last_pages x right h (inr m) inside =
     glue_held s base key m.mid high mid last mid_pages last_pages x (record { rank = x.rank; stubs = right })
     (subst (λ b. IsHeld s base key b mid mid_pages x) m.is h) m.held refl
-    (subst (IsUpTo key) m.is (within_up_to key between inside)) m.within
+    (subst (IsUpTo key) m.is inside) m.within
 
 -- another page for one child
 with_left : (xs : List Arm) (left right : List Stub) (t : Stub) (page : ℕ) → map arm_stub xs ≡ left ++ t ∷ right
@@ -302,70 +315,23 @@ branch_written old new base rank page low high arms entries reached stubs h deep
           turned = λ n. omega (arith, ap (times n) m.made, ap (times n) m.retired, pp n, ap (times n) (bare_pages (suc d) (w ∷ ws)));
         }
 
-pub amid_written : (old new : Store) (base rank page written : ℕ) (low : List ℕ) (high : Option (List ℕ)) (arms : List Arm) (at : ℕ) (entries : List Entry)
-    (reached : List ℕ) (below : Sheaf) (stubs : List Stub) → IsPageOf rank page below
-    → IsAmid old base low high arms at rank entries reached below → base < rank → IsBranch (with_child at page arms)
-    → IsMade old new written (branch (with_child at page arms)) → written < 2 ^ 32 → 6 + length low ≤ 1360
-    → stubs ≡ arm_stub (record { key = low; child = written }) ∷ [] → IsTurned old new base low high entries reached (record { rank = rank + 1; stubs = stubs })
-amid_written old new base rank page written low high arms at entries reached below stubs o m deep sound made range little is =
+-- the branch with the page of one child is held
+pub amid_held : (s : Store) (base rank page : ℕ) (low : List ℕ) (high : Option (List ℕ)) (arms : List Arm) (at : ℕ) (entries : List Entry)
+    (reached : List ℕ) (below : Sheaf) → IsPageOf rank page below → IsAmid s base low high arms at rank entries reached below → base < rank
+    → IsHeld s base low high entries reached (record { rank = rank; stubs = map arm_stub (under_key low (with_child at page arms)) })
+amid_held s base rank page low high arms at entries reached below o m deep =
     let t : Stub = record { key = m.key; load = m.load } in
     let t' : Stub = arm_stub (record { key = m.key; child = page }) in
-    let one : IsHeld old base m.key m.between m.mid_entries m.mid_pages (record { rank = rank; stubs = o.stub ∷ [] }) =
-    subst (IsHeld old base m.key m.between m.mid_entries m.mid_pages) (λ i. record { rank = o.rank_is i; stubs = o.stubs_are i }) m.held in
-    let mid = rekeyed old base m.key m.between m.mid_entries m.mid_pages rank page o.stub one deep o.load m.inside m.little in
-    let back = behind_glued old base m.key m.between high m.mid_entries m.back_entries m.mid_pages m.back_pages
-    (record { rank = rank; stubs = t' ∷ [] }) m.right mid m.behind m.inside in
-    let all = glue_held old base low m.key high m.front_entries (m.mid_entries ++ m.back_entries) m.front_pages (m.mid_pages ++ m.back_pages)
+    let one : IsHeld s base m.key m.between m.mid_entries m.mid_pages (record { rank = rank; stubs = o.stub ∷ [] }) =
+    subst (IsHeld s base m.key m.between m.mid_entries m.mid_pages) (λ i. record { rank = o.rank_is i; stubs = o.stubs_are i }) m.held in
+    let mid = rekeyed s base m.key m.between m.mid_entries m.mid_pages rank page o.stub one deep o.load m.inside m.little in
+    let back = behind_glued s base m.key m.between high m.mid_entries m.back_entries m.mid_pages m.back_pages
+    (record { rank = rank; stubs = t' ∷ [] }) m.right mid m.behind (within_up_to m.key m.between m.inside) in
+    let both = glue_held s base low m.key high m.front_entries (m.mid_entries ++ m.back_entries) m.front_pages (m.mid_pages ++ m.back_pages)
     (record { rank = rank; stubs = m.left }) (record { rank = rank; stubs = (t' ∷ []) ++ m.right }) m.left_held back refl m.over m.within in
     let stubs_are : m.left ++ t' ∷ m.right ≡ map arm_stub (under_key low (with_child at page arms)) =
     sym (ap (map arm_stub) (under_with low arms at page) ∙ ap (λ n. map arm_stub (with_child n page (under_key low arms))) (sym m.place)
     ∙ with_left (under_key low arms) m.left m.right t page (m.parts ∙ append_assoc m.left (t ∷ []) m.right)) in
-    let w = branch_written old new base rank written low high (with_child at page arms) (m.front_entries ++ (m.mid_entries ++ m.back_entries))
-    (m.front_pages ++ (m.mid_pages ++ m.back_pages)) stubs
-    (subst (λ ss. IsHeld old base low high (m.front_entries ++ (m.mid_entries ++ m.back_entries)) (m.front_pages ++ (m.mid_pages ++ m.back_pages))
-    (record { rank = rank; stubs = ss })) stubs_are all) deep sound made range little is in
-    record {
-      after = w.after;
-      held = subst (λ es. IsHeld new base low high es w.after (record { rank = rank + 1; stubs = stubs })) m.entries_are w.held;
-      turned = λ n. omega
-          (arith, w.turned n, m.pages_are n, times_append n m.front_pages (m.mid_pages ++ m.back_pages), times_append n m.mid_pages m.back_pages);
-    }
-
--- ---- a branch that was taken apart
-
-same_parts : (l l' r r' : List Stub) (t t' : Stub) → (l ++ t ∷ []) ++ r ≡ (l' ++ t' ∷ []) ++ r' → length l ≡ length l' → (l ≡ l') × (r ≡ r')
-same_parts l l' r r' t t' e long =
-    let whole : l ++ t ∷ r ≡ l' ++ t' ∷ r' = sym (append_assoc l (t ∷ []) r) ∙ e ∙ append_assoc l' (t' ∷ []) r' in (
-      sym (take_here l (t ∷ r)) ∙ (λ i. take (long i) (whole i))
-          ∙ take_here l' (t' ∷ r'),
-      ap (drop 1) (sym (drop_here l (t ∷ r)) ∙ (λ i. drop (long i) (whole i)) ∙ drop_here l' (t' ∷ r')),
-    )
-
-module _ (old : Store) (base : ℕ) (low : List ℕ) (high : Option (List ℕ)) (arms : List Arm) (at rank : ℕ) (entries : List Entry) (reached : List ℕ)
-    (below left right : Sheaf) (unit : Stub)
-    (m : IsAmid old base low high arms at rank entries reached below) (parts : map arm_stub (under_key low arms) ≡ (left.stubs ++ unit ∷ []) ++ right.stubs)
-    (place : length left.stubs ≡ at) (left_rank : left.rank ≡ rank)
-    (right_rank : right.rank ≡ rank) where
-  are_there : (left.stubs ≡ m.left) × (right.stubs ≡ m.right)
-  are_there = same_parts left.stubs m.left right.stubs m.right unit (record { key = m.key; load = m.load }) (sym parts ∙ m.parts) (place ∙ sym m.place)
-
-  pub left_there : IsHeld old base low (Some m.key) m.front_entries m.front_pages left
-  left_there =
-      subst (IsHeld old base low (Some m.key) m.front_entries m.front_pages) (λ i. record { rank = sym left_rank i; stubs = sym are_there.0 i }) m.left_held
-
-  pub right_there : IsBehind old base m.between high m.back_entries m.back_pages right
-  right_there =
-      subst (IsBehind old base m.between high m.back_entries m.back_pages) (λ i. record { rank = sym right_rank i; stubs = sym are_there.1 i }) m.behind
-
-pub apart_done : (old new : Store) (base : ℕ) (low : List ℕ) (high : Option (List ℕ)) (arms : List Arm) (at rank : ℕ) (entries : List Entry)
-    (reached : List ℕ) (below : Sheaf) (r : Result Loose TreeFault) (m : IsAmid old base low high arms at rank entries reached below)
-    → IsTurn old new base low high (m.front_entries ++ (m.mid_entries ++ m.back_entries)) (m.front_pages ++ (m.mid_pages ++ m.back_pages)) r
-    → IsTurn old new base low high entries reached r
-apart_done old new base low high arms at rank entries reached below (Ok l) m u =
-    record {
-      after = u.after;
-      held = subst (λ es. IsHeld new base low high es u.after (sheaf_in l)) m.entries_are u.held;
-      turned = λ n. omega
-          (arith, u.turned n, m.pages_are n, times_append n m.front_pages (m.mid_pages ++ m.back_pages), times_append n m.mid_pages m.back_pages);
-    }
-apart_done old new base low high arms at rank entries reached below (Err e) m u = u
+    subst (λ ss. IsHeld s base low high entries reached (record { rank = rank; stubs = ss })) stubs_are
+    (same_held s base low high _ entries _ reached _ both m.entries_are
+    (λ n. omega (arith, m.pages_are n, times_append n m.front_pages (m.mid_pages ++ m.back_pages), times_append n m.mid_pages m.back_pages)))

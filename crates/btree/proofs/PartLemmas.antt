@@ -26,7 +26,7 @@ behind_items last used (x ∷ xs) le h =
     let r = behind_items x.key (used + item_size x) xs h.2 h.3 in
     ((record { size = h.0.size; place = h.0.load }, r.0), ap (λ o. is_lt o && rise_above x.key (item_keys xs)) h.1 ∙ r.1, omega (arith, r.2))
 
-behind_arms : (last : List ℕ) (used : ℕ) (arms : List Arm) → used ≤ 4080 → GoBehind (Some last) used (map arm_stub arms)
+pub behind_arms : (last : List ℕ) (used : ℕ) (arms : List Arm) → used ≤ 4080 → GoBehind (Some last) used (map arm_stub arms)
     → AllByRecursion IsArm arms × (rise_above last (arm_keys arms) ≡ true) × (used + total arm_size arms ≤ 4080)
 behind_arms last used [] le h = (tt, refl, omega arith)
 behind_arms last used (x ∷ xs) le h =

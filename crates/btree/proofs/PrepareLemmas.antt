@@ -40,7 +40,7 @@ both : (P Q : List ℕ → Type 0) (es : List Edit) → Each (λ e. P e.key) es 
 both P Q [] h g = tt
 both P Q (e ∷ es) h g = ((h.0, g.0), both P Q es h.1 g.1)
 
-upto_of : (key : List ℕ) (high between : Option (List ℕ)) (s : Store) (base : ℕ) (last : List Entry) (pages : List ℕ) (sheaf : Sheaf) → IsWithin between key
+pub upto_of : (key : List ℕ) (high between : Option (List ℕ)) (s : Store) (base : ℕ) (last : List Entry) (pages : List ℕ) (sheaf : Sheaf) → IsWithin between key
     → IsBehind s base between high last pages sheaf → IsUpTo key high
 upto_of key high between s base last pages sheaf w (inl e) = subst (IsUpTo key) e.1 (within_up_to key between w)
 upto_of key high between s base last pages sheaf w (inr m) = up_to_trans key m.mid high (subst (IsUpTo key) m.is (within_up_to key between w)) m.within

@@ -47,12 +47,12 @@ spread_first zero low high (x ∷ xs) s ss e h = let same : x.key ≡ s.key = cc
 spread_first (suc d) low high [] s ss e h = cc
 spread_first (suc d) low high (w ∷ ws) s ss e h = let same : w.key ≡ s.key = cc in subst (IsBetween low high) same h.2.0
 
-each_take : (n : ℕ) (ss : List Stub) → Each IsStub ss → Each IsStub (take n ss)
+pub each_take : (n : ℕ) (ss : List Stub) → Each IsStub ss → Each IsStub (take n ss)
 each_take zero ss h = tt
 each_take (suc n) [] h = tt
 each_take (suc n) (s ∷ ss) h = (h.0, each_take n ss h.1)
 
-each_drop : (n : ℕ) (ss : List Stub) → Each IsStub ss → Each IsStub (drop n ss)
+pub each_drop : (n : ℕ) (ss : List Stub) → Each IsStub ss → Each IsStub (drop n ss)
 each_drop zero ss h = h
 each_drop (suc n) [] h = tt
 each_drop (suc n) (s ∷ ss) h = each_drop n ss h.1

@@ -1,6 +1,6 @@
 -- A branch of which one child changes.
 use Rattle.std.specs.Prelude.{◌≡◌, ℕ, ◌+◌, ◌<◌, ◌≤◌, List, [], ◌∷◌, ◌++◌, length, map, Option, Some}
-use Rattle.std.specs.Prelude.{slice_index_or}
+use Rattle.std.specs.Prelude.{slice_index_or, take, drop}
 use Rattle.page.specs.Content.{Arm}
 use Rattle.btree.specs.Change.{IsBehind}
 use Rattle.btree.specs.Keys.{Each, Edit, Entry, IsNotUnder, IsUnder, IsWithin, times}
@@ -52,3 +52,32 @@ pub record IsAmid (s : Store) (base : ℕ) (low : List ℕ) (high : Option (List
   pub inside : IsWithin between key
   pub within : IsUpTo key high
   pub little : 6 + length key ≤ 1360
+
+-- the cells or children from one place to below another
+abbrev pub stubs_between : ℕ → ℕ → List Stub → List Stub
+stubs_between from to stubs = drop from (take to stubs)
+
+-- What stood below the children from one place to below another has changed, and those before them
+-- and behind them are still those of the branch.
+pub record IsAround (s : Store) (base : ℕ) (low : List ℕ) (high : Option (List ℕ))
+    (stubs : List Stub) (from to rank : ℕ) (entries : List Entry) (reached : List ℕ)
+    (amid : Sheaf) : Type 0 where
+  pub key : List ℕ
+  pub between : Option (List ℕ)
+  pub front_entries : List Entry
+  pub mid_entries : List Entry
+  pub back_entries : List Entry
+  pub front_pages : List ℕ
+  pub mid_pages : List ℕ
+  pub back_pages : List ℕ
+  pub entries_are : front_entries ++ (mid_entries ++ back_entries) ≡ entries
+  pub pages_are : (n : ℕ)
+      → times n front_pages + (times n mid_pages + times n back_pages) ≡ times n reached
+  pub front_held : IsHeld s base low (Some key) front_entries front_pages
+      (record { rank = rank; stubs = take from stubs })
+  pub held : IsHeld s base key between mid_entries mid_pages amid
+  pub behind : IsBehind s base between high back_entries back_pages
+      (record { rank = rank; stubs = drop to stubs })
+  pub over : IsNotUnder key low
+  pub inside : IsUpTo key between
+  pub within : IsUpTo key high

@@ -1,13 +1,13 @@
 // A change by a list of edits, from a page down.
-ghost use Rattle.std.specs.Prelude.{◌≡◌, ◌<◌, ◌≤◌, ◌+◌, ◌-◌, ◌*◌, ◌++◌, ◌∷◌, [], ℕ, zero, List, Option, Some, None, Ok, drop, length, map, slice_index_or, IfErr, IfOk};
+ghost use Rattle.std.specs.Prelude.{◌≡◌, ◌<◌, ◌≤◌, ◌+◌, ◌-◌, ◌*◌, ◌++◌, ◌∷◌, [], ℕ, zero, min, List, Option, Some, None, Ok, drop, length, map, slice_index_or, IfErr, IfOk};
 ghost use Rattle.page.specs.Content.{IsBranch};
 ghost use Rattle.btree.specs.Change.{BeginsAt, edit_keys};
 ghost use Rattle.btree.specs.EditView.{HasRoom, edit_in};
-ghost use Rattle.btree.specs.Few.{IsFewOrOne, IsLittle, GivesFew, GivesFewOrOne, edit_pages};
+ghost use Rattle.btree.specs.Few.{IsFew, IsFewOrOne, IsLittle, GivesFew, GivesFewOrOne, edit_pages};
 ghost use Rattle.btree.specs.Keys.{Each, Entry, IsBetween, IsNotUnder, IsUnder, Pair, Rises, change, entry_of, sum_of};
-ghost use Rattle.btree.specs.Loose.{Stub, arm_stub, first_or, under_key};
+ghost use Rattle.btree.specs.Loose.{Stub, arm_stub, first_or, stubs_size, under_key};
 ghost use Rattle.btree.specs.LooseView.{stub_in};
-ghost use Rattle.btree.specs.OneChild.{AreAt, IsAmid};
+ghost use Rattle.btree.specs.OneChild.{AreAt, IsAmid, IsAround, stubs_between};
 ghost use Rattle.btree.specs.Store.{Grows, IsAt, Store};
 ghost use Rattle.btree.specs.Tree.{Body, IsSound, IsWhole, Shows, content_of, entries_of, item_of, pages_of};
 ghost use Rattle.btree.specs.Turn.{IsHeld, IsUpTo, Turns, sheaf_in};
@@ -17,8 +17,10 @@ use crate::editing::{Edit, edit_cells};
 use crate::in_page::{edit_page, has_room, write_leaf};
 use crate::joining::QUARTER;
 use crate::loose::{Loose, Unit, page_below, units_of_cells};
-use crate::one_child::{child_of_all, page_of_one, write_branch};
-use crate::opening::{leaf_cells, units_of_branch};
+use crate::one_child::{
+    child_of_all, go_between, page_of_one, place_before, place_behind, write_between, write_branch,
+};
+use crate::opening::{children_between, leaf_cells, units_of_branch};
 use crate::search::{branch_child, leaf_key, low_bound};
 use crate::settling::settle;
 use crate::{Pages, TreeFault};
@@ -181,7 +183,44 @@ fn change_leaf<P: Pages>(
     write_leaf(alloc, pages, edited, rank, come_behind(leaf, edits))
 }
 
-// The children of a branch, out of their page, with what is below one of them in its place.
+// What was put among the children beside one, among the others. Where that is one page, the branch is copied with them
+// in it; else its children are taken out of their page.
+fn put_between<P: Pages>(
+    alloc: Global,
+    pages: &mut P,
+    branch: &Branch,
+    at: usize,
+    rank: u32,
+    low: &[u8],
+    amid: Loose,
+) -> Result<Loose, TreeFault>
+    requires sound { IsBranch branch.now }
+    requires place { at < length branch.now }
+    ensures grows { Grows (P.store pages.old) (P.store pages.new) }
+    ensures few { (first : Store) (count : ℕ) → 6 + length low.now ≤ 1360
+        → IsFew first (P.store pages.old) rank (stubs_size (stubs_between (at - 1)
+        (min (at + 2) (length branch.now)) (map arm_stub (under_key low.now branch.now))) + 5440)
+        count (sheaf_in amid)
+        → GivesFewOrOne first (P.store pages.new) rank 10880 count result }
+    ensures turns { (base : ℕ) (high : Option (List ℕ)) (entries : List Entry) (reached : List ℕ)
+        → IsAround (P.store pages.old) base low.now high
+        (map arm_stub (under_key low.now branch.now)) (at - 1) (min (at + 2) (length branch.now))
+        rank entries reached (sheaf_in amid)
+        → base < rank → 6 + length low.now ≤ 1360
+        → Turns (P.store pages.old) (P.store pages.new) base low.now high entries reached result }
+{
+    if go_between(branch, at, rank, low, &amid) {
+        return write_between(alloc, pages, branch, at, &amid.units, rank, low);
+    }
+    let from = place_before(at);
+    let to = place_behind(branch, at);
+    let front = children_between(alloc, branch, low, rank, 0, from)?;
+    let back = children_between(alloc, branch, low, rank, to, branch.len())?;
+    settle(alloc, pages, front, amid, back)
+}
+
+// A branch with what is below one of its children in that one's place, not written where it may be joined: first among
+// the children beside it, and then among the others.
 fn put_apart<P: Pages>(
     alloc: Global,
     pages: &mut P,
@@ -191,27 +230,26 @@ fn put_apart<P: Pages>(
     low: &[u8],
     below: Loose,
 ) -> Result<Loose, TreeFault>
+    requires sound { IsBranch branch.now }
     requires place { at < length branch.now }
     requires rank { 0 < rank }
     ensures grows { Grows (P.store pages.old) (P.store pages.new) }
     ensures few { (first : Store) (count : ℕ) → 6 + length low.now ≤ 1360
         → IsFewOrOne first (P.store pages.old) (rank - 1) 10880 (4 * (rank - 1) + count)
         (sheaf_in below)
-        → GivesFew first (P.store pages.new) rank 10880 (4 * rank + count) result }
+        → GivesFewOrOne first (P.store pages.new) rank 10880 (4 * rank + count) result }
     ensures turns { (base : ℕ) (high : Option (List ℕ)) (entries : List Entry) (reached : List ℕ)
         → IsAmid (P.store pages.old) base low.now high branch.now at rank entries reached
         (sheaf_in below)
+        → base < rank → 6 + length low.now ≤ 1360
         → Turns (P.store pages.old) (P.store pages.new) base low.now high entries reached result }
 {
-    let units = units_of_branch(alloc, branch, low)?;
-    let loose = Loose {
-        rank,
-        units,
-        fills: false,
-    };
-    let Parted { left, unit, right } = part_at(loose, at)?;
-    drop(unit);
-    settle(alloc, pages, left, below, right)
+    let from = place_before(at);
+    let to = place_behind(branch, at);
+    let left = children_between(alloc, branch, low, rank, from, at)?;
+    let right = children_between(alloc, branch, low, rank, at + 1, to)?;
+    let amid = settle(alloc, pages, left, below, right)?;
+    put_between(alloc, pages, branch, at, rank, low, amid)
 }
 
 // A branch with what is below one of its children in that one's place. Where it is one page again, the branch is

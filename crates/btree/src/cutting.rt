@@ -65,8 +65,8 @@ fn is_unit(unit: &Unit) -> bool
     }
 }
 
-// Whether the key is above the last one, if there is one.
-fn is_over(key: &[u8], last: Option<&[u8]>) -> bool
+/// Whether the key is above the last one, if there is one.
+pub(crate) fn is_over(key: &[u8], last: Option<&[u8]>) -> bool
     ensures yes { IsOver (option_map (λ b. b.now) last.entry) key.now → result ≡ true }
     ensures no { result ≡ true → IsOver (option_map (λ b. b.now) last.entry) key.now }
 {

@@ -1,18 +1,23 @@
-// A branch of which one child changes: it is copied, with another page in it.
-ghost use Rattle.std.specs.Prelude.{◌≡◌, ◌<◌, ◌≤◌, ◌+◌, ⊤, ℕ, List, Option, length, map, MatchOption};
-ghost use Rattle.page.specs.Content.{IsBranch};
+// A branch of which one child changes: it is copied, with another page or other children in it.
+ghost use Rattle.std.specs.Prelude.{◌≡◌, ◌<◌, ◌≤◌, ◌+◌, ◌-◌, ◌∷◌, ◌++◌, [], ⊤, ℕ, true, min, List, Option, length, map, slice_index_or, MatchOption};
+ghost use Rattle.page.specs.ChildPage.{exchanged};
+ghost use Rattle.page.specs.Content.{Arm, IsBranch};
 ghost use Rattle.btree.specs.Change.{edit_keys};
 ghost use Rattle.btree.specs.EditView.{edit_in};
 ghost use Rattle.btree.specs.Few.{GivesFew};
-ghost use Rattle.btree.specs.Keys.{Entry, Rises};
-ghost use Rattle.btree.specs.OneChild.{AreAt, IsAmid, IsPageOf};
+ghost use Rattle.btree.specs.Keys.{Entry, IsUnder, Rises};
+ghost use Rattle.btree.specs.Loose.{Stub, arm_stub, under_key};
+ghost use Rattle.btree.specs.LooseView.{stub_in};
+ghost use Rattle.btree.specs.OneChild.{AreAt, IsAmid, IsAround, IsPageOf};
 ghost use Rattle.btree.specs.Store.{Grows, Store};
-ghost use Rattle.btree.specs.Turn.{Sheaf, Turns, sheaf_in};
+ghost use Rattle.btree.specs.Turn.{IsHeld, Sheaf, Turns, sheaf_in};
 
+use crate::cutting::{ROOM, THIRD, go_into_page, is_over, units_within};
 use crate::editing::Edit;
-use crate::loose::{Loose, page_below, push_unit};
-use crate::parts::child_unit;
-use crate::search::{branch_key, child_of_key};
+use crate::joining::QUARTER;
+use crate::loose::{Loose, Unit, page_below, push_unit};
+use crate::parts::{child_unit, children_of};
+use crate::search::{branch_key, child_of_key, high_bound, is_within};
 use crate::{Pages, TreeFault};
 use page::{Branch, PageContent};
 use std::alloc::Global;
@@ -56,6 +61,35 @@ pub(crate) fn page_of_one(below: &Loose, rank: u32) -> Option<u32>
     }
 }
 
+/// A branch that was made, written to a page of its own, as a child.
+fn write_made<P: Pages>(
+    alloc: Global,
+    pages: &mut P,
+    made: Branch,
+    rank: u32,
+    low: &[u8],
+) -> Result<Loose, TreeFault>
+    requires range { rank < 4294967295 }
+    ensures grows { Grows (P.store pages.old) (P.store pages.new) }
+    ensures few { 6 + length low.now ≤ 1360
+        → GivesFew (P.store pages.old) (P.store pages.new) (rank + 1) 1360 1 result }
+    ensures turns { (base : ℕ) (high : Option (List ℕ)) (entries : List Entry) (reached : List ℕ)
+        → IsHeld (P.store pages.old) base low.now high entries reached
+        (record { rank = rank; stubs = map arm_stub (under_key low.now made) })
+        → base < rank → IsBranch made → 6 + length low.now ≤ 1360
+        → Turns (P.store pages.old) (P.store pages.new) base low.now high entries reached result }
+{
+    let key = Vec::from_slice(alloc, low)?;
+    let written = pages.fresh(PageContent::Branch(made))?;
+    let mut units = Vec::new(alloc);
+    push_unit(&mut units, child_unit(key, written))?;
+    Ok(Loose {
+        rank: rank + 1,
+        units,
+        fills: false,
+    })
+}
+
 /// A branch with another page for a child, written to a page of its own.
 pub(crate) fn write_branch<P: Pages>(
     alloc: Global,
@@ -78,14 +112,136 @@ pub(crate) fn write_branch<P: Pages>(
         → base < rank → 6 + length low.now ≤ 1360
         → Turns (P.store pages.old) (P.store pages.new) base low.now high entries reached result }
 {
-    let key = Vec::from_slice(alloc, low)?;
     let made = branch.with_page(alloc, at, page)?;
-    let written = pages.fresh(PageContent::Branch(made))?;
-    let mut units = Vec::new(alloc);
-    push_unit(&mut units, child_unit(key, written))?;
-    Ok(Loose {
-        rank: rank + 1,
-        units,
-        fills: false,
-    })
+    write_made(alloc, pages, made, rank, low)
+}
+
+/// The place of the child before this one, or of this one where it is the first.
+pub(crate) fn place_before(at: usize) -> usize
+    ensures { result ≡ at - 1 }
+{
+    at.saturating_sub(1)
+}
+
+/// The place behind the child that is behind this one, or behind this one where it is the last.
+pub(crate) fn place_behind(branch: &Branch, at: usize) -> usize
+    requires { at < length branch.now }
+    ensures sound { IsBranch branch.now }
+    ensures place { result ≡ min (at + 2) (length branch.now) }
+{
+    let len = branch.len();
+    if len - at <= 2 { len } else { at + 2 }
+}
+
+// The key of a cell or child, by its place.
+fn unit_key(units: &[Unit], i: usize) -> &[u8]
+    requires { i < length units.now }
+    ensures { (s : Stub) → result.now ≡ (slice_index_or (map stub_in units.now) i s).key }
+{
+    units[i].key.as_slice()
+}
+
+// Whether the first key is above that of the child before a place, and the last one below that of the child at another.
+fn are_between(branch: &Branch, from: usize, to: usize, units: &[Unit]) -> bool
+    requires some { 0 < from }
+    requires order { from ≤ to }
+    requires within { to ≤ length branch.now }
+    ensures some { result ≡ true → 0 < length units.now }
+    ensures first { (s : Stub) (d : Arm) → result ≡ true → IsUnder
+        (slice_index_or branch.now (from - 1) d).key (slice_index_or (map stub_in units.now) 0 s).key }
+    ensures last { (s : Stub) (d : Arm) → result ≡ true → to < length branch.now → IsUnder
+        (slice_index_or (map stub_in units.now) (length units.now - 1) s).key
+        (slice_index_or branch.now to d).key }
+{
+    let len = units.len();
+    if len == 0 {
+        return false;
+    }
+    if !is_over(unit_key(units, 0), Some(branch_key(branch, from - 1))) {
+        return false;
+    }
+    is_within(unit_key(units, len - 1), high_bound(branch, to - 1, None))
+}
+
+// Whether these go into a branch between what stands before one place and what stands at another and behind it, under a
+// key, and are enough for a page with that.
+fn find_room(branch: &Branch, from: usize, to: usize, low: &[u8], units: &[Unit]) -> bool
+    requires sound { IsBranch branch.now }
+    requires some { 0 < from }
+    requires order { from ≤ to }
+    requires within { to ≤ length branch.now }
+    ensures { (arms : List Arm) → map stub_in units.now ≡ map arm_stub arms → result ≡ true
+        → IsBranch (exchanged from to arms branch.now) }
+{
+    if !are_between(branch, from, to, units) {
+        return false;
+    }
+    let behind = branch.size() - branch.start(to);
+    let others = branch.start(from) + behind;
+    if others <= QUARTER {
+        return false;
+    }
+    if low.len() > THIRD {
+        return false;
+    }
+    let beside = others + low.len() + 2;
+    if beside > ROOM {
+        return false;
+    }
+    if units_within(units, ROOM - beside) < units.len() {
+        return false;
+    }
+    go_into_page(units)
+}
+
+/// Whether a branch has room, in one page, for what stands in place of a child and those beside it.
+pub(crate) fn go_between(branch: &Branch, at: usize, rank: u32, low: &[u8], amid: &Loose) -> bool
+    requires sound { IsBranch branch.now }
+    requires place { at < length branch.now }
+    ensures rank { result ≡ true → (amid.now.rank ≡ rank) × (rank < 4294967295) }
+    ensures behind { result ≡ true → 1 < at }
+    ensures sound { (arms : List Arm) → map stub_in amid.now.units.items ≡ map arm_stub arms
+        → result ≡ true
+        → IsBranch (exchanged (at - 1) (min (at + 2) (length branch.now)) arms branch.now) }
+{
+    if amid.rank != rank || rank == u32::MAX || at < 2 {
+        return false;
+    }
+    find_room(
+        branch,
+        place_before(at),
+        place_behind(branch, at),
+        low,
+        &amid.units,
+    )
+}
+
+/// A branch with these children in place of a child and those beside it, written to a page of its own.
+pub(crate) fn write_between<P: Pages>(
+    alloc: Global,
+    pages: &mut P,
+    branch: &Branch,
+    at: usize,
+    units: &[Unit],
+    rank: u32,
+    low: &[u8],
+) -> Result<Loose, TreeFault>
+    requires place { at < length branch.now }
+    requires behind { 1 < at }
+    requires range { rank < 4294967295 }
+    requires sound { (arms : List Arm) → map stub_in units.now ≡ map arm_stub arms
+        → IsBranch (exchanged (at - 1) (min (at + 2) (length branch.now)) arms branch.now) }
+    ensures grows { Grows (P.store pages.old) (P.store pages.new) }
+    ensures few { 6 + length low.now ≤ 1360
+        → GivesFew (P.store pages.old) (P.store pages.new) (rank + 1) 1360 1 result }
+    ensures turns { (base : ℕ) (high : Option (List ℕ)) (entries : List Entry) (reached : List ℕ)
+        → IsAround (P.store pages.old) base low.now high
+        (map arm_stub (under_key low.now branch.now)) (at - 1) (min (at + 2) (length branch.now))
+        rank entries reached (record { rank = rank; stubs = map stub_in units.now })
+        → base < rank → 6 + length low.now ≤ 1360
+        → Turns (P.store pages.old) (P.store pages.new) base low.now high entries reached result }
+{
+    let children = children_of(alloc, units)?;
+    let made = branch.with_children(alloc, place_before(at), place_behind(branch, at), &children)?;
+    write_made(alloc, pages, made, rank, low)
 }

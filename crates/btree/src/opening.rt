@@ -5,6 +5,7 @@ ghost use Rattle.btree.specs.Keys.{Each, Entry};
 ghost use Rattle.btree.specs.Few.{AreFewPages, GivesFew, WritesUpTo};
 ghost use Rattle.btree.specs.Loose.{IsStub, arm_stub, item_stub, lowered, stubs_of, stubs_size, under_key};
 ghost use Rattle.btree.specs.LooseView.{stub_in};
+ghost use Rattle.btree.specs.OneChild.{stubs_between};
 ghost use Rattle.btree.specs.Store.{Grows, IsAt, KeepsWord, Store};
 ghost use Rattle.btree.specs.Tree.{Body, IsSound, IsWhole, Shows, content_of, entries_of, pages_of};
 ghost use Rattle.btree.specs.Turn.{IsHeld, IsReady, MayFill, Opens, PartsFirst, PartsLast, Turns, sheaf_in};
@@ -32,6 +33,53 @@ pub(crate) fn leaf_cells(alloc: Global, leaf: &Leaf) -> Result<Vec<Cell<'_>>, Tr
     Ok(cells)
 }
 
+// The children of a branch from one place to below another, the first of all under a key.
+pub(crate) fn units_between(
+    alloc: Global,
+    branch: &Branch,
+    low: &[u8],
+    from: usize,
+    to: usize,
+) -> Result<Vec<Unit>, TreeFault>
+    requires order { from ≤ to }
+    requires within { to ≤ length branch.now }
+    ensures ok { IfOk result (λ units. map stub_in units.items
+        ≡ stubs_between from to (map arm_stub (under_key low.now branch.now))) }
+    ensures err { IfErr result (λ e. e ≡ Memory) }
+{
+    let mut units = Vec::with_capacity(alloc, to - from)?;
+    for i in from..to {
+        let key = low_bound(branch, i, low);
+        let unit = unit_of_page(alloc, key, branch_child(branch, i).page)?;
+        push_unit(&mut units, unit)?;
+    }
+    Ok(units)
+}
+
+// The same, at their height.
+pub(crate) fn children_between(
+    alloc: Global,
+    branch: &Branch,
+    low: &[u8],
+    rank: u32,
+    from: usize,
+    to: usize,
+) -> Result<Loose, TreeFault>
+    requires order { from ≤ to }
+    requires within { to ≤ length branch.now }
+    ensures ok { IfOk result (λ loose. map stub_in loose.units.items
+        ≡ stubs_between from to (map arm_stub (under_key low.now branch.now))) }
+    ensures rank { IfOk result (λ loose. loose.rank ≡ rank) }
+    ensures err { IfErr result (λ e. e ≡ Memory) }
+{
+    let units = units_between(alloc, branch, low, from, to)?;
+    Ok(Loose {
+        rank,
+        units,
+        fills: false,
+    })
+}
+
 // The children of a branch, the first under a key.
 pub(crate) fn units_of_branch(
     alloc: Global,
@@ -44,12 +92,7 @@ pub(crate) fn units_of_branch(
         (λ units. map stub_in units.items ≡ map arm_stub (under_key low.now branch.now)) }
     ensures err { IfErr result (λ e. e ≡ Memory) }
 {
-    let mut units = Vec::with_capacity(alloc, branch.len())?;
-    for i in 0..branch.len() {
-        let key = low_bound(branch, i, low);
-        let unit = unit_of_page(alloc, key, branch_child(branch, i).page)?;
-        push_unit(&mut units, unit)?;
-    }
+    let units = units_between(alloc, branch, low, 0, branch.len())?;
     Ok(units)
 }
 

@@ -93,8 +93,8 @@ fn cells_of(alloc: Global, units: &[Unit]) -> Result<Vec<Cell<'_>>, TreeFault>
     Ok(cells)
 }
 
-// Children, as views.
-fn children_of(alloc: Global, units: &[Unit]) -> Result<Vec<Child<'_>>, TreeFault>
+/// Children, as views.
+pub(crate) fn children_of(alloc: Global, units: &[Unit]) -> Result<Vec<Child<'_>>, TreeFault>
     ensures ok { IfOk result
         (λ children. map arm_stub (map arm_in children.items) ≡ map stub_in units.now) }
     ensures err { (arms : List Arm) → map stub_in units.now ≡ map arm_stub arms

@@ -37,7 +37,8 @@ fn bytes_below<P: Pages>(pages: &mut P, unit: &Unit) -> Result<usize, TreeFault>
     }
 }
 
-// Whether something is to be joined with what stands before it, since that has less than what stands behind it.
+// Whether something is to be joined with what stands before it, since that has less than what stands behind it. What
+// stands at their height goes between them as it is.
 fn goes_to_the_left<P: Pages>(
     pages: &mut P,
     left: &Loose,
@@ -55,6 +56,9 @@ fn goes_to_the_left<P: Pages>(
         → Yields (P.store pages.old) (P.store pages.new) (λ goes. ⊤) result }
 {
     if left.units.is_empty() || right.units.is_empty() {
+        return Ok(false);
+    }
+    if below.rank == left.rank {
         return Ok(false);
     }
     if is_full(below) {

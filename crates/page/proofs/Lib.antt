@@ -2,6 +2,7 @@ pub mod CacheLemmas
 pub mod CallLemmas
 pub mod CellLemmas
 pub mod ChildPageLemmas
+pub mod ExchangeLemmas
 pub mod ImageSteps
 pub mod KeptLemmas
 pub mod MakingLemmas

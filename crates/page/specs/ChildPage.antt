@@ -1,5 +1,5 @@
--- A branch with another page for one child.
-use Rattle.std.specs.Prelude.{ℕ, zero, suc, ◌+◌, List, [], ◌∷◌, length}
+-- A branch with another page for one child, or with other children.
+use Rattle.std.specs.Prelude.{ℕ, zero, suc, ◌+◌, List, [], ◌∷◌, ◌++◌, length, take, drop}
 use Rattle.page.specs.Content.{Arm, arm_size}
 
 -- the children with another page for the one at this place
@@ -19,3 +19,7 @@ abbrev pub page_place : ℕ → List Arm → ℕ
 page_place i [] = 0
 page_place zero (first ∷ arms) = 0
 page_place (suc i) (first ∷ arms) = 4 + later_place i arms
+
+-- the children with these in place of those from one place to below another
+abbrev pub exchanged : ℕ → ℕ → List Arm → List Arm → List Arm
+exchanged from to new arms = take from arms ++ (new ++ drop to arms)

@@ -1,14 +1,14 @@
 //! Branches: the children of a page of the tree.
 
-ghost use Rattle.std.specs.Prelude.{◌≡◌, ◌<◌, ◌≤◌, ◌+◌, ℕ, length, map, slice_get, Some, IfOk};
+ghost use Rattle.std.specs.Prelude.{◌≡◌, ◌<◌, ◌≤◌, ◌+◌, ℕ, length, map, slice_get, take, Some, IfOk};
 ghost use Rattle.outcome.specs.Outcome.{Gives};
 ghost use Rattle.page.specs.Content.{Content, branch, IsBranch, Arm, arm_keys, arm_pages, arms_size};
-ghost use Rattle.page.specs.ChildPage.{page_place, with_child};
+ghost use Rattle.page.specs.ChildPage.{exchanged, page_place, with_child};
 ghost use Rattle.page.specs.Format.{branch_in, arms_bytes, body_and_zeros};
 ghost use Rattle.page.specs.CellView.{arm_of};
 
-use crate::cells::{CellForm, append_number, branch_child, keys_rise, note_place, places_of};
-use crate::splicing::bytes_with_number;
+use crate::cells::{CellForm, append_children, append_number, branch_child, keys_rise, places_of};
+use crate::splicing::{append_places, bytes_with_number};
 use crate::{BODY_BYTES, Child, PageFault};
 use byteorder::{ByteOrder, LittleEndian};
 use std::alloc::{AllocError, Global};
@@ -45,10 +45,7 @@ impl Branch {
         let mut bytes = Vec::with_capacity(alloc, BODY_BYTES)?;
         let mut places = Vec::with_capacity(alloc, children.len() - 1)?;
         append_number(&mut bytes, children[0].page)?;
-        for child in &children[1..] {
-            note_place(&mut places, bytes.len())?;
-            child.append_to(&mut bytes)?;
-        }
+        append_children(&children[1..], &mut bytes, &mut places)?;
         bytes.resize(BODY_BYTES, 0)?;
         Ok(Branch { bytes, places })
     }
@@ -131,6 +128,47 @@ impl Branch {
     {
         let bytes = bytes_with_number(alloc, &self.bytes, self.number_place(i), page)?;
         let places = Vec::from_slice(alloc, &self.places)?;
+        Ok(Branch { bytes, places })
+    }
+
+    /// Where a child behind the first begins, by its place among the children, or where the last one ends.
+    pub fn start(&self, i: usize) -> usize
+        requires some { 0 < i }
+        requires within { i ≤ length self.now }
+        ensures { result ≡ arms_size (take i self.now) }
+    {
+        if i <= self.places.len() {
+            return self.places[i - 1] as usize;
+        }
+        self.size()
+    }
+
+    /// The branch with these children in place of those from one place to below another, behind the first child. What stands
+    /// before them and behind them is copied as a whole.
+    pub fn with_children(
+        &self,
+        alloc: Global,
+        from: usize,
+        to: usize,
+        children: &[Child<'_>],
+    ) -> Result<Branch, AllocError>
+        requires some { 0 < from }
+        requires order { from ≤ to }
+        requires within { to ≤ length self.now }
+        requires sound { IsBranch (exchanged from to (map arm_of children.now) self.now) }
+        ensures { IfOk result (λ made.
+            made ≡ exchanged from to (map arm_of children.now) self.now) }
+    {
+        let stop = self.start(to);
+        let size = self.size();
+        let mut bytes = Vec::with_capacity(alloc, BODY_BYTES)?;
+        let mut places = Vec::with_capacity(alloc, self.places.len() + children.len())?;
+        bytes.extend_from_slice(&self.bytes[..self.start(from)])?;
+        places.extend_from_slice(&self.places[..from - 1])?;
+        append_children(children, &mut bytes, &mut places)?;
+        append_places(&self.places[to - 1..], stop, bytes.len(), &mut places)?;
+        bytes.extend_from_slice(&self.bytes[stop..size])?;
+        bytes.resize(BODY_BYTES, 0)?;
         Ok(Branch { bytes, places })
     }
 

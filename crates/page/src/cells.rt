@@ -1,12 +1,12 @@
 //! The cells of the tree's pages, as views of a page's bytes.
 
 ghost use Rattle.std.specs.Prelude.{◌≡◌, ◌≤◌, ◌<◌, ◌+◌, ◌^◌, ◌++◌, ◌∷◌, [], ◌||◌, ℕ, nat_lt, List, length, map, drop, vec_len, Ok, OnOk};
-ghost use Rattle.std.specs.List.{AllByRecursion};
+ghost use Rattle.std.specs.List.{AllByRecursion, flat_map};
 ghost use Rattle.outcome.specs.Outcome.{Gives, GivesExactly, unless};
 ghost use Rattle.byteorder.specs.Endian.{little_bytes};
-ghost use Rattle.page.specs.Content.{IsItem, IsArm, rise_above, item_size};
+ghost use Rattle.page.specs.Content.{IsItem, IsArm, rise_above, item_size, arm_size, total};
 ghost use Rattle.page.specs.Format.{item_bytes, arm_bytes, value_length, stored_size, leaf_cell_size, branch_cell_size, place_in, item_in, arm_in, places_in};
-ghost use Rattle.page.specs.Kept.{IsWhole};
+ghost use Rattle.page.specs.Kept.{IsWhole, starts};
 ghost use Rattle.page.specs.CellView.{place_of, item_of, arm_of, size_by, key_by};
 
 use crate::{PageFault, is_all_zero};
@@ -203,6 +203,26 @@ pub(crate) fn note_place(places: &mut Vec<u16>, at: usize) -> Result<(), AllocEr
     ensures { OnOk result (places.new.items ≡ places.old.items ++ at ∷ []) }
 {
     places.push(at as u16)?;
+    Ok(())
+}
+
+/// Appends the bytes of children behind the first, and where each begins.
+pub(crate) fn append_children(
+    children: &[Child<'_>],
+    bytes: &mut Vec<u8>,
+    places: &mut Vec<u16>,
+) -> Result<(), AllocError>
+    requires each { AllByRecursion IsArm (map arm_of children.now) }
+    requires room { length bytes.old.items + total arm_size (map arm_of children.now) ≤ 4080 }
+    ensures bytes { OnOk result
+        (bytes.new.items ≡ bytes.old.items ++ flat_map arm_bytes (map arm_of children.now)) }
+    ensures places { OnOk result (places.new.items
+        ≡ places.old.items ++ starts arm_size (length bytes.old.items) (map arm_of children.now)) }
+{
+    for child in children {
+        note_place(places, bytes.len())?;
+        child.append_to(bytes)?;
+    }
     Ok(())
 }
 

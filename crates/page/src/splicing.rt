@@ -1,7 +1,7 @@
-//! Bytes and places of a leaf with one cell more, or one fewer, and bytes of a branch with another page: what stays is
-//! copied as runs.
+//! Bytes and places of a leaf with one cell more, or one fewer, and of a branch with another page or other children: what
+//! stays is copied as runs.
 
-ghost use Rattle.std.specs.Prelude.{◌≡◌, ◌≤◌, ◌+◌, ◌-◌, ◌++◌, ◌∷◌, [], ℕ, length, map, take, drop, replicate, IfOk};
+ghost use Rattle.std.specs.Prelude.{◌≡◌, ◌≤◌, ◌+◌, ◌-◌, ◌++◌, ◌∷◌, [], ℕ, length, map, take, drop, replicate, IfOk, OnOk};
 ghost use Rattle.std.specs.List.{AllByRecursion};
 ghost use Rattle.byteorder.specs.Endian.{little_bytes};
 ghost use Rattle.page.specs.Content.{IsItem, item_size};
@@ -115,4 +115,22 @@ pub(crate) fn bytes_with_number(
     append_number(&mut made, number)?;
     made.extend_from_slice(&bytes[at + 4..])?;
     Ok(made)
+}
+
+/// Appends places of cells that stood behind one place, and stand behind another now.
+pub(crate) fn append_places(
+    places: &[u16],
+    from: usize,
+    to: usize,
+    made: &mut Vec<u16>,
+) -> Result<(), AllocError>
+    requires to { to ≤ 4080 }
+    requires small { AllByRecursion (λ (p : ℕ). p ≤ 4080) places.now }
+    ensures { OnOk result
+        (made.new.items ≡ made.old.items ++ map (λ p. p - from + to) places.now) }
+{
+    for place in places {
+        note_place(made, (*place as usize).saturating_sub(from) + to)?;
+    }
+    Ok(())
 }

@@ -1,65 +1,102 @@
-use Rattle.std.proofs.Common.{◌≡◌, ◌∙◌, ◌-◌, ◌*◌, ◌+◌, arith, length, map, refl, subst, sym}
-use Rattle.btree.specs.Few.{IsFewOrOne, MakesUpTo}
+use Rattle.std.proofs.Common.{◌∙◌, ◌-◌, ◌*◌, ◌+◌, arith, ap, length, map, min}
+use Rattle.btree.specs.Few.{MakesUpTo}
+use Rattle.btree.specs.Loose.{arm_stub, under_key}
 use Rattle.btree.specs.LooseView.{stub_in}
+use Rattle.btree.specs.OneChild.{stubs_between}
 use Rattle.btree.specs.Turn.{sheaf_in}
-use Rattle.btree.proofs.EndLemmas.{within_up_to}
-use Rattle.btree.proofs.FewParts.{branch_few}
-use Rattle.btree.proofs.FewLemmas.{branch_two, children_few, few_made, stopped}
-use Rattle.btree.proofs.ListLemmas.{long_map}
-use Rattle.btree.proofs.OneChildLemmas.{apart_done, left_there, right_there}
+use Rattle.btree.proofs.AroundFew.{are_beside, near_failed, near_few}
+use Rattle.btree.proofs.AroundLemmas.{near_done, near_stopped}
+use Rattle.btree.proofs.FewLemmas.{few_made, few_small, stopped}
+use Rattle.btree.proofs.HeldLemmas.{turns_failed}
+use Rattle.btree.proofs.StoreLemmas.{grows_trans}
 use Rattle.btree.proofs.changing.put_apart.Goals as goal
+
+pub returns-clause-grows : goal.returns-clause-grows
+returns-clause-grows g c = grows_trans _ _ _ c.in_ok-amid.ensures.grows c.put_between.ensures.grows
+
+pub returns-clause-turns : goal.returns-clause-turns
+returns-clause-turns g c =
+    λ base high entries reached m deep little k.
+    let s = g.P.Pages.store c.args.pages.now in
+    let mid = g.P.Pages.store c.settle.new.pages in
+    let arms = c.args.branch.now in
+    let stubs = map arm_stub (under_key c.args.low.now arms) in
+    let frame = c.put_between.ensures.grows.frame k in
+    near_done s base c.args.low.now high arms c.args.at c.args.rank entries reached (sheaf_in c.args.below) (sheaf_in c.in_ok-left.left)
+    (sheaf_in c.in_ok-right.right) m (c.args.at - 1) (min (c.args.at + 2) (length arms)) (omega arith) (omega (arith, c.requires.place))
+    (c.in_ok-left.ensures.ok ∙ ap (λ n. stubs_between n c.args.at stubs) c.place_before-from.ensures) c.in_ok-left.ensures.rank
+    (c.in_ok-right.ensures.ok ∙ ap (λ n. stubs_between (c.args.at + 1) n stubs) c.place_behind-to.ensures.place) c.in_ok-right.ensures.rank
+    mid (c.in_ok-amid.ensures.grows.frame frame.word) (g.P.Pages.store c.put_between.new.pages) (sheaf_in c.in_ok-amid.amid) c.put_between.result
+    (λ low' key between end first last inner fp ip lp l i b over inside within.
+    c.in_ok-amid.ensures.turns base low' key between end first inner last fp ip lp l i b over inside within frame.word)
+    (λ then around. c.put_between.ensures.turns base high entries then around deep little k)
+
+pub returns-in_err-amid-clause-turns : goal.returns-in_err-amid-clause-turns
+returns-in_err-amid-clause-turns g c =
+    λ base high entries reached m deep little k.
+    let s = g.P.Pages.store c.args.pages.now in
+    let mid = g.P.Pages.store c.settle.new.pages in
+    let arms = c.args.branch.now in
+    let stubs = map arm_stub (under_key c.args.low.now arms) in
+    turns_failed s mid base c.args.low.now high entries reached c.from_residual-in_err-amid.result _ c.from_residual-in_err-amid.ensures.1
+    (near_stopped s base c.args.low.now high arms c.args.at c.args.rank entries reached (sheaf_in c.args.below) (sheaf_in c.in_ok-left.left)
+    (sheaf_in c.in_ok-right.right) m (c.args.at - 1) (min (c.args.at + 2) (length arms)) (omega arith) (omega (arith, c.requires.place))
+    (c.in_ok-left.ensures.ok ∙ ap (λ n. stubs_between n c.args.at stubs) c.place_before-from.ensures) c.in_ok-left.ensures.rank
+    (c.in_ok-right.ensures.ok ∙ ap (λ n. stubs_between (c.args.at + 1) n stubs) c.place_behind-to.ensures.place) c.in_ok-right.ensures.rank
+    mid (c.in_err-amid.ensures.grows.frame k) _
+    (λ low' key between end first last inner fp ip lp l i b over inside within.
+    c.in_err-amid.ensures.turns base low' key between end first inner last fp ip lp l i b over inside within k))
 
 pub returns-clause-few : goal.returns-clause-few
 returns-clause-few g c =
     λ first count little below k.
     let s = g.P.Pages.store c.args.pages.now in
-    let left = c.in_ok-left.field-0.left in
-    let right = c.in_ok-left.field-0.right in
-    let stubs = map stub_in c.in_ok-units.units.items in
-    children_few first s s (g.P.Pages.store c.settle.new.pages) (record { rank = c.args.rank; stubs = stubs })
-    (sheaf_in left) (sheaf_in right) (sheaf_in c.args.below) (sheaf_in left)
-    (stub_in c.in_ok-left.field-0.unit) count c.in_ok-left.ensures.parts c.in_ok-left.ensures.left_rank c.in_ok-left.ensures.right_rank c.requires.rank
-    (branch_few c.args.low.now c.args.branch.now stubs c.in_ok-units.ensures.ok c.in_ok-units.ensures.sound little)
-    (omega (
-      arith,
-      branch_two c.args.low.now c.args.branch.now c.in_ok-units.units.items c.in_ok-units.ensures.ok c.in_ok-units.ensures.sound,
-      long_map stub_in c.in_ok-units.units.items,
-    )) refl (omega arith)
-    (subst (λ r. IsFewOrOne first s (r - 1) 10880 (4 * (r - 1) + count) (sheaf_in c.args.below)) (sym c.in_ok-left.ensures.left_rank) below)
-    c.settle.result (λ hl hb hr. c.settle.ensures.few k hl hb hr)
+    let mid = g.P.Pages.store c.settle.new.pages in
+    let left = c.in_ok-left.left in
+    let right = c.in_ok-right.right in
+    let b = are_beside c.args.low.now c.args.branch.now c.args.at c.place_before-from.result c.place_behind-to.result (map stub_in left.units.items)
+    (map stub_in right.units.items) c.requires.sound c.requires.place little c.place_before-from.ensures c.place_behind-to.ensures.place
+    c.in_ok-left.ensures.ok c.in_ok-right.ensures.ok in
+    c.put_between.ensures.few first (4 * c.args.rank + count) little
+    (near_few first s mid (sheaf_in left) (sheaf_in c.args.below) (sheaf_in right) c.args.rank count _ c.in_ok-left.ensures.rank c.in_ok-right.ensures.rank
+    c.requires.rank b.some b.size c.in_ok-amid.amid below
+    (c.in_ok-amid.ensures.few (c.put_between.ensures.grows.frame k).word b.left_small
+    (few_small first s (c.args.rank - 1) 10880 (4 * (c.args.rank - 1) + count) (sheaf_in c.args.below) below) b.right_small)) k
 
-pub returns-clause-turns : goal.returns-clause-turns
-returns-clause-turns g c =
-    λ base high entries reached m k.
-    let s = g.P.Pages.store c.args.pages.now in
-    let left = c.in_ok-left.field-0.left in
-    let right = c.in_ok-left.field-0.right in
-    let parts = sym c.in_ok-units.ensures.ok ∙ c.in_ok-left.ensures.parts in
-    let place : length (map stub_in left.units.items) ≡ c.args.at = omega (arith, c.in_ok-left.ensures.left, long_map stub_in left.units.items) in
-    let behind =
-    right_there s base c.args.low.now high c.args.branch.now c.args.at c.args.rank entries reached (sheaf_in c.args.below) (sheaf_in left) (sheaf_in right)
-    (stub_in c.in_ok-left.field-0.unit) m parts place c.in_ok-left.ensures.left_rank c.in_ok-left.ensures.right_rank in
-    let front = left_there s base c.args.low.now high c.args.branch.now c.args.at c.args.rank entries reached (sheaf_in c.args.below) (sheaf_in left)
-    (sheaf_in right) (stub_in c.in_ok-left.field-0.unit) m parts place c.in_ok-left.ensures.left_rank c.in_ok-left.ensures.right_rank in
-    apart_done s (g.P.Pages.store c.settle.new.pages) base c.args.low.now high c.args.branch.now c.args.at c.args.rank entries reached
-    (sheaf_in c.args.below) c.settle.result m
-    (c.settle.ensures.turns base c.args.low.now m.key m.between high m.front_entries m.mid_entries m.back_entries m.front_pages m.mid_pages m.back_pages
-    front m.held behind m.over (within_up_to m.key m.between m.inside) m.within k)
-
-pub returns-in_err-units-clause-few : goal.returns-in_err-units-clause-few
-returns-in_err-units-clause-few g c =
+pub returns-in_err-amid-clause-few : goal.returns-in_err-amid-clause-few
+returns-in_err-amid-clause-few g c =
     λ first count little below k.
     let s = g.P.Pages.store c.args.pages.now in
-    let rank = c.args.rank in
-    let m : MakesUpTo first s (4 * rank + count) =
-    omega (arith, c.requires.rank, few_made first s (rank - 1) 10880 (4 * (rank - 1) + count) (sheaf_in c.args.below) below) in
-    stopped _ _ _ c.from_residual.result c.from_residual.ensures.1 m
+    let mid = g.P.Pages.store c.settle.new.pages in
+    let left = c.in_ok-left.left in
+    let right = c.in_ok-right.right in
+    let b = are_beside c.args.low.now c.args.branch.now c.args.at c.place_before-from.result c.place_behind-to.result (map stub_in left.units.items)
+    (map stub_in right.units.items) c.requires.sound c.requires.place little c.place_before-from.ensures c.place_behind-to.ensures.place
+    c.in_ok-left.ensures.ok c.in_ok-right.ensures.ok in
+    let m : MakesUpTo first mid (4 * c.args.rank + count + 1) =
+    omega (
+      arith,
+      near_failed first s mid (sheaf_in left) (sheaf_in c.args.below) (sheaf_in right) c.args.rank count _ c.in_ok-left.ensures.rank
+          c.in_ok-right.ensures.rank c.requires.rank b.some b.size below
+          (c.in_err-amid.ensures.few k b.left_small (few_small first s (c.args.rank - 1) 10880 (4 * (c.args.rank - 1) + count) (sheaf_in c.args.below) below)
+          b.right_small),
+    ) in
+    stopped _ _ _ c.from_residual-in_err-amid.result c.from_residual-in_err-amid.ensures.1 m
 
 pub returns-in_err-left-clause-few : goal.returns-in_err-left-clause-few
 returns-in_err-left-clause-few g c =
     λ first count little below k.
     let s = g.P.Pages.store c.args.pages.now in
     let rank = c.args.rank in
-    let m : MakesUpTo first s (4 * rank + count) =
+    let m : MakesUpTo first s (4 * rank + count + 1) =
     omega (arith, c.requires.rank, few_made first s (rank - 1) 10880 (4 * (rank - 1) + count) (sheaf_in c.args.below) below) in
-    stopped _ _ _ c.from_residual-in_err-left.result c.from_residual-in_err-left.ensures.1 m
+    stopped _ _ _ c.from_residual.result c.from_residual.ensures.1 m
+
+pub returns-in_err-right-clause-few : goal.returns-in_err-right-clause-few
+returns-in_err-right-clause-few g c =
+    λ first count little below k.
+    let s = g.P.Pages.store c.args.pages.now in
+    let rank = c.args.rank in
+    let m : MakesUpTo first s (4 * rank + count + 1) =
+    omega (arith, c.requires.rank, few_made first s (rank - 1) 10880 (4 * (rank - 1) + count) (sheaf_in c.args.below) below) in
+    stopped _ _ _ c.from_residual-in_err-right.result c.from_residual-in_err-right.ensures.1 m

@@ -1,21 +1,11 @@
 use Rattle.btree.specs.Turn.{sheaf_in}
-use Rattle.btree.proofs.FewLemmas.{few_above_one, few_alone}
+use Rattle.btree.proofs.FewLemmas.{few_above_one}
 use Rattle.btree.proofs.changing.put_child.Goals as goal
-
-pub returns-then-size-le-QUARTER-clause-few : goal.returns-then-size-le-QUARTER-clause-few
-returns-then-size-le-QUARTER-clause-few g c =
-    λ first count little below k. few_alone first (g.P.Pages.store c.put_apart.new.pages) c.args.rank _ _ c.put_apart.result
-    (c.put_apart.ensures.few first count little below k)
 
 pub returns-in-Some-clause-turns : goal.returns-in-Some-clause-turns
 returns-in-Some-clause-turns g c =
     λ base high entries reached m deep little k. c.write_branch.ensures.turns base high entries reached
     (sheaf_in c.args.below) c.in-Some.ensures m deep little k
-
-pub returns-in-None-clause-few : goal.returns-in-None-clause-few
-returns-in-None-clause-few g c =
-    λ first count little below k. few_alone first (g.P.Pages.store c.put_apart-in-None.new.pages) c.args.rank _ _ c.put_apart-in-None.result
-    (c.put_apart-in-None.ensures.few first count little below k)
 
 pub returns-in-Some-clause-few : goal.returns-in-Some-clause-few
 returns-in-Some-clause-few g c =

@@ -1,56 +1,24 @@
-use Rattle.std.proofs.Common.{◌∙◌, ◌++◌, ◌∷◌, [], List, ℕ, ap, arith, length, map, subst}
-use Rattle.btree.specs.Few.{MakesUpTo}
-use Rattle.btree.proofs.FewLemmas.{stopped}
-use Rattle.page.specs.Content.{branch}
+use Rattle.std.proofs.Common.{arith, map, subst, sym}
+use Rattle.page.specs.Content.{IsBranch}
 use Rattle.page.proofs.ChildPageLemmas.{with_branch}
-use Rattle.btree.specs.Loose.{arm_stub}
-use Rattle.btree.specs.LooseView.{stub_in}
-use Rattle.btree.specs.Store.{IsMade}
-use Rattle.btree.proofs.OneChildLemmas.{amid_written}
-use Rattle.btree.proofs.StoreLemmas.{grows_failed, grows_itself, grows_made}
+use Rattle.btree.specs.Loose.{arm_stub, under_key}
+use Rattle.btree.specs.Turn.{IsHeld}
+use Rattle.btree.proofs.OneChildLemmas.{amid_held}
+use Rattle.btree.proofs.StoreLemmas.{grows_itself}
 use Rattle.btree.proofs.one_child.write_branch.Goals as goal
 
 pub returns-clause-turns : goal.returns-clause-turns
 returns-clause-turns g c =
     λ base high entries reached below o m deep little k.
     let s = g.P.Pages.store c.args.pages.now in
-    let new = g.P.Pages.store c.fresh.new.self in
-    amid_written s new base c.args.rank c.args.page c.in_ok-written.written c.args.low.now high c.args.branch.now c.args.at entries reached below _ o m deep
-    (with_branch c.args.at c.args.page c.args.branch.now (omega (arith, c.ranges.page.fits)) c.requires.sound)
-    (subst (λ arms. IsMade s new c.in_ok-written.written (branch arms)) c.in_ok-made.ensures (c.in_ok-written.ensures.makes k)) c.child_unit.ensures.range
-    little
-    (c.in_ok-push_unit.ensures.ok
-    ∙ (λ i. map stub_in (c.new-units.ensures.items i)
-    ++ (c.child_unit.ensures.stub ∙ ap (λ (key : List ℕ). arm_stub (record { key = key; child = c.in_ok-written.written })) c.in_ok-key.ensures.items) i ∷ []))
-
-pub returns-in_err-written-clause-few : goal.returns-in_err-written-clause-few
-returns-in_err-written-clause-few g c =
-    λ little k.
-    let f = c.in_err-written.ensures.makes k in
-    let m : MakesUpTo (g.P.Pages.store c.args.pages.now) (g.P.Pages.store c.fresh.new.self) 1 = omega (arith, ap length f.same.made) in
-    stopped _ _ _ c.from_residual-in_err-written.result c.from_residual-in_err-written.ensures.1 m
-
-pub returns-in_err-push_unit-clause-few : goal.returns-in_err-push_unit-clause-few
-returns-in_err-push_unit-clause-few g c =
-    λ little k.
-    let made = c.in_ok-written.ensures.makes k in
-    let m : MakesUpTo (g.P.Pages.store c.args.pages.now) (g.P.Pages.store c.fresh.new.self) 1 = omega (arith, ap length made.made) in
-    stopped _ _ _ c.from_residual-in_err-push_unit.result c.from_residual-in_err-push_unit.ensures.1 m
-
-pub returns-in_err-key-clause-grows : goal.returns-in_err-key-clause-grows
-returns-in_err-key-clause-grows g c = grows_itself (g.P.Pages.store c.args.pages.now)
+    c.write_made.ensures.turns base high entries reached
+    (subst (λ arms. IsHeld s base c.args.low.now high entries reached (record { rank = c.args.rank; stubs = map arm_stub (under_key c.args.low.now arms) }))
+    (sym c.in_ok-made.ensures)
+    (amid_held s base c.args.rank c.args.page c.args.low.now high c.args.branch.now c.args.at entries reached below o m deep))
+    deep
+    (subst IsBranch (sym c.in_ok-made.ensures)
+    (with_branch c.args.at c.args.page c.args.branch.now (omega (arith, c.ranges.page.fits)) c.requires.sound))
+    little k
 
 pub returns-in_err-made-clause-grows : goal.returns-in_err-made-clause-grows
 returns-in_err-made-clause-grows g c = grows_itself (g.P.Pages.store c.args.pages.now)
-
-pub returns-in_err-written-clause-grows : goal.returns-in_err-written-clause-grows
-returns-in_err-written-clause-grows g c =
-    grows_failed (g.P.Pages.store c.args.pages.now) (g.P.Pages.store c.fresh.new.self) _ c.in_err-written.ensures.stays c.in_err-written.ensures.makes
-
-pub returns-in_err-push_unit-clause-grows : goal.returns-in_err-push_unit-clause-grows
-returns-in_err-push_unit-clause-grows g c =
-    grows_made (g.P.Pages.store c.args.pages.now) (g.P.Pages.store c.fresh.new.self) _ _ c.in_ok-written.ensures.stays c.in_ok-written.ensures.makes
-
-pub returns-clause-grows : goal.returns-clause-grows
-returns-clause-grows g c =
-    grows_made (g.P.Pages.store c.args.pages.now) (g.P.Pages.store c.fresh.new.self) _ _ c.in_ok-written.ensures.stays c.in_ok-written.ensures.makes

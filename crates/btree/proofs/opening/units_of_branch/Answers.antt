@@ -1,19 +1,25 @@
-use Rattle.std.proofs.Common.{◌∙◌, ◌∷◌, ◌++◌, [], sym, ap, arith, take, map}
-use Rattle.page.specs.Content.{Arm}
-use Rattle.btree.specs.Loose.{Stub, arm_stub, child, under_key}
+use Rattle.std.proofs.Common.{◌≡◌, ◌∙◌, ap, arith, length, map}
+use Rattle.btree.specs.Loose.{arm_stub, under_key}
 use Rattle.btree.specs.LooseView.{stub_in}
-use Rattle.btree.proofs.ListLemmas.{take_more}
-use Rattle.btree.proofs.HeldLemmas.{arm_there, under_long}
+use Rattle.btree.proofs.CuttingLemmas.{take_over}
+use Rattle.btree.proofs.HeldLemmas.{under_long}
+use Rattle.btree.proofs.ListLemmas.{long_map}
 use Rattle.btree.proofs.opening.units_of_branch.Goals as goal
 
-none : Stub
-none = record { key = []; load = child 0 }
+pub returns-clause-ok : goal.returns-clause-ok
+returns-clause-ok c =
+    let stubs = map arm_stub (under_key c.args.low.now c.args.branch.now) in
+    c.in_ok-units.ensures.ok ∙ take_over c.len.result stubs (omega (arith, c.len.ensures.count, under_long c.args.low.now c.args.branch.now))
 
-pub loop-i-preserved : goal.loop-i-preserved
-loop-i-preserved c =
-    c.in_ok-push_unit.ensures.ok ∙ ap (λ zs. zs ++ stub_in c.in_ok-unit.unit ∷ []) c.loop-i.invariant
-    ∙ ap (λ z. take c.loop-i.i (map arm_stub (under_key c.args.low.now c.args.branch.now)) ++ z ∷ [])
-    (c.in_ok-unit.ensures
-    ∙ sym (arm_there c.args.low.now c.args.branch.now c.loop-i.i _ _ (omega arith) c.low_bound-key.ensures.first c.low_bound-key.ensures.later
-    (λ d. ap (λ (a : Arm). a.child) (c.branch_child.ensures d)) none))
-    ∙ sym (take_more (map arm_stub (under_key c.args.low.now c.args.branch.now)) c.loop-i.i none (omega (arith, under_long c.args.low.now c.args.branch.now)))
+pub returns-clause-some : goal.returns-clause-some
+returns-clause-some c =
+    let stubs = map arm_stub (under_key c.args.low.now c.args.branch.now) in
+    let all : map stub_in c.in_ok-units.units.items ≡ stubs =
+    c.in_ok-units.ensures.ok ∙ take_over c.len.result stubs (omega (arith, c.len.ensures.count, under_long c.args.low.now c.args.branch.now)) in
+    omega (
+      arith,
+      ap length all,
+      long_map stub_in c.in_ok-units.units.items,
+      under_long c.args.low.now c.args.branch.now,
+      c.len.ensures.sound.some,
+    )
