@@ -18,7 +18,7 @@ use filter::Filter;
 use index::IndexSpec;
 use page::Disk;
 use path::Refusal;
-use planner::{IndexRange, Plan, choose, ids_in};
+use planner::{IndexRange, Plan, ascending, choose, ids_of};
 use sort::Sort;
 use std::alloc::Global;
 
@@ -64,7 +64,7 @@ fn ids_in_range<D: Disk>(
     else {
         return Ok(None);
     };
-    Ok(Some(ids_in(alloc, index, &texts)?))
+    Ok(Some(ascending(ids_of(alloc, index, texts)?)))
 }
 
 /// The ascending texts of the `_id`s among which are those of all documents that a filter matches, where this is the range that it
