@@ -1,10 +1,11 @@
-use Rattle.std.proofs.Common.{◌≡◌, ◌⊎◌, ◌+◌, ◌-◌, ◌<◌, ◌≤◌, ◌==◌, ℕ, List, Vec, Global, [], Bool, true, false, not, length, length-map, get_or, inl, inr, ap, sym, ◌∙◌, arith}
+use Rattle.std.proofs.Common.{◌≡◌, ◌⊎◌, ◌+◌, ◌-◌, ◌<◌, ◌≤◌, ◌==◌, ℕ, List, Vec, Global, [], false, not, length, get_or, refl, inl, inr, ap}
+use Rattle.std.proofs.Common.{sym, ◌∙◌, arith}
 use Rattle.std.specs.Cmp.Lexicographic.{nat_list_cmp_total}
 use Rattle.std.specs.Ordering.{ordering_index}
 use Rattle.std.specs.declared.cmp.Ordering.{Ordering}
 use Rattle.std.specs.declared.cmp.Ordering.TheVariants.{Less, Equal, Greater}
 use Rattle.std.proofs.lemmas.Bool.{cases_lt}
-use Rattle.std.proofs.lemmas.List.{get_or-map}
+use Rattle.std.proofs.lemmas.List.{get_or-map, length-map}
 use Rattle.std.proofs.lemmas.Map.Keys.{sorted_from_all_adjacent}
 use Rattle.index.specs.View.{texts_of}
 use Rattle.value_order.specs.Order.{bytes_cmp}
@@ -37,7 +38,9 @@ only_less Equal e = absurd cc
 only_less Greater e = absurd cc
 
 pub loop-i-preserved : goal.loop-i-preserved
-loop-i-preserved c = ?
+loop-i-preserved c =
+    more c.args.ids.now c.loop-i.i c.index-ids-i.result c.index-ids-i-in-loop-i.result (omega arith) (omega arith) c.index-ids-i.is
+    c.index-ids-i-in-loop-i.is (sym c.cmp.ensures ∙ only_less c.cmp.result (sym c.ne.ensures ∙ c.if-ne.false)) c.loop-i.invariant
 
 pub returns : goal.returns
 returns c = λ _.
