@@ -1,18 +1,16 @@
 -- Documents of which one of several conditions holds: the texts of the `_id`s to which each condition leads tell them all.
-use Rattle.std.proofs.Common.{◌≡◌, ◌<◌, ℕ, Bool, true, false, List, [], ◌∷◌, ◌++◌, length, get_or, Option, Some, None, Result, Ok, Err, refl, sym, ap, subst}
+use Rattle.std.proofs.Common.{◌≡◌, ◌<◌, ℕ, Bool, true, false, List, [], ◌∷◌, ◌++◌, length, get_or, Option, Some, Result, Ok, refl, sym, ap, subst}
 use Rattle.std.proofs.Common.{◌∙◌}
-use Rattle.std.specs.Prelude.{◌&&◌, ◌||◌, IfSome, option_map}
-use Rattle.std.specs.Borrow.{Bor}
+use Rattle.std.specs.Prelude.{IfSome}
 use Rattle.std.specs.Global.{Vec}
-use Rattle.bson.specs.Tree.{Tree, document, Pairs}
+use Rattle.bson.specs.Tree.{Tree, Pairs}
 use Rattle.page.specs.History.{History}
-use Rattle.path.specs.Reach.{reach}
 use Rattle.path.specs.declared.refusal.Refusal.{Refusal}
 use Rattle.collections.specs.Reading.{ReadsOf}
 use Rattle.collections.specs.State.{State}
 use Rattle.collections.specs.View.{is_stopped}
 use Rattle.filter.specs.Condition.{Conditions, equal, is}
-use Rattle.filter.specs.Matches.{Subject, all_hold, along, any_holds, holds, matches, whole}
+use Rattle.filter.specs.Matches.{Subject, all_hold, any_holds, holds, matches, whole}
 use Rattle.filter.specs.View.{condition_of, conditions_of}
 use Rattle.filter.specs.declared.condition.Condition.{Condition as Made}
 use Rattle.filter.specs.declared.condition.Condition.TheVariants as conditions
@@ -25,7 +23,7 @@ use Rattle.queries.specs.ById.{TellOf}
 use Rattle.queries.proofs.TellingLemmas.{AreTold, next_told, tell_behind}
 use Rattle.queries.proofs.ByIdLemmas.{holds_at, if_some_on}
 use Rattle.queries.proofs.IdTextLemmas.{put_none}
-use Rattle.queries.proofs.ReadingLemmas.{IsOther, reads_as, reads_behind}
+use Rattle.queries.proofs.ReadingLemmas.{reads_as, reads_behind}
 
 -- ---- what conditions ask for
 

@@ -1,4 +1,4 @@
-use Rattle.std.proofs.Common.{◌≡◌, List, [], Option, None, Vec, Global, ℕ, sym, ap}
+use Rattle.std.proofs.Common.{◌≡◌, [], Option, None, Vec, Global, ℕ, sym, ap}
 use Rattle.std.specs.Prelude.{IfSome}
 use Rattle.filter.specs.Matches.{matches}
 use Rattle.index.specs.Definition.{Definition}
