@@ -253,7 +253,8 @@ fn put_apart<P: Pages>(
 }
 
 // A branch with what is below one of its children in that one's place. Where it is one page again, the branch is
-// copied with that page in it; a branch that has next to nothing is taken apart.
+// copied with that page in it. A branch that has next to nothing is taken apart, to be joined with the one beside it, but for
+// the root, which has none beside it.
 fn put_child<P: Pages>(
     alloc: Global,
     pages: &mut P,
@@ -262,6 +263,7 @@ fn put_child<P: Pages>(
     rank: u32,
     low: &[u8],
     below: Loose,
+    is_root: bool,
 ) -> Result<Loose, TreeFault>
     requires sound { IsBranch branch.now }
     requires place { at < length branch.now }
@@ -277,7 +279,7 @@ fn put_child<P: Pages>(
         → base < rank → 6 + length low.now ≤ 1360
         → Turns (P.store pages.old) (P.store pages.new) base low.now high entries reached result }
 {
-    if branch.size() <= QUARTER || rank == u32::MAX {
+    if rank == u32::MAX || !is_root && branch.size() <= QUARTER {
         return put_apart(alloc, pages, branch, at, rank, low, below);
     }
     match page_of_one(&below, rank) {
@@ -295,6 +297,7 @@ pub(crate) fn change_below<P: Pages>(
     rank: u32,
     low: &[u8],
     edits: &[Edit<'_>],
+    is_root: bool,
 ) -> Result<Loose, TreeFault>
     requires { Each HasRoom edits.now }
     ensures grows { Grows (P.store pages.old) (P.store pages.new) }
@@ -320,7 +323,7 @@ pub(crate) fn change_below<P: Pages>(
         return Err(TreeFault::Order);
     }
     if let Some(at) = child_of_all(branch, edits) {
-        return change_child(alloc, pages, branch, at, rank, low, edits);
+        return change_child(alloc, pages, branch, at, rank, low, edits, is_root);
     }
     let units = units_of_branch(alloc, branch, low)?;
     let loose = Loose {
@@ -341,6 +344,7 @@ fn change_child<P: Pages>(
     rank: u32,
     low: &[u8],
     edits: &[Edit<'_>],
+    is_root: bool,
 ) -> Result<Loose, TreeFault>
     requires room { Each HasRoom edits.now }
     requires sound { IsBranch branch.now }
@@ -362,8 +366,8 @@ fn change_child<P: Pages>(
 {
     let key = low_bound(branch, at, low);
     let page = branch_child(branch, at).page;
-    let below = change_below(alloc, pages, page, rank - 1, key, edits)?;
-    put_child(alloc, pages, branch, at, rank, low, below)
+    let below = change_below(alloc, pages, page, rank - 1, key, edits, false)?;
+    put_child(alloc, pages, branch, at, rank, low, below, is_root)
 }
 
 // Children after edits, from the last one to the first.
@@ -409,7 +413,7 @@ fn change_children<P: Pages>(
     };
     let key = unit.key.as_slice();
     let (theirs, mine) = edits_at(edits, key);
-    let below = change_below(alloc, pages, page, left.rank - 1, key, mine)?;
+    let below = change_below(alloc, pages, page, left.rank - 1, key, mine, false)?;
     let front = change_children(alloc, pages, left, theirs)?;
     settle(alloc, pages, front, below, right)
 }

@@ -144,7 +144,7 @@ fn change_root<P: Pages>(
         return first_cells(alloc, pages, edits);
     }
     let below = levels_below(pages, root, 0)?;
-    change_below(alloc, pages, root, below, &[], edits)
+    change_below(alloc, pages, root, below, &[], edits, true)
 }
 
 /// Makes edits of a tree, whose keys ascend, each once: the new root, 0 where no entry is left. The old root stays readable.

@@ -8,11 +8,11 @@ ghost use Rattle.drivers.specs.Cleaning.{truth, read_over, listing_rule, lost_un
 ghost use Rattle.drivers.specs.Rules.{rule_of};
 
 use crate::command::Asked;
-use crate::in_place::{put_field, put_item, take_field, take_item};
 use crate::options::{fault_of, is_one_of};
 use crate::reason::Reason;
 use crate::rules::{Rule, rule_of};
 use bson::{Array, Document, Pair, Value};
+use path::{put_field, put_item, take_field, take_item};
 
 /// Whose fields they are.
 #[derive(Clone, Copy, Debug, PartialEq, Eq)]

@@ -8,7 +8,6 @@ mod distinct;
 mod explaining;
 mod framing;
 mod handshake;
-mod in_place;
 pub mod laws;
 mod modifying;
 mod options;

@@ -9,9 +9,12 @@ use Rattle.btree.specs.Keys.{Entry, Edit, Rises, change}
 use Rattle.index.specs.Changes.{without}
 use Rattle.index.specs.Definition.{Definition}
 use Rattle.entries.specs.EditList.{with_edit}
+use Rattle.entries.specs.declared.indexed_edits.EntryEdit.{EntryEdit}
+use Rattle.entries.specs.declared.indexed_edits.EntryEdit.TheVariants as kinds
 use Rattle.index.specs.KeyTexts.{entry_key}
 use Rattle.entries.specs.State.{Collection, key_of, put_collection}
-use Rattle.entries.specs.StateEntries.{catalogue_entry, document_entry, put_of, puts, removals}
+use Rattle.entries.specs.StateEntries.{catalogue_entry, document_entry, put_of, puts}
+use Rattle.entries.specs.StateEntries.{removal_of, removals}
 use Rattle.entries.specs.StateEntries.{entry_keys, Leads}
 use Rattle.entries.specs.StateLaws.{MayBecome, own_entries, AreAlike}
 
@@ -39,6 +42,14 @@ GoesOnBy old es new =
     → change new entries ≡ change es (change old entries)
 
 -- ---- entries of indexes
+
+-- what is noted of an entry
+abbrev pub edit_by : EntryEdit → Entry → Edit
+edit_by kinds.Put = put_of
+edit_by kinds.Removal = removal_of
+
+abbrev pub edits_by : EntryEdit → List Entry → List Edit
+edits_by what entries = map (edit_by what) entries
 
 -- the entry of one encoded key of the document whose `_id` has this text
 abbrev pub entry_at : ℕ → ℕ → List ℕ → List ℕ → Entry

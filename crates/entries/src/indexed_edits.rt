@@ -3,11 +3,11 @@
 ghost use Rattle.std.specs.Prelude.{◌≡◌, ◌≤◌, All, Ok, OnErr, OnOk, length, map};
 ghost use Rattle.value_order.specs.KeyText.{tree_text};
 ghost use Rattle.entries.specs.EditList.{with_edit};
-ghost use Rattle.entries.specs.Indexed.{DeletesFrom, GoesOnBy, InsertsInto, NotesSome, entries_at, entries_in_all, entry_at, with_edits};
+ghost use Rattle.entries.specs.Indexed.{DeletesFrom, GoesOnBy, InsertsInto, NotesSome, edit_by, edits_by, entries_at, entries_in_all, entry_at, with_edits};
 ghost use Rattle.index.specs.KeyTexts.{keys_in, keys_in_all};
 ghost use Rattle.entries.specs.LawfulState.{IsStorable};
 ghost use Rattle.entries.specs.State.{key_of};
-ghost use Rattle.entries.specs.StateEntries.{document_entries, index_entries, put_of, puts, removal_of, removals};
+ghost use Rattle.entries.specs.StateEntries.{document_entries, index_entries, puts, removals};
 ghost use Rattle.index.specs.View.{texts_of};
 
 use crate::edits::Edits;
@@ -15,11 +15,19 @@ use bson::{Document, NoMemory};
 use index::{IndexSpec, entry_key};
 use std::alloc::Global;
 
+/// What is noted of an entry.
+#[derive(Clone, Copy)]
+pub(crate) enum EntryEdit {
+    Put,
+    Removal,
+}
+
 impl Edits {
-    /// Puts the entry of one key.
-    pub(crate) fn put_entry(
+    /// Puts the entry of one key, or removes it.
+    pub(crate) fn note_entry(
         &mut self,
         alloc: Global,
+        what: EntryEdit,
         number: u32,
         index: u32,
         id: &[u8],
@@ -28,35 +36,21 @@ impl Edits {
         requires id { length id.now ≤ 500 }
         requires key { length key.now ≤ 500 }
         ensures ok { OnOk result (self.new
-            ≡ with_edit (put_of (entry_at number index id.now key.now)) self.old) }
+            ≡ with_edit (edit_by what (entry_at number index id.now key.now)) self.old) }
         ensures err { OnErr result (self.new ≡ self.old) }
     {
         let key = entry_key(alloc, number, index, key, id)?;
-        self.note(key, Some(Vec::new(alloc)))
+        match what {
+            EntryEdit::Put => self.note(key, Some(Vec::new(alloc))),
+            EntryEdit::Removal => self.note(key, None),
+        }
     }
 
-    /// Removes the entry of one key.
-    pub(crate) fn remove_entry(
+    /// Puts or removes an entry for each of these encoded keys of the document whose `_id` has this text, in the index of
+    /// a number.
+    fn note_keys(
         &mut self,
-        alloc: Global,
-        number: u32,
-        index: u32,
-        id: &[u8],
-        key: &[u8],
-    ) -> Result<(), NoMemory>
-        requires id { length id.now ≤ 500 }
-        requires key { length key.now ≤ 500 }
-        ensures ok { OnOk result (self.new
-            ≡ with_edit (removal_of (entry_at number index id.now key.now)) self.old) }
-        ensures err { OnErr result (self.new ≡ self.old) }
-    {
-        let key = entry_key(alloc, number, index, key, id)?;
-        self.note(key, None)
-    }
-
-    /// Puts an entry for each of these encoded keys of the document whose `_id` has this text, in the index of a number.
-    fn put_keys(
-        &mut self,
+        what: EntryEdit,
         number: u32,
         index: u32,
         id: &[u8],
@@ -65,42 +59,21 @@ impl Edits {
         requires id { length id.now ≤ 500 }
         requires keys { All (λ key. length key.items ≤ 500) keys.now }
         ensures ok { OnOk result (self.new
-            ≡ with_edits (puts (entries_at number index id.now (texts_of keys.now))) self.old) }
+            ≡ with_edits (edits_by what (entries_at number index id.now (texts_of keys.now))) self.old) }
         ensures err { OnErr result (NotesSome self.old
-            (puts (entries_at number index id.now (texts_of keys.now))) self.new) }
+            (edits_by what (entries_at number index id.now (texts_of keys.now))) self.new) }
     {
         let alloc = self.allocator();
         'keys: for key in keys {
-            self.put_entry(alloc, number, index, id, key)?;
+            self.note_entry(alloc, what, number, index, id, key)?;
         }
         Ok(())
     }
 
-    /// Removes them.
-    fn remove_keys(
+    /// Puts or removes the entries of a document in each of these indexes.
+    fn note_in_indexes(
         &mut self,
-        number: u32,
-        index: u32,
-        id: &[u8],
-        keys: &[Vec<u8>],
-    ) -> Result<(), NoMemory>
-        requires id { length id.now ≤ 500 }
-        requires keys { All (λ key. length key.items ≤ 500) keys.now }
-        ensures ok { OnOk result (self.new
-            ≡ with_edits (removals (entries_at number index id.now (texts_of keys.now))) self.old) }
-        ensures err { OnErr result (NotesSome self.old
-            (removals (entries_at number index id.now (texts_of keys.now))) self.new) }
-    {
-        let alloc = self.allocator();
-        'keys: for key in keys {
-            self.remove_entry(alloc, number, index, id, key)?;
-        }
-        Ok(())
-    }
-
-    /// Puts the entries of a document in each of these indexes.
-    fn put_in_indexes(
-        &mut self,
+        what: EntryEdit,
         number: u32,
         indexes: &[IndexSpec],
         id: &[u8],
@@ -109,35 +82,13 @@ impl Edits {
         requires id { length id.now ≤ 500 }
         requires one_each { length keys.now ≡ length indexes.now }
         requires keys { All (λ ks. All (λ key. length key.items ≤ 500) ks.items) keys.now }
-        ensures ok { OnOk result (self.new ≡ with_edits (puts (entries_in_all number id.now indexes.now
-            (map (λ ks. texts_of ks.items) keys.now))) self.old) }
-        ensures err { OnErr result (NotesSome self.old (puts (entries_in_all number id.now indexes.now
-            (map (λ ks. texts_of ks.items) keys.now))) self.new) }
+        ensures ok { OnOk result (self.new ≡ with_edits (edits_by what (entries_in_all number id.now
+            indexes.now (map (λ ks. texts_of ks.items) keys.now))) self.old) }
+        ensures err { OnErr result (NotesSome self.old (edits_by what (entries_in_all number id.now
+            indexes.now (map (λ ks. texts_of ks.items) keys.now))) self.new) }
     {
         'indexes: for (at, index) in indexes.iter().enumerate() {
-            self.put_keys(number, index.number(), id, &keys[at])?;
-        }
-        Ok(())
-    }
-
-    /// Removes the entries of a document in each of these indexes.
-    fn remove_in_indexes(
-        &mut self,
-        number: u32,
-        indexes: &[IndexSpec],
-        id: &[u8],
-        keys: &[Vec<Vec<u8>>],
-    ) -> Result<(), NoMemory>
-        requires id { length id.now ≤ 500 }
-        requires one_each { length keys.now ≡ length indexes.now }
-        requires keys { All (λ ks. All (λ key. length key.items ≤ 500) ks.items) keys.now }
-        ensures ok { OnOk result (self.new ≡ with_edits (removals (entries_in_all number id.now indexes.now
-            (map (λ ks. texts_of ks.items) keys.now))) self.old) }
-        ensures err { OnErr result (NotesSome self.old (removals (entries_in_all number id.now indexes.now
-            (map (λ ks. texts_of ks.items) keys.now))) self.new) }
-    {
-        'indexes: for (at, index) in indexes.iter().enumerate() {
-            self.remove_keys(number, index.number(), id, &keys[at])?;
+            self.note_keys(what, number, index.number(), id, &keys[at])?;
         }
         Ok(())
     }
@@ -165,7 +116,7 @@ impl Edits {
             (puts (index_entries number document.now index.now)) self.new) }
     {
         let _alloc = self.allocator();
-        self.put_keys(number, index.number(), id, keys)
+        self.note_keys(EntryEdit::Put, number, index.number(), id, keys)
     }
 
     /// Removes them.
@@ -188,7 +139,7 @@ impl Edits {
             (removals (index_entries number document.now index.now)) self.new) }
     {
         let _alloc = self.allocator();
-        self.remove_keys(number, index.number(), id, keys)
+        self.note_keys(EntryEdit::Removal, number, index.number(), id, keys)
     }
 
     /// Puts a document that is new in the collection of a number and of these indexes: its entry, and one for each of its
@@ -214,7 +165,7 @@ impl Edits {
     {
         let _alloc = self.allocator();
         self.put_document(number, id, document)?;
-        self.put_in_indexes(number, indexes, id, keys)
+        self.note_in_indexes(EntryEdit::Put, number, indexes, id, keys)
     }
 
     /// Removes a document of the collection of a number and of these indexes: its entry, and that of each of its encoded
@@ -240,6 +191,6 @@ impl Edits {
     {
         let _alloc = self.allocator();
         self.remove_document(number, id)?;
-        self.remove_in_indexes(number, indexes, id, keys)
+        self.note_in_indexes(EntryEdit::Removal, number, indexes, id, keys)
     }
 }

@@ -5,7 +5,7 @@ ghost use Rattle.std.specs.declared.cmp.Ordering.TheVariants.{Equal};
 ghost use Rattle.value_order.specs.KeyText.{tree_text};
 ghost use Rattle.value_order.specs.Order.{compare};
 ghost use Rattle.index.specs.Changes.{IsAscending};
-ghost use Rattle.entries.specs.Indexed.{NotesSome, ReplacesIn, entries_at, entries_in_all, replacing_in, with_edits, without_all};
+ghost use Rattle.entries.specs.Indexed.{NotesSome, ReplacesIn, edits_by, entries_at, entries_in_all, replacing_in, with_edits, without_all};
 ghost use Rattle.index.specs.KeyTexts.{keys_in_all};
 ghost use Rattle.entries.specs.LawfulState.{IsStorable};
 ghost use Rattle.entries.specs.State.{key_of};
@@ -13,6 +13,7 @@ ghost use Rattle.entries.specs.StateEntries.{puts, removals};
 ghost use Rattle.index.specs.View.{texts_of};
 
 use crate::edits::Edits;
+use crate::indexed_edits::EntryEdit;
 use bson::{Document, NoMemory};
 use index::{IndexSpec, KeyChanges};
 use std::alloc::Global;
@@ -39,9 +40,10 @@ fn changes_in_all<'a>(
 }
 
 impl Edits {
-    /// Puts an entry for each of these keys.
-    fn put_added(
+    /// Puts or removes an entry for each of these keys.
+    fn note_changed(
         &mut self,
+        what: EntryEdit,
         number: u32,
         index: u32,
         id: &[u8],
@@ -49,36 +51,14 @@ impl Edits {
     ) -> Result<(), NoMemory>
         requires id { length id.now ≤ 500 }
         requires keys { All (λ key. length key.now ≤ 500) keys.now }
-        ensures ok { OnOk result (self.new
-            ≡ with_edits (puts (entries_at number index id.now (map (λ key. key.now) keys.now))) self.old) }
-        ensures err { OnErr result (NotesSome self.old
-            (puts (entries_at number index id.now (map (λ key. key.now) keys.now))) self.new) }
+        ensures ok { OnOk result (self.new ≡ with_edits (edits_by what
+            (entries_at number index id.now (map (λ key. key.now) keys.now))) self.old) }
+        ensures err { OnErr result (NotesSome self.old (edits_by what
+            (entries_at number index id.now (map (λ key. key.now) keys.now))) self.new) }
     {
         let alloc = self.allocator();
         'keys: for key in keys {
-            self.put_entry(alloc, number, index, id, key)?;
-        }
-        Ok(())
-    }
-
-    /// Removes the entry of each of these keys.
-    fn remove_lost(
-        &mut self,
-        number: u32,
-        index: u32,
-        id: &[u8],
-        keys: &[&[u8]],
-    ) -> Result<(), NoMemory>
-        requires id { length id.now ≤ 500 }
-        requires keys { All (λ key. length key.now ≤ 500) keys.now }
-        ensures ok { OnOk result (self.new
-            ≡ with_edits (removals (entries_at number index id.now (map (λ key. key.now) keys.now))) self.old) }
-        ensures err { OnErr result (NotesSome self.old
-            (removals (entries_at number index id.now (map (λ key. key.now) keys.now))) self.new) }
-    {
-        let alloc = self.allocator();
-        'keys: for key in keys {
-            self.remove_entry(alloc, number, index, id, key)?;
+            self.note_entry(alloc, what, number, index, id, key)?;
         }
         Ok(())
     }
@@ -100,7 +80,13 @@ impl Edits {
             (map (λ c. map (λ key. key.now) c.added.items) changes.now))) self.new) }
     {
         'indexes: for (at, index) in indexes.iter().enumerate() {
-            self.put_added(number, index.number(), id, &changes[at].added)?;
+            self.note_changed(
+                EntryEdit::Put,
+                number,
+                index.number(),
+                id,
+                &changes[at].added,
+            )?;
         }
         Ok(())
     }
@@ -122,7 +108,13 @@ impl Edits {
             (map (λ c. map (λ key. key.now) c.removed.items) changes.now))) self.new) }
     {
         'indexes: for (at, index) in indexes.iter().enumerate() {
-            self.remove_lost(number, index.number(), id, &changes[at].removed)?;
+            self.note_changed(
+                EntryEdit::Removal,
+                number,
+                index.number(),
+                id,
+                &changes[at].removed,
+            )?;
         }
         Ok(())
     }

@@ -11,7 +11,7 @@ use bson::{Array, BuildFault, Document, NoMemory, Value};
 use std::alloc::AllocError;
 
 /// Takes a field's value out, and leaves null in its place.
-pub(crate) fn take_field(document: &mut Document, at: usize) -> Value
+pub fn take_field(document: &mut Document, at: usize) -> Value
     requires { at < pairs_len document.old }
     ensures value { option_map (λ p. p.1) (pair_at document.old at) ≡ Some (tree result) }
     ensures levels { levels (tree result) ≤ 99 }
@@ -25,7 +25,7 @@ pub(crate) fn take_field(document: &mut Document, at: usize) -> Value
 }
 
 /// Takes an item out, and leaves null in its place.
-pub(crate) fn take_item(array: &mut Array, at: usize) -> Value
+pub fn take_item(array: &mut Array, at: usize) -> Value
     requires { at < items_len array.old }
     ensures value { item_at array.old at ≡ Some (tree result) }
     ensures levels { levels (tree result) ≤ 98 }
@@ -39,7 +39,7 @@ pub(crate) fn take_item(array: &mut Array, at: usize) -> Value
 }
 
 /// Puts a value back that nests no deeper than a document allows.
-pub(crate) fn put_field(document: &mut Document, at: usize, value: Value)
+pub fn put_field(document: &mut Document, at: usize, value: Value)
     requires there { at < pairs_len document.old }
     requires levels { levels (tree value) ≤ 99 }
     ensures { document.new ≡ with_value document.old at (tree value) }
@@ -51,7 +51,7 @@ pub(crate) fn put_field(document: &mut Document, at: usize, value: Value)
 }
 
 /// Puts a value back that nests no deeper than an array allows.
-pub(crate) fn put_item(array: &mut Array, at: usize, value: Value)
+pub fn put_item(array: &mut Array, at: usize, value: Value)
     requires there { at < items_len array.old }
     requires levels { levels (tree value) ≤ 98 }
     ensures { array.new ≡ with_item array.old at (tree value) }

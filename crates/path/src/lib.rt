@@ -1,8 +1,8 @@
 //! Paths: what a path reaches in a document, and writing and removing at one.
 //!
 //! `part` has a path's names, `parsing` reads a path, `reaching` finds what it reaches, `place` the one place that an
-//! edit's path names, `setting` and `removing` change a document there; `refusal` is the table of all refusals of
-//! commands.
+//! edit's path names, `setting` and `removing` change a document there, `holding` takes values out of their places and puts
+//! them back; `refusal` is the table of all refusals of commands.
 #![tactic(auto)]
 
 mod fault;
@@ -19,6 +19,7 @@ mod removing;
 mod setting;
 
 pub use fault::PathFault;
+pub use holding::{put_field, put_item, take_field, take_item};
 pub use parsing::{Path, begins_with_dollar};
 pub use part::Part;
 pub use path_set::PathSet;

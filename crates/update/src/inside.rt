@@ -1,9 +1,7 @@
 //! Edits of the fields of one value further down in a document, which is reached once however many they are.
 
-ghost use Rattle.std.specs.Prelude.{◌≡◌, ◌≤◌, ◌<◌, Some, map, option_map, IfOk};
-ghost use Rattle.bson.specs.Tree.{scalar, null, document};
-ghost use Rattle.bson.specs.Edits.{pairs_len, pair_at, with_value, items_len, item_at, with_item};
-ghost use Rattle.bson.specs.Lawful.{levels};
+ghost use Rattle.std.specs.Prelude.{◌≡◌, map, IfOk};
+ghost use Rattle.bson.specs.Tree.{document};
 ghost use Rattle.bson.specs.View.{tree};
 ghost use Rattle.path.specs.Parts.{index_of};
 ghost use Rattle.update.specs.Inside.{begins_with_rename, pairs_after, items_after, value_after, inside, in_field, in_item};
@@ -13,60 +11,8 @@ use crate::edit::{Action, Edit};
 use crate::renaming::renamed;
 use crate::unsets::{without_fields, without_items};
 use bson::{Array, Document, NoMemory, Value};
-use path::Part;
+use path::{Part, put_field, put_item, take_field, take_item};
 use std::alloc::Global;
-
-/// Takes a field's value out, and leaves null in its place.
-pub(crate) fn take_field(document: &mut Document, at: usize) -> Value
-    requires { at < pairs_len document.old }
-    ensures value { option_map (λ p. p.1) (pair_at document.old at) ≡ Some (tree result) }
-    ensures levels { levels (tree result) ≤ 99 }
-    ensures after { document.new ≡ with_value document.old at (scalar null) }
-{
-    let _levels = document.levels();
-    match document.replace_at(at, Value::Null) {
-        Ok(value) => value,
-        Err(_) => unreachable!(),
-    }
-}
-
-/// Puts a value in a field's place that nests no deeper than a document allows.
-pub(crate) fn put_field(document: &mut Document, at: usize, value: Value)
-    requires there { at < pairs_len document.old }
-    requires levels { levels (tree value) ≤ 99 }
-    ensures { document.new ≡ with_value document.old at (tree value) }
-{
-    match document.replace_at(at, value) {
-        Ok(_) => {}
-        Err(_) => unreachable!(),
-    }
-}
-
-/// Takes an item out, and leaves null in its place.
-pub(crate) fn take_item(array: &mut Array, at: usize) -> Value
-    requires { at < items_len array.old }
-    ensures value { item_at array.old at ≡ Some (tree result) }
-    ensures levels { levels (tree result) ≤ 98 }
-    ensures after { array.new ≡ with_item array.old at (scalar null) }
-{
-    let _levels = array.levels();
-    match array.replace_at(at, Value::Null) {
-        Ok(value) => value,
-        Err(_) => unreachable!(),
-    }
-}
-
-/// Puts a value in an item's place that nests no deeper than an array allows.
-fn put_item(array: &mut Array, at: usize, value: Value)
-    requires there { at < items_len array.old }
-    requires levels { levels (tree value) ≤ 98 }
-    ensures { array.new ≡ with_item array.old at (tree value) }
-{
-    match array.replace_at(at, value) {
-        Ok(_) => {}
-        Err(_) => unreachable!(),
-    }
-}
 
 /// Whether the first of the edits moves a field.
 fn begins_with_rename(edits: &[Edit]) -> bool

@@ -4,9 +4,8 @@
 ghost use Rattle.std.specs.Prelude.{◌≡◌};
 ghost use Rattle.bson.specs.View.{tree};
 
-use crate::inside::{put_field, take_field};
 use bson::{Document, Value};
-use path::{Part, Path};
+use path::{Part, Path, put_field, take_field};
 
 /// An edit that changes nothing. After some edits a document of many fields knows where its names stand, and
 /// then misses one that it lacks without a look at all.

@@ -18,10 +18,10 @@ ghost use Rattle.update.specs.View.{edit_of};
 
 use crate::copying::copy_edits;
 use crate::edit::{Action, Edit, MANY};
-use crate::inside::{change_below, take_item};
+use crate::inside::change_below;
 use crate::operators::apply_action;
 use bson::{Array, BuildFault, Document, NoMemory, Pair, Value};
-use path::{Part, Path, Refusal};
+use path::{Part, Path, Refusal, take_item};
 use std::alloc::{AllocError, Global};
 use std::cmp::Ordering;
 

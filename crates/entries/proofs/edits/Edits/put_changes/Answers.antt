@@ -18,12 +18,12 @@ indexes-preserved c =
     let id = c.args.id.now in
     step T put_of n id c.args.indexes.now c.args.changes.now c.args.self.now
     (puts (entries_in_all n id c.args.indexes.now (map T c.args.changes.now))) c.indexes.at c.index-indexes-at.result c.index-changes-at.result c.indexes.self
-    c.put_added.new.self
+    c.note_changed.new.self
     c.indexes-test.true c.requires.one_each c.index-indexes-at.is c.index-changes-at.is c.indexes.invariant
-    (c.in_ok-put_added.ensures.ok ∙ (λ t. with_edits (puts (entries_at n (c.number.ensures.number t) id (map (λ key. key.now) (val t)))) c.indexes.self))
+    (c.in_ok-note_changed.ensures.ok ∙ (λ t. with_edits (puts (entries_at n (c.number.ensures.number t) id (map (λ key. key.now) (val t)))) c.indexes.self))
 
-pub put_added-requires : goal.put_added-requires
-put_added-requires c =
+pub note_changed-requires : goal.note_changed-requires
+note_changed-requires c =
     let val : c.deref.result.now ≡ c.index-changes-at.result.added.items =
     c.deref.ensures.value ∙ ap (λ (e : KeyChanges). e.added.items) (sym c.index-changes-at.is) in
     record {
@@ -33,8 +33,8 @@ put_added-requires c =
           (omega (arith, c.indexes-test.true, c.requires.one_each)) c.index-changes-at.is val;
     }
 
-pub returns-in_err-put_added-clause-err : goal.returns-in_err-put_added-clause-err
-returns-in_err-put_added-clause-err c =
+pub returns-in_err-note_changed-clause-err : goal.returns-in_err-note_changed-clause-err
+returns-in_err-note_changed-clause-err c =
     let val : c.deref.result.now ≡ c.index-changes-at.result.added.items =
     c.deref.ensures.value ∙ ap (λ (e : KeyChanges). e.added.items) (sym c.index-changes-at.is) in
     let n = c.args.number in
@@ -42,10 +42,10 @@ returns-in_err-put_added-clause-err c =
     on_err c.from_residual.result
     (cut_off T put_of n id c.args.indexes.now c.args.changes.now c.args.self.now
     (puts (entries_in_all n id c.args.indexes.now (map T c.args.changes.now))) c.indexes.at c.index-indexes-at.result c.index-changes-at.result c.indexes.self
-    c.put_added.new.self
+    c.note_changed.new.self
     c.indexes-test.true c.requires.one_each c.index-indexes-at.is c.index-changes-at.is c.indexes.invariant
-    (subst (λ (es : List Edit). NotesSome c.indexes.self es c.put_added.new.self)
-    (λ t. puts (entries_at n (c.number.ensures.number t) id (map (λ key. key.now) (val t)))) c.in_err-put_added.ensures.err))
+    (subst (λ (es : List Edit). NotesSome c.indexes.self es c.note_changed.new.self)
+    (λ t. puts (entries_at n (c.number.ensures.number t) id (map (λ key. key.now) (val t)))) c.in_err-note_changed.ensures.err))
 
 pub returns-clause-ok : goal.returns-clause-ok
 returns-clause-ok c =
