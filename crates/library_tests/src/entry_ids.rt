@@ -3,7 +3,7 @@
 use crate::index_keys::index_on;
 use crate::rows::{put_digits, split};
 use bson::NoMemory;
-use planner::ids_in;
+use planner::{ascending, ids_of};
 use std::alloc::Global;
 use std::test::Fail;
 
@@ -47,7 +47,8 @@ fn shown(alloc: Global, paths: &str, texts: &str) -> Result<String, Fail> {
     let index = index_on(alloc, paths)?;
     let texts = decoded(alloc, texts)?;
     let mut out = String::new(alloc);
-    put_all(&mut out, alloc, &ids_in(alloc, &index, &texts)?)?;
+    let ids = ascending(ids_of(alloc, &index, texts)?);
+    put_all(&mut out, alloc, &ids)?;
     Ok(out)
 }
 

@@ -15,7 +15,7 @@ mod span;
 mod spelling;
 mod usable;
 
-pub use found_ids::{ascending, ids_in, ids_of};
+pub use found_ids::{ascending, ids_of};
 pub use key_scan::id_text;
 pub use plan::{Plan, choose, explain_text};
 pub use range::{IndexRange, Leading};

@@ -1,35 +1,29 @@
 -- Documents of which one of several conditions holds: the texts of the `_id`s to which each condition leads tell them all.
-use Rattle.std.proofs.Common.{◌≡◌, ◌<◌, ℕ, Bool, true, false, List, [], ◌∷◌, ◌++◌, length, get_or, Option, Some, None, Result, Ok, Err, refl, sym, ap, subst}
+use Rattle.std.proofs.Common.{◌≡◌, ◌<◌, ℕ, Bool, true, false, List, [], ◌∷◌, ◌++◌, length, get_or, Option, Some, Result, Ok, refl, sym, ap, subst}
 use Rattle.std.proofs.Common.{◌∙◌}
-use Rattle.std.specs.Prelude.{◌&&◌, ◌||◌, IfSome, option_map}
-use Rattle.std.specs.Borrow.{Bor}
+use Rattle.std.specs.Prelude.{IfSome}
 use Rattle.std.specs.Global.{Vec}
-use Rattle.bson.specs.Tree.{Tree, document, Pairs}
+use Rattle.bson.specs.Tree.{Tree, Pairs}
 use Rattle.page.specs.History.{History}
-use Rattle.path.specs.Reach.{reach}
 use Rattle.path.specs.declared.refusal.Refusal.{Refusal}
 use Rattle.collections.specs.Reading.{ReadsOf}
 use Rattle.collections.specs.State.{State}
 use Rattle.collections.specs.View.{is_stopped}
 use Rattle.filter.specs.Condition.{Conditions, equal, is}
-use Rattle.filter.specs.Matches.{Subject, all_hold, along, any_holds, holds, matches, whole}
+use Rattle.filter.specs.Matches.{Subject, all_hold, any_holds, holds, matches, whole}
 use Rattle.filter.specs.View.{condition_of, conditions_of}
 use Rattle.filter.specs.declared.condition.Condition.{Condition as Made}
 use Rattle.filter.specs.declared.condition.Condition.TheVariants as conditions
 use Rattle.entries.specs.State.{Collection}
 use Rattle.index.specs.View.{texts_of}
 use Rattle.entries.specs.declared.catalogue_reading.Catalogued.{Catalogued}
-use Rattle.entries.proofs.MemberLemmas.{among_of}
-use Rattle.entries.proofs.KeyOfDocument.{among_test}
-use Rattle.entries.specs.State.{key_of}
-use Rattle.value_order.specs.KeyText.{tree_text}
 use Rattle.queries.specs.Alternatives.{AreAlternatives, equal_at, one_holds, subject_at}
 use Rattle.queries.specs.Asking.{IsAsked}
-use Rattle.queries.specs.ById.{AreIdsOf, TellOf}
-use Rattle.queries.proofs.TellingLemmas.{AreTold, id_texts, next_told, tell_behind}
+use Rattle.queries.specs.ById.{TellOf}
+use Rattle.queries.proofs.TellingLemmas.{AreTold, next_told, tell_behind}
 use Rattle.queries.proofs.ByIdLemmas.{holds_at, if_some_on}
 use Rattle.queries.proofs.IdTextLemmas.{put_none}
-use Rattle.queries.proofs.ReadingLemmas.{IsOther, reads_as, reads_behind}
+use Rattle.queries.proofs.ReadingLemmas.{reads_as, reads_behind}
 
 -- ---- what conditions ask for
 
@@ -52,34 +46,25 @@ equal_holds path v d holding = rw holding refl
 
 -- ---- to whom `_id`s lead
 
--- those that lead to all that pass a test tell what passes it, and what passes a narrower one
-pub ids_tell : (number : ℕ) (wide passes : Pairs → Bool) (ids : List (List ℕ)) (now : List Collection) (c : Collection)
-    → ((d : Pairs) → passes d ≡ true → wide d ≡ true) → AreIdsOf number wide ids now c → TellOf c passes [] ids
-ids_tell number wide passes ids now c narrow lead = record {
-  put = record { texts = λ h. id_texts ids lead.ids lead.told; kept = λ text h. absurd cc };
-  tells = λ d has passing. among_test ids (tree_text (key_of d)) (among_of ids (tree_text (key_of d)) (lead.all d has.0 (narrow d passing)));
-}
+-- those that tell what passes a test tell what passes a narrower one
+pub told_narrow : (c : Collection) (wide passes : Pairs → Bool) (ids : List (List ℕ)) → ((d : Pairs) → passes d ≡ true → wide d ≡ true)
+    → TellOf c wide [] ids → TellOf c passes [] ids
+told_narrow c wide passes ids narrow tell = record { put = tell.put; tells = λ d has passing. tell.tells d has (narrow d passing) }
 
--- what was read, where it leads to a wider test
+-- the same, of what was read
 module _ {D : Type 0} (history : D → History) (home : Catalogued) (wide passes : Pairs → Bool) (narrow : (d : Pairs) → passes d ≡ true → wide d ≡ true) where
   pub tell_narrow : (old new : State D) (r : Result (Option (Vec (Vec ℕ))) Refusal) → is_stopped old ≡ false
-      → ReadsOf history (IsAsked home) (λ now c (found : Option (Vec (Vec ℕ))). IfSome found (λ ids. AreIdsOf home.number wide (texts_of ids.items) now c)) r
-      old new
+      → ReadsOf history (IsAsked home) (λ now c (found : Option (Vec (Vec ℕ))). IfSome found (λ ids. TellOf c wide [] (texts_of ids.items))) r old new
       → ReadsOf history (IsAsked home) (λ now c (found : Option (Vec (Vec ℕ))). IfSome found (λ ids. TellOf c passes [] (texts_of ids.items))) r old new
   tell_narrow old new r running reads =
       reads_as history (IsAsked home) (IsAsked home)
-      (λ now c (found : Option (Vec (Vec ℕ))). IfSome found (λ ids. AreIdsOf home.number wide (texts_of ids.items) now c))
+      (λ now c (found : Option (Vec (Vec ℕ))). IfSome found (λ ids. TellOf c wide [] (texts_of ids.items)))
       (λ now c (found : Option (Vec (Vec ℕ))). IfSome found (λ ids. TellOf c passes [] (texts_of ids.items))) old new r running reads
       (λ now state c asked. record {
         other = c;
         was = asked;
-        right = λ found lead. if_some_on found (λ ids one. ids_tell home.number wide passes (texts_of ids.items) now c narrow one) lead;
+        right = λ found told. if_some_on found (λ ids one. told_narrow c wide passes (texts_of ids.items) narrow one) told;
       })
-
--- the same, of what is told
-pub told_narrow : (c : Collection) (wide passes : Pairs → Bool) (ids : List (List ℕ)) → ((d : Pairs) → passes d ≡ true → wide d ≡ true)
-    → TellOf c wide [] ids → TellOf c passes [] ids
-told_narrow c wide passes ids narrow tell = record { put = tell.put; tells = λ d has passing. tell.tells d has (narrow d passing) }
 
 -- ---- one after the other
 

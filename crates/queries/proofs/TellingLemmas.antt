@@ -2,9 +2,9 @@
 use Rattle.std.proofs.Common.{◌≡◌, ℕ, zero, suc, Bool, true, false, List, [], ◌∷◌, ◌++◌, Option, Some, None, Result, Ok, refl, sym, ap, subst, ◌∙◌}
 use Rattle.std.proofs.Common.{append_assoc}
 use Rattle.std.specs.Global.{Vec}
-use Rattle.std.specs.List.{AllByRecursion, list_any}
+use Rattle.std.specs.List.{list_any}
 use Rattle.std.specs.Prelude.{◌&&◌, ◌||◌, not, IfSome, get_or, is_some, map, option_map, option_to_list}
-use Rattle.bson.specs.Tree.{Tree, Pairs}
+use Rattle.bson.specs.Tree.{Pairs}
 use Rattle.page.specs.History.{History}
 use Rattle.path.specs.declared.refusal.Refusal.{Refusal}
 use Rattle.collections.specs.Reading.{ReadsOf}
@@ -20,18 +20,11 @@ use Rattle.entries.specs.State.{Collection, key_of}
 use Rattle.index.specs.View.{texts_of}
 use Rattle.entries.proofs.KeyOfDocument.{among_test, test_among}
 use Rattle.entries.proofs.MemberLemmas.{among_back, among_front}
-use Rattle.planner.specs.IdLaws.{AreIdTexts}
 use Rattle.entries.specs.declared.catalogue_reading.Catalogued.{Catalogued}
 use Rattle.queries.specs.Asking.{IsAsked}
 use Rattle.queries.specs.ById.{ArePut, IsIdText, IsIn, Tell, TellBeside, TellIds, TellIdsBeside, TellOf, but_not, one_matches}
 use Rattle.queries.proofs.IdTextLemmas.{either_tells, left_all, left_next, left_none, put_none, put_on}
 use Rattle.queries.proofs.ReadingLemmas.{reads_behind}
-
-pub id_texts : (texts : List (List ℕ)) (ids : List Tree) → AreIdTexts texts ids → AllByRecursion IsIdText texts
-id_texts [] [] told = tt
-id_texts [] (id ∷ ids) told = absurd told
-id_texts (text ∷ texts) [] told = absurd told
-id_texts (text ∷ texts) (id ∷ ids) told = (record { id = id; spelled = told.0; key = told.1 }, id_texts texts ids told.2)
 
 pub texts_appended : (vs ws : List (Vec ℕ)) → texts_of (vs ++ ws) ≡ texts_of vs ++ texts_of ws
 texts_appended [] ws = refl

@@ -11,7 +11,7 @@ use Rattle.index.specs.Definition.{Definition}
 use Rattle.entries.specs.State.{Collection}
 use Rattle.collections.specs.IndexTexts.{AreFirstTexts, AreTextsBetween, Indexed}
 use Rattle.collections.specs.Reading.{IsNumbered}
-use Rattle.planner.specs.FoundIds.{ids_in, ids_of}
+use Rattle.planner.specs.FoundIds.{ids_of}
 use Rattle.planner.specs.IdLaws.{AreIdTexts, found_by}
 use Rattle.planner.specs.KeyRange.{IsSpellable}
 use Rattle.planner.specs.KeySpan.{first_key, last_key}
@@ -34,12 +34,12 @@ pub record IsRangeOf (rs : Conditions) (sort : List SortField) (indexes : List D
   pub given : r ≡ range_in rs sort (Some definition)
   pub spellable : IsSpellable r
 
--- The texts of the `_id`s in the entries of the index in the range.
+-- The texts of the `_id`s in the entries of the index in the range, in the order of the entries.
 pub record AreIdsInRange (r : Range) (at : Indexed) (ids : List (List ℕ)) : Type 0 where
   pub texts : List (List ℕ)
   pub between : AreTextsBetween (first_key at.definition.fields r)
       (last_key at.definition.fields r) at texts
-  pub found : ids ≡ ids_in at.definition.fields texts
+  pub found : ids ≡ ids_of at.definition.fields texts
 
 -- The texts of the `_id`s in the first entries of the index in the range, in the order of the
 -- entries, and whether these are all.

@@ -8,7 +8,7 @@ ghost use Rattle.filter.specs.Matches.{matches};
 ghost use Rattle.index.specs.View.{texts_of};
 ghost use Rattle.planner.specs.View.{range_of};
 ghost use Rattle.queries.specs.Asking.{IsAsked};
-ghost use Rattle.queries.specs.ById.{AreIdsOf};
+ghost use Rattle.queries.specs.ById.{TellOf};
 ghost use Rattle.queries.specs.ByIndex.{AreIdsInRange, IsRangeOf};
 
 use bson::NoMemory;
@@ -18,7 +18,7 @@ use filter::Filter;
 use index::IndexSpec;
 use page::Disk;
 use path::Refusal;
-use planner::{IndexRange, Plan, choose, ids_in};
+use planner::{IndexRange, Plan, choose, ids_of};
 use sort::Sort;
 use std::alloc::Global;
 
@@ -64,11 +64,11 @@ fn ids_in_range<D: Disk>(
     else {
         return Ok(None);
     };
-    Ok(Some(ids_in(alloc, index, &texts)?))
+    Ok(Some(ids_of(alloc, index, texts)?))
 }
 
-/// The ascending texts of the `_id`s among which are those of all documents that a filter matches, where this is the range that it
-/// gives in an index, by at most so many entries of that.
+/// The texts of the `_id`s among which are those of all documents that a filter matches, where this is the range that it gives in an
+/// index, by at most so many entries of that, in the order of the entries.
 pub(crate) fn ids_asked<D: Disk>(
     alloc: Global,
     file: &mut Collections<D>,
@@ -79,7 +79,7 @@ pub(crate) fn ids_asked<D: Disk>(
     ensures { (rs : Conditions) → IsRangeOf rs [] home.now.indexes.items (range_of range.now)
         → ReadsOf D.history (IsAsked home.now)
         (λ now c found. IfSome found
-        (λ ids. AreIdsOf home.now.number (matches rs) (texts_of ids.items) now c))
+        (λ ids. TellOf c (matches rs) [] (texts_of ids.items)))
         result file.old file.new }
 {
     if file.is_stopped() {
@@ -101,7 +101,7 @@ pub(crate) fn ids_by_index<D: Disk>(
 ) -> Result<Option<Vec<Vec<u8>>>, Refusal>
     ensures { ReadsOf D.history (IsAsked home.now)
         (λ now c found. IfSome found
-        (λ ids. AreIdsOf home.now.number (matches filter.now) (texts_of ids.items) now c))
+        (λ ids. TellOf c (matches filter.now) [] (texts_of ids.items)))
         result file.old file.new }
 {
     if file.is_stopped() {

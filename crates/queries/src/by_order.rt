@@ -52,7 +52,7 @@ fn first_ids<D: Disk>(
     let span = range.span(alloc)?;
     let read = file.first_texts(number, index.number(), &span.first, &span.last, width)?;
     Ok(FirstIds {
-        ids: ids_of(alloc, index, &read.texts)?,
+        ids: ids_of(alloc, index, read.texts)?,
         are_all: read.are_all,
     })
 }

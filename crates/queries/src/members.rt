@@ -10,7 +10,7 @@ ghost use Rattle.planner.specs.Usable.{no_array};
 ghost use Rattle.planner.specs.View.{range_of};
 ghost use Rattle.queries.specs.Alternatives.{begins_with, equal_at, has_other_next, has_path};
 ghost use Rattle.queries.specs.Asking.{IsAsked};
-ghost use Rattle.queries.specs.ById.{AreIdsOf};
+ghost use Rattle.queries.specs.ById.{TellOf};
 ghost use Rattle.queries.specs.ByIndex.{IsRangeOf};
 
 use crate::by_index::ids_asked;
@@ -103,8 +103,8 @@ fn range_of_value<'a>(
     Ok(None)
 }
 
-/// The ascending texts of the `_id`s of the documents that have the value at a path, and perhaps of others, where an index leads to
-/// them by at most so many of its entries.
+/// The texts of the `_id`s of the documents that have the value at a path, and perhaps of others, where an index leads to them by at
+/// most so many of its entries.
 pub(crate) fn ids_of_value<D: Disk>(
     alloc: Global,
     file: &mut Collections<D>,
@@ -114,8 +114,8 @@ pub(crate) fn ids_of_value<D: Disk>(
     most: usize,
 ) -> Result<Option<Vec<Vec<u8>>>, Refusal>
     ensures { ReadsOf D.history (IsAsked home.now)
-        (λ now c found. IfSome found (λ ids. AreIdsOf home.now.number
-        (matches (equal_at path.now (tree value.now))) (texts_of ids.items) now c))
+        (λ now c found. IfSome found (λ ids.
+        TellOf c (matches (equal_at path.now (tree value.now))) [] (texts_of ids.items)))
         result file.old file.new }
 {
     if file.is_stopped() {

@@ -1,11 +1,11 @@
-use Rattle.std.proofs.Common.{◌≡◌, [], ℕ, List, Option, Some, None, Ok, Err, Vec, Global, subst}
+use Rattle.std.proofs.Common.{[], ℕ, Option, Some, Vec, Global, subst}
 use Rattle.std.specs.Prelude.{IfSome}
 use Rattle.std.proofs.lemmas.Result.{err_from_is_err_and}
 use Rattle.filter.specs.Matches.{matches}
 use Rattle.index.specs.View.{texts_of}
 use Rattle.queries.specs.Asking.{IsAsked}
-use Rattle.queries.specs.ById.{AreIdsOf, TellOf}
-use Rattle.queries.proofs.AlternativesLemmas.{behind_nothing, ids_tell}
+use Rattle.queries.specs.ById.{TellOf}
+use Rattle.queries.proofs.AlternativesLemmas.{behind_nothing}
 use Rattle.queries.proofs.ReadingLemmas.{reads_made, reads_refused}
 use Rattle.queries.proofs.alternatives.ids_served.Goals as goal
 
@@ -17,7 +17,7 @@ returns-in_err-ids g c =
     rw (e.1, e.2)
     (reads_refused g.D.Disk.history (IsAsked home)
     (λ now of (found : Option (Vec (Vec ℕ Global) Global)). IfSome found
-    (λ ids. AreIdsOf home.number (matches rs) (texts_of ids.items) now of))
+    (λ ids. TellOf of (matches rs) [] (texts_of ids.items)))
     (λ now of (found : Option (Vec (Vec ℕ Global) Global)). IfSome found (λ ids. TellOf of (matches rs) [] (texts_of ids.items)))
     c.args.file.now c.ids_by_index.new.file c.in_err-ids.field-0.0 c.in_err-ids.ensures)
 
@@ -27,11 +27,10 @@ returns-in-Some g c =
     let rs = c.args.filter.now in
     reads_made g.D.Disk.history (IsAsked home)
     (λ now of (found : Option (Vec (Vec ℕ Global) Global)). IfSome found
-    (λ ids. AreIdsOf home.number (matches rs) (texts_of ids.items) now of))
+    (λ ids. TellOf of (matches rs) [] (texts_of ids.items)))
     (λ now of (found : Option (Vec (Vec ℕ Global) Global)). IfSome found (λ ids. TellOf of (matches rs) [] (texts_of ids.items)))
     c.args.file.now c.ids_by_index.new.file c.in_ok-ids.field-0 (Some c.in-Some.ids) c.in_ok-ids.ensures
-    (λ now of asked so. ids_tell home.number (matches rs) (matches rs) (texts_of c.in-Some.ids.items) now of (λ d h. h)
-    (subst (λ (o : Option (Vec (Vec ℕ Global) Global)). IfSome o (λ ids. AreIdsOf home.number (matches rs) (texts_of ids.items) now of)) c.in-Some.is so))
+    (λ now of asked so. subst (λ (o : Option (Vec (Vec ℕ Global) Global)). IfSome o (λ ids. TellOf of (matches rs) [] (texts_of ids.items))) c.in-Some.is so)
 
 pub returns : goal.returns
 returns g c =
@@ -42,6 +41,6 @@ returns g c =
     c.args.file.now c.ids_by_index.new.file c.ids_by_alternatives.new.file c.ids_by_alternatives.result
     (reads_made g.D.Disk.history (IsAsked home)
     (λ now of (found : Option (Vec (Vec ℕ Global) Global)). IfSome found
-    (λ ids. AreIdsOf home.number (matches rs) (texts_of ids.items) now of))
+    (λ ids. TellOf of (matches rs) [] (texts_of ids.items)))
     (λ now of (_ : Unit {0}). Unit {0}) c.args.file.now c.ids_by_index.new.file c.in_ok-ids.field-0 tt c.in_ok-ids.ensures (λ now of asked so. tt))
     c.ids_by_alternatives.ensures

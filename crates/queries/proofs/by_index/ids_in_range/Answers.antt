@@ -1,10 +1,9 @@
-use Rattle.std.proofs.Common.{◌≡◌, ℕ, List, Option, Some, Ok, Err, Vec, Global, ap, subst, ◌∙◌}
+use Rattle.std.proofs.Common.{◌≡◌, ℕ, List, Option, Some, Ok, Err, Vec, Global, subst, ◌∙◌}
 use Rattle.std.specs.Prelude.{IfSome}
 use Rattle.std.proofs.lemmas.Result.{err_from_is_err_and}
 use Rattle.collections.specs.IndexTexts.{AreTextsBetween, IsNumberedIndex}
 use Rattle.collections.specs.Reading.{ReadsOf}
 use Rattle.index.specs.View.{texts_of}
-use Rattle.planner.specs.FoundIds.{ids_in}
 use Rattle.planner.specs.View.{range_of}
 use Rattle.queries.specs.ByIndex.{AreIdsInRange}
 use Rattle.queries.proofs.ByIndexLemmas.{in_range}
@@ -35,7 +34,7 @@ returns g c =
     reads_made g.D.Disk.history (IsNumberedIndex c.args.number index.number)
     (λ now at (found : Option (Vec (Vec ℕ Global) Global)). IfSome found (λ texts. AreTextsBetween first last at (texts_of texts.items)))
     (λ now at (found : Option (Vec (Vec ℕ Global) Global)). at.definition ≡ index → IfSome found (λ ids. AreIdsInRange r at (texts_of ids.items)))
-    c.args.file.now c.index_texts.new.self c.in_ok-texts.field-0 (Some c.in_ok-ids_in.field-0)
+    c.args.file.now c.index_texts.new.self c.in_ok-texts.field-0 (Some c.in_ok-ids_of.field-0)
     (subst (λ (n : ℕ). ReadsOf g.D.Disk.history (IsNumberedIndex c.args.number n)
     (λ now at (found : Option (Vec (Vec ℕ Global) Global)). IfSome found
     (λ texts. AreTextsBetween c.deref.result.now c.deref-2.result.now at (texts_of texts.items)))
@@ -43,6 +42,6 @@ returns g c =
     (λ now at is p same.
     let between : AreTextsBetween first last at (texts_of texts.items) =
     subst (λ (o : Option (Vec (Vec ℕ Global) Global)). IfSome o (λ t. AreTextsBetween first last at (texts_of t.items))) c.in-Some.is p in
-    in_range r index at first last (texts_of texts.items) (texts_of c.in_ok-ids_in.field-0.items) c.requires same
+    in_range r index at first last (texts_of texts.items) (texts_of c.in_ok-ids_of.field-0.items) c.requires same
     (c.deref.ensures.value ∙ c.in_ok-span.ensures.first) (c.deref-2.ensures.value ∙ c.in_ok-span.ensures.last) between
-    (c.in_ok-ids_in.ensures ∙ ap (λ ts. ids_in index.fields (texts_of ts)) c.deref-3.ensures.value))
+    c.in_ok-ids_of.ensures)

@@ -1,10 +1,9 @@
-use Rattle.std.proofs.Common.{◌≡◌, ℕ, List, Ok, Err, ap, subst, ◌∙◌}
+use Rattle.std.proofs.Common.{◌≡◌, ℕ, List, Ok, Err, subst, ◌∙◌}
 use Rattle.std.proofs.lemmas.Result.{err_from_is_err_and}
 use Rattle.collections.specs.IndexTexts.{AreFirstTexts, IsNumberedIndex}
 use Rattle.collections.specs.Reading.{ReadsOf}
 use Rattle.collections.specs.declared.index_texts.FirstTexts.{FirstTexts}
 use Rattle.index.specs.View.{texts_of}
-use Rattle.planner.specs.FoundIds.{ids_of}
 use Rattle.planner.specs.View.{range_of}
 use Rattle.queries.specs.ByIndex.{AreFirstIds}
 use Rattle.queries.specs.declared.by_order.FirstIds.{FirstIds}
@@ -53,4 +52,4 @@ returns g c =
     (λ now at is p same.
     first_in_span r index at first last read.are_all (texts_of read.texts.items) (texts_of c.in_ok-ids_of.field-0.items) c.requires same
     (c.deref.ensures.value ∙ c.in_ok-span.ensures.first) (c.deref-2.ensures.value ∙ c.in_ok-span.ensures.last) p
-    (c.in_ok-ids_of.ensures ∙ ap (λ ts. ids_of index.fields (texts_of ts)) c.deref-3.ensures.value))
+    c.in_ok-ids_of.ensures)
