@@ -18,7 +18,7 @@ use crate::in_page::{edit_page, has_room, write_leaf};
 use crate::joining::QUARTER;
 use crate::loose::{Loose, Unit, page_below, units_of_cells};
 use crate::one_child::{
-    child_of_all, go_between, page_of_one, place_before, place_behind, write_between, write_branch,
+    child_of_all, go_between, page_of_one, place_behind, write_between, write_branch,
 };
 use crate::opening::{children_between, leaf_cells, units_of_branch};
 use crate::search::{branch_child, leaf_key, low_bound};
@@ -212,7 +212,7 @@ fn put_between<P: Pages>(
     if go_between(branch, at, rank, low, &amid) {
         return write_between(alloc, pages, branch, at, &amid.units, rank, low);
     }
-    let from = place_before(at);
+    let from = at.saturating_sub(1);
     let to = place_behind(branch, at);
     let front = children_between(alloc, branch, low, rank, 0, from)?;
     let back = children_between(alloc, branch, low, rank, to, branch.len())?;
@@ -244,7 +244,7 @@ fn put_apart<P: Pages>(
         → base < rank → 6 + length low.now ≤ 1360
         → Turns (P.store pages.old) (P.store pages.new) base low.now high entries reached result }
 {
-    let from = place_before(at);
+    let from = at.saturating_sub(1);
     let to = place_behind(branch, at);
     let left = children_between(alloc, branch, low, rank, from, at)?;
     let right = children_between(alloc, branch, low, rank, at + 1, to)?;

@@ -116,13 +116,6 @@ pub(crate) fn write_branch<P: Pages>(
     write_made(alloc, pages, made, rank, low)
 }
 
-/// The place of the child before this one, or of this one where it is the first.
-pub(crate) fn place_before(at: usize) -> usize
-    ensures { result ≡ at - 1 }
-{
-    at.saturating_sub(1)
-}
-
 /// The place behind the child that is behind this one, or behind this one where it is the last.
 pub(crate) fn place_behind(branch: &Branch, at: usize) -> usize
     requires { at < length branch.now }
@@ -209,7 +202,7 @@ pub(crate) fn go_between(branch: &Branch, at: usize, rank: u32, low: &[u8], amid
     }
     find_room(
         branch,
-        place_before(at),
+        at.saturating_sub(1),
         place_behind(branch, at),
         low,
         &amid.units,
@@ -242,6 +235,11 @@ pub(crate) fn write_between<P: Pages>(
         → Turns (P.store pages.old) (P.store pages.new) base low.now high entries reached result }
 {
     let children = children_of(alloc, units)?;
-    let made = branch.with_children(alloc, place_before(at), place_behind(branch, at), &children)?;
+    let made = branch.with_children(
+        alloc,
+        at.saturating_sub(1),
+        place_behind(branch, at),
+        &children,
+    )?;
     write_made(alloc, pages, made, rank, low)
 }

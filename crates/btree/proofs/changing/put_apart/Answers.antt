@@ -24,7 +24,7 @@ returns-clause-turns g c =
     let frame = c.put_between.ensures.grows.frame k in
     near_done s base c.args.low.now high arms c.args.at c.args.rank entries reached (sheaf_in c.args.below) (sheaf_in c.in_ok-left.left)
     (sheaf_in c.in_ok-right.right) m (c.args.at - 1) (min (c.args.at + 2) (length arms)) (omega arith) (omega (arith, c.requires.place))
-    (c.in_ok-left.ensures.ok ∙ ap (λ n. stubs_between n c.args.at stubs) c.place_before-from.ensures) c.in_ok-left.ensures.rank
+    (c.in_ok-left.ensures.ok ∙ ap (λ n. stubs_between n c.args.at stubs) c.saturating_sub-from.ensures) c.in_ok-left.ensures.rank
     (c.in_ok-right.ensures.ok ∙ ap (λ n. stubs_between (c.args.at + 1) n stubs) c.place_behind-to.ensures.place) c.in_ok-right.ensures.rank
     mid (c.in_ok-amid.ensures.grows.frame frame.word) (g.P.Pages.store c.put_between.new.pages) (sheaf_in c.in_ok-amid.amid) c.put_between.result
     (λ low' key between end first last inner fp ip lp l i b over inside within.
@@ -41,7 +41,7 @@ returns-in_err-amid-clause-turns g c =
     turns_failed s mid base c.args.low.now high entries reached c.from_residual-in_err-amid.result _ c.from_residual-in_err-amid.ensures.1
     (near_stopped s base c.args.low.now high arms c.args.at c.args.rank entries reached (sheaf_in c.args.below) (sheaf_in c.in_ok-left.left)
     (sheaf_in c.in_ok-right.right) m (c.args.at - 1) (min (c.args.at + 2) (length arms)) (omega arith) (omega (arith, c.requires.place))
-    (c.in_ok-left.ensures.ok ∙ ap (λ n. stubs_between n c.args.at stubs) c.place_before-from.ensures) c.in_ok-left.ensures.rank
+    (c.in_ok-left.ensures.ok ∙ ap (λ n. stubs_between n c.args.at stubs) c.saturating_sub-from.ensures) c.in_ok-left.ensures.rank
     (c.in_ok-right.ensures.ok ∙ ap (λ n. stubs_between (c.args.at + 1) n stubs) c.place_behind-to.ensures.place) c.in_ok-right.ensures.rank
     mid (c.in_err-amid.ensures.grows.frame k) _
     (λ low' key between end first last inner fp ip lp l i b over inside within.
@@ -54,8 +54,8 @@ returns-clause-few g c =
     let mid = g.P.Pages.store c.settle.new.pages in
     let left = c.in_ok-left.left in
     let right = c.in_ok-right.right in
-    let b = are_beside c.args.low.now c.args.branch.now c.args.at c.place_before-from.result c.place_behind-to.result (map stub_in left.units.items)
-    (map stub_in right.units.items) c.requires.sound c.requires.place little c.place_before-from.ensures c.place_behind-to.ensures.place
+    let b = are_beside c.args.low.now c.args.branch.now c.args.at c.saturating_sub-from.result c.place_behind-to.result (map stub_in left.units.items)
+    (map stub_in right.units.items) c.requires.sound c.requires.place little c.saturating_sub-from.ensures c.place_behind-to.ensures.place
     c.in_ok-left.ensures.ok c.in_ok-right.ensures.ok in
     c.put_between.ensures.few first (4 * c.args.rank + count) little
     (near_few first s mid (sheaf_in left) (sheaf_in c.args.below) (sheaf_in right) c.args.rank count _ c.in_ok-left.ensures.rank c.in_ok-right.ensures.rank
@@ -70,8 +70,8 @@ returns-in_err-amid-clause-few g c =
     let mid = g.P.Pages.store c.settle.new.pages in
     let left = c.in_ok-left.left in
     let right = c.in_ok-right.right in
-    let b = are_beside c.args.low.now c.args.branch.now c.args.at c.place_before-from.result c.place_behind-to.result (map stub_in left.units.items)
-    (map stub_in right.units.items) c.requires.sound c.requires.place little c.place_before-from.ensures c.place_behind-to.ensures.place
+    let b = are_beside c.args.low.now c.args.branch.now c.args.at c.saturating_sub-from.result c.place_behind-to.result (map stub_in left.units.items)
+    (map stub_in right.units.items) c.requires.sound c.requires.place little c.saturating_sub-from.ensures c.place_behind-to.ensures.place
     c.in_ok-left.ensures.ok c.in_ok-right.ensures.ok in
     let m : MakesUpTo first mid (4 * c.args.rank + count + 1) =
     omega (

@@ -41,7 +41,7 @@ returns-clause-turns g c =
     let arms = c.args.branch.now in
     let stubs = map arm_stub (under_key c.args.low.now arms) in
     let front_is : map stub_in c.in_ok-front.front.units.items ≡ take (c.args.at - 1) stubs =
-    c.in_ok-front.ensures.ok ∙ ap (λ n. take n stubs) c.place_before-from.ensures in
+    c.in_ok-front.ensures.ok ∙ ap (λ n. take n stubs) c.saturating_sub-from.ensures in
     let back_is : map stub_in c.in_ok-back.back.units.items ≡ drop (min (c.args.at + 2) (length arms)) stubs =
     c.in_ok-back.ensures.ok
     ∙ ap (drop c.place_behind-to.result) (take_over c.len.result stubs (omega (arith, c.len.ensures.count, under_long c.args.low.now arms)))
@@ -65,7 +65,7 @@ returns-clause-few g c =
     let long : length stubs ≡ length arms = under_long c.args.low.now arms in
     let to_is : min (c.args.at + 2) (length stubs) ≡ to = ap (λ n. min (c.args.at + 2) n) long in
     let front_is : map stub_in c.in_ok-front.front.units.items ≡ take (c.args.at - 1) stubs =
-    c.in_ok-front.ensures.ok ∙ ap (λ n. take n stubs) c.place_before-from.ensures in
+    c.in_ok-front.ensures.ok ∙ ap (λ n. take n stubs) c.saturating_sub-from.ensures in
     let back_is : map stub_in c.in_ok-back.back.units.items ≡ drop to stubs =
     c.in_ok-back.ensures.ok ∙ ap (drop c.place_behind-to.result) (take_over c.len.result stubs (omega (arith, c.len.ensures.count, long)))
     ∙ ap (λ n. drop n stubs) c.place_behind-to.ensures.place in

@@ -6,5 +6,5 @@ use Rattle.btree.proofs.one_child.go_between.Goals as goal
 
 pub returns-clause-sound : goal.returns-clause-sound
 returns-clause-sound c =
-    λ arms e is. subst IsBranch (λ i. exchanged (c.place_before.ensures i) (c.place_behind.ensures.place i) arms c.args.branch.now)
+    λ arms e is. subst IsBranch (λ i. exchanged (c.saturating_sub.ensures i) (c.place_behind.ensures.place i) arms c.args.branch.now)
     (c.find_room.ensures arms (ap (map stub_in) c.deref.ensures.value ∙ e) is)

@@ -13,7 +13,7 @@ use Rattle.btree.proofs.one_child.write_between.Goals as goal
 pub with_children-requires-clause-sound : goal.with_children-requires-clause-sound
 with_children-requires-clause-sound g c =
     subst IsBranch
-    (sym (λ i. exchanged (c.place_before.ensures i) (c.place_behind.ensures.place i) (map arm_in (c.deref.ensures.value i)) c.args.branch.now))
+    (sym (λ i. exchanged (c.saturating_sub.ensures i) (c.place_behind.ensures.place i) (map arm_in (c.deref.ensures.value i)) c.args.branch.now))
     (c.requires.sound (map arm_in c.in_ok-children.children.items) (sym c.in_ok-children.ensures.ok))
 
 pub returns-clause-turns : goal.returns-clause-turns
@@ -28,7 +28,7 @@ returns-clause-turns g c =
     let new : List Arm = map arm_in c.in_ok-children.children.items in
     let made_is : c.in_ok-made.made ≡ exchanged from to new arms =
     c.in_ok-made.ensures
-    ∙ (λ i. exchanged (c.place_before.ensures i) (c.place_behind.ensures.place i) (map arm_in (c.deref.ensures.value i)) arms) in
+    ∙ (λ i. exchanged (c.saturating_sub.ensures i) (c.place_behind.ensures.place i) (map arm_in (c.deref.ensures.value i)) arms) in
     let stubs_are : take from stubs ++ (map stub_in c.args.units.now ++ drop to stubs) ≡ map arm_stub (under_key low c.in_ok-made.made) =
     ap (λ (ss : List Stub). take from stubs ++ (ss ++ drop to stubs)) (sym c.in_ok-children.ensures.ok)
     ∙ sym (under_exchanged low from to new arms (omega (arith, c.requires.behind)) (omega (arith, c.requires.place)) (omega (arith, c.requires.place)))
