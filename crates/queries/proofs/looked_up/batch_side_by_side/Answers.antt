@@ -1,4 +1,4 @@
-use Rattle.std.proofs.Common.{◌≡◌, List, ℕ, Option, Some, None, Result, Ok, Err, sym, subst}
+use Rattle.std.proofs.Common.{◌≡◌, List, ℕ, Option, Some, None, Result, Ok, Err, sym, subst, ◌∙◌}
 use Rattle.std.specs.Prelude.{IfSome, is_some}
 use Rattle.std.proofs.lemmas.Result.{err_from_is_err_and}
 use Rattle.bson.specs.Tree.{Pairs}
@@ -95,5 +95,5 @@ returns-clause-reads g c =
     let lent : AreLent w start of.documents done = subst (λ (o : Option Giving). IfSome o (AreLent w start of.documents)) c.in-Some.is some in
     record {
       given = given_batch w c.args.asked.now start done of.documents b c.in_ok-giving.ensures lent c.in_ok-ended.ensures.ended;
-      whole = c.in_ok-ended.ensures.ended.same_next ∙ is_none done.next c.is_some.ensures c.if-is_some.false;
+      whole = c.in_ok-ended.ensures.ended.same_next ∙ is_none done.next c.is_some.result c.is_some.ensures c.if-is_some.false;
     })

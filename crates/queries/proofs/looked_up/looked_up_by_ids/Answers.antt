@@ -22,7 +22,7 @@ returns-in_err-found-clause-reads g c =
     let w = c.args.walk.now in
     let p = matches w.filter.now in
     let texts : List (List ℕ) = texts_of c.args.ids.now in
-    let e = err_from_is_err_and c.from_residual-in_err-found.result c.from_residual-in_err-found.ensures.1 in
+    let e = err_from_is_err_and c.from_residual.result c.from_residual.ensures.1 in
     rw (e.1, e.2)
     (reads_refused g.D.Disk.history (AreIdsOfAsked c.args.home.now p texts) (λ now of (found : Vec Pairs Global). Found of.documents p c.args.most found)
     (λ now of (found : LookedUp). IsLookedUp w c.args.asked.now c.args.most of.documents found) c.args.file.now c.selected_by_ids.new.file
@@ -30,8 +30,8 @@ returns-in_err-found-clause-reads g c =
     (found_asked g.D.Disk.history c.args.home.now p texts (λ ds found. Found ds p c.args.most found) c.args.file.now c.selected_by_ids.new.file
     (Err c.in_err-found.field-0.0) c.in_err-found.ensures.reads))
 
-pub returns-in_ok-found-clause-reads : goal.returns-in_ok-found-clause-reads
-returns-in_ok-found-clause-reads g c =
+pub returns-then-asked-ids-clause-reads : goal.returns-then-asked-ids-clause-reads
+returns-then-asked-ids-clause-reads g c =
     let w = c.args.walk.now in
     let p = matches w.filter.now in
     let texts : List (List ℕ) = texts_of c.args.ids.now in
