@@ -62,8 +62,8 @@ pub(crate) fn push_unit(units: &mut Vec<Unit>, unit: Unit) -> Result<(), TreeFau
     }
 }
 
-// A cell out of its page.
-fn unit_of_cell(alloc: Global, cell: Cell<'_>) -> Result<Unit, AllocError>
+/// A cell out of its page.
+pub(crate) fn unit_of_cell(alloc: Global, cell: Cell<'_>) -> Result<Unit, AllocError>
     ensures { IfOk result (λ unit. stub_in unit ≡ item_stub (item_in cell.entry)) }
 {
     let key = Vec::from_slice(alloc, cell.key)?;

@@ -12,7 +12,7 @@ ghost use Rattle.btree.specs.Turn.{IsHeld, IsReady, MayFill, Opens, PartsFirst, 
 ghost use Rattle.btree.specs.View.{content_in, item_in};
 ghost use Rattle.btree.specs.declared.pages.TreeFault.TheVariants.{Memory};
 
-use crate::loose::{Hold, Loose, Unit, push_unit, unit_of_page, units_of_cells};
+use crate::loose::{Loose, Unit, push_unit, unit_of_cell, unit_of_page};
 use crate::parts::{push_cell, write_parts};
 use crate::search::{branch_child, leaf_cell, low_bound};
 use crate::{Pages, TreeFault};
@@ -103,8 +103,11 @@ pub(crate) fn units_of_leaf(alloc: Global, leaf: &Leaf) -> Result<Vec<Unit>, Tre
     ensures ok { IfOk result (λ units. map stub_in units.items ≡ map item_stub leaf.now) }
     ensures err { IfErr result (λ e. e ≡ Memory) }
 {
-    let cells = leaf_cells(alloc, leaf)?;
-    let units = units_of_cells(alloc, &cells)?;
+    let mut units = Vec::with_capacity(alloc, leaf.len())?;
+    for i in 0..leaf.len() {
+        let unit = unit_of_cell(alloc, leaf_cell(leaf, i))?;
+        push_unit(&mut units, unit)?;
+    }
     Ok(units)
 }
 

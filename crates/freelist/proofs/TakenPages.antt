@@ -197,6 +197,42 @@ finds_none page_count draft old mid new so needs takes = (
         let more : length draft.pages.items < list_pages draft.unused = grind (arith, nat_tests) in
         omega (arith, more, so.counts, ap (λ (n : ℕ). length (unused_below n mid.states)) so.ends)
 
+pub took : (old before mid : Book) (found : Option ℕ) (page : ℕ) → before ≡ old → found ≡ Some page → Takes found before mid → Takes (Some page) old mid
+took old before mid found page same is takes =
+    subst (λ (f : Option ℕ). Takes f old mid) is (subst (λ (b : Book). Takes found b mid) same takes)
+
+-- nor for the first one
+pub finds_none_first : (page_count : ℕ) (old new : Book) → 0 < length (unused_below page_count old.states) → Takes None old new
+    → FindsNone page_count old new
+finds_none_first page_count old new some takes = (
+  record { pages = []; last = old; takes = refl; none_free = takes.0; short = omega (arith, some) },
+  ap (undone (length old.turn)) takes.1 ∙ refused_goes_back [] old old refl,
+)
+
+-- a draft with its first page
+pub drafts_first : (page_count : ℕ) (draft : Draft) (page : ℕ) (old new : Book) → 0 < length (unused_below page_count old.states)
+    → Takes (Some page) old new → draft.pages.items ≡ page ∷ [] → draft.page_count ≡ max page_count (page + 1) → Counts draft new.states
+    → IsDraft page_count draft old new
+drafts_first page_count draft page old new some takes pages_are ends counts = record {
+  takes = subst (λ (ps : List ℕ). TakesAll ps old new) (sym pages_are) (takes.0, takes.1);
+  ends = ends ∙ ap (count_with page_count) (sym pages_are);
+  counts = counts;
+  few = omega (arith, ap length pages_are);
+  none = λ nothing. absurd (omega (arith, some, ap length nothing));
+}
+
+-- where each page is in use
+pub made_of_none : (page_count : ℕ) (pages named : List ℕ) (old new : Book) → new ≡ old → unused_below page_count old.states ≡ [] → pages ≡ [] → named ≡ []
+    → IsMade page_count pages named old new
+made_of_none page_count pages named old new same nothing no_pages none = record {
+  takes = subst (λ (ps : List ℕ). TakesAll ps old new) (sym no_pages) same;
+  names = none ∙ sym nothing ∙ ap (λ (b : Book). unused_below page_count b.states) (sym same)
+      ∙ ap (λ (ps : List ℕ). unused_below (count_with page_count ps) new.states) (sym no_pages);
+  room = omega (arith, ap length none);
+  few = omega (arith, ap length no_pages);
+  none = λ nothing. no_pages;
+}
+
 -- a draft that needs no more is a list, once it names what isn't in use
 pub is_made : (page_count : ℕ) (draft : Draft) (named : List ℕ) (old new : Book) → IsDraft page_count draft old new → needs_more draft ≡ false
     → named ≡ unused_below draft.page_count new.states → IsMade page_count draft.pages.items named old new

@@ -1,8 +1,8 @@
 //! The book of a file's pages.
-ghost use Rattle.std.specs.Prelude.{◌≡◌, ◌-◌, IfOk, OnOk, OnErr, max, length};
-ghost use Rattle.freelist.specs.Book.{Takes, is_in_use, is_pinned, retired, committed, pinned, unpinned, undone, opened};
+ghost use Rattle.std.specs.Prelude.{◌≡◌, ◌-◌, ℕ, IfOk, OnOk, OnErr, max, length};
+ghost use Rattle.freelist.specs.Book.{Book, Takes, is_in_use, is_pinned, retired, committed, pinned, unpinned, undone, opened};
 ghost use Rattle.freelist.specs.FreeList.{opened_by};
-ghost use Rattle.freelist.specs.ListWriting.{DraftsList, FindsRoom, GoesBack, WritesList};
+ghost use Rattle.freelist.specs.ListWriting.{Counts, DraftsList, FindsRoom, GoesBack, IsDraft, WritesList};
 
 use crate::draft::Draft;
 use crate::list::FreeList;
@@ -169,7 +169,37 @@ impl FreePages {
         ensures list { IfOk result (λ found. DraftsList page_count found self.old self.new) }
         ensures err { OnErr result (GoesBack self.old self.old self.new) }
     {
-        let Some(draft) = self.take_pages(alloc, page_count)? else {
+        if !self.pages.has_unused(page_count as usize) {
+            return Ok(Some(FreeList {
+                pages: Vec::new(alloc),
+                named: Vec::new(alloc),
+            }));
+        }
+        let Some(page) = self.take()? else {
+            return Ok(None);
+        };
+        let page_count = (page_count as usize).max(page as usize + 1);
+        let named = self.pages.unused_below(alloc, page_count)?;
+        let draft = Draft::first(alloc, page, page_count, named.len())?;
+        if draft.needs_more() {
+            drop(named);
+            return self.draft_more(alloc, draft);
+        }
+        Ok(Some(FreeList {
+            pages: draft.pages,
+            named,
+        }))
+    }
+
+    /// Makes the list of a draft that needs more pages.
+    fn draft_more(&mut self, alloc: Global, draft: Draft) -> Result<Option<FreeList>, NoMemory>
+        requires { Counts draft self.old.states }
+        ensures list { (page_count : ℕ) (first : Book) → IsDraft page_count draft first self.old
+            → IfOk result (λ found. DraftsList page_count found first self.new) }
+        ensures err { (page_count : ℕ) (first : Book) → IsDraft page_count draft first self.old
+            → OnErr result (GoesBack first first self.new) }
+    {
+        let Some(draft) = self.take_pages(draft)? else {
             return Ok(None);
         };
         let named = self.pages.unused_below(alloc, draft.page_count)?;
@@ -180,11 +210,14 @@ impl FreePages {
     }
 
     /// Takes pages for the list until it has room.
-    fn take_pages(&mut self, alloc: Global, page_count: u32) -> Result<Option<Draft>, NoMemory>
-        ensures pages { IfOk result (λ found. FindsRoom page_count found self.old self.new) }
-        ensures err { OnErr result (GoesBack self.old self.old self.new) }
+    fn take_pages(&mut self, begun: Draft) -> Result<Option<Draft>, NoMemory>
+        requires { Counts begun self.old.states }
+        ensures pages { (page_count : ℕ) (first : Book) → IsDraft page_count begun first self.old
+            → IfOk result (λ found. FindsRoom page_count found first self.new) }
+        ensures err { (page_count : ℕ) (first : Book) → IsDraft page_count begun first self.old
+            → OnErr result (GoesBack first first self.new) }
     {
-        let mut draft = Draft::begin(alloc, page_count, &mut self.pages);
+        let mut draft = begun;
         while draft.needs_more() {
             let Some(page) = self.take()? else {
                 return Ok(None);

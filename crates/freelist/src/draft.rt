@@ -1,5 +1,5 @@
 //! A list of free pages in the making.
-ghost use Rattle.std.specs.Prelude.{◌≡◌, ◌+◌, ◌<◌, ◌++◌, ◌∷◌, [], true, max, slice_set, OnOk};
+ghost use Rattle.std.specs.Prelude.{◌≡◌, ◌+◌, ◌<◌, ◌++◌, ◌∷◌, [], true, max, slice_set, IfOk, OnOk};
 ghost use Rattle.freelist.specs.Book.{is_in_use};
 ghost use Rattle.freelist.specs.ListWriting.{Counts, needs_more};
 ghost use Rattle.freelist.specs.declared.states.PageState.TheVariants as states;
@@ -18,19 +18,24 @@ pub(crate) struct Draft {
 }
 
 impl Draft {
-    /// A list without pages of its own, in a file of so many pages.
-    pub(crate) fn begin(alloc: Global, page_count: u32, pages: &mut PageStates) -> Draft
-        ensures pages { result.pages.items ≡ [] }
-        ensures count { result.page_count ≡ page_count }
-        ensures counts { Counts result pages.old }
-        ensures same { pages.new ≡ pages.old }
+    /// A list with its first page, in a file of so many pages with it, of which so many aren't in use.
+    pub(crate) fn first(
+        alloc: Global,
+        page: u32,
+        page_count: usize,
+        unused: usize,
+    ) -> Result<Draft, NoMemory>
+        ensures pages { IfOk result (λ draft. draft.pages.items ≡ page ∷ []) }
+        ensures count { IfOk result (λ draft. draft.page_count ≡ page_count) }
+        ensures unused { IfOk result (λ draft. draft.unused ≡ unused) }
     {
-        let page_count = page_count as usize;
-        Draft {
-            pages: Vec::new(alloc),
+        let mut pages = Vec::new(alloc);
+        pages.push(page)?;
+        Ok(Draft {
+            pages,
             page_count,
-            unused: pages.count_unused(0, page_count),
-        }
+            unused,
+        })
     }
 
     /// Whether the list has fewer pages of its own than it needs.

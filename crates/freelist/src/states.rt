@@ -1,5 +1,5 @@
 //! What each page of a file is.
-ghost use Rattle.std.specs.Prelude.{◌≡◌, ◌<◌, ◌≤◌, ◌+◌, ◌-◌, ◌*◌, ◌++◌, true, false, IfOk, replicate, slice_set, get_or, List, length, max};
+ghost use Rattle.std.specs.Prelude.{◌≡◌, ◌<◌, ◌≤◌, ◌+◌, ◌-◌, ◌*◌, ◌++◌, [], true, false, IfOk, replicate, slice_set, get_or, List, length, max};
 ghost use Rattle.freelist.specs.Book.{IsStart, is_in_use, least_free};
 ghost use Rattle.freelist.specs.ListWriting.{unused_below};
 ghost use Rattle.freelist.specs.Search.{MarksHold, IsFirst, IsNextUnused, NoneFits, fits, marks_after, marks_passed};
@@ -202,6 +202,15 @@ impl PageStates {
         } else {
             end
         }
+    }
+
+    /// Whether a page below this one isn't in use.
+    pub(crate) fn has_unused(&mut self, end: usize) -> bool
+        ensures same { self.new ≡ self.old }
+        ensures some { result ≡ true → 0 < length (unused_below end self.old) }
+        ensures none { result ≡ false → unused_below end self.old ≡ [] }
+    {
+        self.next_unused(0, end) < end
     }
 
     /// How many of the pages from this one to below that one aren't in use.

@@ -1,20 +1,15 @@
-use Rattle.std.proofs.Common.{ap, length, arith, map}
+use Rattle.std.proofs.Common.{◌∙◌, ◌∷◌, ◌++◌, [], sym, ap, arith, take, map}
+use Rattle.page.specs.Content.{Item, inline}
 use Rattle.btree.specs.Loose.{item_stub}
 use Rattle.btree.specs.LooseView.{stub_in}
-use Rattle.btree.specs.View.{item_in}
-use Rattle.btree.proofs.ListLemmas.{long_map}
+use Rattle.btree.proofs.ListLemmas.{take_more_map}
 use Rattle.btree.proofs.opening.units_of_leaf.Goals as goal
 
-pub returns-clause-some : goal.returns-clause-some
-returns-clause-some c =
-    omega (
-      arith,
-      ap length c.in_ok-units.ensures,
-      ap length c.in_ok-cells.ensures.ok,
-      long_map stub_in c.in_ok-units.units.items,
-      long_map item_stub (map item_in c.deref.result.now),
-      long_map item_in c.deref.result.now,
-      ap length c.deref.ensures.value,
-      long_map item_in c.in_ok-cells.cells.items,
-      c.in_ok-cells.ensures.some,
-    )
+none : Item
+none = record { key = []; place = inline [] }
+
+pub loop-i-preserved : goal.loop-i-preserved
+loop-i-preserved c =
+    c.in_ok-push_unit.ensures.ok ∙ ap (λ zs. zs ++ stub_in c.in_ok-unit.unit ∷ []) c.loop-i.invariant
+    ∙ ap (λ z. take c.loop-i.i (map item_stub c.args.leaf.now) ++ z ∷ []) (c.in_ok-unit.ensures ∙ ap item_stub (c.leaf_cell.ensures none))
+    ∙ sym (take_more_map item_stub c.args.leaf.now c.loop-i.i none (omega arith))
