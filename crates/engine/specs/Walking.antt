@@ -23,11 +23,11 @@ pub record IsWholeWalk (q : Query) (walk : Walk) : Type 0 where
   pub from : walk.from.now ≡ []
 
 -- It is asked for a first batch of the collection of that name, of so many documents.
-pub record IsFirstAsked (name : List ℕ) (most : ℕ) (asked : BatchAsked) : Type 0 where
+pub record IsFirstAsked (name : List ℕ) (count : ℕ) (asked : BatchAsked) : Type 0 where
   pub kind : asked.kind ≡ kinds.First
   pub named : asked.namespace.now ≡ name
   pub number : asked.number ≡ 0
-  pub most : asked.most ≡ most
+  pub most : asked.most ≡ count
 
 -- The same of a walk in the order of an index.
 pub record IsWholeOrder (q : Query) (o : IndexOrder) (walk : OrderedWalk) : Type 0 where

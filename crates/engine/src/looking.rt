@@ -24,8 +24,8 @@ use entries::Catalogued;
 use page::Disk;
 use path::Refusal;
 use queries::{
-    BatchAsked, GivenBatch, LookedUp, Selects, Walk, batch_of_turn, looked_up_first, ordered_ids_in,
-    ordered_in, selected_in,
+    BatchAsked, GivenBatch, LookedUp, Selects, Walk, batch_of_turn, looked_up_first,
+    ordered_ids_in, ordered_in, selected_in,
 };
 use replies::SharedDocument;
 

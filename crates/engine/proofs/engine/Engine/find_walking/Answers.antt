@@ -1,10 +1,9 @@
 use Rattle.std.proofs.Common.{◌≡◌, ◌^◌, ◌-◌, List, Option, Some, Result, Ok, [], take, refl, sym, ap, subst, ◌∙◌, arith}
 use Rattle.std.specs.Prelude.{All, IfSome}
-use Rattle.std.specs.Global.{Vec}
 use Rattle.std.proofs.lemmas.List.{take_all}
 use Rattle.std.proofs.lemmas.Result.{err_from_is_err_and}
 use Rattle.bson.specs.Tree.{Pairs}
-use Rattle.commands.specs.Find.{Find, Query}
+use Rattle.commands.specs.Find.{Find}
 use Rattle.database_model.specs.Find.{given, matching, run_find}
 use Rattle.database_model.specs.Lawful.{IsWithin}
 use Rattle.database_model.specs.World.{World, documents_of}
@@ -60,7 +59,7 @@ returns-in_err-found-clause-performs g c =
     let name = c.args.namespace.now in
     let asked : Find = record { namespace = name; query = c.args.query.now; batch_size = Some c.args.most } in
     let walk = c.whole_walk-walk.result in
-    let first = c.whole_asked.result in
+    let first = c.whole_asked-asked.result in
     let p = err_from_is_err_and c.from_residual-in_err-found.result c.from_residual-in_err-found.ensures.1 in
     let looks = of_home history name old c.catalogued.new.self (λ ds (o : Option LookedUp). IfSome o (IsLookedUp walk first c.enough.result ds))
     c.in_ok-home.field-0 c.in_ok-home.ensures.looks c.looked_up.new.self c.in-Some.home c.in-Some.is c.looked_up.result c.looked_up.ensures.looks in
@@ -81,8 +80,8 @@ returns-in-Batch-clause-performs g c =
     let asked : Find = record { namespace = name; query = q; batch_size = Some c.args.most } in
     let stand = stand_so history old name q c.requires.sound c.requires.in_order in
     let walk = c.whole_walk-walk.result in
-    let first = c.whole_asked.result in
-    let so = c.whole_asked.ensures in
+    let first = c.whole_asked-asked.result in
+    let so = c.whole_asked-asked.ensures in
     let b = c.in-Batch.batch in
     let looks = of_home history name old c.catalogued.new.self (λ ds (o : Option LookedUp). IfSome o (IsLookedUp walk first c.enough.result ds))
     c.in_ok-home.field-0 c.in_ok-home.ensures.looks mid c.in-Some.home c.in-Some.is c.looked_up.result c.looked_up.ensures.looks in
@@ -97,8 +96,8 @@ returns-in-Batch-clause-performs g c =
     whole.given whole.whole
     ∙ (λ i. let r : Result (World × Pairs) Refusal = Ok (sym (world_same history old mid looks.reads) i, b.reply) in r))
 
-pub returns-in-Documents-clause-performs : goal.returns-in-Documents-clause-performs
-returns-in-Documents-clause-performs g c =
+pub returns-clause-performs : goal.returns-clause-performs
+returns-clause-performs g c =
     let history = g.D.Disk.history in
     let old = c.args.self.now in
     let mid = c.looked_up.new.self in
@@ -106,7 +105,7 @@ returns-in-Documents-clause-performs g c =
     let q = c.args.query.now in
     let asked : Find = record { namespace = name; query = q; batch_size = Some c.args.most } in
     let walk = c.whole_walk-walk.result in
-    let first = c.whole_asked.result in
+    let first = c.whole_asked-asked.result in
     let found = c.in-Documents.found in
     let stand = stand_so history old name q c.requires.sound c.requires.in_order in
     let looks = of_home history name old c.catalogued.new.self (λ ds (o : Option LookedUp). IfSome o (IsLookedUp walk first c.enough.result ds))
@@ -140,7 +139,7 @@ give_listed-requires-clause-there g c = λ k.
     let q = c.args.query.now in
     let found = c.in-Documents.found in
     let walk = c.whole_walk-walk.result in
-    let asked = c.whole_asked.result in
+    let asked = c.whole_asked-asked.result in
     let first = c.in_ok-home.ensures.looks in
     let then = c.in_ok-found.ensures.looks in
     let is = subst (IsCatalogueOf name (world old).collections) c.in-Some.is (first.answers (word_before history mid.file new.file then.reads.goes k)) in
@@ -189,12 +188,13 @@ returns-in_default-clause-keep g c = ap that_keep c.in_ok-home.ensures.looks.rea
 pub returns-in_err-found-clause-keep : goal.returns-in_err-found-clause-keep
 returns-in_err-found-clause-keep g c = ap that_keep (c.in_err-found.ensures.looks.reads.cursors ∙ c.in_ok-home.ensures.looks.reads.cursors)
 
-pub returns-in-Documents-clause-keep : goal.returns-in-Documents-clause-keep
-returns-in-Documents-clause-keep g c = c.give_listed.ensures.keep ∙ ap that_keep (c.in_ok-found.ensures.looks.reads.cursors
+pub returns-clause-keep : goal.returns-clause-keep
+returns-clause-keep g c = c.give_listed.ensures.keep ∙ ap that_keep (c.in_ok-found.ensures.looks.reads.cursors
     ∙ c.in_ok-home.ensures.looks.reads.cursors)
 
 pub returns-in_default-2-clause-keep : goal.returns-in_default-2-clause-keep
-returns-in_default-2-clause-keep g c = c.give_walked.ensures.keep ∙ ap that_keep (c.in_ok-found.ensures.looks.reads.cursors ∙ c.in_ok-home.ensures.looks.reads.cursors)
+returns-in_default-2-clause-keep g c =
+    c.give_walked.ensures.keep ∙ ap that_keep (c.in_ok-found.ensures.looks.reads.cursors ∙ c.in_ok-home.ensures.looks.reads.cursors)
 
 pub returns-in-Batch-clause-keep : goal.returns-in-Batch-clause-keep
 returns-in-Batch-clause-keep g c = ap that_keep (c.in_ok-found.ensures.looks.reads.cursors ∙ c.in_ok-home.ensures.looks.reads.cursors)
