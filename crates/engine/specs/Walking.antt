@@ -1,15 +1,15 @@
 -- A find in the order of its walk.
-use Rattle.std.specs.Prelude.{◌≡◌, ℕ, All, List, [], Option, Some, IfSome, map, take}
-use Rattle.std.specs.Global.{Vec}
+use Rattle.std.specs.Prelude.{◌≡◌, ℕ, All, List, [], Some, map}
 use Rattle.bson.specs.Tree.{Pairs}
 use Rattle.commands.specs.Find.{Query}
-use Rattle.filter.specs.Condition.{Conditions}
-use Rattle.database_model.specs.Find.{matching, selection}
+use Rattle.database_model.specs.Find.{selection}
 use Rattle.entries.specs.State.{Collection, key_of}
 use Rattle.entries.specs.StateReads.{find_document}
 use Rattle.entries.specs.declared.catalogue_reading.Catalogued.{Catalogued}
 use Rattle.engine.specs.TakingOut.{HasHome}
+use Rattle.replies.specs.declared.batch_spelling.BatchKind.TheVariants as kinds
 use Rattle.queries.specs.Listed.{id_text_of}
+use Rattle.queries.specs.declared.batches.BatchAsked.{BatchAsked}
 use Rattle.queries.specs.declared.batches.Walk.{Walk}
 use Rattle.queries.specs.declared.in_order.OrderedWalk.{OrderedWalk}
 use Rattle.queries.specs.declared.index_order.IndexOrder.{IndexOrder}
@@ -22,6 +22,13 @@ pub record IsWholeWalk (q : Query) (walk : Walk) : Type 0 where
   pub limit : walk.limit ≡ q.limit
   pub from : walk.from.now ≡ []
 
+-- It is asked for a first batch of the collection of that name, of so many documents.
+pub record IsFirstAsked (name : List ℕ) (count : ℕ) (asked : BatchAsked) : Type 0 where
+  pub kind : asked.kind ≡ kinds.First
+  pub named : asked.namespace.now ≡ name
+  pub number : asked.number ≡ 0
+  pub most : asked.most ≡ count
+
 -- The same of a walk in the order of an index.
 pub record IsWholeOrder (q : Query) (o : IndexOrder) (walk : OrderedWalk) : Type 0 where
   pub filter : walk.filter.now ≡ q.filter
@@ -31,10 +38,6 @@ pub record IsWholeOrder (q : Query) (o : IndexOrder) (walk : OrderedWalk) : Type
   pub limit : walk.limit ≡ q.limit
   pub from : walk.from.now ≡ o.first.items
   pub last : walk.last.now ≡ o.last.items
-
--- the first of the documents that pass, up to so many, where they can be told without a walk
-abbrev pub AreFirst : ℕ → Conditions → List Pairs → Option (Vec Pairs) → Type 0
-AreFirst most rules ds found = IfSome found (λ v. v.items ≡ take most (matching rules ds))
 
 -- The texts are those of the documents that a query asks for of the collection of that name, in its
 -- order; the catalogue has this of the collection.

@@ -1,6 +1,6 @@
 //! What commands look up in the file.
 
-ghost use Rattle.std.specs.Prelude.{◌≡◌, ◌<◌, ◌≤◌, ◌^◌, All, IfOk, IfSome, length, map, take};
+ghost use Rattle.std.specs.Prelude.{◌≡◌, ◌<◌, ◌≤◌, ◌^◌, [], All, IfOk, IfSome, length, map, take};
 ghost use Rattle.std.specs.List.{filter};
 ghost use Rattle.std.specs.Option.{option_map};
 ghost use Rattle.collections.specs.Reading.{IsWithinLimits, catalogued_in, catalogued_of};
@@ -11,22 +11,21 @@ ghost use Rattle.database_model.specs.Find.{matching};
 ghost use Rattle.database_model.specs.Lawful.{IsWithin};
 ghost use Rattle.engine.specs.Looking.{Looks, LooksOf};
 ghost use Rattle.engine.specs.TakingOut.{IsHome};
-ghost use Rattle.engine.specs.Walking.{AreFirst};
 ghost use Rattle.index.specs.View.{texts_of};
 ghost use Rattle.queries.specs.Batches.{IsGivenBatch};
 ghost use Rattle.queries.specs.Listed.{id_text_of};
+ghost use Rattle.queries.specs.LookedUp.{IsLookedUp, IsLookedUpWithin};
 ghost use Rattle.replies.specs.View.{IsSendable};
 
 use crate::engine::Engine;
 use bson::SpelledDocument;
 use commands::Query;
 use entries::Catalogued;
-use filter::Filter;
 use page::Disk;
 use path::Refusal;
 use queries::{
-    BatchAsked, GivenBatch, Selects, Walk, batch_of_turn, looked_up_in, ordered_ids_in, ordered_in,
-    selected_in,
+    BatchAsked, GivenBatch, LookedUp, Selects, Walk, batch_of_turn, looked_up_first,
+    ordered_ids_in, ordered_in, selected_in,
 };
 use replies::SharedDocument;
 
@@ -115,21 +114,25 @@ impl<D: Disk> Engine<D> {
         )
     }
 
-    /// The first documents that match a filter, in ascending order of `_id`, up to so many. `None`: only a walk through the
-    /// collection tells them.
+    /// What is looked up of what a walk gives of a collection from its beginning: a batch that has all of it, or the first documents that
+    /// match, up to so many. `None`: only a walk through the collection tells them.
     pub(crate) fn looked_up(
         &mut self,
         home: &Catalogued,
-        filter: &Filter,
+        walk: &Walk<'_>,
+        asked: &BatchAsked<'_>,
         most: usize,
-    ) -> Result<Option<Vec<SpelledDocument>>, Refusal>
-        requires { IsSound D.history self.old }
+    ) -> Result<Option<LookedUp>, Refusal>
+        requires short { length asked.now.namespace.now ≤ 255 }
+        requires number { asked.now.number < 2 ^ 63 }
+        requires from { walk.now.from.now ≡ [] }
+        requires sound { IsSound D.history self.old }
         ensures looks { LooksOf D.history (λ now c. IsHome now c home.now)
-            (λ now c found. AreFirst most filter.now c.documents found)
+            (λ now c found. IfSome found (IsLookedUp walk.now asked.now most c.documents))
             result self.old self.new }
-        ensures within { IfOk result (λ found. IfSome found (λ v. All IsWithin v.items)) }
+        ensures within { IfOk result (λ found. IfSome found IsLookedUpWithin) }
     {
-        looked_up_in(self.alloc, &mut self.file, home, filter, most)
+        looked_up_first(self.alloc, &mut self.file, home, walk, asked, most)
     }
 
     /// A batch of what a walk gives of the documents of a collection.

@@ -7,7 +7,7 @@ ghost use Rattle.engine.specs.Durable.{disk_history, file_of, has_changes, IsSou
 ghost use Rattle.engine.specs.Performing.{PerformsReading};
 ghost use Rattle.engine.specs.TakingOut.{HasHome};
 ghost use Rattle.engine.specs.View.{world};
-ghost use Rattle.engine.specs.Walking.{IsWholeWalk};
+ghost use Rattle.engine.specs.Walking.{IsFirstAsked, IsWholeWalk};
 ghost use Rattle.page.specs.History.{KeepsWord};
 ghost use Rattle.queries.specs.Batches.{walk_rest};
 ghost use Rattle.queries.specs.IdOrder.{keeps_id_order};
@@ -24,7 +24,7 @@ use opening::Told;
 use page::Disk;
 use path::Refusal;
 use pinned_cursors::{WalkSoFar, open_pinned};
-use queries::{BatchAsked, GivenBatch, Walk};
+use queries::{BatchAsked, GivenBatch, LookedUp, Walk};
 use replies::{BatchKind, ConnId};
 
 /// The walk from the beginning that gives what a query asks for.
@@ -37,6 +37,18 @@ fn whole_walk(query: &Query) -> Walk<'_>
         skip: query.skip,
         limit: query.limit,
         from: &[],
+    }
+}
+
+/// A first batch that is given only where nothing is left behind it, so that its reply says no cursor's number.
+fn whole_asked(namespace: &str, most: usize) -> BatchAsked<'_>
+    ensures { IsFirstAsked namespace.now most result }
+{
+    BatchAsked {
+        kind: BatchKind::First,
+        namespace,
+        number: 0,
+        most,
     }
 }
 
@@ -79,9 +91,16 @@ impl<D: Disk> Engine<D> {
         let Some(home) = self.catalogued(namespace)? else {
             return self.give_none(connection, namespace, query, most);
         };
-        match self.looked_up(&home, &query.filter, enough(query))? {
-            Some(found) => self.give_listed(connection, namespace, &home, query, found, most),
-            None => self.give_walked(connection, namespace, &home, query, most),
+        let walk = whole_walk(query);
+        let asked = whole_asked(namespace, most);
+        let Some(found) = self.looked_up(&home, &walk, &asked, enough(query))? else {
+            return self.give_walked(connection, namespace, &home, query, most);
+        };
+        match found {
+            LookedUp::Batch(batch) => Ok(batch.reply),
+            LookedUp::Documents(found) => {
+                self.give_listed(connection, namespace, &home, query, found, most)
+            }
         }
     }
 

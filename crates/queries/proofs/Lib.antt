@@ -9,6 +9,7 @@ pub mod PartlyToldLemmas
 pub mod PipingLemmas
 pub mod ByIdLemmas
 pub mod LookingUpLemmas
+pub mod LookedUpLemmas
 pub mod ByIndexLemmas
 pub mod IdOrderLemmas
 pub mod IdRangeLemmas

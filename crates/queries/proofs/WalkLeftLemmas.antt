@@ -225,14 +225,16 @@ stored_within ds h = λ k d below. record { size = (h k d below).size; depth = (
 
 -- ---- from the beginning
 
--- a walk from the beginning gives what a query gives whose sort leaves them in their order
-pub whole_walk : (q : Query) (ds : List Pairs) → order q.sort (matching q.filter ds) ≡ matching q.filter ds
-    → walk_rest q.filter q.projection q.skip q.limit [] ds ≡ query_result q ds
-whole_walk q ds plain =
-    let all : rest_from [] ds ≡ ds = filter-all (is_from []) (λ d. not_below (text d)) ds in
-    ap (picked q.filter q.projection q.skip q.limit) all
-    ∙ ap (λ (es : List Pairs). map (project q.projection) (window q.skip q.limit es)) (sym plain)
+pub from_beginning : (ds : List Pairs) → rest_from [] ds ≡ ds
+from_beginning ds = filter-all (is_from []) (λ d. not_below (text d)) ds
   where
     not_below : (t : List ℕ) → not (is_lt (key_cmp t [])) ≡ true
     not_below [] = refl
     not_below (b ∷ t) = refl
+
+-- a walk from the beginning gives what a query gives whose sort leaves them in their order
+pub whole_walk : (q : Query) (ds : List Pairs) → order q.sort (matching q.filter ds) ≡ matching q.filter ds
+    → walk_rest q.filter q.projection q.skip q.limit [] ds ≡ query_result q ds
+whole_walk q ds plain =
+    ap (picked q.filter q.projection q.skip q.limit) (from_beginning ds)
+    ∙ ap (λ (es : List Pairs). map (project q.projection) (window q.skip q.limit es)) (sym plain)

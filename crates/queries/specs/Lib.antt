@@ -9,6 +9,7 @@ pub mod IdOrder
 pub mod IdRange
 pub mod InOrder
 pub mod Listed
+pub mod LookedUp
 pub mod PartlyTold
 pub mod SortedIds
 pub mod Within

@@ -84,7 +84,7 @@ pub(crate) fn look_up<D: Disk, S: Selects>(
 
 /// The documents of the collection of a number that are looked for and have one of these `_id`s, told by their ascending key texts:
 /// the first ones, up to so many, each looked up by itself.
-fn selected_one_by_one<D: Disk, S: Selects>(
+pub(crate) fn selected_one_by_one<D: Disk, S: Selects>(
     alloc: Global,
     file: &mut Collections<D>,
     number: u32,
@@ -191,7 +191,7 @@ fn selected_as_told<D: Disk, S: Selects>(
 /// The documents of a collection in a file that are looked for, in ascending order of `_id`: the first ones, up to so many. They are
 /// looked up, where they are looked for by their `_id`s, or indexes serve the filters that ask for them. `None`: only a walk through
 /// the collection tells them.
-pub fn looked_up_in<D: Disk, S: Selects>(
+pub(crate) fn looked_up_in<D: Disk, S: Selects>(
     alloc: Global,
     file: &mut Collections<D>,
     home: &Catalogued,

@@ -1,27 +1,28 @@
-use Rattle.std.proofs.Common.{◌≡◌, ◌^◌, ◌-◌, List, Option, Some, Result, [], take, refl, sym, ap, subst, ◌∙◌, arith}
+use Rattle.std.proofs.Common.{◌≡◌, ◌^◌, ◌-◌, List, Option, Some, Result, Ok, [], take, refl, sym, ap, subst, ◌∙◌, arith}
 use Rattle.std.specs.Prelude.{All, IfSome}
-use Rattle.std.specs.Global.{Vec}
 use Rattle.std.proofs.lemmas.List.{take_all}
 use Rattle.std.proofs.lemmas.Result.{err_from_is_err_and}
 use Rattle.bson.specs.Tree.{Pairs}
-use Rattle.commands.specs.Find.{Find, Query}
+use Rattle.commands.specs.Find.{Find}
 use Rattle.database_model.specs.Find.{given, matching, run_find}
 use Rattle.database_model.specs.Lawful.{IsWithin}
 use Rattle.database_model.specs.World.{World, documents_of}
 use Rattle.entries.specs.State.{Collection}
 use Rattle.path.specs.declared.refusal.Refusal.{Refusal}
-use Rattle.engine.specs.Looking.{Looks, LooksOf}
-use Rattle.engine.specs.TakingOut.{HasHome, IsHome}
+use Rattle.queries.specs.LookedUp.{IsLookedUp, IsLookedUpWithin, IsWholeBatch}
+use Rattle.queries.specs.declared.looked_up.LookedUp.{LookedUp}
+use Rattle.engine.specs.Looking.{Looks}
+use Rattle.engine.specs.TakingOut.{HasHome}
 use Rattle.engine.specs.View.{world}
-use Rattle.engine.specs.Walking.{AreFirst, AreOf}
+use Rattle.engine.specs.Walking.{AreOf}
 use Rattle.engine.proofs.CataloguedLemmas.{IsCatalogueOf, has_home}
 use Rattle.engine.proofs.Finding.{all_suffice, given_within_limits}
 use Rattle.engine.proofs.GivingLemmas.{gives_behind}
 use Rattle.engine.proofs.KeepingPins.{pins_as_before}
-use Rattle.engine.proofs.LookingLemmas.{collections_same, performs_behind, performs_refused, reads_trans, world_same}
+use Rattle.engine.proofs.LookingLemmas.{collections_same, performs_behind, performs_read, performs_refused, reads_trans, world_same}
 use Rattle.engine.proofs.NamedLemmas.{of_home, of_no_home}
 use Rattle.engine.proofs.OnlyReading.{word_before}
-use Rattle.engine.proofs.WalkingLemmas.{first_of, found_plain, stand_so}
+use Rattle.engine.proofs.WalkingLemmas.{first_of, found_plain, stand_so, walked_whole}
 use Rattle.pinned_cursors.specs.Opening.{that_keep}
 use Rattle.engine.proofs.engine.Engine.find_walking.Goals as goal
 
@@ -55,46 +56,76 @@ pub returns-in_err-found-clause-performs : goal.returns-in_err-found-clause-perf
 returns-in_err-found-clause-performs g c =
     let history = g.D.Disk.history in
     let old = c.args.self.now in
-    let q = c.args.query.now in
-    let asked : Find = record { namespace = c.args.namespace.now; query = q; batch_size = Some c.args.most } in
+    let name = c.args.namespace.now in
+    let asked : Find = record { namespace = name; query = c.args.query.now; batch_size = Some c.args.most } in
+    let walk = c.whole_walk-walk.result in
+    let first = c.whole_asked-asked.result in
     let p = err_from_is_err_and c.from_residual-in_err-found.result c.from_residual-in_err-found.ensures.1 in
-    let here = subst (λ (x : Query). LooksOf history (λ now of. IsHome now of c.in-Some.home)
-    (λ now of (o : Option (Vec Pairs)). AreFirst c.enough.result x.filter of.documents o) c.looked_up.result c.catalogued.new.self c.looked_up.new.self)
-    c.query.view_is c.looked_up.ensures.looks in
-    let looks = of_home history c.args.namespace.now old c.catalogued.new.self
-    (AreFirst c.enough.result q.filter)
-    c.in_ok-home.field-0 c.in_ok-home.ensures.looks c.looked_up.new.self c.in-Some.home c.in-Some.is c.looked_up.result here in
-    let refused = subst (λ (r : Result (Option (Vec Pairs)) Refusal). Looks history
-    (λ now. AreFirst c.enough.result q.filter (documents_of now c.args.namespace.now))
-    r old c.looked_up.new.self) c.in_err-found.was looks in
+    let looks = of_home history name old c.catalogued.new.self (λ ds (o : Option LookedUp). IfSome o (IsLookedUp walk first c.enough.result ds))
+    c.in_ok-home.field-0 c.in_ok-home.ensures.looks c.looked_up.new.self c.in-Some.home c.in-Some.is c.looked_up.result c.looked_up.ensures.looks in
+    let refused = subst (λ (r : Result (Option LookedUp) Refusal). Looks history
+    (λ now (o : Option LookedUp). IfSome o (IsLookedUp walk first c.enough.result (documents_of now name))) r old c.looked_up.new.self)
+    c.in_err-found.was looks in
     rw (p.1, p.2)
     (performs_refused history old c.looked_up.new.self (run_find (world old) c.args.connection asked) c.in_err-found.field-0.0 refused.reads refused.answers)
 
-pub returns-in-Some-2-clause-performs : goal.returns-in-Some-2-clause-performs
-returns-in-Some-2-clause-performs g c =
+-- all that is asked for is in the batch
+pub returns-in-Batch-clause-performs : goal.returns-in-Batch-clause-performs
+returns-in-Batch-clause-performs g c =
     let history = g.D.Disk.history in
     let old = c.args.self.now in
     let mid = c.looked_up.new.self in
+    let name = c.args.namespace.now in
     let q = c.args.query.now in
-    let asked : Find = record { namespace = c.args.namespace.now; query = q; batch_size = Some c.args.most } in
-    let found = c.in-Some-2.found in
-    let stand = stand_so history old c.args.namespace.now q c.requires.sound c.requires.in_order in
-    let here = subst (λ (x : Query). LooksOf history (λ now of. IsHome now of c.in-Some.home)
-    (λ now of (o : Option (Vec Pairs)). AreFirst c.enough.result x.filter of.documents o) c.looked_up.result c.catalogued.new.self c.looked_up.new.self)
-    c.query.view_is c.looked_up.ensures.looks in
-    let looks = of_home history c.args.namespace.now old c.catalogued.new.self
-    (AreFirst c.enough.result q.filter)
-    c.in_ok-home.field-0 c.in_ok-home.ensures.looks mid c.in-Some.home c.in-Some.is c.looked_up.result here in
-    let told = subst (λ (r : Result (Option (Vec Pairs)) Refusal). Looks history
-    (λ now. AreFirst c.enough.result q.filter (documents_of now c.args.namespace.now))
-    r old mid) c.in_ok-found.was looks in
-    let within = subst (λ (o : Option (Vec Pairs)). IfSome o (λ v. All IsWithin v.items)) c.in-Some-2.is c.in_ok-found.ensures.within in
+    let asked : Find = record { namespace = name; query = q; batch_size = Some c.args.most } in
+    let stand = stand_so history old name q c.requires.sound c.requires.in_order in
+    let walk = c.whole_walk-walk.result in
+    let first = c.whole_asked-asked.result in
+    let so = c.whole_asked-asked.ensures in
+    let b = c.in-Batch.batch in
+    let looks = of_home history name old c.catalogued.new.self (λ ds (o : Option LookedUp). IfSome o (IsLookedUp walk first c.enough.result ds))
+    c.in_ok-home.field-0 c.in_ok-home.ensures.looks mid c.in-Some.home c.in-Some.is c.looked_up.result c.looked_up.ensures.looks in
+    let told = subst (λ (r : Result (Option LookedUp) Refusal). Looks history
+    (λ now (o : Option LookedUp). IfSome o (IsLookedUp walk first c.enough.result (documents_of now name))) r old mid) c.in_ok-found.was looks in
+    performs_read history old mid (run_find (world old) c.args.connection asked) (Ok b.reply) looks.reads (λ k.
+    let ds : List Pairs = documents_of (world old).collections name in
+    let found : IsLookedUp walk first c.enough.result ds c.in-Some-2.found =
+    subst (λ (o : Option LookedUp). IfSome o (IsLookedUp walk first c.enough.result ds)) c.in-Some-2.is (told.answers k) in
+    let whole : IsWholeBatch walk first ds b = subst (IsLookedUp walk first c.enough.result ds) c.in-Batch.is found in
+    walked_whole (world old) c.args.connection name q c.args.most stand walk c.whole_walk-walk.ensures first so.kind so.named so.most b
+    whole.given whole.whole
+    ∙ (λ i. let r : Result (World × Pairs) Refusal = Ok (sym (world_same history old mid looks.reads) i, b.reply) in r))
+
+pub returns-clause-performs : goal.returns-clause-performs
+returns-clause-performs g c =
+    let history = g.D.Disk.history in
+    let old = c.args.self.now in
+    let mid = c.looked_up.new.self in
+    let name = c.args.namespace.now in
+    let q = c.args.query.now in
+    let asked : Find = record { namespace = name; query = q; batch_size = Some c.args.most } in
+    let walk = c.whole_walk-walk.result in
+    let first = c.whole_asked-asked.result in
+    let found = c.in-Documents.found in
+    let stand = stand_so history old name q c.requires.sound c.requires.in_order in
+    let looks = of_home history name old c.catalogued.new.self (λ ds (o : Option LookedUp). IfSome o (IsLookedUp walk first c.enough.result ds))
+    c.in_ok-home.field-0 c.in_ok-home.ensures.looks mid c.in-Some.home c.in-Some.is c.looked_up.result c.looked_up.ensures.looks in
+    let told = subst (λ (r : Result (Option LookedUp) Refusal). Looks history
+    (λ now (o : Option LookedUp). IfSome o (IsLookedUp walk first c.enough.result (documents_of now name))) r old mid) c.in_ok-found.was looks in
+    let within_all : IsLookedUpWithin c.in-Some-2.found =
+    subst (λ (o : Option LookedUp). IfSome o IsLookedUpWithin) c.in-Some-2.is c.in_ok-found.ensures.within in
+    let within : All IsWithin found.items = subst IsLookedUpWithin c.in-Documents.is within_all in
     gives_behind history old mid c.give_listed.new.self looks.reads c.give_listed.ensures.file
-    (ap (λ t. t.value) c.give_listed.ensures.told) c.give_listed.ensures.has_changes c.args.connection c.args.namespace.now
+    (ap (λ t. t.value) c.give_listed.ensures.told) c.give_listed.ensures.has_changes c.args.connection name
     (given q found.items) c.args.most (run_find (world old) c.args.connection asked) c.give_listed.result c.requires.short
     (given_within_limits q found.items within) c.give_listed.ensures.runs
-    (λ k. found_plain (world old) c.args.connection c.args.namespace.now q c.args.most stand c.enough.result found.items c.enough.ensures
-    (subst (AreFirst c.enough.result q.filter (documents_of (world old).collections c.args.namespace.now)) c.in-Some-2.is (told.answers k))
+    (λ k.
+    let ds : List Pairs = documents_of (world old).collections name in
+    let all : IsLookedUp walk first c.enough.result ds c.in-Some-2.found =
+    subst (λ (o : Option LookedUp). IfSome o (IsLookedUp walk first c.enough.result ds)) c.in-Some-2.is (told.answers k) in
+    found_plain (world old) c.args.connection name q c.args.most stand c.enough.result found.items c.enough.ensures
+    (subst (IsLookedUp walk first c.enough.result ds) c.in-Documents.is all
+    ∙ ap (λ rules. take c.enough.result (matching rules ds)) c.whole_walk-walk.ensures.filter)
     (omega (arith, found.ok.0, found.ok.1, found.small)))
 
 -- the catalogue has it still
@@ -106,17 +137,21 @@ give_listed-requires-clause-there g c = λ k.
     let new = c.looked_up.new.self in
     let name = c.args.namespace.now in
     let q = c.args.query.now in
-    let found = c.in-Some-2.found in
+    let found = c.in-Documents.found in
+    let walk = c.whole_walk-walk.result in
+    let asked = c.whole_asked-asked.result in
     let first = c.in_ok-home.ensures.looks in
     let then = c.in_ok-found.ensures.looks in
     let is = subst (IsCatalogueOf name (world old).collections) c.in-Some.is (first.answers (word_before history mid.file new.file then.reads.goes k)) in
     let at = subst (λ (cs : List Collection). HasHome cs name c.in-Some.home) (sym (collections_same history old mid first.reads))
     (has_home (world old).collections name c.in-Some.home is) in
-    let told = subst (λ (x : Query). AreFirst c.enough.result x.filter at.collection.documents c.in_ok-found.field-0) c.query.view_is
-    (then.answers k at.collection at.catalogued) in
+    let ds : List Pairs = at.collection.documents in
+    let told : IsLookedUp walk asked c.enough.result ds c.in-Some-2.found =
+    subst (λ (o : Option LookedUp). IfSome o (IsLookedUp walk asked c.enough.result ds)) c.in-Some-2.is (then.answers k at.collection at.catalogued) in
     subst (λ (cs : List Collection). AreOf cs name c.in-Some.home found.items) (sym (collections_same history mid new then.reads))
     (first_of (world mid).collections first.reads.sound.lawful.kept name c.in-Some.home at q.filter c.enough.result found.items
-    (subst (AreFirst c.enough.result q.filter at.collection.documents) c.in-Some-2.is told))
+    (subst (IsLookedUp walk asked c.enough.result ds) c.in-Documents.is told
+    ∙ ap (λ rules. take c.enough.result (matching rules ds)) c.whole_walk-walk.ensures.filter))
 
 pub give_walked-requires-clause-home : goal.give_walked-requires-clause-home
 give_walked-requires-clause-home g c = λ k.
@@ -131,8 +166,8 @@ give_walked-requires-clause-home g c = λ k.
     subst (λ (cs : List Collection). HasHome cs name c.in-Some.home)
     (sym (collections_same history mid new then ∙ collections_same history old mid first.reads)) (has_home (world old).collections name c.in-Some.home is)
 
-pub returns-clause-performs : goal.returns-clause-performs
-returns-clause-performs g c =
+pub returns-in_default-2-clause-performs : goal.returns-in_default-2-clause-performs
+returns-in_default-2-clause-performs g c =
     let history = g.D.Disk.history in
     let old = c.args.self.now in
     let mid = c.looked_up.new.self in
@@ -153,9 +188,13 @@ returns-in_default-clause-keep g c = ap that_keep c.in_ok-home.ensures.looks.rea
 pub returns-in_err-found-clause-keep : goal.returns-in_err-found-clause-keep
 returns-in_err-found-clause-keep g c = ap that_keep (c.in_err-found.ensures.looks.reads.cursors ∙ c.in_ok-home.ensures.looks.reads.cursors)
 
-pub returns-in-Some-2-clause-keep : goal.returns-in-Some-2-clause-keep
-returns-in-Some-2-clause-keep g c = c.give_listed.ensures.keep ∙ ap that_keep (c.in_ok-found.ensures.looks.reads.cursors
+pub returns-clause-keep : goal.returns-clause-keep
+returns-clause-keep g c = c.give_listed.ensures.keep ∙ ap that_keep (c.in_ok-found.ensures.looks.reads.cursors
     ∙ c.in_ok-home.ensures.looks.reads.cursors)
 
-pub returns-clause-keep : goal.returns-clause-keep
-returns-clause-keep g c = c.give_walked.ensures.keep ∙ ap that_keep (c.in_ok-found.ensures.looks.reads.cursors ∙ c.in_ok-home.ensures.looks.reads.cursors)
+pub returns-in_default-2-clause-keep : goal.returns-in_default-2-clause-keep
+returns-in_default-2-clause-keep g c =
+    c.give_walked.ensures.keep ∙ ap that_keep (c.in_ok-found.ensures.looks.reads.cursors ∙ c.in_ok-home.ensures.looks.reads.cursors)
+
+pub returns-in-Batch-clause-keep : goal.returns-in-Batch-clause-keep
+returns-in-Batch-clause-keep g c = ap that_keep (c.in_ok-found.ensures.looks.reads.cursors ∙ c.in_ok-home.ensures.looks.reads.cursors)
