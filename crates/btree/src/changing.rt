@@ -288,7 +288,8 @@ fn put_child<P: Pages>(
     }
 }
 
-/// What is below a page after edits. The keys there begin at `low`, and `rank` says how many levels may be below.
+/// What is below a page after edits. The keys there begin at `low`, and `rank` says how many levels may be below. Where it is
+/// the root no page stands beside it, so it isn't taken apart to be joined.
 #[cycle(change)]
 pub(crate) fn change_below<P: Pages>(
     alloc: Global,
