@@ -26,7 +26,7 @@ use std::mem;
 use value_order::compare;
 
 /// What is made of the values of a group.
-#[derive(Clone, Copy, Debug, PartialEq, Eq)]
+#[derive(Clone, Copy)]
 pub(crate) enum Accumulator {
     Sum,
     Least,
@@ -52,14 +52,14 @@ pub(crate) fn accumulator_named(name: &str) -> Option<Accumulator>
 }
 
 /// The sum of the numbers so far, and whether all were int32.
-#[derive(Debug, Drop)]
+#[derive(Drop)]
 pub(crate) struct Total {
     pub narrow: bool,
     pub sum: i128,
 }
 
 /// What an accumulator has of the values so far.
-#[derive(Debug, Drop)]
+#[derive(Drop)]
 pub(crate) enum State {
     Total(Total),
     Least(Option<Value>),

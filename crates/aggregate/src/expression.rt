@@ -15,7 +15,7 @@ use path::{Path, Refusal};
 use std::alloc::Global;
 
 /// A constant, or the value of `"$path"`.
-#[derive(Debug, Drop)]
+#[derive(Drop)]
 pub(crate) enum Expression {
     Constant(Value),
     Source(Path),

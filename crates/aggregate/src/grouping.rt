@@ -22,21 +22,21 @@ use path::Refusal;
 use std::alloc::Global;
 
 /// A field of an `_id` that is a document.
-#[derive(Debug, Drop)]
+#[derive(Drop)]
 pub(crate) struct IdField {
     pub name: FieldName,
     pub expression: Expression,
 }
 
 /// The value by which documents are split: one, or a document of some.
-#[derive(Debug, Drop)]
+#[derive(Drop)]
 pub(crate) enum GroupId {
     One(Expression),
     Fields(Vec<IdField>),
 }
 
 /// A field that is given of a group, beside its `_id`.
-#[derive(Debug, Drop)]
+#[derive(Drop)]
 pub(crate) struct GroupField {
     pub name: FieldName,
     pub accumulator: Accumulator,
@@ -44,7 +44,7 @@ pub(crate) struct GroupField {
 }
 
 /// How documents are split, and what is given of each group.
-#[derive(Debug, Drop)]
+#[derive(Drop)]
 pub(crate) struct Grouping {
     pub alloc: Global,
     pub id: GroupId,

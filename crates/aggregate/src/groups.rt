@@ -25,7 +25,7 @@ use std::mem;
 use value_order::{compare, group_text};
 
 /// What a group has of its documents.
-#[derive(Debug, Drop)]
+#[derive(Drop)]
 struct Group {
     id: Value,
     states: Vec<State>,

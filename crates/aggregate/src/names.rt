@@ -11,7 +11,7 @@ use std::alloc::Global;
 use std::marker::Model;
 
 /// The name of a field that a stage makes.
-#[derive(Debug, Drop)]
+#[derive(Drop)]
 pub(crate) struct FieldName {
     name: Text,
 }

@@ -19,7 +19,7 @@ use std::alloc::Global;
 pub const MOST_STAGES: usize = 100;
 
 /// Stages, the first one first.
-#[derive(Debug, Drop)]
+#[derive(Drop)]
 pub struct Pipeline {
     pub(crate) alloc: Global,
     pub(crate) stages: Vec<Stage>,

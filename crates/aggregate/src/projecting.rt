@@ -20,14 +20,14 @@ use projection::{Projection, ProjectionFields};
 use std::alloc::Global;
 
 /// A field that is computed: its path and that of what it is to be.
-#[derive(Debug, Drop)]
+#[derive(Drop)]
 pub(crate) struct Computed {
     pub name: Path,
     pub source: Path,
 }
 
 /// A projection with fields that are computed.
-#[derive(Debug, Drop)]
+#[derive(Drop)]
 pub(crate) struct Projecting {
     pub alloc: Global,
     pub taken: Projection,

@@ -8,7 +8,7 @@ use path::Path;
 use sort::Sort;
 
 /// What is done to a list of documents.
-#[derive(Debug, Drop)]
+#[derive(Drop)]
 pub(crate) enum Stage {
     /// Keeps those that match.
     Match(Filter),

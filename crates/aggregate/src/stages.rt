@@ -27,7 +27,7 @@ use sort::Sort;
 use std::alloc::Global;
 
 /// The name of a stage.
-#[derive(Clone, Copy, Debug, PartialEq, Eq)]
+#[derive(Clone, Copy)]
 pub(crate) enum StageName {
     Match,
     Project,

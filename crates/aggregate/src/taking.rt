@@ -19,7 +19,7 @@ use sort::{AsDocument, Sort, laws};
 use std::alloc::Global;
 
 /// A `$sort` in front, or behind a `$match` in front, of which a pipeline keeps the first documents alone.
-#[derive(Debug, Drop)]
+#[derive(Drop)]
 pub struct FirstSorted<'a> {
     pub sort: &'a Sort,
     /// How many of them are enough.

@@ -1,8 +1,9 @@
 -- Checking element after element, as a loop does that keeps only how far it has come.
-use Rattle.std.proofs.Common.{◌≡◌, ℕ, ◌+◌, ◌-◌, ◌^◌, ◌<◌, ◌≤◌, false, List, [], ◌∷◌, ◌++◌, length, take, set, Result, Ok, Err, refl, sym, ap, subst, ◌∙◌}
+use Rattle.std.proofs.Common.{◌≡◌, ℕ, ◌+◌, ◌-◌, ◌^◌, ◌<◌, ◌≤◌, Bool, true, false, List, []}
+use Rattle.std.proofs.Common.{◌∷◌, ◌++◌, length, take, set, Result, Ok, Err, refl, sym, ap, subst, ◌∙◌}
 use Rattle.std.proofs.Common.{append_assoc, arith}
 use Rattle.std.specs.Str.{bytes_eq}
-use Rattle.std.proofs.lemmas.List.{length-append, take_at, nil_from_length}
+use Rattle.std.proofs.lemmas.List.{length-append, length-set, take_at, nil_from_length}
 use Rattle.bson.specs.declared.fault.BsonFault.{BsonFault}
 use Rattle.bson.specs.declared.fault.BsonFault.TheVariants as faults
 use Rattle.bson.specs.declared.kind.Kind.TheVariants as kinds
@@ -15,13 +16,14 @@ use Rattle.bson.specs.Reading.{Read, stands_in, element_by, item_by, content_at,
 use Rattle.bson.specs.Raw.{tree_names, pairs_spelled, Elements, name_and_rest, rest_of, outcome_of}
 use Rattle.outcome.specs.Outcome.{◌>>=◌}
 use Rattle.bson.specs.Checked.{PairsSoFar, CheckedPairs, CountedPairs}
+use Rattle.bson.specs.Marks.{mixed, name_mark, AreMarked}
 use Rattle.bson.proofs.FrameLaws.{or_false, ok_is}
 use Rattle.bson.proofs.PairLaws.{IsBytes-rest, ne-bytes_eq, element_takes}
 use Rattle.bson.proofs.TreeLaws.{value_reads}
 use Rattle.bson.proofs.ReadLoopLaws.{pairs_start, pairs_step, pairs_stop, pairs_done, ItemsSoFar, items_start, items_step, items_stop, items_done}
 use Rattle.bson.proofs.ReadLoopLaws.{item_shorter, value_at_document, value_at_array}
 use Rattle.bson.proofs.RawLaws.{pairs_spelled-is}
-use Rattle.bson.proofs.TableLaws.{Lent, lent, noted}
+use Rattle.bson.proofs.MarkLaws.{mark_within, none_marked, marked_more}
 
 -- ---- what is left says what was read
 
@@ -192,42 +194,46 @@ module _ (more : ℕ) (content rest earlier : List ℕ) (type : ℕ) (bytes : Li
       let next = pair_checked after e in
       record { checked = next.0; counted = omega (arith, counted, next.2); within = omega (arith, within, next.1) }
 
--- so many elements were checked, and a table begins with their names
-pub record NamedPairs (more : ℕ) (content rest : List ℕ) (count : ℕ) (table : List Lent) : Type 0 where
+-- so many elements were checked, and the marks of their names are set
+pub record MarkedPairs (more : ℕ) (content rest : List ℕ) (count : ℕ) (marks : List Bool) : Type 0 where
   pub pairs : CountedPairs more content rest count
-  pub names : lent (take count table) ≡ tree_names pairs.checked.front
+  pub marked : AreMarked (tree_names pairs.checked.front) marks
+  pub places : length marks ≡ 256
 
-pub pairs_unnamed : (more : ℕ) (content : List ℕ) (table : List Lent) → IsBytes content → NamedPairs more content content 0 table
+pub pairs_unmarked : (more : ℕ) (content : List ℕ) (marks : List Bool) → IsBytes content → length marks ≡ 256 → MarkedPairs more content content 0 marks
 unfolding pairs_uncounted
-pairs_unnamed more content table fits = record { pairs = pairs_uncounted more content fits; names = refl }
+pairs_unmarked more content marks fits places = record { pairs = pairs_uncounted more content fits; marked = none_marked marks; places = places }
 
-module _ (more : ℕ) (content rest : List ℕ) (count : ℕ) (table : List Lent) (type : ℕ) (bytes : List ℕ) (k : NamedPairs more content rest count table)
-    (front : rest ≡ type ∷ bytes) where
-  same_names : element_by (value_at more) (stands_in (lent (take count table))) faults.Repeated type bytes
-      ≡ element_by (value_at more) (stands_in (tree_names k.pairs.checked.front)) faults.Repeated type bytes
-  same_names = ap (λ (ns : List (List ℕ)). element_by (value_at more) (stands_in ns) faults.Repeated type bytes) k.names
+module _ (more : ℕ) (content rest earlier : List ℕ) (count : ℕ) (marks : List Bool) (type : ℕ) (bytes : List ℕ) (k : MarkedPairs more content rest count marks)
+    (front : rest ≡ type ∷ bytes) (before : Elements earlier k.pairs.checked.front) where
+  pub marks_spelled : AreMarked (tree_names (pairs_spelled earlier)) marks
+  marks_spelled = subst (λ (ps : Pairs). AreMarked (tree_names ps) marks) (sym (pairs_spelled-is earlier k.pairs.checked.front before)) k.marked
 
-  pub pair_named : (slot : Lent) (after : List ℕ) → count < length table
-      → name_and_rest (element_by (value_at more) (stands_in (lent (take count table))) faults.Repeated type bytes) ≡ Ok (slot.now, after)
-      → NamedPairs more content after (count + 1) (set table count slot) × (length after < length rest)
-  pair_named slot after lt e =
-      let found = named_ok (element_by (value_at more) (stands_in (tree_names k.pairs.checked.front)) faults.Repeated type bytes) slot.now after
-      (ap name_and_rest (sym same_names) ∙ e) in
-      let next = pair_taken more content rest type bytes k.pairs.checked front slot.now found.0 after found.1 in
-      let size = ap length next.2 ∙ length-append (tree_names k.pairs.checked.front) (slot.now ∷ []) in (
+  pub pair_marked : (name after : List ℕ) (mark : ℕ) → mark ≡ name_mark name
+      → name_and_rest (element_by (value_at more) (stands_in (tree_names (pairs_spelled earlier))) faults.Repeated type bytes) ≡ Ok (name, after)
+      → MarkedPairs more content after (count + 1) (set marks mark true) × (length after < length rest)
+  pair_marked name after mark is e =
+      let found = named_ok (element_by (value_at more) (stands_in (tree_names k.pairs.checked.front)) faults.Repeated type bytes) name after
+      (ap name_and_rest (sym (same_read more content rest earlier type bytes k.pairs.checked front before)) ∙ e) in
+      let next = pair_taken more content rest type bytes k.pairs.checked front name found.0 after found.1 in
+      let size = ap length next.2 ∙ length-append (tree_names k.pairs.checked.front) (name ∷ []) in
+      let lt : mark < length marks = omega (arith, is, mark_within (mixed 0 name), k.places) in (
         record {
           pairs = record { checked = next.0; counted = omega (arith, k.pairs.counted, size); within = omega (arith, k.pairs.within, next.1) };
-          names = noted table slot count lt ∙ ap (λ (ns : List (List ℕ)). ns ++ slot.now ∷ []) k.names ∙ sym next.2;
+          places = length-set marks mark true ∙ k.places;
+          marked = subst (λ (ns : List (List ℕ)). AreMarked ns (set marks mark true)) (sym next.2)
+              (marked_more (tree_names k.pairs.checked.front) marks name mark is lt k.marked);
         },
         next.1,
       )
 
-  pub pair_unnamed : (f : BsonFault)
-      → name_and_rest (element_by (value_at more) (stands_in (lent (take count table))) faults.Repeated type bytes) ≡ Err f
+  pub pair_unmarked : (f : BsonFault)
+      → name_and_rest (element_by (value_at more) (stands_in (tree_names (pairs_spelled earlier))) faults.Repeated type bytes) ≡ Err f
       → outcome_of (pairs_in (value_at more) content) ≡ Err f
-  pair_unnamed f e =
+  pair_unmarked f e =
       let read = element_by (value_at more) (stands_in (tree_names k.pairs.checked.front)) faults.Repeated type bytes in
-      pair_stops more content rest type bytes k.pairs.checked front f (named_err read f (ap name_and_rest (sym same_names) ∙ e))
+      pair_stops more content rest type bytes k.pairs.checked front f
+      (named_err read f (ap name_and_rest (sym (same_read more content rest earlier type bytes k.pairs.checked front before)) ∙ e))
 
 pub pairs_passed : (more : ℕ) (content rest : List ℕ) → CheckedPairs more content rest → length rest ≡ 0 → outcome_of (pairs_in (value_at more) content) ≡ Ok tt
 pairs_passed more content rest k none =

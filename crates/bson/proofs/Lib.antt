@@ -7,11 +7,14 @@ pub mod FaultLaws
 pub mod FirstFaultLaws
 pub mod FrameLaws
 pub mod FrontLaws
+pub mod LentLaws
+pub mod MarkLaws
 pub mod NameLaws
 pub mod NestingLaws
 pub mod OverviewLaws
 pub mod PairLaws
 pub mod PlainNames
+pub mod PlainTexts
 pub mod RawLaws
 pub mod ReadLoopLaws
 pub mod ScalarLaws

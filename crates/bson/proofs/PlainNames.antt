@@ -1,9 +1,11 @@
 -- A name of ASCII is text.
-use Rattle.std.proofs.Common.{◌≡◌, ℕ, zero, suc, ◌+◌, ◌<◌, ◌≤◌, Bool, true, false, ◌||◌, ◌==◌, List, [], ◌∷◌, length, get_or, take, drop, Some, None, Ok, Err}
+use Rattle.std.proofs.Common.{◌≡◌, ◌⊎◌, inl, inr, ℕ, zero, suc, ◌+◌, ◌<◌, ◌≤◌, Bool, true, false}
+use Rattle.std.proofs.Common.{◌||◌, ◌==◌, List, [], ◌∷◌, length, get_or, take, drop, Some, None, Ok, Err}
 use Rattle.std.proofs.Common.{refl, sym, subst, arith, eq-eqb}
 use Rattle.std.specs.Prelude.{nat_le, position}
 use Rattle.std.specs.Str.{IsAscii, is_utf8}
 use Rattle.std.specs.List.{position_or_len}
+use Rattle.std.proofs.lemmas.Bool.{cases_lt}
 use Rattle.std.proofs.lemmas.Grind.{common_steps}
 use Rattle.std.proofs.lemmas.List.{length-take, get_or-take}
 use Rattle.std.proofs.lemmas.List.Quantifiers.{position-Some}
@@ -18,7 +20,7 @@ use Rattle.bson.proofs.FrameLaws.{or_false, zero_later}
 abbrev pub stops : ℕ → Bool
 stops b = b == 0 || nat_le 128 b
 
-below : (b : ℕ) → nat_le 128 b ≡ false → b < 128
+pub below : (b : ℕ) → nat_le 128 b ≡ false → b < 128
 below b e = grind arith
 
 above : (a b : ℕ) → b < a → nat_le a b ≡ false
@@ -52,3 +54,35 @@ unfolding name_at
 no_name_end bytes none =
     let all : length bytes ≤ position_or_len stops bytes = grind (arith, common_steps) in
     rw (not_within (length bytes) (zero_at bytes) (omega (arith, all, stops_before bytes))) refl
+
+-- ---- the first byte that stops, as a loop finds it
+
+stopped : (b : ℕ) → (b ≡ 0 → ⊥) → b < 128 → stops b ≡ false
+stopped b pos lt = grind arith
+
+-- one byte more that doesn't stop
+pub plain_more : (bytes : List ℕ) (n : ℕ) → ((k : ℕ) → k < n → stops (get_or bytes k 0) ≡ false) → (get_or bytes n 0 ≡ 0 → ⊥) → get_or bytes n 0 < 128
+    → (k : ℕ) → k < n + 1 → stops (get_or bytes k 0) ≡ false
+plain_more bytes n plain pos lt k le = by (cases_lt k n)
+  where
+    by : (k < n) ⊎ (n ≤ k) → stops (get_or bytes k 0) ≡ false
+    by (inl less) = plain k less
+    by (inr last) = subst (λ (i : ℕ). stops (get_or bytes i 0) ≡ false) (let same : n ≡ k = omega arith in same) (stopped (get_or bytes n 0) pos lt)
+
+stopping : (b : ℕ) → (b ≡ 0) ⊎ ((b ≡ 0 → ⊥) × (128 ≤ b)) → stops b ≡ true
+stopping b (inl zero_byte) = grind arith
+stopping b (inr wide) =
+    let le = wide.1 in
+    grind arith
+
+pub stops_first : (bytes : List ℕ) (n : ℕ) → n < length bytes → ((k : ℕ) → k < n → stops (get_or bytes k 0) ≡ false)
+    → (get_or bytes n 0 ≡ 0) ⊎ ((get_or bytes n 0 ≡ 0 → ⊥) × (128 ≤ get_or bytes n 0)) → position stops bytes ≡ Some n
+stops_first bytes n lt plain here =
+    let place : position_or_len stops bytes ≡ n = position_or_len_is stops bytes n 0 (omega arith) plain (λ _. stopping (get_or bytes n 0) here) in
+    grind (arith, common_steps)
+
+pub stops_nowhere : (bytes : List ℕ) (n : ℕ) → length bytes ≤ n → n ≤ length bytes → ((k : ℕ) → k < n → stops (get_or bytes k 0) ≡ false)
+    → position stops bytes ≡ None
+stops_nowhere bytes n most least plain =
+    let place : position_or_len stops bytes ≡ n = position_or_len_is stops bytes n 0 least plain (λ lt. absurd (omega arith)) in
+    grind (arith, common_steps)

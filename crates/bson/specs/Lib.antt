@@ -8,9 +8,11 @@ pub mod Faults
 pub mod FirstFault
 pub mod Kinds
 pub mod Lawful
+pub mod Lent
 pub mod Limits
 pub mod Overview
 pub mod Lookup
+pub mod Marks
 pub mod Raw
 pub mod RawNames
 pub mod Reading

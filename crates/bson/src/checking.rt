@@ -1,22 +1,28 @@
 //! Whether bytes spell a document, found out without memory. Each function accepts what its namesake in
 //! `reading` accepts, with the same faults.
 
-ghost use Rattle.std.specs.Prelude.{true, false, ℕ, List, Ok, ◌≡◌, ◌^◌, ◌<◌, ◌≤◌, length, map};
+ghost use Rattle.std.specs.Prelude.{true, false, ℕ, List, Ok, IfOk, ◌≡◌, ◌^◌, ◌<◌, ◌≤◌, length};
 ghost use Rattle.outcome.specs.Outcome.{GivesExactly};
 ghost use Rattle.bson.specs.Reading.{leaf, scalar_at, value_at, element_by, item_by, stands_in, kind_of, name_at, pairs_in, items_in, document_at};
 ghost use Rattle.bson.specs.declared.kind.Kind.{Kind};
 ghost use Rattle.bson.specs.Raw.{tree_names, pairs_spelled, Elements, name_and_rest, rest_of, outcome_of, only_length};
 ghost use Rattle.bson.specs.Checked.{CountedPairs};
+ghost use Rattle.bson.specs.Marks.{name_mark, AreMarked};
 ghost use Rattle.bson.specs.declared.fault.BsonFault.TheVariants as faults;
 
 use crate::MOST_LEVELS;
-use crate::distinct::{FEW, count_of_many, is_among};
+use crate::distinct::count_of_many;
 use crate::elements::{ElementNames, has_element};
 use crate::fault::BsonFault;
-use crate::frames::{read_content, read_ended, read_fixed, read_name_bytes, read_text};
+use crate::frames::{
+    read_content, read_ended, read_fixed, read_marked_name, read_name_bytes, read_text_bytes,
+};
 use crate::kind::Kind;
 use crate::reading::{is_index, read_length};
 use crate::scalars::{read_body, read_bool, read_kind};
+
+/// How many names are told apart by their marks: of a document with more, the names are counted.
+const MARKED: usize = 48;
 
 /// What is left behind a value of a kind other than documents and arrays.
 #[inline(always)]
@@ -26,7 +32,7 @@ fn check_scalar(kind: Kind, bytes: &[u8]) -> Result<&[u8], BsonFault>
 {
     match kind {
         Kind::Document | Kind::Array => Err(BsonFault::TypeByte),
-        Kind::String => Ok(read_text(bytes)?.1),
+        Kind::String => Ok(read_text_bytes(bytes)?.1),
         Kind::Binary => match read_body(bytes) {
             Ok((_, rest)) => Ok(rest),
             Err(fault) => Err(fault),
@@ -69,6 +75,7 @@ fn check_value(more: u32, kind: Kind, bytes: &[u8]) -> Result<&[u8], BsonFault>
 }
 
 /// Whether a name stands among the elements before it, which are looked at where it isn't known to be new.
+#[inline(always)]
 fn is_repeated(is_new: bool, earlier: &[u8], name: &[u8]) -> bool
     requires earlier { Elements earlier.now (pairs_spelled earlier.now) }
     requires new { is_new ≡ true
@@ -81,28 +88,40 @@ fn is_repeated(is_new: bool, earlier: &[u8], name: &[u8]) -> bool
     has_element(earlier, name)
 }
 
-/// The name of an element of a document, after its type byte, and what is left behind it. The names before it are few.
+/// The name of an element of a document, after its type byte, with its mark, and what is left behind it. A name whose mark
+/// no name before it has is new. The type byte is looked at where the value is read, so once.
 #[cycle(checking)]
 #[inline(always)]
 #[tactic(auto, unfolding(crate::specs::Reading::element_by))]
 fn check_pair<'a>(
     more: u32,
-    earlier: &[&[u8]],
+    marks: &[bool; 256],
+    earlier: &[u8],
     type_byte: u8,
     bytes: &'a [u8],
-) -> Result<(&'a [u8], &'a [u8]), BsonFault>
-    requires { more ≤ 99 }
-    ensures { GivesExactly (λ x. (x.0.now, x.1.now)) result
-        (name_and_rest (element_by (value_at more) (stands_in (map (λ n. n.now) earlier.now))
+) -> Result<((&'a [u8], usize), &'a [u8]), BsonFault>
+    requires more { more ≤ 99 }
+    requires earlier { Elements earlier.now (pairs_spelled earlier.now) }
+    requires marks { AreMarked (tree_names (pairs_spelled earlier.now)) marks.now }
+    ensures gives { GivesExactly (λ x. (x.0.0.now, x.1.now)) result
+        (name_and_rest (element_by (value_at more) (stands_in (tree_names (pairs_spelled earlier.now)))
         faults.Repeated type_byte bytes.now)) }
+    ensures mark { IfOk result (λ x. x.0.1 ≡ name_mark x.0.0.now) }
 {
-    let kind = read_kind(type_byte)?;
-    let (name, rest) = read_name_bytes(bytes)?;
-    if is_among(earlier, name) {
+    let ((name, mark), rest) = match read_marked_name(bytes) {
+        Ok(found) => found,
+        Err(fault) => {
+            read_kind(type_byte)?;
+            return Err(fault);
+        }
+    };
+    if is_repeated(!marks[mark], earlier, name) {
+        read_kind(type_byte)?;
         return Err(BsonFault::Repeated);
     }
+    let kind = read_kind(type_byte)?;
     match check_value(more, kind, rest) {
-        Ok(rest) => Ok((name, rest)),
+        Ok(rest) => Ok(((name, mark), rest)),
         Err(fault) => Err(fault),
     }
 }
@@ -150,22 +169,24 @@ fn check_item(more: u32, i: usize, type_byte: u8, bytes: &[u8]) -> Result<&[u8],
     check_value(more, kind, rest)
 }
 
-/// The elements of a document. The names of the first few stand in a table, in which the next one is looked for.
+/// The elements of a document. The marks of the names of the first few are set in a table, which tells most names that are
+/// new.
 #[cycle(checking)]
 fn check_pairs(more: u32, content: &[u8]) -> Result<(), BsonFault>
     requires more { more ≤ 99 }
     requires short { length content.now < 2 ^ 31 }
     ensures { GivesExactly (λ u. u) result (outcome_of (pairs_in (value_at more) content.now)) }
 {
-    let mut names: [&[u8]; FEW] = [&[]; FEW];
+    let mut marks = [false; 256];
     let mut count = 0usize;
     let mut rest = content;
     'pairs: while let Some((type_byte, after)) = rest.split_first() {
-        if count == FEW {
+        if count == MARKED {
             return check_further(more, content, rest);
         }
-        let (name, after) = check_pair(more, &names[..count], *type_byte, after)?;
-        names[count] = name;
+        let (earlier, _) = content.split_at(content.len() - rest.len());
+        let ((_, mark), after) = check_pair(more, &marks, earlier, *type_byte, after)?;
+        marks[mark] = true;
         count += 1;
         rest = after;
     }
@@ -179,11 +200,11 @@ fn check_pairs(more: u32, content: &[u8]) -> Result<(), BsonFault>
 fn check_further(more: u32, content: &[u8], left: &[u8]) -> Result<(), BsonFault>
     requires more { more ≤ 99 }
     requires short { length content.now < 2 ^ 31 }
-    requires checked { CountedPairs more content.now left.now 32 }
+    requires checked { CountedPairs more content.now left.now 48 }
     ensures { GivesExactly (λ u. u) result (outcome_of (pairs_in (value_at more) content.now)) }
 {
     let distinct = count_of_many::<ElementNames>(content);
-    let mut count = FEW;
+    let mut count = MARKED;
     let mut rest = left;
     'pairs: while let Some((type_byte, after)) = rest.split_first() {
         let (earlier, _) = content.split_at(content.len() - rest.len());

@@ -10,7 +10,7 @@ ghost use Rattle.bson.specs.RawNames.{AreNew, AreOthers, AreApart};
 use std::cmp::Ordering;
 
 /// How many names are compared with each other: more are sorted.
-pub(crate) const FEW: usize = 32;
+const FEW: usize = 32;
 
 /// Names in fewer bytes aren't sorted.
 const SHORT: usize = 256;
@@ -60,7 +60,7 @@ fn count_new(names: &[&[u8]]) -> usize
 }
 
 /// Whether a name is one of these.
-pub(crate) fn is_among(names: &[&[u8]], name: &[u8]) -> bool
+fn is_among(names: &[&[u8]], name: &[u8]) -> bool
     ensures { result ≡ stands_in (map (λ n. n.now) names.now) name.now }
 {
     'names: for other in names {

@@ -1,12 +1,14 @@
 //! Counts, texts, names and frames at the front of bytes.
 
-ghost use Rattle.std.specs.Prelude.{◌≡◌, ℕ, ◌<◌, ◌≤◌, ◌-◌, ◌^◌, List, length, IfOk, Ok, MatchOption, false, true, position, ◌==◌, ◌||◌, nat_le};
+ghost use Rattle.std.specs.Prelude.{◌≡◌, ℕ, ◌<◌, ◌≤◌, ◌-◌, ◌^◌, List, length, take, IfOk, Ok, MatchOption, Some, None, false, true, position, ◌+◌, ◌==◌, ◌||◌, nat_le, slice_index};
 ghost use Rattle.std.specs.Str.{is_utf8};
 ghost use Rattle.std.specs.Int.{w32, w64};
 ghost use Rattle.outcome.specs.Outcome.{GivesExactly};
+ghost use Rattle.bson.specs.Marks.{mixed, mark, name_mark};
 ghost use Rattle.bson.specs.Reading.{fixed_at, count_at, ended_at, text_at, content_at, name_at};
 
 use crate::fault::BsonFault;
+use std::simd::prelude::*;
 
 /// The first bytes, this many, and those after them.
 #[tactic(auto, unfolding(crate::specs::Reading::fixed_at))]
@@ -88,6 +90,19 @@ pub(crate) fn read_text(bytes: &[u8]) -> Result<(&str, &[u8]), BsonFault>
     Ok((text, rest))
 }
 
+/// A text as `read_text` gives it, by its bytes. One of ASCII is quickly judged.
+#[tactic(auto, unfolding(crate::specs::Reading::text_at))]
+pub(crate) fn read_text_bytes(bytes: &[u8]) -> Result<(&[u8], &[u8]), BsonFault>
+    ensures { GivesExactly (λ x. (x.0.now, x.1.now)) result (text_at bytes.now) }
+{
+    let (count, rest) = read_count(1, bytes)?;
+    let (front, rest) = read_ended(BsonFault::Text, count - 1, rest)?;
+    if !is_plain(front) && text_in(front).is_none() {
+        return Err(BsonFault::Text);
+    }
+    Ok((front, rest))
+}
+
 /// What a document or an array holds between its length and the zero that ends it.
 #[tactic(auto, unfolding(crate::specs::Reading::content_at))]
 pub(crate) fn read_content(bytes: &[u8]) -> Result<(&[u8], &[u8]), BsonFault>
@@ -110,6 +125,36 @@ pub(crate) fn text_in(bytes: &[u8]) -> Option<&str>
     }
 }
 
+/// Whether bytes are surely UTF-8, since they are ASCII. It says nothing of few bytes, and nothing of many, of which the
+/// standard test looks at more at a time.
+#[inline(always)]
+fn is_plain(bytes: &[u8]) -> bool
+    ensures { result ≡ true → is_utf8 bytes.now ≡ true }
+{
+    if bytes.len() < 16 || 800 < bytes.len() {
+        return false;
+    }
+    let last = bytes.len() - 16;
+    let mut at = 0usize;
+    'bytes: while at < last {
+        if !are_plain(bytes, at) {
+            return false;
+        }
+        at += 16;
+    }
+    are_plain(bytes, last)
+}
+
+/// Whether the 16 bytes from here on are ASCII.
+#[inline(always)]
+fn are_plain(bytes: &[u8], at: usize) -> bool
+    requires { at + 16 ≤ length bytes.now }
+    ensures { result ≡ true → (k : ℕ) → at ≤ k → k < at + 16 → slice_index bytes.now k < 128 }
+{
+    let bytes = u8x16::from_slice(&bytes[at..]);
+    bytes.simd_ge(u8x16::splat(128)).to_bitmask() == 0
+}
+
 /// Where the first zero is.
 pub(crate) fn first_zero(bytes: &[u8]) -> Option<usize>
     ensures { result ≡ position (λ b. b == 0) bytes.now }
@@ -117,19 +162,49 @@ pub(crate) fn first_zero(bytes: &[u8]) -> Option<usize>
     bytes.iter().position(|b| *b == 0)
 }
 
-/// Where the first byte is that is zero or no ASCII.
-fn plain_end(bytes: &[u8]) -> Option<usize>
-    ensures { result ≡ position (λ b. b == 0 || nat_le 128 b) bytes.now }
+/// Where the first byte is that is zero or no ASCII, with what those before it are mixed to.
+fn plain_front(bytes: &[u8]) -> Option<(usize, u64)>
+    ensures { MatchOption result (position (λ b. b == 0 || nat_le 128 b) bytes.now ≡ None)
+        (λ x. (position (λ b. b == 0 || nat_le 128 b) bytes.now ≡ Some x.0)
+        × (x.1 ≡ mixed 0 (take x.0 bytes.now))) }
 {
-    bytes.iter().position(|b| *b == 0 || 128 <= *b)
+    let mut mixed = 0u64;
+    'bytes: for at in 0..bytes.len() {
+        let byte = bytes[at];
+        if byte == 0 || 128 <= byte {
+            return Some((at, mixed));
+        }
+        mixed = mixed.wrapping_mul(9).wrapping_add(u64::from(byte));
+    }
+    None
 }
 
-/// A name as `read_name` gives it, by its bytes. One of ASCII is looked at once.
-#[inline(always)]
-pub(crate) fn read_name_bytes(bytes: &[u8]) -> Result<(&[u8], &[u8]), BsonFault>
-    ensures { GivesExactly (λ x. (x.0.now, x.1.now)) result (name_at bytes.now) }
+/// What the bytes of a name are mixed to.
+fn mixed_in(name: &[u8]) -> u64
+    ensures { result ≡ mixed 0 name.now }
 {
-    let Some(end) = plain_end(bytes) else {
+    let mut mixed = 0u64;
+    'bytes: for byte in name {
+        mixed = mixed.wrapping_mul(9).wrapping_add(u64::from(*byte));
+    }
+    mixed
+}
+
+/// The mark of a name that is mixed to this number.
+#[tactic(auto, unfolding(crate::specs::Marks::mark))]
+fn mark_of(mixed: u64) -> usize
+    ensures { result ≡ mark mixed }
+{
+    (mixed.wrapping_mul(0x9e37_79b9_7f4a_7c15) >> 56) as usize % 256
+}
+
+/// A name as `read_name` gives it, by its bytes, with its mark. One of ASCII is looked at once.
+#[inline(always)]
+pub(crate) fn read_marked_name(bytes: &[u8]) -> Result<((&[u8], usize), &[u8]), BsonFault>
+    ensures gives { GivesExactly (λ x. (x.0.0.now, x.1.now)) result (name_at bytes.now) }
+    ensures mark { IfOk result (λ x. x.0.1 ≡ name_mark x.0.0.now) }
+{
+    let Some((end, mixed)) = plain_front(bytes) else {
         return Err(BsonFault::Name);
     };
     if bytes[end] != 0 {
@@ -137,16 +212,27 @@ pub(crate) fn read_name_bytes(bytes: &[u8]) -> Result<(&[u8], &[u8]), BsonFault>
     }
     let (name, _) = bytes.split_at(end);
     let (_, rest) = bytes.split_at(end + 1);
-    Ok((name, rest))
+    Ok(((name, mark_of(mixed)), rest))
 }
 
 /// The same of a name with other characters.
 #[inline(never)]
-fn read_wide_name(bytes: &[u8]) -> Result<(&[u8], &[u8]), BsonFault>
-    ensures { GivesExactly (λ x. (x.0.now, x.1.now)) result (name_at bytes.now) }
+fn read_wide_name(bytes: &[u8]) -> Result<((&[u8], usize), &[u8]), BsonFault>
+    ensures gives { GivesExactly (λ x. (x.0.0.now, x.1.now)) result (name_at bytes.now) }
+    ensures mark { IfOk result (λ x. x.0.1 ≡ name_mark x.0.0.now) }
 {
     let (name, rest) = read_name(bytes)?;
-    Ok((name.as_bytes(), rest))
+    let name = name.as_bytes();
+    Ok(((name, mark_of(mixed_in(name))), rest))
+}
+
+/// A name as `read_name` gives it, by its bytes.
+#[inline(always)]
+pub(crate) fn read_name_bytes(bytes: &[u8]) -> Result<(&[u8], &[u8]), BsonFault>
+    ensures { GivesExactly (λ x. (x.0.now, x.1.now)) result (name_at bytes.now) }
+{
+    let ((name, _), rest) = read_marked_name(bytes)?;
+    Ok((name, rest))
 }
 
 /// A name, which the first zero ends.

@@ -1,9 +1,10 @@
 //! Documents that stay the bytes that spell them.
 
-ghost use Rattle.std.specs.Prelude.{◌≡◌, ◌≢◌, ◌++◌, ℕ, List, Ok, IfOk, IfErr};
+ghost use Rattle.std.specs.Prelude.{◌≡◌, ◌≢◌, ◌++◌, ℕ, List, Ok, IfOk, IfErr, option_map};
 ghost use Rattle.bson.specs.Tree.{Pairs};
 ghost use Rattle.bson.specs.Kinds.{kind};
 ghost use Rattle.bson.specs.View.{tree};
+ghost use Rattle.bson.specs.Lent.{scalar_in, scalar_of};
 ghost use Rattle.bson.specs.Lookup.{lookup};
 ghost use Rattle.bson.specs.Spelling.{Spells, HasNoDocument};
 ghost use Rattle.bson.specs.Reading.{document_at};
@@ -16,6 +17,7 @@ use crate::checking::check_document;
 use crate::elements::split_element;
 use crate::fault::{BsonFault, NoMemory};
 use crate::kind::Kind;
+use crate::raw_scalar::{RawScalar, scalar_spelled};
 use crate::reading::read_value;
 use crate::value::Value;
 use std::alloc::{AllocError, Global};
@@ -124,12 +126,19 @@ impl<'a> RawDoc<'a> {
     }
 }
 
-impl RawValue<'_> {
+impl<'a> RawValue<'a> {
     /// Which kind of value it is.
     pub fn kind(&self) -> Kind
         ensures { result ≡ kind self.now }
     {
         self.kind
+    }
+
+    /// What it is, lent where it stands; `None` for a document and an array.
+    pub fn scalar(&self) -> Option<RawScalar<'a>>
+        ensures { option_map scalar_of result ≡ scalar_in self.now }
+    {
+        scalar_spelled(self.kind, self.bytes)
     }
 
     /// The value, read: what `decode` gives there.

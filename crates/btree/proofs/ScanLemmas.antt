@@ -1,14 +1,15 @@
 -- Entries of a range, part after part.
-use Rattle.std.proofs.Common.{◌≡◌, ℕ, zero, suc, ◌+◌, ◌<◌, ◌≤◌, List, [], ◌∷◌, ◌++◌, ◌&&◌, not, length, map, take, drop, get_or, Option, Some, None, Vec}
-use Rattle.std.proofs.Common.{Global, Result, Ok, Err, Bool, true, false, refl, sym, ap, ◌∙◌, subst, arith, append_assoc, append-nil}
-use Rattle.std.proofs.lemmas.List.{take-append-drop}
+use Rattle.std.proofs.Common.{◌≡◌, ℕ, zero, suc, ◌+◌, ◌-◌, ◌<◌, ◌≤◌, List, [], ◌∷◌, ◌++◌, ◌&&◌, not, length, map, take, drop, get_or, Option, Some, None, Vec}
+use Rattle.std.proofs.Common.{◌⊎◌, inl, inr, Global, Result, Ok, Err, Bool, true, false, refl, sym, ap, ◌∙◌, subst, arith, append_assoc, append-nil}
+use Rattle.std.proofs.lemmas.List.{take-append-drop, get_or_default}
+use Rattle.std.proofs.Math.Nat.{eq-or-lt_of_le}
 use Rattle.std.specs.declared.cmp.Ordering.TheVariants.{Less, Equal, Greater}
 use Rattle.std.specs.Ordering.{is_lt}
 use Rattle.btree.specs.declared.scanning.Entry.{Entry as KeptEntry}
 use Rattle.btree.specs.declared.scanning.Filling.{Filling}
 use Rattle.page.specs.Content.{Item, Arm, branch, leaf}
 use Rattle.btree.specs.Keys.{Pair, Entry, entry_of, Each, Rises, IsUnder, IsNotUnder, IsWithin, IsPast, key_cmp, keep_if, is_within, window}
-use Rattle.btree.specs.Search.{IsPlace, IsChildPlace, AreBounds}
+use Rattle.btree.specs.Search.{IsPlace, IsEndPlace, IsChildPlace, AreBounds}
 use Rattle.std.specs.Result.{IsErrAnd}
 use Rattle.btree.specs.declared.pages.TreeFault.{TreeFault}
 use Rattle.btree.specs.Calls.{IsAnswer, IsBatch, IsPart}
@@ -16,7 +17,7 @@ use Rattle.btree.specs.Scan.{Fills, Holds, entry_in}
 use Rattle.btree.proofs.StoreLemmas.{cause_later, part_kept, shows_kept}
 use Rattle.btree.specs.Store.{Store, Frame, HasCause}
 use Rattle.btree.specs.Tree.{Twig, Body, HasChain, Shows, IsSound, IsWhole, arm_of, entries_of, item_of, pair_keys, pairs_of, twig_keys, with_low}
-use Rattle.btree.proofs.KeyLemmas.{not_both, not_under_trans, under_then_up_to, under_trans}
+use Rattle.btree.proofs.KeyLemmas.{not_both, not_under_trans, under_then_up_to, under_trans, within_wider}
 use Rattle.btree.proofs.ListLemmas.{each_back, each_get, each_map, each_of_map, cut_at, flat_append, long_map, map_append, rises_back}
 use Rattle.btree.proofs.GetLemmas.{child_part, open_branch, open_leaf, from_is, front_is_under, place_here}
 use Rattle.btree.proofs.FanLemmas.{around_child, fan_between, fans_around, keys_around, low_of, pairs_between}
@@ -116,6 +117,7 @@ pub record IsHere (items : List Item) (pairs : List Pair) (from : List ℕ) (i :
   pub whole : map entry_of pairs ≡ map entry_of (take i pairs) ++ entry_of pair ∷ map entry_of back
   pub over : Each (λ y. IsUnder pair.key y.key) back
   pub chained : (s : Store) → Each (HasChain s) pairs → HasChain s pair
+  pub stands : (d : Pair) → get_or pairs i d ≡ pair
 
 not_under_from : (from : List ℕ) (pairs : List Pair) (start i : ℕ) (d : Pair) → start ≤ i → i < length pairs → Rises (pair_keys pairs)
     → IsNotUnder (get_or pairs start d).key from
@@ -128,10 +130,51 @@ not_under_from from (x ∷ xs) zero (suc i) d le lt rise h =
 not_under_from from (x ∷ xs) (suc start) zero d le lt rise h = absurd (omega arith)
 not_under_from from (x ∷ xs) (suc start) (suc i) d le lt rise h = not_under_from from xs start i d (omega arith) (omega arith) rise.1 h
 
+below_or_not : (i n : ℕ) → (i < n) ⊎ (n ≤ i)
+below_or_not i zero = inr (omega arith)
+below_or_not zero (suc n) = inl (omega arith)
+below_or_not (suc i) (suc n) = elim (below_or_not i n) [ inl lt ↦ inl (omega arith) | inr le ↦ inr (omega arith) ]
+
+-- what stands before another
+under_before : (pairs : List Pair) (i j : ℕ) (d : Pair) → i < j → j < length pairs → Rises (pair_keys pairs)
+    → IsUnder (get_or pairs i d).key (get_or pairs j d).key
+under_before [] i j d lt le rise = absurd (omega arith)
+under_before (x ∷ xs) i zero d lt le rise = absurd (omega arith)
+under_before (x ∷ xs) zero (suc j) d lt le rise =
+    each_get (λ (y : Pair). IsUnder x.key y.key) xs j d (omega arith) (each_of_map (IsUnder x.key) (λ (y : Pair). y.key) xs rise.0)
+under_before (x ∷ xs) (suc i) (suc j) d lt le rise = under_before xs i j d (omega arith) (omega arith) rise.1
+
 map_get : (pairs : List Pair) (i : ℕ) (d : Pair) → i < length pairs → get_or (map item_of pairs) i (item_of d) ≡ item_of (get_or pairs i d)
 map_get [] i d lt = absurd (omega arith)
 map_get (x ∷ xs) zero d lt = refl
 map_get (x ∷ xs) (suc i) d lt = map_get xs i d (omega arith)
+
+-- what stands before the end of a range lies within it, and what stands there or behind is past it
+module _ (to : Option (List ℕ)) (items : List Item) (pairs : List Pair) (at : ℕ) (e : items ≡ map item_of pairs) (rise : Rises (pair_keys pairs))
+    (end : IsEndPlace items to at) (i : ℕ) (d : Pair) where
+  stands : (k : ℕ) → k < length items → (get_or items k (item_of d)).key ≡ (get_or pairs k d).key
+  stands k lt =
+      ap (λ (x : Item). x.key) (ap (λ zs. get_or zs k (item_of d)) e ∙ map_get pairs k d (omega (arith, ap length e, long_map item_of pairs)))
+
+  pub before_end : i < at → IsWithin to (get_or pairs i d).key
+  before_end lt =
+      let long : length items ≡ length pairs = ap length e ∙ long_map item_of pairs in
+      let within : at ≤ length items = end.within in
+      let last : IsWithin to (get_or pairs (at - 1) d).key =
+      subst (IsWithin to) (stands (at - 1) (omega arith)) (end.below (at - 1) (item_of d) (omega arith)) in
+      elim (eq-or-lt_of_le {n = i} {m = at - 1} (omega arith)) [
+        | inl same ↦ subst (λ k. IsWithin to (get_or pairs k d).key) (sym same) last
+        | inr less ↦ within_wider to _ _ last (under_before pairs i (at - 1) d less (omega arith) rise)
+      ]
+
+  pub from_end : at ≤ i → i < length pairs → IsPast to (get_or pairs i d).key
+  from_end le lt =
+      let long : length items ≡ length pairs = ap length e ∙ long_map item_of pairs in
+      let first : IsPast to (get_or pairs at d).key = subst (IsPast to) (stands at (omega arith)) (end.above (item_of d) (omega arith)) in
+      elim (eq-or-lt_of_le le) [
+        | inl same ↦ subst (λ k. IsPast to (get_or pairs k d).key) same first
+        | inr less ↦ past_on to _ _ first (not_both (get_or pairs at d).key (get_or pairs i d).key (under_before pairs at i d less lt rise))
+      ]
 
 module _ (from : List ℕ) (to : Option (List ℕ)) (items : List Item) (pairs : List Pair) (start : ℕ) (e : items ≡ map item_of pairs)
     (rise : Rises (pair_keys pairs)) (place : IsPlace items from start) where
@@ -167,6 +210,7 @@ module _ (from : List ℕ) (to : Option (List ℕ)) (items : List Item) (pairs :
             ((rises_back (pair_keys (take i pairs)) (pair_keys (s.mid ∷ s.back))
             (subst Rises (ap pair_keys s.is ∙ map_append (λ (y : Pair). y.key) (take i pairs) (s.mid ∷ s.back)) rise)).0);
         chained = λ st h. (each_back (HasChain st) (take i pairs) (s.mid ∷ s.back) (subst (Each (HasChain st)) s.is h)).0;
+        stands = s.here;
       }
 
   module _ (i : ℕ) (it : Item) (h : IsHere items pairs from i it) (all : List Entry) where
@@ -184,6 +228,23 @@ module _ (from : List ℕ) (to : Option (List ℕ)) (items : List Item) (pairs :
         (sym (window_past from to (entry_of h.pair ∷ map entry_of h.back)
         (p, each_entry (IsPast to) h.back (each_map _ _ (λ y u. past_on to h.pair.key y.key p (not_both h.pair.key y.key u)) h.back h.over))))
         ∙ sym (window_append from to (map entry_of (take i pairs)) (entry_of h.pair ∷ map entry_of h.back)) ∙ ap (window from to) (sym h.whole))
+
+  -- from the end of the range on nothing is left
+  module _ (at : ℕ) (end : IsEndPlace items to at) (i : ℕ) (le : start ≤ i) (past : at ≤ i) (all : List Entry) where
+    ends_at : i < length pairs → all ++ window from to (map entry_of (take i pairs)) ≡ all ++ window from to (map entry_of pairs)
+    ends_at lt =
+        let long : length items ≡ length pairs = ap length e ∙ long_map item_of pairs in
+        let s = split_at pairs i lt in
+        let h = here i le (omega arith) (item_of s.mid) (λ d. sym (get_or_default items i d (item_of s.mid) (omega arith)
+        ∙ ap (λ zs. get_or zs i (item_of s.mid)) e ∙ map_get pairs i s.mid lt ∙ ap item_of (s.here s.mid))) in
+        ends_past i (item_of s.mid) h all
+        (subst (λ (x : Pair). IsPast to x.key) (h.stands s.mid) (from_end to items pairs at e rise end i s.mid past lt))
+
+    pub all_taken : all ++ window from to (map entry_of (take i pairs)) ≡ all ++ window from to (map entry_of pairs)
+    all_taken = elim (below_or_not i (length pairs)) [
+      | inl lt ↦ ends_at lt
+      | inr not ↦ ap (λ ps. all ++ window from to (map entry_of ps)) (take_all pairs i not)
+    ]
 
 pub scan_failed : {X : Type 0} (old mid new : Store) (so : Type 0) (r : Result X TreeFault) (e : TreeFault) → Frame old mid → IsErrAnd r (λ f. f ≡ e)
     → HasCause mid new e → IsAnswer old new (λ done. so) r

@@ -1,7 +1,7 @@
 -- Places of keys among those of a page.
 use Rattle.std.specs.Prelude.{◌≡◌, ℕ, ◌+◌, ◌<◌, ◌≤◌, ⊤, List, [], ◌∷◌, ◌++◌, length, Option, Some}
 use Rattle.std.specs.Prelude.{slice_index_or}
-use Rattle.btree.specs.Keys.{Each, IsUnder, IsNotUnder, IsBetween}
+use Rattle.btree.specs.Keys.{Each, IsUnder, IsNotUnder, IsBetween, IsWithin, IsPast}
 use Rattle.page.specs.Content.{Item, Arm, Content, leaf, branch, chain, free_list, item_keys}
 use Rattle.page.specs.Content.{arm_keys}
 
@@ -10,6 +10,12 @@ pub record IsPlace (items : List Item) (key : List ℕ) (at : ℕ) : Type 0 wher
   pub within : at ≤ length items
   pub below : (k : ℕ) (d : Item) → k + 1 ≡ at → IsUnder (slice_index_or items k d).key key
   pub above : (d : Item) → at < length items → IsNotUnder (slice_index_or items at d).key key
+
+-- what stands before this place is below the bound, if there is one, and what stands at it isn't
+pub record IsEndPlace (items : List Item) (high : Option (List ℕ)) (at : ℕ) : Type 0 where
+  pub within : at ≤ length items
+  pub below : (k : ℕ) (d : Item) → k + 1 ≡ at → IsWithin high (slice_index_or items k d).key
+  pub above : (d : Item) → at < length items → IsPast high (slice_index_or items at d).key
 
 -- The key has no cell, and belongs at this place.
 pub record IsGap (items : List Item) (key : List ℕ) (at : ℕ) : Type 0 where

@@ -12,7 +12,7 @@ ghost use Rattle.btree.specs.Fold.{HasTaken, between, entry_at};
 use crate::chain::chain_bytes;
 use crate::search::{
     branch_child, child_of_key, high_bound, is_within, leaf_cell, lies_between, low_bound,
-    place_of_key,
+    place_of_end, place_of_key,
 };
 use crate::{Pages, TreeFault};
 use page::{Cell, Leaf, PageContent, Stored};
@@ -128,15 +128,12 @@ fn fold_leaf<P: Pages, F: Fold>(
         → Yields (P.store pages.old) (P.store pages.new)
         (λ done. F.makes start (all ++ between bounds.entry (map entry_of pairs)) fold.new) result }
 {
-    for i in place_of_key(leaf, bounds.from)..leaf.len() {
+    let end = place_of_end(leaf, bounds.to);
+    for i in place_of_key(leaf, bounds.from)..end {
         if fold.is_done() {
             return Ok(());
         }
-        let cell = leaf_cell(leaf, i);
-        if !is_within(cell.key, bounds.to) {
-            return Ok(());
-        }
-        lend(alloc, pages, fold, cell)?;
+        lend(alloc, pages, fold, leaf_cell(leaf, i))?;
     }
     Ok(())
 }

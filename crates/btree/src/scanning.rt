@@ -14,7 +14,7 @@ use crate::{Pages, TreeFault};
 use std::alloc::{AllocError, Global};
 
 /// A key and its value.
-#[derive(Debug, Drop)]
+#[derive(Drop)]
 pub struct Entry {
     pub key: Vec<u8>,
     pub value: Vec<u8>,
@@ -31,7 +31,7 @@ pub struct Range<'a> {
 
 /// Some entries in ascending order of their keys, and the key of the next one, from which a further
 /// scan goes on.
-#[derive(Debug, Drop)]
+#[derive(Drop)]
 pub struct Batch {
     pub entries: Vec<Entry>,
     pub next: Option<Vec<u8>>,

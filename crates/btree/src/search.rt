@@ -4,7 +4,7 @@ ghost use Rattle.std.specs.Option.{option_map};
 ghost use Rattle.btree.specs.Keys.{IsBetween, IsPast, IsWithin};
 ghost use Rattle.page.specs.Content.{Arm, Item, leaf as leaf_content, branch as branch_content};
 ghost use Rattle.btree.specs.View.{content_in, item_in, arm_in};
-ghost use Rattle.btree.specs.Search.{IsPlace, IsChildPlace, LieBetween};
+ghost use Rattle.btree.specs.Search.{IsPlace, IsEndPlace, IsChildPlace, LieBetween};
 
 use page::{Branch, Cell, Child, Leaf, PageContent};
 use std::cmp::Ordering;
@@ -55,6 +55,23 @@ pub(crate) fn place_of_key(leaf: &Leaf, key: &[u8]) -> usize
         }
     }
     low
+}
+
+/// The first cell whose key isn't below the bound, if there is one. Most leaves end below it, so the last cell is looked at first.
+pub(crate) fn place_of_end(leaf: &Leaf, high: Option<&[u8]>) -> usize
+    ensures { IsEndPlace leaf.now (option_map (λ b. b.now) high.entry) result }
+{
+    let len = leaf.len();
+    let Some(key) = high else {
+        return len;
+    };
+    if len == 0 {
+        return 0;
+    }
+    if is_within(leaf_key(leaf, len - 1), high) {
+        return len;
+    }
+    place_of_key(leaf, key)
 }
 
 /// The child that the key belongs to.

@@ -14,6 +14,7 @@ pub mod Opening
 pub mod OtherKeys
 pub mod ReadTexts
 pub mod Reading
+pub mod Remembering
 pub mod Standing
 pub mod State
 pub mod Trusting

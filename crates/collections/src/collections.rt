@@ -3,6 +3,7 @@
 ghost use Rattle.std.specs.Prelude.{◌≡◌};
 
 use crate::mark::Mark;
+use crate::remembered::Remembered;
 use page::Disk;
 use pager::Pager;
 use roots::{CommitFault, OpenFault, PageCounts};
@@ -20,6 +21,8 @@ pub struct Collections<D: Disk> {
     pub(crate) root: u32,
     /// Where the turn began.
     begun: pager::Mark,
+    /// What the catalogue said of the last collection with indexes that was asked for.
+    pub(crate) remembered: Option<Remembered>,
 }
 
 impl<D: Disk> Model for Collections<D> {
@@ -61,6 +64,7 @@ impl<D: Disk> Collections<D> {
             root: pager.root(),
             begun: pager.mark(),
             pager,
+            remembered: None,
         })
     }
 
@@ -81,6 +85,7 @@ impl<D: Disk> Collections<D> {
             pager: self.pager.trusting(),
             root: self.root,
             begun: self.begun,
+            remembered: self.remembered,
         }
     }
 

@@ -149,7 +149,7 @@ fn next_behind(
 }
 
 /// Texts of entries of an index, in ascending order, and from which text others go on that are left.
-#[derive(Debug, Drop)]
+#[derive(Drop)]
 pub struct NextTexts {
     pub texts: Vec<Vec<u8>>,
     pub next: Option<Vec<u8>>,
@@ -180,7 +180,7 @@ fn keys_between(
 }
 
 /// Texts of entries of an index, in ascending order, and whether these are all that were asked for.
-#[derive(Debug, Drop)]
+#[derive(Drop)]
 pub struct FirstTexts {
     pub texts: Vec<Vec<u8>>,
     pub are_all: bool,

@@ -11,6 +11,7 @@ pub mod laws;
 mod mark;
 mod other_keys;
 mod reading;
+mod remembered;
 mod versions;
 mod walk;
 

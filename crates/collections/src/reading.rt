@@ -15,6 +15,7 @@ ghost use Rattle.collections.specs.Reading.{AreBytesAt, AreEach, IsBatchOf, IsIn
 
 use crate::applying::refusal_of;
 use crate::collections::Collections;
+use crate::remembered::Remembered;
 use bson::{Document, SpelledDocument};
 use btree::{Batch, Entry, Range, TreeFault, get, scan};
 use entries::{
@@ -29,7 +30,7 @@ use std::alloc::Global;
 const MOST_COLLECTIONS: usize = 1000;
 
 /// A collection by its name.
-#[derive(Debug, Drop)]
+#[derive(Drop)]
 pub struct Name {
     pub namespace: String,
     pub number: u32,
@@ -141,6 +142,30 @@ fn told_in(alloc: Global, value: &[u8]) -> Result<Catalogued, Refusal>
         Some(told) => Ok(told),
         None => Err(Refusal::StorageFailed),
     }
+}
+
+/// The same, copied from what is remembered where the value is the same, else decoded and remembered, if the collection has indexes.
+fn told_again(
+    alloc: Global,
+    remembered: &mut Option<Remembered>,
+    value: Vec<u8>,
+) -> Result<Catalogued, Refusal>
+    ensures told { (c : Collection) → IsKept c → value.items ≡ (catalogue_entry c).value
+        → OrMemory (λ told. catalogued_of told ≡ catalogued_in c) result }
+    ensures limits { IfOk result IsWithinLimits }
+{
+    if let Some(last) = remembered {
+        if let Some(told) = last.told_by(&value)? {
+            return Ok(told);
+        }
+    }
+    let told = told_in(alloc, &value)?;
+    if told.indexes.is_empty() {
+        return Ok(told);
+    }
+    let copy = told.copy()?;
+    *remembered = Some(Remembered::new(value, told));
+    Ok(copy)
 }
 
 /// The collection that an entry of the catalogue is of.
@@ -255,7 +280,7 @@ impl<D: Disk> Collections<D> {
         let Some(value) = self.value_at(&key)? else {
             return Ok(None);
         };
-        Ok(Some(told_in(self.alloc, &value)?))
+        Ok(Some(told_again(self.alloc, &mut self.remembered, value)?))
     }
 
     /// The number of the collection of a name, if there is one.

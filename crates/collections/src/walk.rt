@@ -13,7 +13,7 @@ use page::Disk;
 use path::Refusal;
 
 /// How far a walk through the documents of a collection has come, in ascending order of `_id`.
-#[derive(Debug, Drop)]
+#[derive(Drop)]
 pub struct Walk {
     number: u32,
     /// The key of the next document, None at the end.

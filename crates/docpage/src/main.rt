@@ -1,7 +1,11 @@
 //! The program `docpage`: a document database that answers frames of MongoDB-style commands.
 #![tactic(auto)]
 
-use program::{Terminal, run_at};
+mod ports;
+mod start;
+
+use program::Terminal;
+use start::run_at;
 use std::io::{BufWriter, ErrorKind, IsTerminal};
 use std::process::ExitCode;
 use std::{env, fs, io};
@@ -30,7 +34,7 @@ fn terminal(rt: &HostRuntime) -> Terminal {
 }
 
 /// Hands the words to the program, which answers on the standard streams, and gives its status.
-fn start(rt: &HostRuntime) -> io::Result<u8> {
+fn run(rt: &HostRuntime) -> io::Result<u8> {
     let words = words(rt)?;
     let mut output = BufWriter::new(rt.alloc(), rt.stdout())?;
     let terminal = terminal(rt);
@@ -45,7 +49,7 @@ fn start(rt: &HostRuntime) -> io::Result<u8> {
 }
 
 fn main(rt: HostRuntime) -> ExitCode {
-    match start(&rt) {
+    match run(&rt) {
         Ok(status) => ExitCode::from(status),
         Err(error) if error.kind() == ErrorKind::OutOfMemory => {
             let _ = eprintln!(rt; "docpage: Memory");

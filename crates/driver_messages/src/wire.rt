@@ -19,7 +19,7 @@ use crate::seeking::foreign_in;
 use crate::stream_fault::StreamFault;
 use crate::with_integers::{command_with_integers, with_integers};
 use bson::{BsonFault, Document, MESSAGE_LIMIT, NoMemory, decode, read_name};
-use op_msg::{FrameFault, Frames, Request};
+use op_msg::{Request, request_at_front};
 use std::alloc::Global;
 
 /// The bytes of a message's document.
@@ -124,14 +124,9 @@ fn read_as_sent(alloc: Global, whole: &[u8]) -> Result<Message, StreamFault>
     requires { 20 ≤ length whole.now }
     ensures { Gives StreamFault.Memory (λ m. m) result (as_sent whole.now) }
 {
-    let mut frames = Frames::new(alloc);
-    let Ok(()) = frames.feed(whole) else {
-        return Err(StreamFault::Memory);
-    };
-    match frames.next() {
+    match request_at_front(alloc, whole) {
         Ok(Some(request)) => message_of(alloc, whole, request),
         Ok(None) => Err(StreamFault::Length),
-        Err(FrameFault::Memory) => Err(StreamFault::Memory),
         Err(fault) => Err(StreamFault::Frame(fault)),
     }
 }

@@ -1,3 +1,4 @@
+mod TableLemmas
 mod CleaningLemmas
 mod InPlaceLemmas
 mod AskingLaws

@@ -58,11 +58,30 @@ pub(crate) enum Command {
     Forwarded(Asked),
 }
 
-/// The commands by their names.
-const COMMANDS: [(&str, Command); 31] = [
+/// The commands whose names have up to five bytes.
+const UP_TO_FIVE: [(&str, Command); 5] = [
     ("hello", Command::Own(Own::Hello)),
+    ("ping", Command::Forwarded(Asked::Plain)),
+    ("count", Command::Forwarded(Asked::Plain)),
+    ("drop", Command::Forwarded(Asked::Plain)),
+    ("find", Command::Forwarded(Asked::Find)),
+];
+
+/// Those whose names have six to eight bytes.
+const UP_TO_EIGHT: [(&str, Command); 9] = [
     ("isMaster", Command::Own(Own::IsMaster)),
     ("ismaster", Command::Own(Own::IsMaster)),
+    ("create", Command::Forwarded(Asked::Plain)),
+    ("insert", Command::Forwarded(Asked::Write)),
+    ("update", Command::Forwarded(Asked::Write)),
+    ("delete", Command::Forwarded(Asked::Write)),
+    ("getMore", Command::Forwarded(Asked::GetMore)),
+    ("explain", Command::Forwarded(Asked::Explain)),
+    ("distinct", Command::Forwarded(Asked::Distinct)),
+];
+
+/// Those whose names have more.
+const FROM_NINE: [(&str, Command); 17] = [
     ("buildInfo", Command::Own(Own::BuildInfo)),
     ("buildinfo", Command::Own(Own::BuildInfo)),
     ("endSessions", Command::Own(Own::Session)),
@@ -71,18 +90,9 @@ const COMMANDS: [(&str, Command); 31] = [
     ("saslStart", Command::Own(Own::Login)),
     ("saslContinue", Command::Own(Own::Login)),
     ("authenticate", Command::Own(Own::Login)),
-    ("ping", Command::Forwarded(Asked::Plain)),
-    ("count", Command::Forwarded(Asked::Plain)),
     ("aggregate", Command::Forwarded(Asked::Plain)),
-    ("create", Command::Forwarded(Asked::Plain)),
-    ("drop", Command::Forwarded(Asked::Plain)),
     ("createIndexes", Command::Forwarded(Asked::CreateIndexes)),
     ("dropIndexes", Command::Forwarded(Asked::Plain)),
-    ("insert", Command::Forwarded(Asked::Write)),
-    ("update", Command::Forwarded(Asked::Write)),
-    ("delete", Command::Forwarded(Asked::Write)),
-    ("find", Command::Forwarded(Asked::Find)),
-    ("getMore", Command::Forwarded(Asked::GetMore)),
     ("killCursors", Command::Forwarded(Asked::KillCursors)),
     (
         "listCollections",
@@ -90,16 +100,22 @@ const COMMANDS: [(&str, Command); 31] = [
     ),
     ("listIndexes", Command::Forwarded(Asked::ListIndexes)),
     ("dropDatabase", Command::Forwarded(Asked::DropDatabase)),
-    ("explain", Command::Forwarded(Asked::Explain)),
     ("findAndModify", Command::Forwarded(Asked::Modify)),
     ("findandmodify", Command::Forwarded(Asked::Modify)),
-    ("distinct", Command::Forwarded(Asked::Distinct)),
 ];
 
-/// What is done with a command of this name; nothing where it is unknown.
+/// What is done with a command of this name; nothing where it is unknown. The length of a name says in which table it
+/// may stand.
 #[tactic(auto, unfolding(crate::specs::Commands::command_of))]
 pub(crate) fn command_of(name: &str) -> Option<Command>
     ensures { result ≡ command_of name.now }
 {
-    named(&COMMANDS, name)
+    let len = name.len();
+    if len < 6 {
+        return named(&UP_TO_FIVE, name);
+    }
+    if len < 9 {
+        return named(&UP_TO_EIGHT, name);
+    }
+    named(&FROM_NINE, name)
 }

@@ -32,50 +32,73 @@ pub(crate) enum Rule {
     NameFilter,
 }
 
-/// The fields by their names.
-const RULES: [(&str, Rule); 36] = [
+/// The fields whose names have up to four bytes.
+const UP_TO_FOUR: [(&str, Rule); 6] = [
     ("lsid", Rule::ReadOver),
-    ("$clusterTime", Rule::ReadOver),
-    ("$readPreference", Rule::ReadOver),
-    ("comment", Rule::ReadOver),
-    ("maxTimeMS", Rule::ReadOver),
-    ("allowDiskUse", Rule::ReadOver),
-    ("bypassDocumentValidation", Rule::ReadOver),
-    ("noCursorTimeout", Rule::ReadOver),
-    ("allowPartialResults", Rule::ReadOver),
-    ("apiStrict", Rule::ReadOver),
-    ("apiDeprecationErrors", Rule::ReadOver),
-    ("commitQuorum", Rule::ReadOver),
-    ("authorizedCollections", Rule::ReadOver),
-    ("txnNumber", Rule::Transaction),
-    ("startTransaction", Rule::Transaction),
-    ("autocommit", Rule::Transaction),
-    ("expireAfterSeconds", Rule::Unsupported),
     ("size", Rule::Unsupported),
     ("hint", Rule::UnlessEmpty),
     ("let", Rule::UnlessEmpty),
     ("min", Rule::UnlessEmpty),
     ("max", Rule::UnlessEmpty),
-    ("arrayFilters", Rule::UnlessEmpty),
+];
+
+/// Those whose names have five to eight bytes.
+const UP_TO_EIGHT: [(&str, Rule); 5] = [
+    ("comment", Rule::ReadOver),
     ("tailable", Rule::UnlessEmpty),
-    ("awaitData", Rule::UnlessEmpty),
-    ("returnKey", Rule::UnlessEmpty),
-    ("showRecordId", Rule::UnlessEmpty),
     ("capped", Rule::UnlessEmpty),
     ("sparse", Rule::UnlessEmpty),
     ("hidden", Rule::UnlessEmpty),
-    ("partialFilterExpression", Rule::UnlessEmpty),
+];
+
+/// Those whose names have nine to eleven bytes.
+const UP_TO_ELEVEN: [(&str, Rule); 10] = [
+    ("maxTimeMS", Rule::ReadOver),
+    ("apiStrict", Rule::ReadOver),
+    ("txnNumber", Rule::Transaction),
+    ("autocommit", Rule::Transaction),
+    ("awaitData", Rule::UnlessEmpty),
+    ("returnKey", Rule::UnlessEmpty),
     ("validator", Rule::UnlessEmpty),
-    ("writeConcern", Rule::WriteConcern),
     ("readConcern", Rule::ReadConcern),
     ("collation", Rule::Collation),
     ("apiVersion", Rule::ApiVersion),
 ];
 
-/// What is done with a field of this name; nothing where the database has to say.
+/// Those whose names have more.
+const FROM_TWELVE: [(&str, Rule); 15] = [
+    ("$clusterTime", Rule::ReadOver),
+    ("$readPreference", Rule::ReadOver),
+    ("allowDiskUse", Rule::ReadOver),
+    ("bypassDocumentValidation", Rule::ReadOver),
+    ("noCursorTimeout", Rule::ReadOver),
+    ("allowPartialResults", Rule::ReadOver),
+    ("apiDeprecationErrors", Rule::ReadOver),
+    ("commitQuorum", Rule::ReadOver),
+    ("authorizedCollections", Rule::ReadOver),
+    ("startTransaction", Rule::Transaction),
+    ("expireAfterSeconds", Rule::Unsupported),
+    ("arrayFilters", Rule::UnlessEmpty),
+    ("showRecordId", Rule::UnlessEmpty),
+    ("partialFilterExpression", Rule::UnlessEmpty),
+    ("writeConcern", Rule::WriteConcern),
+];
+
+/// What is done with a field of this name; nothing where the database has to say. The length of a name says in which
+/// table it may stand.
 #[tactic(auto, unfolding(crate::specs::Rules::rule_of))]
 pub(crate) fn rule_of(name: &str) -> Option<Rule>
     ensures { result ≡ rule_of name.now }
 {
-    named(&RULES, name)
+    let len = name.len();
+    if len < 5 {
+        return named(&UP_TO_FOUR, name);
+    }
+    if len < 9 {
+        return named(&UP_TO_EIGHT, name);
+    }
+    if len < 12 {
+        return named(&UP_TO_ELEVEN, name);
+    }
+    named(&FROM_TWELVE, name)
 }

@@ -22,7 +22,7 @@ use path::Refusal;
 use projection::Projection;
 use queries::piped_in;
 use replies::{ConnId, spelled_all};
-use statements::STORED_LIMIT;
+use stored_documents::STORED_LIMIT;
 
 impl<D: Disk> Engine<D> {
     /// What a pipeline makes of the documents of a collection, or its refusal. A missing collection reads as empty.

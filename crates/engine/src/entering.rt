@@ -19,7 +19,7 @@ use bson::Document;
 use entries::{Catalogued, Edits, Keyed};
 use page::Disk;
 use path::Refusal;
-use statements::id_text;
+use stored_documents::id_text;
 
 impl<D: Disk> Engine<D> {
     /// The collection of a name, as the catalogue has it. Where it is missing, the edits make it; `TooMany` where it would be

@@ -12,8 +12,8 @@ use commands::MOST_STATEMENTS;
 use page::Disk;
 use path::Refusal;
 use replies::{ConnId, done, put};
-use statements::STORED_LIMIT;
 use std::alloc::Global;
+use stored_documents::STORED_LIMIT;
 
 /// The reply of a `hello` on a connection.
 fn hello_reply(alloc: Global, connection: ConnId) -> Result<Document, NoMemory>

@@ -19,8 +19,8 @@ use index_list::{is_in_conflict, is_there, unused_number};
 use page::Disk;
 use path::Refusal;
 use queries::BATCH;
-use statements::id_text;
 use std::alloc::Global;
+use stored_documents::id_text;
 
 /// Documents enter an index, one after the other, up to the first that it refuses.
 fn take_each(alloc: Global, made: &mut NewEntries, documents: &[Document]) -> Result<(), Refusal>

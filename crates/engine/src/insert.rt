@@ -20,7 +20,7 @@ use entries::{Catalogued, Edits};
 use page::Disk;
 use path::Refusal;
 use replies::insert_reply;
-use statements::stored;
+use stored_documents::stored;
 
 /// The document as it is stored: its copy with `_id` first, or itself where that stands first.
 fn as_stored<'a>(moved: &'a Option<Document>, document: &'a Document) -> &'a Document

@@ -7,8 +7,8 @@ use bson::Document;
 use entries::{Catalogued, Edits, Keyed};
 use path::Refusal;
 use sort::AsDocument;
-use statements::id_text;
 use std::alloc::Global;
+use stored_documents::id_text;
 
 /// Notes that a document is taken out of a collection, with its entries in the collection's indexes.
 fn note_one(

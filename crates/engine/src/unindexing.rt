@@ -22,8 +22,8 @@ use index_list::first_dropped;
 use page::Disk;
 use path::Refusal;
 use queries::BATCH;
-use statements::id_text;
 use std::alloc::Global;
+use stored_documents::id_text;
 
 /// Notes that a document's entries in an index are removed.
 fn unindex_one(

@@ -33,11 +33,9 @@ use page::Disk;
 use path::Refusal;
 use queries::{Selects, put_id};
 use replies::{REPLY_LIMIT, SharedDocument};
-use statements::{
-    ID, Ran, Tally, Write, compare_id, read_id, run_on, unless_memory, update_reply,
-    upsert_document,
-};
+use statements::{Ran, Tally, Write, run_on, unless_memory, update_reply, upsert_document};
 use std::alloc::Global;
+use stored_documents::{ID, compare_id, read_id};
 
 /// The documents that the statements of an update may mean, as many as are enough, and the collection that
 /// has them.

@@ -78,10 +78,34 @@ fn indexes_told(alloc: Global, document: &Document) -> Result<Option<Vec<IndexSp
 const MOST_INDEXES: usize = 16;
 
 /// What the catalogue says of a collection: its number and its indexes.
-#[derive(Debug, Drop)]
+#[derive(Drop)]
 pub struct Catalogued {
     pub number: u32,
     pub indexes: Vec<IndexSpec>,
+}
+
+/// Equal definitions of their own.
+fn copy_indexes(alloc: Global, indexes: &[IndexSpec]) -> Result<Vec<IndexSpec>, NoMemory>
+    ensures { IfOk result (λ v. v.items ≡ indexes.now) }
+{
+    let mut copies = Vec::with_capacity(alloc, indexes.len())?;
+    'indexes: for index in indexes {
+        copies.push(index.copy()?)?;
+    }
+    Ok(copies)
+}
+
+impl Catalogued {
+    /// The same number and equal indexes of their own.
+    pub fn copy(&self) -> Result<Catalogued, NoMemory>
+        ensures number { IfOk result (λ e. e.number ≡ self.now.number) }
+        ensures indexes { IfOk result (λ e. e.indexes.items ≡ self.now.indexes.items) }
+    {
+        Ok(Catalogued {
+            number: self.number,
+            indexes: copy_indexes(*self.indexes.allocator(), &self.indexes)?,
+        })
+    }
 }
 
 /// What a document of the catalogue tells, within the limits.

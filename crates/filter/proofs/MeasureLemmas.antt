@@ -10,6 +10,7 @@ use Rattle.filter.specs.declared.matching.Probe.TheVariants as probes
 abbrev pub way : Subject → ℕ
 way (subjects.Whole d) = 0
 way (subjects.Along found rest) = length rest.now
+way (subjects.Scalar v) = 0
 way (subjects.Alone v) = 0
 
 -- the conditions that are asked of what is found

@@ -1,10 +1,11 @@
 -- Steps of the walk.
-use Rattle.std.proofs.Common.{◌≡◌, ℕ, zero, suc, ◌-◌, ◌<◌, ◌≤◌, Bool, true, false, List, [], ◌∷◌, length, take, drop, get_or, Some, refl, sym, ap, ◌∙◌, arith}
+use Rattle.std.proofs.Common.{◌≡◌, ℕ, zero, suc, ◌-◌, ◌<◌, ◌≤◌, Bool, true, false, List, [], ◌∷◌, length, take, drop, get_or, Some, None}
+use Rattle.std.proofs.Common.{refl, sym, ap, ◌∙◌, arith}
 use Rattle.std.specs.Prelude.{◌==◌, ◌||◌}
 use Rattle.std.specs.List.{list_any}
 use Rattle.std.proofs.lemmas.List.{take_all}
 use Rattle.std.proofs.lemmas.List.Folds.{list_any-append}
-use Rattle.bson.specs.Tree.{Tree, array, Items, no_items, item}
+use Rattle.bson.specs.Tree.{Scalar, Tree, scalar, array, Items, no_items, item}
 use Rattle.bson.specs.Edits.{items_len}
 use Rattle.path.specs.Reach.{Reached, reach, in_elements, in_place, items_list}
 use Rattle.filter.specs.Condition.{size, weight, weights}
@@ -38,3 +39,8 @@ pub reach-array : (pass : Reached → Bool) (parts rest : List (List ℕ)) (name
     → (list_any pass (in_elements (reach rest) name ts) || list_any pass (in_place (reach rest) name ts)) ≡ list_any pass (reach parts t)
 reach-array pass parts rest name t ts p is =
     sym (list_any-append pass (in_elements (reach rest) name ts) (in_place (reach rest) name ts)) ∙ (λ i. list_any pass (reach (sym p i) (sym is i)))
+
+-- a scalar has no fields
+pub reach-scalar : (parts : List (List ℕ)) (s : Scalar) → false ≡ (length parts == 0) → None ∷ [] ≡ reach parts (scalar s)
+reach-scalar [] s some = absurd cc
+reach-scalar (name ∷ rest) s some = refl

@@ -1,8 +1,9 @@
 -- What the walk of a path looks for, and what conditions are asked of.
-use Rattle.std.specs.Prelude.{Bool, if◌then◌else◌, Option, None, List, [], ◌∷◌}
+use Rattle.std.specs.Prelude.{Bool, if◌then◌else◌, Option, Some, None, List, [], ◌∷◌}
 use Rattle.std.specs.List.{list_any}
 use Rattle.std.specs.Option.{option_map}
-use Rattle.bson.specs.Tree.{Tree}
+use Rattle.bson.specs.Tree.{Tree, scalar}
+use Rattle.bson.specs.Lent.{scalar_of}
 use Rattle.bson.specs.View.{tree}
 use Rattle.path.specs.Reach.{Reached, reach, onwards}
 use Rattle.filter.specs.Matches.{passes, Subject, whole, along, alone, some_element, of_document}
@@ -18,6 +19,7 @@ abbrev pub subject_of : Asked → Subject
 subject_of (subjects.Whole d) = whole d.now
 subject_of (subjects.Along found rest) =
     along (onwards (reach rest.now) (option_map (λ v. tree v.now) found) (None ∷ []))
+subject_of (subjects.Scalar v) = along (Some (scalar (scalar_of v.now)) ∷ [])
 subject_of (subjects.Alone v) = alone (tree v.now)
 
 abbrev pub probe_passes : Probe → Bool → Reached → Bool

@@ -5,7 +5,8 @@
 
 ghost use Rattle.std.specs.Prelude.{◌≡◌, ◌||◌, false, Ok, None, Some, [], ◌∷◌, option_map};
 ghost use Rattle.std.specs.List.{list_any};
-ghost use Rattle.bson.specs.Tree.{document};
+ghost use Rattle.bson.specs.Lent.{scalar_of};
+ghost use Rattle.bson.specs.Tree.{document, scalar};
 ghost use Rattle.bson.specs.Lookup.{lookup};
 ghost use Rattle.bson.specs.View.{tree};
 ghost use Rattle.path.specs.Reach.{reach, onwards, in_elements, in_place, items_list};
@@ -16,7 +17,7 @@ ghost use Rattle.filter.specs.Probes.{subject_of, probe_passes, field_passes};
 use crate::condition::{Condition, Filter, Predicate};
 use crate::predicate;
 use crate::value_set::ValueSet;
-use bson::{Array, Document, NoMemory, Value};
+use bson::{Array, Document, NoMemory, RawScalar, Value};
 use path::{Part, item_of_part};
 
 /// What conditions are asked of.
@@ -26,6 +27,8 @@ enum Subject<'a> {
     Whole(&'a Document),
     /// What the parts of a path reach from the value that its first part has led to, or from Missing.
     Along(Option<&'a Value>, &'a [Part]),
+    /// A value that a path has led to and that holds no other, lent.
+    Scalar(&'a RawScalar<'a>),
     /// One element of an array, as it stands.
     Alone(&'a Value),
 }
@@ -58,6 +61,18 @@ pub(crate) fn all_hold_along(filter: &Filter, found: Option<&Value>, rest: &[Par
         (along (onwards (reach rest.now) (option_map (λ v. tree v.now) found.entry) (None ∷ []))) }
 {
     all_hold(filter, Subject::Along(found, rest))
+}
+
+/// Whether a condition holds of a value that a path has led to and that holds no other. A predicate, as most conditions
+/// of one path are, is asked at once.
+pub(crate) fn holds_of_scalar(condition: &Condition, value: &RawScalar<'_>) -> bool
+    ensures { result ≡ holds (condition_of condition.now)
+        (along (Some (scalar (scalar_of value.now)) ∷ [])) }
+{
+    match condition {
+        Condition::Is(predicate) => predicate::scalar_passes(predicate, value),
+        _ => holds(condition, Subject::Scalar(value)),
+    }
 }
 
 /// Whether all of it holds of one element of an array, as it stands.
@@ -135,6 +150,7 @@ fn finds(probe: Probe<'_>, subject: Subject<'_>) -> bool
         Subject::Whole(_) => false,
         Subject::Along(Some(value), rest) => finds_from(probe, value, rest),
         Subject::Along(None, _) => missing_passes(probe),
+        Subject::Scalar(value) => scalar_passes(probe, value),
         Subject::Alone(value) => passes(probe, true, value),
     }
 }
@@ -202,6 +218,18 @@ fn missing_passes(probe: Probe<'_>) -> bool
     match probe {
         Probe::Predicate(predicate) => predicate::missing_passes(predicate),
         Probe::OneOf(values) => values.missing_passes(),
+        Probe::Element(_) | Probe::ElementDocument(_) => false,
+    }
+}
+
+/// Whether a value that is lent is what the walk looks for.
+fn scalar_passes(probe: Probe<'_>, value: &RawScalar<'_>) -> bool
+    ensures { result
+        ≡ probe_passes probe.entry false (Some (scalar (scalar_of value.now))) }
+{
+    match probe {
+        Probe::Predicate(predicate) => predicate::scalar_passes(predicate, value),
+        Probe::OneOf(values) => values.contains_scalar(value),
         Probe::Element(_) | Probe::ElementDocument(_) => false,
     }
 }

@@ -1,8 +1,10 @@
 //! What is asked of one value that was reached.
 
-ghost use Rattle.std.specs.Prelude.{◌≡◌, ◌==◌, None, Some, map};
+ghost use Rattle.std.specs.Prelude.{◌≡◌, ◌==◌, false, None, Some, map};
 ghost use Rattle.bson.specs.Kinds.{kind, kind_byte};
 ghost use Rattle.std.specs.List.{list_any};
+ghost use Rattle.bson.specs.Lent.{scalar_of};
+ghost use Rattle.bson.specs.Tree.{scalar};
 ghost use Rattle.bson.specs.View.{tree, items_of};
 ghost use Rattle.path.specs.Reach.{items_list};
 ghost use Rattle.value_order.specs.Order.{compare};
@@ -10,14 +12,14 @@ ghost use Rattle.filter.specs.Matches.{candidate_passes, reached_passes, passes,
 ghost use Rattle.filter.specs.View.{predicate_of};
 
 use crate::condition::Predicate;
-use bson::{Kind, Value};
+use bson::{Kind, RawScalar, Value};
 use std::cmp::Ordering;
-use value_order::{class, compare};
+use value_order::{class, class_of_scalar, compare, compare_scalar};
 
-fn is_equal(value: &Value, other: &Value) -> bool
-    ensures { result ≡ is_equal (compare (tree value.now) (tree other.now)) }
+fn is_equal(order: Ordering) -> bool
+    ensures { result ≡ is_equal order }
 {
-    match compare(value, other) {
+    match order {
         Ordering::Equal => true,
         Ordering::Less | Ordering::Greater => false,
     }
@@ -32,11 +34,10 @@ fn is_null(value: &Value) -> bool
     }
 }
 
-fn is_one_of(kinds: &[Kind], value: &Value) -> bool
-    ensures { result ≡ list_any (λ b. b == kind_byte (kind (tree value.now)))
+fn is_one_of(kinds: &[Kind], byte: u8) -> bool
+    ensures { result ≡ list_any (λ b. b == byte)
         (map kind_byte kinds.now) }
 {
-    let byte = value.kind().type_byte();
     'kinds: for kind in kinds {
         if kind.type_byte() == byte {
             return true;
@@ -50,11 +51,11 @@ fn candidate_passes(predicate: &Predicate, value: &Value) -> bool
     ensures { result ≡ candidate_passes (predicate_of predicate.now) (tree value.now) }
 {
     match predicate {
-        Predicate::Equal(other) => is_equal(value, other),
+        Predicate::Equal(other) => is_equal(compare(value, other)),
         Predicate::Ordered(comparison, other) => {
             class(value) == class(other) && comparison.allows(compare(value, other))
         }
-        Predicate::OfKinds(kinds) => is_one_of(kinds, value),
+        Predicate::OfKinds(kinds) => is_one_of(kinds, value.kind().type_byte()),
         Predicate::There | Predicate::Size(_) => false,
     }
 }
@@ -99,5 +100,22 @@ pub(crate) fn passes(predicate: &Predicate, alone: bool, value: &Value) -> bool
             Value::Array(array),
         ) => { !alone && item_passes(predicate, array.items()) }
         _ => false,
+    }
+}
+
+/// Whether a value that is lent passes.
+pub(crate) fn scalar_passes(predicate: &Predicate, value: &RawScalar<'_>) -> bool
+    ensures { result
+        ≡ passes (predicate_of predicate.now) false (Some (scalar (scalar_of value.now))) }
+{
+    match predicate {
+        Predicate::Equal(other) => is_equal(compare_scalar(value, other)),
+        Predicate::Ordered(comparison, other) => {
+            class_of_scalar(value) == class(other)
+                && comparison.allows(compare_scalar(value, other))
+        }
+        Predicate::OfKinds(kinds) => is_one_of(kinds, value.kind().type_byte()),
+        Predicate::There => true,
+        Predicate::Size(_) => false,
     }
 }

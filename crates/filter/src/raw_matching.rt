@@ -1,17 +1,18 @@
-//! Whether a filter holds of a document that stays its bytes. Only the values of the fields that its paths begin with
-//! are read, one at a time.
+//! Whether a filter holds of a document that stays its bytes. The values of the fields that its paths begin with are
+//! asked where they stand; only documents and arrays among them are read, one at a time.
 
-ghost use Rattle.std.specs.Prelude.{◌≡◌, IfOk, option_map};
-ghost use Rattle.bson.specs.Lookup.{lookup};
-ghost use Rattle.bson.specs.View.{tree};
-ghost use Rattle.filter.specs.Matches.{holds, all_hold, any_holds, matches, whole};
+ghost use Rattle.std.specs.Prelude.{◌≡◌, IfOk};
+ghost use Rattle.bson.specs.Lent.{scalar_of};
+ghost use Rattle.bson.specs.Tree.{scalar};
+ghost use Rattle.path.specs.Reach.{reach};
+ghost use Rattle.filter.specs.Matches.{holds, all_hold, any_holds, matches, whole, along};
 ghost use Rattle.filter.specs.Condition.{at};
 ghost use Rattle.filter.specs.View.{condition_of};
 
 use crate::condition::{Condition, Filter};
-use crate::matching::all_hold_along;
-use bson::{NoMemory, RawDoc, Value};
-use path::Path;
+use crate::matching::{all_hold_along, holds_of_scalar};
+use bson::{NoMemory, RawDoc, RawScalar};
+use path::{Part, Path};
 use std::alloc::Global;
 
 impl Filter {
@@ -73,16 +74,30 @@ fn holds_at(
         answer ≡ holds (at path.now filter.now) (whole document.now)) }
 {
     let (part, rest) = path.split_first();
-    let found = read_field(alloc, document, part.as_str())?;
-    Ok(all_hold_along(filter, found.as_ref(), rest))
+    let Some(found) = document.get(part.as_str()) else {
+        return Ok(all_hold_along(filter, None, rest));
+    };
+    match found.scalar() {
+        Some(scalar) => Ok(all_hold_from(filter, &scalar, rest)),
+        None => {
+            let value = found.value(alloc)?;
+            Ok(all_hold_along(filter, Some(&value), rest))
+        }
+    }
 }
 
-/// The value of a name in the document, if it has one.
-fn read_field(alloc: Global, document: &RawDoc<'_>, name: &str) -> Result<Option<Value>, NoMemory>
-    ensures { IfOk result (λ found. option_map tree found ≡ lookup document.now name.now) }
+/// Whether conditions hold of what the parts of a path reach from a value that holds no other.
+fn all_hold_from(filter: &Filter, value: &RawScalar<'_>, parts: &[Part]) -> bool
+    ensures { result ≡ all_hold filter.now
+        (along (reach parts.now (scalar (scalar_of value.now)))) }
 {
-    match document.get(name) {
-        Some(value) => Ok(Some(value.value(alloc)?)),
-        None => Ok(None),
+    if !parts.is_empty() {
+        return all_hold_along(filter, None, parts);
     }
+    'conditions: for condition in filter.conditions() {
+        if !holds_of_scalar(condition, value) {
+            return false;
+        }
+    }
+    true
 }

@@ -3,14 +3,16 @@
 ghost use Rattle.std.specs.Prelude.{◌≡◌, false, IfOk, None, Some, map};
 ghost use Rattle.std.specs.List.{list_any};
 ghost use Rattle.std.specs.List.Sorted.{IsPermutation};
+ghost use Rattle.bson.specs.Lent.{scalar_of};
+ghost use Rattle.bson.specs.Tree.{scalar};
 ghost use Rattle.bson.specs.View.{tree, items_of};
 ghost use Rattle.path.specs.Reach.{items_list};
 ghost use Rattle.filter.specs.Among.{is_among, among_passes};
 
-use bson::{NoMemory, Value};
+use bson::{NoMemory, RawScalar, Value};
 use std::alloc::Global;
 use std::marker::Model;
-use value_order::compare;
+use value_order::{compare, compare_scalar};
 
 /// Values in ascending order, so that one is found by halving.
 #[derive(Debug, Drop)]
@@ -72,6 +74,15 @@ impl ValueSet {
     {
         self.ascending
             .binary_search_by(|other| compare(other, value))
+            .is_ok()
+    }
+
+    /// Whether a value that is lent is equal to one of them.
+    pub(crate) fn contains_scalar(&self, value: &RawScalar<'_>) -> bool
+        ensures { result ≡ is_among self.now (scalar (scalar_of value.now)) }
+    {
+        self.ascending
+            .binary_search_by(|other| compare_scalar(value, other).reverse())
             .is_ok()
     }
 

@@ -1,7 +1,9 @@
 -- What a loan more makes of the loans, and that who is lent was at rest.
-use Rattle.std.proofs.Common.{◌≡◌, ℕ, zero, suc, Bool, true, false, List, [], ◌∷◌, set, Option, Some, None, refl, sym, subst, inl, inr}
+use Rattle.std.proofs.Common.{◌≡◌, ℕ, zero, suc, ◌+◌, ◌-◌, ◌≤◌, Bool, true, false, List, [], ◌∷◌, set, Option, Some, None}
+use Rattle.std.proofs.Common.{refl, sym, ap, ◌∙◌, subst, inl, inr, arith}
 use Rattle.std.specs.Prelude.{nat_lt, if◌then◌else◌, is_none, IfSome}
-use Rattle.front.specs.Lending.{loan_at, is_at_rest, count_at, with_one, least_used, Lends}
+use Rattle.std.proofs.lemmas.Bool.Decides.{nat_tests}
+use Rattle.front.specs.Lending.{loan_at, is_at_rest, count_at, fewer, has_none, with_one, least_used, Lends}
 use Rattle.front.specs.declared.lending.Loan.{Loan}
 
 pub none_if : {X : Type 0} (x : Option X) → is_none x ≡ true → x ≡ None
@@ -33,6 +35,38 @@ pub found_rests : (loans : List (Option Loan)) (counts : List ℕ) (n : ℕ) (fo
     → IfSome found (λ id. is_at_rest loans id ≡ true)
 found_rests loans counts n None e = tt
 found_rests loans counts n (Some id) e = least_rests loans counts n id (sym e)
+
+-- none has fewer than none
+no_fewer : (counts : List ℕ) (id other : ℕ) → count_at counts id ≡ 0 → fewer counts id other ≡ id
+no_fewer counts id other none = at (nat_lt (count_at counts other) (count_at counts id)) refl
+  where
+    at : (b : Bool) → nat_lt (count_at counts other) (count_at counts id) ≡ b → (if b then other else id) ≡ id
+    at false is = refl
+    at true is = absurd (grind (arith, nat_tests))
+
+-- so the first at rest that has none stays the one with the fewest
+least_stays : (loans : List (Option Loan)) (counts : List ℕ) (n k id : ℕ) → least_used loans counts n ≡ Some id → count_at counts id ≡ 0
+    → least_used loans counts (k + n) ≡ Some id
+unfolding least_used
+least_stays loans counts n zero id e none =
+    let same : zero + n ≡ n = omega arith in ap (least_used loans counts) same ∙ e
+least_stays loans counts n (suc k) id e none =
+    let more : suc k + n ≡ suc (k + n) = omega arith in
+    let before : least_used loans counts (k + n) ≡ Some id = least_stays loans counts n k id e none in
+    ap (least_used loans counts) more
+    ∙ ap (λ (least : Option ℕ). if is_at_rest loans (k + n) then with_one counts least (k + n) else least) before
+    ∙ at (is_at_rest loans (k + n)) (fewer counts id (k + n)) (no_fewer counts id (k + n) none)
+  where
+    at : (b : Bool) (best : ℕ) → best ≡ id → (if b then Some best else Some id) ≡ Some id
+    at true best same = ap Some same
+    at false best same = refl
+
+pub least_of_all : (loans : List (Option Loan)) (counts : List ℕ) (n all : ℕ) (least : Option ℕ) → least ≡ least_used loans counts n
+    → has_none counts least ≡ true → n ≤ all → least ≡ least_used loans counts all
+least_of_all loans counts n all None is none within = absurd cc
+least_of_all loans counts n all (Some id) is none within =
+    let more : all ≡ (all - n) + n = omega arith in
+    sym (ap (least_used loans counts) more ∙ least_stays loans counts n (all - n) id (sym is) (grind (arith, nat_tests)))
 
 -- one loan more
 lends_at : (socket : Option ℕ) (loans : List (Option Loan)) (id : ℕ) (loan : Loan) → loan.socket ≡ socket → loan_at loans id ≡ None

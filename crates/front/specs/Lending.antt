@@ -1,6 +1,6 @@
 -- Which connections of a server are lent, and what for. A connection without a loan is at rest.
-use Rattle.std.specs.Prelude.{◌≡◌, ℕ, zero, suc, Bool, ◌==◌, nat_lt, if◌then◌else◌, is_none, ◌⊎◌}
-use Rattle.std.specs.Prelude.{List, slice_index_or, Option, Some, None}
+use Rattle.std.specs.Prelude.{◌≡◌, ℕ, zero, suc, Bool, false, ◌==◌, nat_lt, if◌then◌else◌, is_none}
+use Rattle.std.specs.Prelude.{◌⊎◌, List, slice_index_or, Option, Some, None}
 use Rattle.front.specs.declared.lending.Loan.{Loan}
 
 -- what a connection is lent for
@@ -22,6 +22,11 @@ count_at counts id = slice_index_or counts id 0
 
 abbrev pub fewer : List ℕ → ℕ → ℕ → ℕ
 fewer counts other id = if nat_lt (count_at counts id) (count_at counts other) then id else other
+
+-- a connection that has none, so that no other has fewer
+abbrev pub has_none : List ℕ → Option ℕ → Bool
+has_none counts None = false
+has_none counts (Some id) = count_at counts id == 0
 
 abbrev pub with_one : List ℕ → Option ℕ → ℕ → Option ℕ
 with_one counts None id = Some id

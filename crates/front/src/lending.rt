@@ -2,7 +2,7 @@
 
 ghost use Rattle.std.specs.Prelude.{◌≡◌, ◌<◌, IfSome, true, None, Some, is_none, is_some, map, replicate, slice_set};
 ghost use Rattle.std.specs.List.{list_any};
-ghost use Rattle.front.specs.Lending.{loan_at, is_at_rest, fewer, better, least_used, left_borrower, orphaned, after_end};
+ghost use Rattle.front.specs.Lending.{loan_at, is_at_rest, count_at, fewer, has_none, better, least_used, left_borrower, orphaned, after_end};
 
 use engine::{CONNECTIONS, ConnId};
 
@@ -96,6 +96,9 @@ impl Lending {
         let mut least = None;
         'numbers: for number in 0..CONNECTIONS {
             least = self.better(counts, least, numbered(number));
+            if has_none(counts, &least) {
+                break;
+            }
         }
         least
     }
@@ -108,11 +111,28 @@ impl Lending {
     }
 }
 
+/// How many cursors a connection has.
+fn count_at(counts: &[usize; COUNT], id: ConnId) -> usize
+    ensures { result ≡ count_at counts.now id }
+{
+    counts[usize::from(id.number())]
+}
+
+/// Whether it is a connection that has no cursor: then none has fewer.
+fn has_none(counts: &[usize; COUNT], least: &Option<ConnId>) -> bool
+    ensures { result ≡ has_none counts.now least.now }
+{
+    match least {
+        Some(id) => count_at(counts, *id) == 0,
+        None => false,
+    }
+}
+
 /// Of two connections the one that has fewer cursors; the first where they have as many.
 fn fewer(counts: &[usize; COUNT], other: ConnId, id: ConnId) -> ConnId
     ensures { result ≡ fewer counts.now other id }
 {
-    if counts[usize::from(id.number())] < counts[usize::from(other.number())] {
+    if count_at(counts, id) < count_at(counts, other) {
         id
     } else {
         other

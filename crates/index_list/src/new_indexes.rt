@@ -6,7 +6,7 @@ ghost use Rattle.database_model.specs.CreateIndexes.{are_same_fields, has_defini
 
 use commands::NewIndex;
 use index::{IndexField, IndexSpec};
-use statements::ID;
+use stored_documents::ID;
 use value_order::Direction;
 
 /// The name of the index on `_id`.

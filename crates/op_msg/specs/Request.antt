@@ -64,6 +64,19 @@ pub record IsRequest (frame : Frame) (request : Request) : Type 0 where
   pub more : request.more_to_come ≡ frame.more_to_come
   pub body : Gives bson_faults.Memory (λ d. d) request.body (body_of frame)
 
+-- What reading the message at the front may answer, by what stands there.
+abbrev pub IsRead : Result (Option (Frame × List ℕ)) FrameFault
+    → Result (Option Request) FrameFault → Type 0
+IsRead (Ok (Some x)) (Ok (Some request)) = IsRequest x.0 request
+IsRead (Ok None) (Ok None) = Unit {0}
+IsRead (Err fault) (Err e) = e ≡ fault
+IsRead (Ok (Some x)) (Ok None) = ⊥
+IsRead (Ok (Some x)) (Err e) = ⊥
+IsRead (Ok None) (Ok (Some request)) = ⊥
+IsRead (Ok None) (Err e) = ⊥
+IsRead (Err fault) (Ok (Some request)) = ⊥
+IsRead (Err fault) (Ok None) = ⊥
+
 -- What a call of `next` may answer, by what stands at the front, with what is left after it.
 abbrev pub IsNext : Result (Option (Frame × List ℕ)) FrameFault → List ℕ
     → Result (Option Request) FrameFault → List ℕ → Type 0

@@ -12,5 +12,5 @@ mod writing;
 
 pub use fault::FrameFault;
 pub use frames::Frames;
-pub use request::{Head, Request};
+pub use request::{Head, Request, request_at_front};
 pub use writing::{FRAME_BYTES, reply, respell, spelled_reply};

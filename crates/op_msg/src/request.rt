@@ -5,11 +5,12 @@ ghost use Rattle.outcome.specs.Outcome.{Gives, Does};
 ghost use Rattle.bson.specs.Tree.{Pairs};
 ghost use Rattle.bson.specs.View.{pairs_of};
 ghost use Rattle.bson.specs.Lawful.{NoZero, IsDocument};
-ghost use Rattle.op_msg.specs.Frame.{part_at, each_in, sections_in, sequences_of};
-ghost use Rattle.op_msg.specs.Request.{IsRequest, document_in, body_of, array_of, with_sequence, with_sequences};
+ghost use Rattle.op_msg.specs.Frame.{front, part_at, each_in, sections_in, sequences_of};
+ghost use Rattle.op_msg.specs.Request.{IsRequest, IsRead, document_in, body_of, array_of, with_sequence, with_sequences};
 ghost use Rattle.op_msg.specs.View.{frame_in, sequence_of, section_of, with_document, HasName, joined, IsJoining};
 
-use crate::reading::Message;
+use crate::fault::FrameFault;
+use crate::reading::{Message, read_front};
 use crate::sections::{Section, Sequence, SequenceNames, read_part, read_section};
 use bson::{
     Array, BsonFault, BuildFault, Document, NamedParts, Names, Pair, Text, Value, decode,
@@ -180,5 +181,16 @@ pub(crate) fn read_request(alloc: Global, message: &Message<'_>) -> Request
         request_id: message.number,
         more_to_come: message.more_to_come,
         body: read_joined(alloc, message),
+    }
+}
+
+/// The message at the front of bytes, if it is whole: the one that a stream of these would give first. Where memory ran out
+/// for its body, that is `Err(BsonFault::Memory)`.
+pub fn request_at_front(alloc: Global, bytes: &[u8]) -> Result<Option<Request>, FrameFault>
+    ensures { IsRead (front bytes.now) result }
+{
+    match read_front(bytes)? {
+        Some(front) => Ok(Some(read_request(alloc, &front.message))),
+        None => Ok(None),
     }
 }

@@ -79,12 +79,15 @@ fn begun_frame(
     ensures { IfOk result (λ v. v.items ≡ head_bytes reply_no request_id body_len) }
 {
     let len = body_len as u32 + FRAME_BYTES;
+    let head = [
+        len.to_le_bytes(),
+        reply_no.to_le_bytes(),
+        request_id.to_le_bytes(),
+        2013u32.to_le_bytes(),
+        0u32.to_le_bytes(),
+    ];
     let mut frame = Vec::with_capacity(alloc, len as usize)?;
-    frame.extend_from_slice(&len.to_le_bytes())?;
-    frame.extend_from_slice(&reply_no.to_le_bytes())?;
-    frame.extend_from_slice(&request_id.to_le_bytes())?;
-    frame.extend_from_slice(&2013u32.to_le_bytes())?;
-    frame.extend_from_slice(&0u32.to_le_bytes())?;
+    frame.extend_from_slice(head.as_flattened())?;
     frame.push(0)?;
     Ok(frame)
 }

@@ -22,8 +22,8 @@ use entries::{catalogue_told, document_in, document_key, namespace_in};
 use index::{IndexSpec, keys_in_all};
 use path::Refusal;
 use roots::OpenFault;
-use statements::{ID, STORED_LIMIT};
 use std::alloc::{AllocError, Global};
+use stored_documents::{ID, STORED_LIMIT};
 use update::{id_of, limits_fault, names_fault};
 use value_order::{Direction, KeyFault, KeyPart, key_text};
 

@@ -11,7 +11,7 @@ ghost use Rattle.planner.specs.View.{range_of};
 
 use crate::range::IndexRange;
 use crate::usable::Bound;
-use bson::{NoMemory, Value};
+use bson::{MESSAGE_LIMIT, NoMemory, Value};
 use std::alloc::{AllocError, Global};
 use value_order::{Direction, KeyFault, KeyPart, key_text};
 
@@ -28,28 +28,28 @@ pub fn short_text(alloc: Global, value: &Value) -> Result<Option<Vec<u8>>, NoMem
     }
 }
 
-/// Whether a value that is there has such a text.
-fn is_key(alloc: Global, value: Option<&Value>) -> Result<bool, NoMemory>
-    ensures { IfOk result (λ is. is ≡ true
-        → IfSome value.entry (λ v. IsKey (key_value (tree v.now)))) }
+/// Whether a value that is there is one that a message can have, by its length. Its text isn't made for that.
+fn is_key(value: Option<&Value>) -> bool
+    ensures { result ≡ true → IfSome value.entry (λ v. IsKey (key_value (tree v.now))) }
 {
     let Some(value) = value else {
-        return Ok(true);
+        return true;
     };
-    Ok(short_text(alloc, value)?.is_some())
+    let _levels = value.levels();
+    value.encoded_len() <= MESSAGE_LIMIT
 }
 
-/// Whether each of them has.
-fn are_keys(alloc: Global, values: &[Option<&Value>]) -> Result<bool, NoMemory>
-    ensures { IfOk result (λ are. are ≡ true
-        → AllByRecursion (λ o. IfSome o (λ v. IsKey (key_value (tree v.now)))) values.now) }
+/// Whether each of them is.
+fn are_keys(values: &[Option<&Value>]) -> bool
+    ensures { result ≡ true
+        → AllByRecursion (λ o. IfSome o (λ v. IsKey (key_value (tree v.now)))) values.now }
 {
     'values: for value in values {
-        if !is_key(alloc, *value)? {
-            return Ok(false);
+        if !is_key(*value) {
+            return false;
         }
     }
-    Ok(true)
+    true
 }
 
 /// The value at an end of a range.
@@ -63,21 +63,18 @@ fn operand<'a>(bound: Option<Bound<'a>>) -> Option<&'a Value>
 }
 
 impl IndexRange<'_> {
-    /// Whether each of its values has a text within the limit of keys, so that BSON can spell it.
-    pub fn is_spellable(&self, alloc: Global) -> Result<bool, NoMemory>
-        ensures { IfOk result (λ is. is ≡ true → IsSpellable (range_of self.now)) }
+    /// Whether each of its values is one that BSON can spell in a message, as those of a command's filter are.
+    pub fn is_spellable(&self) -> bool
+        ensures { result ≡ true → IsSpellable (range_of self.now) }
     {
         let equal = &self.equal;
-        are_keys(
-            alloc,
-            &[
-                equal.first,
-                equal.second,
-                equal.third,
-                equal.fourth,
-                operand(self.low),
-                operand(self.high),
-            ],
-        )
+        are_keys(&[
+            equal.first,
+            equal.second,
+            equal.third,
+            equal.fourth,
+            operand(self.low),
+            operand(self.high),
+        ])
     }
 }

@@ -44,7 +44,7 @@ pub enum ProgramFault {
 
 impl ProgramFault {
     /// The status with which the program ends.
-    pub(crate) fn status(&self) -> u8 {
+    pub fn status(&self) -> u8 {
         match self {
             ProgramFault::Usage => 2,
             ProgramFault::Open(_)

@@ -123,7 +123,7 @@ fn asks_help(word: &str) -> bool {
 }
 
 /// What is printed for words that ask for help; the first word is the name under which the program was started.
-pub(crate) fn help_for(words: &[String]) -> Option<&'static str> {
+pub fn help_for(words: &[String]) -> Option<&'static str> {
     let first = words.get(1)?.as_str();
     if first == "help" {
         return Some(match words.get(2) {

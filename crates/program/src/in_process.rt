@@ -17,7 +17,7 @@ const MOST_BYTES: usize = bson::MESSAGE_LIMIT - FRAME_BYTES as usize;
 
 /// A server as the programs for people see it.
 #[derive(Drop)]
-pub(crate) struct Server<D: Disk> {
+pub struct Server<D: Disk> {
     pub core: Core<D>,
 }
 

@@ -17,16 +17,6 @@ pub struct Terminal {
     pub input_bytes: Option<u64>,
 }
 
-impl Terminal {
-    /// Nobody watches.
-    pub fn none() -> Terminal {
-        Terminal {
-            shows_progress: false,
-            input_bytes: None,
-        }
-    }
-}
-
 /// Says on a terminal how far work is: documents, how many a second, and how much of the input is done.
 #[derive(Drop)]
 pub(crate) struct Progress<'a, R, W> {

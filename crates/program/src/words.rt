@@ -2,6 +2,8 @@
 
 ghost use Rattle.std.specs.Prelude.{◌≤◌};
 
+use crate::fault::ProgramFault;
+use clap::error::ErrorKind;
 use clap::{Arg, ArgAction, ArgMatches, Command};
 use std::alloc::{AllocError, Global};
 use std::time::Duration;
@@ -52,20 +54,27 @@ impl Program {
 
 /// What the program is to do, over which file.
 #[derive(Drop)]
-pub(crate) struct Words {
+pub struct Words {
     pub file: String,
     pub task: Task,
 }
 
 /// What the program is to do.
 #[derive(Drop)]
-pub(crate) enum Task {
+pub enum Task {
+    /// To answer so many connections of a port for so many turns.
+    Serve(Served),
+    /// To answer all connections of a port that come.
+    Listen(Listened),
+    /// What needs no port.
+    Local(LocalTask),
+}
+
+/// What the program does by itself, over its own streams.
+#[derive(Drop)]
+pub enum LocalTask {
     /// To answer one connection, on standard input and output.
     Exec,
-    /// To answer so many connections for so many turns.
-    Serve(Served),
-    /// To answer all connections that come.
-    Listen(Listened),
     /// To ask commands in Extended JSON.
     Ask(AskWords),
     /// To bring documents in.
@@ -80,7 +89,7 @@ pub(crate) enum Task {
 
 /// The commands that are asked; none stands for the lines of the input.
 #[derive(Drop)]
-pub(crate) struct AskWords {
+pub struct AskWords {
     pub database: String,
     pub all: bool,
     pub pretty: bool,
@@ -89,26 +98,26 @@ pub(crate) struct AskWords {
 
 /// Into which collection documents go.
 #[derive(Drop)]
-pub(crate) struct ImportWords {
+pub struct ImportWords {
     pub namespace: String,
 }
 
 /// Of which collection documents are written, and whether in canonical form.
 #[derive(Drop)]
-pub(crate) struct ExportWords {
+pub struct ExportWords {
     pub namespace: String,
     pub canonical: bool,
 }
 
 /// Of which collection the bytes of documents are written.
 #[derive(Drop)]
-pub(crate) struct DumpWords {
+pub struct DumpWords {
     pub namespace: String,
 }
 
 /// A port, and which connections are served on it for how long.
 #[derive(Drop)]
-pub(crate) struct Served {
+pub struct Served {
     pub port: u16,
     pub connections: usize,
     pub turns: u64,
@@ -117,14 +126,27 @@ pub(crate) struct Served {
 
 /// A port (0 for any that is free), how long a connection may be silent, and whether MongoDB drivers are served.
 #[derive(Drop)]
-pub(crate) struct Listened {
+pub struct Listened {
     pub port: u16,
     pub idle: Option<Duration>,
     pub drivers: bool,
 }
 
+/// Reads the words that the program is started with; the first is the name under which it was. `Usage` says that they ask for no program, or for
+/// help, or that a number is out of range, and `Memory` that memory ran out.
+pub fn read_words(alloc: Global, words: &[String]) -> Result<Words, ProgramFault> {
+    match parse(alloc, words) {
+        Ok(Some(words)) => Ok(words),
+        Ok(None) => Err(ProgramFault::Usage),
+        Err(error) => match error.kind() {
+            ErrorKind::OutOfMemory => Err(ProgramFault::Memory),
+            _ => Err(ProgramFault::Usage),
+        },
+    }
+}
+
 /// Parses the words. None is said where they match but a number is out of range.
-pub(crate) fn parse(alloc: Global, words: &[String]) -> Result<Option<Words>, clap::Error> {
+fn parse(alloc: Global, words: &[String]) -> Result<Option<Words>, clap::Error> {
     let matches = command(alloc)?.try_get_matches_from(words)?;
     Ok(words_in(alloc, &matches)?)
 }
@@ -146,13 +168,13 @@ fn task_of(
     words: &ArgMatches<'_>,
 ) -> Result<Option<Task>, AllocError> {
     match program {
-        Program::Exec => Ok(Some(Task::Exec)),
+        Program::Exec => Ok(Some(Task::Local(LocalTask::Exec))),
         Program::Serve => Ok(served_of(words)),
         Program::Listen => Ok(listened_of(words)),
         Program::Ask => ask_of(alloc, words),
         Program::Import => import_of(alloc, words),
         Program::Export => export_of(alloc, words),
-        Program::Check => Ok(Some(Task::Check)),
+        Program::Check => Ok(Some(Task::Local(LocalTask::Check))),
         Program::Dump => dump_of(alloc, words),
     }
 }
@@ -295,12 +317,12 @@ fn ask_of(alloc: Global, matches: &ArgMatches<'_>) -> Result<Option<Task>, Alloc
     for command in matches.get_strs("COMMAND").unwrap_or(&[]) {
         commands.push(String::from_str(alloc, command)?)?;
     }
-    Ok(Some(Task::Ask(AskWords {
+    Ok(Some(Task::Local(LocalTask::Ask(AskWords {
         database: String::from_str(alloc, matches.get_str("db").unwrap_or("test"))?,
         all: matches.get_flag("all"),
         pretty: matches.get_flag("pretty"),
         commands,
-    })))
+    }))))
 }
 
 /// What `import` is to do.
@@ -309,7 +331,7 @@ fn import_of(alloc: Global, matches: &ArgMatches<'_>) -> Result<Option<Task>, Al
         return Ok(None);
     };
     let namespace = String::from_str(alloc, namespace)?;
-    Ok(Some(Task::Import(ImportWords { namespace })))
+    Ok(Some(Task::Local(LocalTask::Import(ImportWords { namespace }))))
 }
 
 /// What `export` is to do.
@@ -317,10 +339,10 @@ fn export_of(alloc: Global, matches: &ArgMatches<'_>) -> Result<Option<Task>, Al
     let Some(namespace) = matches.get_str("NAMESPACE") else {
         return Ok(None);
     };
-    Ok(Some(Task::Export(ExportWords {
+    Ok(Some(Task::Local(LocalTask::Export(ExportWords {
         namespace: String::from_str(alloc, namespace)?,
         canonical: matches.get_flag("canonical"),
-    })))
+    }))))
 }
 
 /// What `dump` is to do.
@@ -329,7 +351,7 @@ fn dump_of(alloc: Global, matches: &ArgMatches<'_>) -> Result<Option<Task>, Allo
         return Ok(None);
     };
     let namespace = String::from_str(alloc, namespace)?;
-    Ok(Some(Task::Dump(DumpWords { namespace })))
+    Ok(Some(Task::Local(LocalTask::Dump(DumpWords { namespace }))))
 }
 
 /// The port that the words name.

@@ -26,8 +26,8 @@ use pager::Version;
 use path::Refusal;
 use projection::Projection;
 use replies::{BatchKind, OpenBatch};
-use statements::id_text;
 use std::alloc::Global;
+use stored_documents::id_text;
 
 /// A walk through the documents of a collection in ascending order of `_id`: which of them it gives, and from
 /// which key text it goes on.

@@ -1,6 +1,6 @@
 //! Filters that an index serves: the `_id`s of the documents that have a key in the range that the filter gives there.
 
-ghost use Rattle.std.specs.Prelude.{◌≡◌, [], IfOk, IfSome, Some};
+ghost use Rattle.std.specs.Prelude.{◌≡◌, [], IfSome, Some};
 ghost use Rattle.collections.specs.IndexTexts.{IsNumberedIndex};
 ghost use Rattle.collections.specs.Reading.{ReadsOf};
 ghost use Rattle.filter.specs.Condition.{Conditions};
@@ -11,7 +11,6 @@ ghost use Rattle.queries.specs.Asking.{IsAsked};
 ghost use Rattle.queries.specs.ById.{TellOf};
 ghost use Rattle.queries.specs.ByIndex.{AreIdsInRange, IsRangeOf};
 
-use bson::NoMemory;
 use collections::Collections;
 use entries::Catalogued;
 use filter::Filter;
@@ -24,24 +23,23 @@ use std::alloc::Global;
 
 /// The range of one of these indexes that serves a filter and a sort best, if one serves them.
 pub(crate) fn range_asked<'a>(
-    alloc: Global,
     filter: &'a Filter,
     sort: &Sort,
     indexes: &'a [IndexSpec],
-) -> Result<Option<IndexRange<'a>>, NoMemory>
-    ensures { IfOk result (λ found. IfSome found
-        (λ range. IsRangeOf filter.now sort.now indexes.now (range_of range))) }
+) -> Option<IndexRange<'a>>
+    ensures { IfSome result
+        (λ range. IsRangeOf filter.now sort.now indexes.now (range_of range)) }
 {
     let Plan::Index(range) = choose(filter, sort, indexes) else {
-        return Ok(None);
+        return None;
     };
     if range.index.is_none() {
-        return Ok(None);
+        return None;
     }
-    if !range.is_spellable(alloc)? {
-        return Ok(None);
+    if !range.is_spellable() {
+        return None;
     }
-    Ok(Some(range))
+    Some(range)
 }
 
 /// The texts of the `_id`s in the entries of an index that lie in a range, where these are at most so many.
@@ -108,7 +106,7 @@ pub(crate) fn ids_by_index<D: Disk>(
         return Err(Refusal::StorageFailed);
     }
     let none = Sort::new(alloc);
-    let Some(range) = range_asked(alloc, filter, &none, &home.indexes)? else {
+    let Some(range) = range_asked(filter, &none, &home.indexes) else {
         return Ok(None);
     };
     ids_asked(alloc, file, home, &range, most)

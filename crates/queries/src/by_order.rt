@@ -153,7 +153,7 @@ pub(crate) fn first_by_index<D: Disk>(
     if file.is_stopped() {
         return Err(Refusal::StorageFailed);
     }
-    let Some(range) = range_asked(alloc, filter, sort, &home.indexes)? else {
+    let Some(range) = range_asked(filter, sort, &home.indexes) else {
         return Ok(None);
     };
     if !range.is_sorted {

@@ -28,18 +28,17 @@ pub(crate) struct IdSpan {
 }
 
 /// The range of `_id`s that a filter gives, if it gives one.
-fn range_of_ids(alloc: Global, filter: &Filter) -> Result<Option<IndexRange<'_>>, NoMemory>
-    ensures { IfOk result (λ found. IfSome found
-        (λ range. IsIdRange filter.now (range_of range))) }
+fn range_of_ids(alloc: Global, filter: &Filter) -> Option<IndexRange<'_>>
+    ensures { IfSome result (λ range. IsIdRange filter.now (range_of range)) }
 {
     let none = Sort::new(alloc);
     let Plan::Index(range) = choose(filter, &none, &[]) else {
-        return Ok(None);
+        return None;
     };
-    if !range.is_spellable(alloc)? {
-        return Ok(None);
+    if !range.is_spellable() {
+        return None;
     }
-    Ok(Some(range))
+    Some(range)
 }
 
 /// Between which texts all documents lie that a filter matches, if it gives a range of `_id`s.
@@ -47,7 +46,7 @@ fn span_of_ids(alloc: Global, filter: &Filter) -> Result<Option<IdSpan>, NoMemor
     ensures { IfOk result (λ found. IfSome found (λ span. PassWithin (matches filter.now)
         span.first.items (option_map (λ v. v.items) span.end))) }
 {
-    let Some(range) = range_of_ids(alloc, filter)? else {
+    let Some(range) = range_of_ids(alloc, filter) else {
         return Ok(None);
     };
     let span = range.span(alloc)?;

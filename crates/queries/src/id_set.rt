@@ -9,9 +9,9 @@ ghost use Rattle.value_order.specs.KeyText.{tree_text};
 
 use bson::{NoMemory, RawDoc};
 use planner::ascending;
-use statements::read_id;
 use std::alloc::Global;
 use std::marker::Model;
+use stored_documents::read_id;
 use value_order::group_text;
 
 /// Texts in ascending order, each once, so that one is found by halving.

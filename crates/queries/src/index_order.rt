@@ -30,7 +30,7 @@ pub fn order_asked<'a>(
 ) -> Result<Option<IndexOrder<'a>>, NoMemory>
     ensures { IfOk result (λ found. IfSome found (IsOrderOf filter.now sort.now indexes.now)) }
 {
-    let Some(range) = range_asked(alloc, filter, sort, indexes)? else {
+    let Some(range) = range_asked(filter, sort, indexes) else {
         return Ok(None);
     };
     let Some(index) = range.index else {

@@ -1,6 +1,6 @@
 //! One value of a list that a path is to be equal to: the `_id`s to which an index leads whose first field has that path.
 
-ghost use Rattle.std.specs.Prelude.{◌≡◌, ◌∷◌, [], List, Some, IfOk, IfSome, true, false, ℕ};
+ghost use Rattle.std.specs.Prelude.{◌≡◌, ◌∷◌, [], List, Some, IfSome, true, false, ℕ};
 ghost use Rattle.bson.specs.View.{tree};
 ghost use Rattle.collections.specs.Reading.{ReadsOf};
 ghost use Rattle.filter.specs.Matches.{matches};
@@ -14,7 +14,7 @@ ghost use Rattle.queries.specs.ById.{TellOf};
 ghost use Rattle.queries.specs.ByIndex.{IsRangeOf};
 
 use crate::by_index::ids_asked;
-use bson::{NoMemory, Value};
+use bson::Value;
 use collections::Collections;
 use entries::Catalogued;
 use index::{IndexField, IndexSpec};
@@ -80,27 +80,26 @@ fn is_array(value: &Value) -> bool
 
 /// The range of the first index that serves the one value at a path.
 fn range_of_value<'a>(
-    alloc: Global,
     path: &Path,
     value: &'a Value,
     indexes: &'a [IndexSpec],
-) -> Result<Option<IndexRange<'a>>, NoMemory>
-    ensures { IfOk result (λ found. IfSome found (λ range.
-        IsRangeOf (equal_at path.now (tree value.now)) [] indexes.now (range_of range))) }
+) -> Option<IndexRange<'a>>
+    ensures { IfSome result (λ range.
+        IsRangeOf (equal_at path.now (tree value.now)) [] indexes.now (range_of range)) }
 {
     if is_array(value) {
-        return Ok(None);
+        return None;
     }
     'indexes: for index in indexes {
         if !begins_with(index.fields(), path) {
             continue;
         }
         let range = beginning_with(index, value);
-        if range.is_spellable(alloc)? {
-            return Ok(Some(range));
+        if range.is_spellable() {
+            return Some(range);
         }
     }
-    Ok(None)
+    None
 }
 
 /// The texts of the `_id`s of the documents that have the value at a path, and perhaps of others, where an index leads to them by at
@@ -121,7 +120,7 @@ pub(crate) fn ids_of_value<D: Disk>(
     if file.is_stopped() {
         return Err(Refusal::StorageFailed);
     }
-    let Some(range) = range_of_value(alloc, path, value, &home.indexes)? else {
+    let Some(range) = range_of_value(path, value, &home.indexes) else {
         return Ok(None);
     };
     ids_asked(alloc, file, home, &range, most)

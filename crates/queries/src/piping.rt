@@ -21,8 +21,8 @@ use collections::{Collections, DocumentFold};
 use entries::Catalogued;
 use page::Disk;
 use path::Refusal;
-use statements::STORED_LIMIT;
 use std::alloc::Global;
+use stored_documents::STORED_LIMIT;
 
 /// A pipeline that groups documents as they are lent. It keeps none of them.
 #[derive(Drop)]

@@ -11,8 +11,8 @@ ghost use Rattle.queries.specs.Within.{is_within};
 
 use bson::{BsonFault, Document, NoMemory, RawDoc, SpelledDocument, decode, laws};
 use path::Refusal;
-use statements::STORED_LIMIT;
 use std::alloc::{AllocError, Global};
+use stored_documents::STORED_LIMIT;
 use update::{STORED_LEVELS, limits_fault};
 
 /// Whether all of them are within the limits of those that are stored.

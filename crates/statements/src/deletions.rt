@@ -7,7 +7,7 @@ ghost use Rattle.database_model.specs.Delete.{without_first, after_deletion, aft
 ghost use Rattle.database_model.specs.Merging.{is_deleted};
 ghost use Rattle.statements.specs.Redoing.{first_taken, taken, all_taken};
 
-use crate::documents::matches;
+use crate::matching::matches;
 use bson::{NoMemory, RawDoc};
 use commands::Deletion;
 use filter::Filter;

@@ -19,8 +19,7 @@ ghost use Rattle.database_model.specs.Update.{counted, spelled, upsert_document,
 ghost use Rattle.statements.specs.Updating.{ChangesAt, document_at, Inserts, IsChange, IsPlaceOf, IsRan, listed_of, RunsMatching, Wrote};
 ghost use Rattle.database_model.specs.Writes.{made_write, statement_writes, writes_from};
 
-use crate::STORED_LIMIT;
-use crate::documents::{check_key, compare_ids, matches};
+use crate::matching::matches;
 use bson::{Array, Document, EncodeFault, NoMemory, Pair, Value, encode};
 use commands::UpdateStatement;
 use path::Refusal;
@@ -28,6 +27,7 @@ use replies::{SharedDocument, add, done, put};
 use std::alloc::{AllocError, Global};
 use std::cmp::Ordering;
 use std::mem;
+use stored_documents::{STORED_LIMIT, check_key, compare_ids};
 use update::{Update, id_of, upsert_base};
 use value_order::compare;
 

@@ -1,3 +1,4 @@
+pub mod ClassLaws
 pub mod NumberLaws
 pub mod EscapingLaws
 pub mod ScalarLaws

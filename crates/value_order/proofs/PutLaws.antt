@@ -1,7 +1,10 @@
 -- Text that is put at the end piece by piece.
-use Rattle.std.proofs.Common.{◌≡◌, ℕ, zero, suc, ◌+◌, ◌<◌, ◌≤◌, List, [], ◌∷◌, ◌++◌, length, map, take, drop, set, get_or, Result, Ok, Err, sym, ◌∙◌, ap, subst}
+use Rattle.std.proofs.Common.{◌≡◌, ◌==◌, ℕ, zero, suc, ◌+◌, ◌<◌, ◌≤◌, List, [], ◌∷◌, ◌++◌, length, map, take, drop, set, get_or}
+use Rattle.std.proofs.Common.{false, Some, None, position, refl, Result, Ok, Err, sym, ◌∙◌, ap, subst}
 use Rattle.std.proofs.Common.{arith}
+use Rattle.std.proofs.lemmas.Grind.{common_steps}
 use Rattle.std.proofs.lemmas.List.{length-append}
+use Rattle.std.proofs.lemmas.List.Quantifiers.{position-Some}
 use Rattle.bson.specs.View.{tree, pairs_of, items_of}
 use Rattle.bson.specs.declared.value.Value.{Value}
 use Rattle.bson.specs.declared.value.Pair.{Pair}
@@ -28,17 +31,28 @@ last_put limit piece whole old mid new (Err e) same h =
 pub left_over : (mid rest old whole : List ℕ) → mid ++ rest ≡ old ++ whole → length mid + length rest ≡ length old + length whole
 left_over mid rest old whole same = sym (length-append mid rest) ∙ ap length same ∙ length-append old whole
 
-pub zero_part : (bytes : List ℕ) (i : ℕ) → i < length bytes → get_or bytes i 0 ≡ 0 → 2 ≤ length (escaped_text (drop i bytes))
-zero_part [] i lt is = absurd (omega arith)
-zero_part (zero ∷ bytes) zero lt is = omega arith
-zero_part (suc b ∷ bytes) zero lt is = absurd (omega (arith, is))
-zero_part (b ∷ bytes) (suc i) lt is = zero_part bytes i (omega arith) is
+-- up to the first zero byte a string is its own text
+run_at : (bytes : List ℕ) (i : ℕ) → i < length bytes → get_or bytes i 0 ≡ 0 → ((k : ℕ) → k < i → (get_or bytes k 0 == 0) ≡ false)
+    → escaped_text bytes ≡ (take i bytes ++ 0 ∷ 255 ∷ []) ++ escaped_text (drop (i + 1) bytes)
+run_at [] i lt is others = absurd (omega arith)
+run_at (zero ∷ bytes) zero lt is others = refl
+run_at (suc b ∷ bytes) zero lt is others = absurd (omega (arith, is))
+run_at (zero ∷ bytes) (suc i) lt is others = absurd (let h = others 0 (omega arith) in cc)
+run_at (suc b ∷ bytes) (suc i) lt is others =
+    let more : suc i + 1 ≡ suc (i + 1) = omega arith in
+    ap (λ l. suc b ∷ l) (run_at bytes i (omega arith) is (λ k lt. others (suc k) (omega arith)))
+    ∙ ap (λ n. (take (suc i) (suc b ∷ bytes) ++ 0 ∷ 255 ∷ []) ++ escaped_text (drop n (suc b ∷ bytes))) (sym more)
 
-pub byte_part : (bytes : List ℕ) (i : ℕ) → i < length bytes → 1 ≤ length (escaped_text (drop i bytes))
-byte_part [] i lt = absurd (omega arith)
-byte_part (zero ∷ bytes) zero lt = omega arith
-byte_part (suc b ∷ bytes) zero lt = omega arith
-byte_part (b ∷ bytes) (suc i) lt = byte_part bytes i (omega arith)
+pub first_run : (bytes : List ℕ) (i : ℕ) → position (λ b. b == 0) bytes ≡ Some i
+    → escaped_text bytes ≡ (take i bytes ++ 0 ∷ 255 ∷ []) ++ escaped_text (drop (i + 1) bytes)
+first_run bytes i found =
+    let at = position-Some (λ b. b == 0) bytes i 0 found in
+    run_at bytes i at.0 (grind (arith, at.1)) at.2
+
+pub last_run : (bytes : List ℕ) → position (λ b. b == 0) bytes ≡ None → escaped_text bytes ≡ bytes ++ 0 ∷ 0 ∷ []
+last_run [] none = refl
+last_run (zero ∷ bytes) none = absurd (grind (arith, common_steps))
+last_run (suc b ∷ bytes) none = ap (λ l. suc b ∷ l) (last_run bytes (grind (arith, common_steps)))
 
 pub item_part : (vs : List Value) (i : ℕ) (v : Value) → i < length vs → v ≡ get_or vs i v
     → length (tree_text (tree v)) ≤ length (items_text (items_of (drop i vs)))

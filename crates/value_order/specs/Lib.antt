@@ -1,4 +1,5 @@
 pub mod Order
+pub mod Classes
 pub mod Limits
 pub mod KeyText
 pub mod View

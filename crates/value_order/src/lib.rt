@@ -7,8 +7,8 @@ mod order;
 mod texts;
 mod wrapper;
 
-pub use classes::class;
-pub use order::{compare, compare_keys};
+pub use classes::{class, class_of_scalar};
+pub use order::{compare, compare_keys, compare_scalar};
 pub use texts::{Direction, KeyFault, KeyPart, group_text, key_text};
 pub use wrapper::Order;
 

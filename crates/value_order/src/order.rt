@@ -2,20 +2,22 @@
 
 ghost use Rattle.std.specs.Prelude.{◌≡◌};
 ghost use Rattle.std.specs.Ordering.{ordering_then, nat_cmp};
+ghost use Rattle.bson.specs.Lent.{scalar_of};
+ghost use Rattle.bson.specs.Tree.{scalar};
 ghost use Rattle.bson.specs.View.{tree, pairs_of, items_of};
 ghost use Rattle.value_order.specs.Order.{class, leaf, leaf_cmp, bytes_cmp, compare, content_cmp, pairs_cmp, items_cmp, key_class, key_cmp};
 ghost use Rattle.value_order.specs.View.{key_of};
 
-use crate::classes::{class, parts};
+use crate::classes::{class, class_of_scalar, compare_parts, parts, scalar_parts};
 use crate::texts::KeyPart;
-use bson::{Pair, Value};
+use bson::{Pair, RawScalar, Value};
 use std::cmp::Ordering;
 
 /// By what values have that hold no other.
 fn compare_leaves(a: &Value, b: &Value) -> Ordering
     ensures { result ≡ leaf_cmp (leaf (tree a.now)) (leaf (tree b.now)) }
 {
-    parts(a).cmp(&parts(b))
+    compare_parts(parts(a), parts(b))
 }
 
 /// Values of one class by what they hold.
@@ -86,6 +88,19 @@ pub fn compare(a: &Value, b: &Value) -> Ordering
 {
     match class(a).cmp(&class(b)) {
         Ordering::Equal => compare_content(a, b),
+        order => order,
+    }
+}
+
+/// The order of a value that is lent and another. Texts, which most are, are compared at once.
+pub fn compare_scalar(a: &RawScalar<'_>, b: &Value) -> Ordering
+    ensures { result ≡ compare (scalar (scalar_of a.now)) (tree b.now) }
+{
+    if let (RawScalar::String(a), Value::String(b)) = (a, b) {
+        return (*a).cmp(b.as_str().as_bytes());
+    }
+    match class_of_scalar(a).cmp(&class(b)) {
+        Ordering::Equal => compare_parts(scalar_parts(a), parts(b)),
         order => order,
     }
 }

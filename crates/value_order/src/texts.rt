@@ -1,6 +1,6 @@
 //! Key texts: bytes that order as the keys do, in either direction, and none of which begins another.
 
-ghost use Rattle.std.specs.Prelude.{◌≡◌, ◌≤◌, ◌<◌, ◌++◌, length, [], ◌∷◌, IfOk, IsErrOf};
+ghost use Rattle.std.specs.Prelude.{◌≡◌, ◌≤◌, ◌<◌, ◌++◌, ◌==◌, length, [], ◌∷◌, IfOk, IsErrOf, position};
 ghost use Rattle.std.specs.Int.{w32, w64, to_be_bytes};
 ghost use Rattle.bson.specs.View.{tree, pairs_of, items_of};
 ghost use Rattle.value_order.specs.KeyText.{escaped_text, sortable_bits, content_text, pairs_text, items_text, tree_text, key_text, complement, directed_text};
@@ -78,19 +78,35 @@ fn put(out: &mut Vec<u8>, limit: usize, bytes: &[u8]) -> Result<(), KeyFault>
     Ok(())
 }
 
-/// A string with its zero bytes marked and its end.
+/// Puts bytes and then others.
+fn put_both(out: &mut Vec<u8>, limit: usize, bytes: &[u8], others: &[u8]) -> Result<(), KeyFault>
+    requires { length out.old.items ≤ limit }
+    ensures { IsPut limit (bytes.now ++ others.now) out.old.items out.new.items result }
+{
+    put(out, limit, bytes)?;
+    put(out, limit, others)
+}
+
+/// Where the first zero byte is.
+fn first_zero(bytes: &[u8]) -> Option<usize>
+    ensures { result ≡ position (λ b. b == 0) bytes.now }
+{
+    bytes.iter().position(|byte| *byte == 0)
+}
+
+/// A string with its zero bytes marked and its end. What stands between zero bytes is put at once.
 fn put_escaped(out: &mut Vec<u8>, limit: usize, bytes: &[u8]) -> Result<(), KeyFault>
     requires { length out.old.items ≤ limit }
     ensures { IsPut limit (escaped_text bytes.now) out.old.items out.new.items result }
 {
-    'bytes: for byte in bytes {
-        if *byte == 0 {
-            put(out, limit, &[0x00, 0xff])?;
-        } else {
-            put(out, limit, &[*byte])?;
-        }
+    let mut rest = bytes;
+    'runs: while let Some(end) = first_zero(rest) {
+        let (run, _) = rest.split_at(end);
+        put_both(out, limit, run, &[0x00, 0xff])?;
+        let (_, behind) = rest.split_at(end + 1);
+        rest = behind;
     }
-    put(out, limit, &[0x00, 0x00])
+    put_both(out, limit, rest, &[0x00, 0x00])
 }
 
 /// A signed number of 64 bits with its top bit turned.
@@ -203,7 +219,7 @@ pub fn key_text(alloc: Global, key: &KeyPart<'_>, direction: Direction) -> Resul
     ensures long { IsErrOf result KeyFault.TooLong
         → key_limit < length (directed_text direction (key_of key.now)) }
 {
-    let mut text = Vec::new(alloc);
+    let mut text = Vec::with_capacity(alloc, SHORT_TEXT)?;
     put_key(&mut text, KEY_LIMIT, key)?;
     if direction == Direction::Descending {
         invert(&mut text);

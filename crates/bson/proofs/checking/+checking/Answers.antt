@@ -1,12 +1,15 @@
-use Rattle.std.proofs.Common.{ℕ, List, ◌++◌, length, ap, ◌∙◌, arith, rules}
+use Rattle.std.proofs.Common.{ℕ, List, ◌++◌, length, refl, ap, ◌∙◌, arith, rules}
 use Rattle.std.proofs.lemmas.Bool.{ltb-true}
 use Rattle.bson.specs.Spelling.{pairs_bytes}
 use Rattle.bson.proofs.DistinctLaws.{new_here}
 use Rattle.std.proofs.lemmas.Result.{err_from_is_err_and}
 use Rattle.bson.proofs.RawLaws.{Elements-spelled}
-use Rattle.bson.proofs.CheckLaws.{pairs_unnamed, pair_named, pair_unnamed, pair_counted, before_rest, pair_checked, pair_refused, pairs_passed}
+use Rattle.bson.proofs.CheckLaws.{pairs_unmarked, marks_spelled, pair_marked, pair_unmarked}
+use Rattle.bson.proofs.CheckLaws.{pair_counted, before_rest, pair_checked, pair_refused, pairs_passed}
 use Rattle.bson.proofs.CheckLaws.{items_unchecked, item_checked}
 use Rattle.bson.proofs.CheckLaws.{item_refused, items_passed, document_refused, array_refused}
+use Rattle.bson.specs.Marks.{mixed}
+use Rattle.bson.proofs.MarkLaws.{mark_within}
 use Rattle.bson.proofs.checking.+checking.Goals as goal
 
 -- ---- arrays
@@ -37,26 +40,62 @@ check_items-returns t c = items_passed c.args.more c.args.content.now c.items.re
 -- ---- documents
 
 pub check_pairs-pairs-init : goal.check_pairs-pairs-init
-check_pairs-pairs-init t c = (pairs_unnamed c.args.more c.args.content.now _ (λ i. omega (arith, c.type_inv.content i)), omega arith)
+check_pairs-pairs-init t c = (pairs_unmarked c.args.more c.args.content.now _ (λ i. omega (arith, c.type_inv.content i)) refl, omega arith)
 
-pub check_pairs-returns-in_err-name : goal.check_pairs-returns-in_err-name
-check_pairs-returns-in_err-name t c =
+pub check_pairs-check_pair-requires : goal.check_pairs-check_pair-requires
+check_pairs-check_pair-requires t c =
+    let k = c.pairs.invariant.0 in
+    let before =
+    before_rest c.args.more c.args.content.now c.pairs.rest.now c.split_at.result.0.now _ k.pairs.checked
+    (omega arith) c.split_at.ensures.front c.requires.more c.requires.short in (
+      search rules,
+      (
+        c.requires.more,
+        (
+          Elements-spelled c.split_at.result.0.now k.pairs.checked.front before,
+          marks_spelled c.args.more c.args.content.now c.pairs.rest.now c.split_at.result.0.now c.pairs.count c.pairs.marks c.in-Some.type_byte.now
+              c.in-Some.after.now k c.in-Some.ensures.cases.0 before,
+        ),
+      ),
+    )
+
+pub check_pairs-returns-in_err-mark : goal.check_pairs-returns-in_err-mark
+check_pairs-returns-in_err-mark t c =
     let p = err_from_is_err_and c.from_residual.result c.from_residual.ensures.1 in
+    let k = c.pairs.invariant.0 in
+    let before =
+    before_rest c.args.more c.args.content.now c.pairs.rest.now c.split_at.result.0.now _ k.pairs.checked
+    (omega arith) c.split_at.ensures.front c.requires.more c.requires.short in
     rw (p.1, p.2)
-    (pair_unnamed c.args.more c.args.content.now c.pairs.rest.now c.pairs.count c.pairs.names c.in-Some.type_byte.now c.in-Some.after.now
-    c.pairs.invariant.0 c.in-Some.ensures.cases.0 c.in_err-name.field-0.0 c.in_err-name.ensures)
+    (pair_unmarked c.args.more c.args.content.now c.pairs.rest.now c.split_at.result.0.now c.pairs.count c.pairs.marks c.in-Some.type_byte.now
+    c.in-Some.after.now k c.in-Some.ensures.cases.0 before c.in_err-mark.field-0.0 c.in_err-mark.ensures.gives)
+
+pub check_pairs-bounds-marks-mark : goal.check_pairs-bounds-marks-mark
+check_pairs-bounds-marks-mark t c =
+    let within = mark_within (mixed 0 c.in_ok-mark.field-0-0-0.now) in
+    omega (arith, c.in_ok-mark.ensures.mark, within, c.pairs.invariant.0.places)
 
 pub check_pairs-pairs-smaller : goal.check_pairs-pairs-smaller
 check_pairs-pairs-smaller t c =
-    (pair_named c.args.more c.args.content.now c.pairs.rest.now c.pairs.count c.pairs.names c.in-Some.type_byte.now c.in-Some.after.now
-    c.pairs.invariant.0 c.in-Some.ensures.cases.0 c.in_ok-name.name c.in_ok-name.after.now (omega arith) c.in_ok-name.ensures).1
+    let k = c.pairs.invariant.0 in
+    let before =
+    before_rest c.args.more c.args.content.now c.pairs.rest.now c.split_at.result.0.now _ k.pairs.checked
+    (omega arith) c.split_at.ensures.front c.requires.more c.requires.short in
+    (pair_marked c.args.more c.args.content.now c.pairs.rest.now c.split_at.result.0.now c.pairs.count c.pairs.marks c.in-Some.type_byte.now
+    c.in-Some.after.now k c.in-Some.ensures.cases.0 before c.in_ok-mark.field-0-0-0.now c.in_ok-mark.after.now c.in_ok-mark.mark c.in_ok-mark.ensures.mark
+    c.in_ok-mark.ensures.gives).1
 
 pub check_pairs-pairs-preserved : goal.check_pairs-pairs-preserved
-check_pairs-pairs-preserved t c = (
-  (pair_named c.args.more c.args.content.now c.pairs.rest.now c.pairs.count c.pairs.names c.in-Some.type_byte.now c.in-Some.after.now
-      c.pairs.invariant.0 c.in-Some.ensures.cases.0 c.in_ok-name.name c.in_ok-name.after.now (omega arith) c.in_ok-name.ensures).0,
-  omega arith,
-)
+check_pairs-pairs-preserved t c =
+    let k = c.pairs.invariant.0 in
+    let before =
+    before_rest c.args.more c.args.content.now c.pairs.rest.now c.split_at.result.0.now _ k.pairs.checked
+    (omega arith) c.split_at.ensures.front c.requires.more c.requires.short in (
+      (pair_marked c.args.more c.args.content.now c.pairs.rest.now c.split_at.result.0.now c.pairs.count c.pairs.marks c.in-Some.type_byte.now
+          c.in-Some.after.now k c.in-Some.ensures.cases.0 before c.in_ok-mark.field-0-0-0.now c.in_ok-mark.after.now c.in_ok-mark.mark
+          c.in_ok-mark.ensures.mark c.in_ok-mark.ensures.gives).0,
+      omega arith,
+    )
 
 pub check_pairs-returns : goal.check_pairs-returns
 check_pairs-returns t c =
@@ -133,6 +172,11 @@ check_value-returns-in_err-check_items-in-Array t c =
     (omega arith) c.in_ok-content-in-Array.ensures.gives c.in_err-check_items-in-Array.ensures)
 
 -- ---- elements
+
+pub check_pair-bounds-marks-mark : goal.check_pair-bounds-marks-mark
+check_pair-bounds-marks-mark t c =
+    let within = mark_within (mixed 0 c.in-Ok.found.0.0.now) in
+    omega (arith, c.in-Ok.ensures.mark, within)
 
 pub check_later-is_repeated-requires-clause-new : goal.check_later-is_repeated-requires-clause-new
 check_later-is_repeated-requires-clause-new t c =

@@ -1,6 +1,6 @@
 use Rattle.std.proofs.Common.{◌+◌, ◌*◌, ◌≤◌, length}
 use Rattle.bson.specs.Checked.{CountedPairs}
-use Rattle.bson.proofs.CheckLaws.{NamedPairs, CheckedItems}
+use Rattle.bson.proofs.CheckLaws.{MarkedPairs, CheckedItems}
 use Rattle.bson.proofs.checking.+checking.Given as goal
 
 abbrev pub decreases-check_value : goal.decreases-check_value
@@ -25,7 +25,7 @@ abbrev pub decreases-check_pairs : goal.decreases-check_pairs
 decreases-check_pairs l = 4 * l.more + 3
 
 abbrev pub invariant-check_pairs-pairs : goal.invariant-check_pairs-pairs
-invariant-check_pairs-pairs l = NamedPairs l.more l.content l.rest l.count l.names × (l.count ≤ 32)
+invariant-check_pairs-pairs l = MarkedPairs l.more l.content l.rest l.count l.marks × (l.count ≤ 48)
 
 abbrev pub decreases-check_pairs-pairs : goal.decreases-check_pairs-pairs
 decreases-check_pairs-pairs l = length l.rest

@@ -16,4 +16,4 @@ returns g c =
     (subst (λ (s : List SortField). IsRangeOf rs s home.indexes.items r) c.new-none.ensures
     (subst (λ (ds : List Definition). IsRangeOf rs c.new-none.result ds r) c.deref.ensures.value
     (subst (λ (o : Option IndexRange). IfSome o (λ range. IsRangeOf rs c.new-none.result c.deref.result.now (range_of range))) c.in-Some.is
-    c.in_ok-range.ensures)))
+    c.range_asked.ensures)))

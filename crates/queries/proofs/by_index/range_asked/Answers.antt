@@ -6,4 +6,4 @@ use Rattle.queries.proofs.by_index.range_asked.Goals as goal
 pub returns : goal.returns
 returns c =
     range_chosen c.args.filter.now c.args.sort.now c.args.indexes.now c.choose.result c.in-Index.range c.choose.ensures c.in-Index.is
-    (c.is_none.ensures ∙ ap not c.if-is_none.false) (c.in_ok-is_spellable.ensures c.if-not-branch.false)
+    (c.is_none.ensures ∙ ap not c.if-is_none.false) (c.is_spellable.ensures c.if-not-is_spellable.false)

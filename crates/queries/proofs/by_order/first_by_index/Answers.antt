@@ -10,7 +10,7 @@ use Rattle.planner.specs.declared.range.IndexRange.{IndexRange}
 use Rattle.queries.specs.Asking.{IsAsked}
 use Rattle.queries.specs.ByIndex.{IsRangeOf}
 use Rattle.queries.proofs.ReadingLemmas.{reads_behind, reads_none, reads_refused}
-use Rattle.queries.proofs.WalkingLemmas.{asks_memory, asks_stopped}
+use Rattle.queries.proofs.WalkingLemmas.{asks_stopped}
 use Rattle.queries.proofs.by_order.first_by_index.Goals as goal
 
 pub returns-then-is_stopped-clause-reads : goal.returns-then-is_stopped-clause-reads
@@ -18,13 +18,6 @@ returns-then-is_stopped-clause-reads g c =
     asks_stopped g.D.Disk.history (IsAsked c.args.home.now)
     (λ now of (found : Option (Vec Pairs Global)). IfSome found
     (λ v. v.items ≡ take c.args.most (order c.args.sort.now (matching c.args.filter.now of.documents)))) c.args.file.now (sym c.if-is_stopped.ensures)
-
-pub returns-in_err-range-clause-reads : goal.returns-in_err-range-clause-reads
-returns-in_err-range-clause-reads g c =
-    let e = err_from_is_err_and c.from_residual.result c.from_residual.ensures.1 in
-    rw e.1 (asks_memory g.D.Disk.history (IsAsked c.args.home.now)
-    (λ now of (found : Option (Vec Pairs Global)). IfSome found
-    (λ v. v.items ≡ take c.args.most (order c.args.sort.now (matching c.args.filter.now of.documents)))) c.args.file.now e.0 e.2)
 
 pub returns-in_default-clause-reads : goal.returns-in_default-clause-reads
 returns-in_default-clause-reads g c =
@@ -48,8 +41,8 @@ returns-in_err-found-clause-reads g c =
     let r = range_of c.in-Some.range in
     let is : IsRangeOf rs sort home.indexes.items r =
     subst (λ (ds : List Definition). IsRangeOf rs sort ds r) c.deref.ensures.value
-    (subst (λ (o : Option IndexRange). IfSome o (λ range. IsRangeOf rs sort c.deref.result.now (range_of range))) c.in-Some.is c.in_ok-range.ensures) in
-    let e = err_from_is_err_and c.from_residual-in_err-found.result c.from_residual-in_err-found.ensures.1 in
+    (subst (λ (o : Option IndexRange). IfSome o (λ range. IsRangeOf rs sort c.deref.result.now (range_of range))) c.in-Some.is c.range_asked.ensures) in
+    let e = err_from_is_err_and c.from_residual.result c.from_residual.ensures.1 in
     rw (e.1, e.2)
     (reads_refused g.D.Disk.history (IsAsked home)
     (λ now of (found : Option (Vec Pairs Global)). IfSome found
@@ -66,7 +59,7 @@ returns-then-is_some-clause-reads g c =
     let r = range_of c.in-Some.range in
     let is : IsRangeOf rs sort home.indexes.items r =
     subst (λ (ds : List Definition). IsRangeOf rs sort ds r) c.deref.ensures.value
-    (subst (λ (o : Option IndexRange). IfSome o (λ range. IsRangeOf rs sort c.deref.result.now (range_of range))) c.in-Some.is c.in_ok-range.ensures) in
+    (subst (λ (o : Option IndexRange). IfSome o (λ range. IsRangeOf rs sort c.deref.result.now (range_of range))) c.in-Some.is c.range_asked.ensures) in
     c.in_ok-found.ensures.reads sort is
 
 pub returns-clause-reads : goal.returns-clause-reads
@@ -77,7 +70,7 @@ returns-clause-reads g c =
     let r = range_of c.in-Some.range in
     let is : IsRangeOf rs sort home.indexes.items r =
     subst (λ (ds : List Definition). IsRangeOf rs sort ds r) c.deref.ensures.value
-    (subst (λ (o : Option IndexRange). IfSome o (λ range. IsRangeOf rs sort c.deref.result.now (range_of range))) c.in-Some.is c.in_ok-range.ensures) in
+    (subst (λ (o : Option IndexRange). IfSome o (λ range. IsRangeOf rs sort c.deref.result.now (range_of range))) c.in-Some.is c.range_asked.ensures) in
     reads_behind g.D.Disk.history (IsAsked home)
     (λ now of (found : Option (Vec Pairs Global)). IfSome found
     (λ v. v.items ≡ take c.args.most (order c.args.sort.now (matching c.args.filter.now of.documents)))) (IsAsked home)

@@ -14,4 +14,4 @@ returns g c =
     let r = range_of c.in-Some.range in
     c.ids_asked.ensures rs
     (subst (λ (ds : List Definition). IsRangeOf rs [] ds r) c.deref.ensures.value
-    (subst (λ (o : Option IndexRange). IfSome o (λ range. IsRangeOf rs [] c.deref.result.now (range_of range))) c.in-Some.is c.in_ok-range.ensures))
+    (subst (λ (o : Option IndexRange). IfSome o (λ range. IsRangeOf rs [] c.deref.result.now (range_of range))) c.in-Some.is c.range_of_value.ensures))

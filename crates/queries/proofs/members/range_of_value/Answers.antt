@@ -5,8 +5,8 @@ use Rattle.planner.specs.View.{range_of}
 use Rattle.queries.specs.Alternatives.{begins_with, equal_at}
 use Rattle.queries.proofs.members.range_of_value.Goals as goal
 
-pub returns-then-branch : goal.returns-then-branch
-returns-then-branch c =
+pub returns-then-is_spellable : goal.returns-then-is_spellable
+returns-then-is_spellable c =
     let path = c.args.path.now in
     let v = tree c.args.value.now in
     let d = c.index-item.result in
@@ -18,5 +18,5 @@ returns-then-branch c =
       index = ap (λ (r : Range). r.index) given;
       there = (c.indexes.index-index, c.indexes-test.true, sym c.index-item.is);
       given = given;
-      spellable = c.in_ok-is_spellable.ensures c.if-branch.true;
+      spellable = c.is_spellable.ensures c.if-is_spellable.true;
     }

@@ -1,9 +1,12 @@
-use Rattle.std.proofs.Common.{◌≡◌, ◌≤◌, ◌++◌, length, drop}
+use Rattle.std.proofs.Common.{◌≡◌, ℕ, ◌≤◌, ◌++◌, length}
 use Rattle.value_order.specs.KeyText.{escaped_text}
 use Rattle.value_order.proofs.texts.put_escaped.Given as goal
 
-abbrev pub invariant-bytes : goal.invariant-bytes
-invariant-bytes l = record {
+abbrev pub invariant-runs : goal.invariant-runs
+invariant-runs l = record {
   room : length l.out.items ≤ l.limit;
-  same : l.out.items ++ escaped_text (drop l.byte-index l.bytes) ≡ l.initial.out.items ++ escaped_text l.bytes;
+  same : l.out.items ++ escaped_text l.rest ≡ l.initial.out.items ++ escaped_text l.bytes;
 }
+
+abbrev pub decreases-runs : goal.decreases-runs
+decreases-runs l = length l.rest

@@ -1,5 +1,5 @@
-use Rattle.std.proofs.Common.{◌≡◌, Bool, true, List, [], ◌∷◌, Option, Some, None, Bor, subst}
-use Rattle.std.specs.Prelude.{All, IfOk, IfSome, option_map, Result, Ok, Err}
+use Rattle.std.proofs.Common.{◌≡◌, List, [], ◌∷◌, Option, Some, None, Bor, subst}
+use Rattle.std.specs.Prelude.{All, IfSome, option_map}
 use Rattle.std.specs.List.{AllByRecursion}
 use Rattle.std.proofs.lemmas.List.Elements.{All-cons, All-nil}
 use Rattle.bson.specs.View.{tree}
@@ -10,7 +10,6 @@ use Rattle.planner.specs.KeyRange.{IsSpellable}
 use Rattle.planner.specs.View.{bound_of, range_of, values_of}
 use Rattle.planner.specs.declared.range.IndexRange.{IndexRange}
 use Rattle.planner.specs.declared.usable.Bound.{Bound}
-use Rattle.std.specs.declared.alloc.AllocError.{AllocError}
 use Rattle.planner.proofs.range.IndexRange.is_spellable.Goals as goal
 
 abbrev IsKeyed : Option (Bor Value) → Type 0
@@ -26,12 +25,9 @@ end_keyed None h = tt
 end_keyed (Some b) h = h
 
 spellable : (range : IndexRange) (low high : Option (Bor Value)) → low ≡ option_map (λ b. b.operand) range.low → high ≡ option_map (λ b. b.operand) range.high
-    → (r : Result Bool AllocError)
-    → IfOk r (λ are. are ≡ true → AllByRecursion IsKeyed (range.equal.first ∷ range.equal.second ∷ range.equal.third ∷ range.equal.fourth ∷ low ∷ high ∷ []))
-    → IfOk r (λ is. is ≡ true → IsSpellable (range_of range))
-spellable range low high is_low is_high (Err e) h = tt
-spellable range low high is_low is_high (Ok b) h = λ is.
-    let all = h is in
+    → AllByRecursion IsKeyed (range.equal.first ∷ range.equal.second ∷ range.equal.third ∷ range.equal.fourth ∷ low ∷ high ∷ [])
+    → IsSpellable (range_of range)
+spellable range low high is_low is_high all =
     let e = range.equal in
     record {
       equal_spelled = all_keyed (e.first ∷ e.second ∷ e.third ∷ e.fourth ∷ []) (all.0, (all.1.0, (all.1.1.0, (all.1.1.1.0, tt))));
@@ -40,4 +36,5 @@ spellable range low high is_low is_high (Ok b) h = λ is.
     }
 
 pub returns : goal.returns
-returns c = spellable c.args.self.now c.operand.result c.operand-2.result c.operand.ensures c.operand-2.ensures c.are_keys.result c.are_keys.ensures
+returns c =
+    λ is. spellable c.args.self.now c.operand.result c.operand-2.result c.operand.ensures c.operand-2.ensures (c.are_keys.ensures is)
