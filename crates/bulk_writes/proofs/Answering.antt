@@ -15,13 +15,13 @@ use Rattle.bson.specs.Lookup.{lookup}
 use Rattle.bson.specs.Tree.{Tree, scalar, int32, document, array, item, Pairs, pair, no_pairs, Items, no_items, append_items}
 use Rattle.outcome.specs.Outcome.{◌>>=◌}
 use Rattle.path.specs.declared.refusal.Refusal.{Refusal}
-use Rattle.commands.specs.Command.{as_command, Command, command_of, delete, insert, update}
-use Rattle.commands.specs.CommandLaws.{bounded}
-use Rattle.commands.specs.Delete.{Delete, DeleteFields, Deletion, no_delete_fields, read_delete, read_deletion}
-use Rattle.commands.specs.Insert.{Insert, InsertFields, no_insert_fields, read_insert}
-use Rattle.commands.specs.OutcomeLaws.{step_of}
-use Rattle.commands.specs.Update.{IsRead, no_update_fields, read_statement, read_update_command, Update, UpdateFields, UpdateStatement}
-use Rattle.commands.specs.Values.{document_in, spelled_in}
+use Rattle.command_model.specs.Command.{as_command, Command, command_of, delete, insert, update}
+use Rattle.command_model.specs.CommandLaws.{bounded}
+use Rattle.command_model.specs.Delete.{Delete, DeleteFields, Deletion, no_delete_fields, read_delete, read_deletion}
+use Rattle.command_model.specs.Insert.{Insert, InsertFields, no_insert_fields, read_insert}
+use Rattle.command_model.specs.OutcomeLaws.{step_of}
+use Rattle.command_model.specs.Update.{IsRead, no_update_fields, read_statement, read_update_command, Update, UpdateFields, UpdateStatement}
+use Rattle.command_model.specs.Values.{document_in, spelled_in}
 use Rattle.database_model.specs.Lawful.{IsHeld}
 use Rattle.database_model.specs.Refusals.{ok_reply, total}
 use Rattle.database_model.specs.Step.{answered as answered_with, run, step}

@@ -9,11 +9,11 @@ use Rattle.bson.specs.Tree.{Tree, scalar, int32, document, array, Pairs, Items, 
 use Rattle.outcome.specs.Outcome.{◌>>=◌, or_refused}
 use Rattle.path.specs.declared.refusal.Refusal.{Refusal}
 use Rattle.path.specs.declared.refusal.Refusal.TheVariants as refusals
-use Rattle.commands.specs.Command.{Command, command_of}
-use Rattle.commands.specs.Fields.{CommonFields, read_fields}
-use Rattle.commands.specs.Names.{namespace_of}
-use Rattle.commands.specs.OutcomeLaws.{step_of}
-use Rattle.commands.specs.Values.{text_in}
+use Rattle.command_model.specs.Command.{Command, command_of}
+use Rattle.command_model.specs.Fields.{CommonFields, read_fields}
+use Rattle.command_model.specs.Names.{namespace_of}
+use Rattle.command_model.specs.OutcomeLaws.{step_of}
+use Rattle.command_model.specs.Values.{text_in}
 use Rattle.database_model.specs.Refusals.{ok_reply}
 use Rattle.database_model.specs.Step.{answered as answered_with, run, step}
 use Rattle.database_model.specs.World.{World}

@@ -11,8 +11,8 @@ use Rattle.outcome.specs.Outcome.{◌>>=◌, or_refused}
 use Rattle.path.specs.declared.refusal.Refusal.{Refusal}
 use Rattle.path.specs.declared.refusal.Refusal.TheVariants as refusals
 use Rattle.update.specs.Applying.{apply}
-use Rattle.commands.specs.OutcomeLaws.{step_of}
-use Rattle.commands.specs.Update.{UpdateStatement}
+use Rattle.command_model.specs.OutcomeLaws.{step_of}
+use Rattle.command_model.specs.Update.{UpdateStatement}
 use Rattle.database_model.specs.Documents.{key_of, place}
 use Rattle.database_model.specs.Merging.{Listed, listed_to, none_changed, not_listed, run_listed, upsert_listed, with_listed}
 use Rattle.database_model.specs.Update.{Changed, changed_to, counted, passed_over, spelled, update_from, upsert_document}

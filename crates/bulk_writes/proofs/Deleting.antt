@@ -8,7 +8,7 @@ use Rattle.bson.specs.Tree.{Pairs}
 use Rattle.filter.specs.Matches.{matches}
 use Rattle.outcome.specs.Outcome.{◌>>=◌}
 use Rattle.path.specs.declared.refusal.Refusal.{Refusal}
-use Rattle.commands.specs.Delete.{Deletion}
+use Rattle.command_model.specs.Delete.{Deletion}
 use Rattle.entries.specs.State.{Collection, find_collection, put_collection}
 use Rattle.entries.proofs.FoundLawLemmas.{put_twice}
 use Rattle.entries.proofs.PlaceLemmas.{found_name}

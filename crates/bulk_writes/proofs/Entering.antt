@@ -3,7 +3,7 @@ use Rattle.std.proofs.Common.{◌≡◌, ℕ, false, List, [], ◌∷◌, ◌++�
 use Rattle.outcome.specs.Outcome.{◌>>=◌}
 use Rattle.path.specs.declared.refusal.Refusal.{Refusal}
 use Rattle.path.specs.declared.refusal.Refusal.TheVariants as refusals
-use Rattle.commands.specs.OutcomeLaws.{passed, step_of}
+use Rattle.command_model.specs.OutcomeLaws.{passed, step_of}
 use Rattle.entries.specs.Entering.{DocumentWrite, enter_each, entered}
 use Rattle.entries.specs.State.{Collection, put_collection}
 use Rattle.entries.proofs.EnteringLemmas.{has_entered}

@@ -5,9 +5,9 @@ use Rattle.outcome.specs.Outcome.{◌>>=◌, unless}
 use Rattle.path.specs.declared.refusal.Refusal.{Refusal}
 use Rattle.path.specs.declared.refusal.Refusal.TheVariants as refusals
 use Rattle.update.specs.Stored.{id_first}
-use Rattle.commands.specs.Command.{Command}
-use Rattle.commands.specs.Insert.{Insert}
-use Rattle.commands.specs.OutcomeLaws.{step_of}
+use Rattle.command_model.specs.Command.{Command}
+use Rattle.command_model.specs.Insert.{Insert}
+use Rattle.command_model.specs.OutcomeLaws.{step_of}
 use Rattle.entries.specs.Entering.{entered}
 use Rattle.entries.specs.State.{Collection, put_collection}
 use Rattle.entries.proofs.EnteringLemmas.{has_entered}

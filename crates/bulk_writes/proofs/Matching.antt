@@ -11,8 +11,8 @@ use Rattle.outcome.specs.Outcome.{◌>>=◌}
 use Rattle.path.specs.declared.refusal.Refusal.{Refusal}
 use Rattle.path.specs.declared.refusal.Refusal.TheVariants as refusals
 use Rattle.update.specs.Applying.{apply}
-use Rattle.commands.specs.OutcomeLaws.{passed, step_of}
-use Rattle.commands.specs.Update.{UpdateStatement}
+use Rattle.command_model.specs.OutcomeLaws.{passed, step_of}
+use Rattle.command_model.specs.Update.{UpdateStatement}
 use Rattle.entries.specs.State.{Collection}
 use Rattle.database_model.specs.Insert.{is_full}
 use Rattle.database_model.specs.Refusals.{ok_reply}

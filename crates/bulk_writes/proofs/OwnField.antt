@@ -10,9 +10,9 @@ use Rattle.bson.specs.Tree.{Tree, scalar, document, array, Pairs, no_pairs, pair
 use Rattle.outcome.specs.Outcome.{◌>>=◌, unless}
 use Rattle.path.specs.declared.refusal.Refusal.{Refusal}
 use Rattle.path.specs.declared.refusal.Refusal.TheVariants as refusals
-use Rattle.commands.specs.Fields.{CommonFields, common_field, read_fields}
-use Rattle.commands.specs.OutcomeLaws.{passed, step_of}
-use Rattle.commands.specs.Statements.{each_of, statements_in}
+use Rattle.command_model.specs.Fields.{CommonFields, common_field, read_fields}
+use Rattle.command_model.specs.OutcomeLaws.{passed, step_of}
+use Rattle.command_model.specs.Statements.{each_of, statements_in}
 
 equal_names : (a b : List ℕ) → bytes_eq a b ≡ true → bytes_eq b a ≡ true
 equal_names a b e = (bytes_eq-Decides b a).1 (sym ((bytes_eq-Decides a b).0 e))

@@ -18,8 +18,8 @@ use Rattle.path.specs.declared.refusal.Refusal.{Refusal}
 use Rattle.path.specs.declared.refusal.Refusal.TheVariants as refusals
 use Rattle.update.specs.Applying.{apply}
 use Rattle.update.specs.Stored.{id_name, id_of, no_array}
-use Rattle.commands.specs.OutcomeLaws.{step_of}
-use Rattle.commands.specs.Update.{IsRead, UpdateStatement}
+use Rattle.command_model.specs.OutcomeLaws.{step_of}
+use Rattle.command_model.specs.Update.{IsRead, UpdateStatement}
 use Rattle.entries.specs.Entering.{DocumentWrite}
 use Rattle.entries.specs.State.{Collection}
 use Rattle.database_model.specs.Documents.{key_of, place}

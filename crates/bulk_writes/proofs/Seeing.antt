@@ -8,8 +8,8 @@ use Rattle.outcome.specs.Outcome.{◌>>=◌, or_refused, unless}
 use Rattle.path.specs.declared.refusal.Refusal.{Refusal}
 use Rattle.path.specs.declared.refusal.Refusal.TheVariants as refusals
 use Rattle.update.specs.Applying.{apply}
-use Rattle.commands.specs.OutcomeLaws.{passed, step_of}
-use Rattle.commands.specs.Update.{UpdateStatement}
+use Rattle.command_model.specs.OutcomeLaws.{passed, step_of}
+use Rattle.command_model.specs.Update.{UpdateStatement}
 use Rattle.entries.specs.State.{Collection, find_collection}
 use Rattle.entries.proofs.PlaceLemmas.{found_name}
 use Rattle.database_model.specs.Documents.{key_of, place}

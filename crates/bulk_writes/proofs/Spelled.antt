@@ -14,15 +14,16 @@ use Rattle.update.specs.Applying.{apply}
 use Rattle.update.specs.Reading.{read_update}
 use Rattle.update.specs.Update.{is_replacement, Update as Change}
 use Rattle.update.specs.Upserts.{base_of}
-use Rattle.commands.specs.Command.{aggregate, as_command, Command, command_of, count, create, create_indexes, delete, drop as drop_of, drop_indexes, explain}
-use Rattle.commands.specs.Command.{find, get_more, hello, insert, kill_cursors, list_collections, list_indexes, ping, update}
-use Rattle.commands.specs.Fields.{CommonFields, common_field, read_fields}
-use Rattle.commands.specs.Names.{namespace_of}
-use Rattle.commands.specs.OutcomeLaws.{step_of}
-use Rattle.commands.specs.Statements.{each_of, statements_in}
-use Rattle.commands.specs.Update.{IsRead, no_statement_fields, no_update_fields, read_statement, read_update_command, statement_field, Update}
-use Rattle.commands.specs.Update.{update_field, update_statements_in, UpdateFields, UpdateStatement, UpdateStatementFields}
-use Rattle.commands.specs.Values.{bool_in, items_of, spelled_in, text_in}
+use Rattle.command_model.specs.Command.{aggregate, as_command, Command, command_of, count}
+use Rattle.command_model.specs.Command.{create, create_indexes, delete, drop as drop_of, drop_indexes, explain}
+use Rattle.command_model.specs.Command.{find, get_more, hello, insert, kill_cursors, list_collections, list_indexes, ping, update}
+use Rattle.command_model.specs.Fields.{CommonFields, common_field, read_fields}
+use Rattle.command_model.specs.Names.{namespace_of}
+use Rattle.command_model.specs.OutcomeLaws.{step_of}
+use Rattle.command_model.specs.Statements.{each_of, statements_in}
+use Rattle.command_model.specs.Update.{IsRead, no_statement_fields, no_update_fields, read_statement, read_update_command, statement_field, Update}
+use Rattle.command_model.specs.Update.{update_field, update_statements_in, UpdateFields, UpdateStatement, UpdateStatementFields}
+use Rattle.command_model.specs.Values.{bool_in, items_of, spelled_in, text_in}
 use Rattle.database_model.specs.Documents.{key_checked, key_of}
 use Rattle.statements.proofs.Applied.{applied}
 use Rattle.bulk_writes.proofs.Changing.{applied_given, IsChange}

@@ -8,8 +8,8 @@ use Rattle.outcome.specs.Outcome.{◌>>=◌, or_refused}
 use Rattle.path.specs.declared.refusal.Refusal.{Refusal}
 use Rattle.path.specs.declared.refusal.Refusal.TheVariants as refusals
 use Rattle.update.specs.Applying.{apply}
-use Rattle.commands.specs.OutcomeLaws.{passed, step_of}
-use Rattle.commands.specs.Update.{IsRead, UpdateStatement}
+use Rattle.command_model.specs.OutcomeLaws.{passed, step_of}
+use Rattle.command_model.specs.Update.{IsRead, UpdateStatement}
 use Rattle.entries.specs.Entering.{DocumentWrite}
 use Rattle.entries.specs.State.{Collection, find_collection}
 use Rattle.entries.proofs.PlaceLemmas.{found_name}

@@ -11,8 +11,8 @@ use Rattle.bson.specs.Tree.{Pairs, pair, Items, no_items, item, append_items}
 use Rattle.outcome.specs.Outcome.{◌>>=◌, unless}
 use Rattle.path.specs.declared.refusal.Refusal.{Refusal}
 use Rattle.path.specs.declared.refusal.Refusal.TheVariants as refusals
-use Rattle.commands.specs.OutcomeLaws.{passed, step_of}
-use Rattle.commands.specs.Update.{IsRead, Update, UpdateStatement}
+use Rattle.command_model.specs.OutcomeLaws.{passed, step_of}
+use Rattle.command_model.specs.Update.{IsRead, Update, UpdateStatement}
 use Rattle.entries.specs.Entering.{DocumentWrite}
 use Rattle.entries.specs.State.{Collection, find_collection}
 use Rattle.entries.proofs.MemberLemmas.{of_all}

@@ -26,10 +26,10 @@ use Rattle.update.specs.Reading.{read_operators as read_edits_of, read_update}
 use Rattle.update.specs.Stored.{id_name}
 use Rattle.update.specs.Update.{Edit, edits, is_replacement, replacement, Update as Change}
 use Rattle.update.specs.Upserts.{base_of}
-use Rattle.commands.specs.Fields.{read_fields}
-use Rattle.commands.specs.OutcomeLaws.{passed, step_of}
-use Rattle.commands.specs.Update.{IsRead, no_statement_fields, read_statement, statement_field, UpdateStatement, UpdateStatementFields}
-use Rattle.commands.specs.Values.{bool_in, spelled_in}
+use Rattle.command_model.specs.Fields.{read_fields}
+use Rattle.command_model.specs.OutcomeLaws.{passed, step_of}
+use Rattle.command_model.specs.Update.{IsRead, no_statement_fields, read_statement, statement_field, UpdateStatement, UpdateStatementFields}
+use Rattle.command_model.specs.Values.{bool_in, spelled_in}
 use Rattle.database_model.specs.Update.{upsert_document}
 use Rattle.driver_replies.specs.Writes.{has_no_id, is_open, is_true, is_upsert}
 use Rattle.statements.proofs.IdSizes.{base_size, change_size, filter_size, id_size, made_size}

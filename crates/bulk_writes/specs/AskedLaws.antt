@@ -4,7 +4,7 @@ use Rattle.std.specs.Prelude.{◌≡◌, ℕ, zero, suc, Bool, Ok, All}
 use Rattle.bson.specs.Edits.{items_len}
 use Rattle.bson.specs.Lawful.{IsDocument}
 use Rattle.bson.specs.Tree.{Pairs}
-use Rattle.commands.specs.Command.{Command, command_of}
+use Rattle.command_model.specs.Command.{Command, command_of}
 use Rattle.database_model.specs.Lawful.{IsHeld}
 use Rattle.database_model.specs.Step.{run, step}
 use Rattle.database_model.specs.World.{World}

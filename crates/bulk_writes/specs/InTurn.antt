@@ -4,9 +4,9 @@ use Rattle.std.specs.Prelude.{ℕ, List, [], ◌∷◌, map, Result, Ok}
 use Rattle.bson.specs.Tree.{Pairs}
 use Rattle.outcome.specs.Outcome.{◌>>=◌}
 use Rattle.path.specs.declared.refusal.Refusal.{Refusal}
-use Rattle.commands.specs.Command.{Command, insert, delete, update}
-use Rattle.commands.specs.Delete.{Deletion}
-use Rattle.commands.specs.Update.{UpdateStatement}
+use Rattle.command_model.specs.Command.{Command, insert, delete, update}
+use Rattle.command_model.specs.Delete.{Deletion}
+use Rattle.command_model.specs.Update.{UpdateStatement}
 use Rattle.database_model.specs.Step.{run}
 use Rattle.database_model.specs.World.{World}
 

@@ -2,9 +2,9 @@
 use Rattle.std.specs.Prelude.{◌≡◌, ◌≢◌, ◌-◌, ℕ, List, [], ◌∷◌, length, map, codes, Ok, sum}
 use Rattle.bson.specs.Tree.{Pairs, no_pairs, pair}
 use Rattle.outcome.specs.Outcome.{◌>>=◌}
-use Rattle.commands.specs.Command.{insert, delete}
-use Rattle.commands.specs.Delete.{Deletion, Delete}
-use Rattle.commands.specs.Insert.{Insert}
+use Rattle.command_model.specs.Command.{insert, delete}
+use Rattle.command_model.specs.Delete.{Deletion, Delete}
+use Rattle.command_model.specs.Insert.{Insert}
 use Rattle.database_model.specs.Delete.{after_deletion}
 use Rattle.database_model.specs.Refusals.{int, total}
 use Rattle.database_model.specs.Step.{run}

@@ -3,8 +3,8 @@ use Rattle.std.specs.Prelude.{◌≡◌, ◌≤◌, ◌+◌, ℕ, suc, List, [],
 use Rattle.std.specs.Prelude.{None, Ok, Err, All}
 use Rattle.bson.specs.Tree.{Tree, document, Pairs, Items, no_items, item, append_items}
 use Rattle.bson.specs.Lawful.{IsDocument}
-use Rattle.commands.specs.Command.{command_of, update}
-use Rattle.commands.specs.Update.{Update}
+use Rattle.command_model.specs.Command.{command_of, update}
+use Rattle.command_model.specs.Update.{Update}
 use Rattle.database_model.specs.Lawful.{IsHeld}
 use Rattle.database_model.specs.Step.{run}
 use Rattle.database_model.specs.Update.{counts_reply, upserted_entry}

@@ -4,7 +4,7 @@ use Rattle.std.specs.Prelude.{ℕ, pos, negsuc, codes}
 use Rattle.bson.specs.Tree.{Tree, scalar, text, int32, document, Pairs, no_pairs, pair}
 use Rattle.filter.specs.Condition.{no_conditions}
 use Rattle.path.specs.declared.refusal.Refusal.TheVariants as refusals
-use Rattle.commands.specs.Command.{explain, command_of}
+use Rattle.command_model.specs.Command.{explain, command_of}
 
 abbrev string : List ℕ → Tree
 string s = scalar (text s)

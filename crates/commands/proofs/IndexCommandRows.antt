@@ -4,8 +4,8 @@ use Rattle.std.specs.Prelude.{ℕ, pos, negsuc, codes}
 use Rattle.bson.specs.Tree.{Tree, scalar, text, int32, int64, boolean, document, array, Pairs, no_pairs, pair, no_items, item}
 use Rattle.path.specs.declared.refusal.Refusal.TheVariants as refusals
 use Rattle.value_order.specs.declared.texts.Direction.TheVariants as directions
-use Rattle.commands.specs.Command.{create_indexes, drop_indexes, list_indexes, command_of}
-use Rattle.commands.specs.DropIndexes.{named, all}
+use Rattle.command_model.specs.Command.{create_indexes, drop_indexes, list_indexes, command_of}
+use Rattle.command_model.specs.DropIndexes.{named, all}
 
 abbrev string : List ℕ → Tree
 string s = scalar (text s)

@@ -22,7 +22,7 @@ use Rattle.filter.specs.Reading.{path_in}
 use Rattle.value_order.specs.declared.texts.Direction.{Direction}
 use Rattle.value_order.specs.declared.texts.Direction.TheVariants as directions
 use Rattle.index.specs.Definition.{Field, direction_value, key_document, IsPath}
-use Rattle.commands.specs.NewIndex.{direction_in, field_to, field_in, is_among, AreKeyFields}
+use Rattle.command_model.specs.NewIndex.{direction_in, field_to, field_in, is_among, AreKeyFields}
 
 -- ---- a path and its direction
 

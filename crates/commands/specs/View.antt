@@ -1,23 +1,22 @@
 -- What the values of the crate stand for.
-use Rattle.std.specs.Prelude.{List, map, string_bytes}
-use Rattle.std.specs.Borrow.{Bor}
-use Rattle.bson.specs.Tree.{Pairs}
-use Rattle.commands.specs.Command as commands
-use Rattle.commands.specs.Insert as inserts
-use Rattle.commands.specs.Find as finds
-use Rattle.commands.specs.GetMore as mores
-use Rattle.commands.specs.KillCursors as kills
-use Rattle.commands.specs.Count as counts
-use Rattle.commands.specs.Delete as deletes
-use Rattle.commands.specs.Update as updates
-use Rattle.commands.specs.Aggregate as aggregates
-use Rattle.commands.specs.Create as creates
-use Rattle.commands.specs.DropCollection as drops
-use Rattle.commands.specs.ListCollections as lists
-use Rattle.commands.specs.CreateIndexes as index_creates
-use Rattle.commands.specs.DropIndexes as index_drops
-use Rattle.commands.specs.ListIndexes as index_lists
-use Rattle.commands.specs.Explain as explains
+use Rattle.std.specs.Prelude.{string_bytes}
+use Rattle.command_model.specs.Command as commands
+use Rattle.command_model.specs.Insert as inserts
+use Rattle.command_model.specs.Insert.{documents_at}
+use Rattle.command_model.specs.Find as finds
+use Rattle.command_model.specs.GetMore as mores
+use Rattle.command_model.specs.KillCursors as kills
+use Rattle.command_model.specs.Count as counts
+use Rattle.command_model.specs.Delete as deletes
+use Rattle.command_model.specs.Update as updates
+use Rattle.command_model.specs.Aggregate as aggregates
+use Rattle.command_model.specs.Create as creates
+use Rattle.command_model.specs.DropCollection as drops
+use Rattle.command_model.specs.ListCollections as lists
+use Rattle.command_model.specs.CreateIndexes as index_creates
+use Rattle.command_model.specs.DropIndexes as index_drops
+use Rattle.command_model.specs.ListIndexes as index_lists
+use Rattle.command_model.specs.Explain as explains
 use Rattle.aggregate.specs.View.{pipeline_of}
 use Rattle.commands.specs.declared.insert.Insert.{Insert}
 use Rattle.commands.specs.declared.find.Find.{Find}
@@ -38,9 +37,6 @@ use Rattle.commands.specs.declared.list_indexes.ListIndexes.{ListIndexes}
 use Rattle.commands.specs.declared.explain.Explain.{Explain}
 use Rattle.commands.specs.declared.command.Command.{Command}
 use Rattle.commands.specs.declared.command.Command.TheVariants as cases
-
-abbrev pub documents_at : List (Bor Pairs) → List Pairs
-documents_at ds = map (λ d. d.now) ds
 
 abbrev pub insert_read : Insert → inserts.Insert
 insert_read c =

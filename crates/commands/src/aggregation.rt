@@ -4,8 +4,8 @@ ghost use Rattle.std.specs.Prelude.{◌≡◌};
 ghost use Rattle.bson.specs.View.{tree, pairs_of};
 ghost use Rattle.outcome.specs.Outcome.{Gives, Does};
 ghost use Rattle.aggregate.specs.View.{pipeline_of};
-ghost use Rattle.commands.specs.Aggregate.{no_cursor_fields, cursor_field, read_cursor, stages_in, no_aggregate_fields, aggregate_field, read_aggregate};
-ghost use Rattle.commands.specs.Command.{as_command, aggregate};
+ghost use Rattle.command_model.specs.Aggregate.{no_cursor_fields, cursor_field, read_cursor, stages_in, no_aggregate_fields, aggregate_field, read_aggregate};
+ghost use Rattle.command_model.specs.Command.{as_command, aggregate};
 ghost use Rattle.commands.specs.View.{command_read};
 
 use crate::command::Command;
@@ -33,7 +33,7 @@ struct CursorFields {
 }
 
 impl Model for CursorFields {
-    ghost use Rattle.commands.specs.Aggregate as aggregates;
+    ghost use Rattle.command_model.specs.Aggregate as aggregates;
 
     ghost Value = { aggregates.CursorFields };
 
@@ -79,7 +79,7 @@ struct AggregateFields<'a> {
 
 impl<'a> Model for AggregateFields<'a> {
     ghost use Rattle.std.specs.Prelude.{option_map};
-    ghost use Rattle.commands.specs.Aggregate as aggregates;
+    ghost use Rattle.command_model.specs.Aggregate as aggregates;
     ghost use Rattle.std.specs.Coded.{codes};
     ghost use Rattle.aggregate.specs.StageCode.{coded_stage};
     ghost use Rattle.aggregate.specs.View.{pipeline_of};

@@ -3,7 +3,7 @@
 ghost use Rattle.std.specs.Prelude.{string_bytes};
 ghost use Rattle.bson.specs.View.{tree, pairs_of};
 ghost use Rattle.outcome.specs.Outcome.{Gives};
-ghost use Rattle.commands.specs.Alone.{read_alone};
+ghost use Rattle.command_model.specs.Alone.{read_alone};
 
 use crate::fields::{CommonFields, read_fields};
 use crate::names::namespace_of;

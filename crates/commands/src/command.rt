@@ -4,7 +4,7 @@ ghost use Rattle.std.specs.Prelude.{IfOk};
 ghost use Rattle.bson.specs.Tree.{pair};
 ghost use Rattle.bson.specs.View.{tree, pairs_of};
 ghost use Rattle.outcome.specs.Outcome.{Gives};
-ghost use Rattle.commands.specs.Command.{command_of, IsBounded};
+ghost use Rattle.command_model.specs.Command.{command_of, IsBounded};
 ghost use Rattle.commands.specs.View.{command_read};
 
 use crate::aggregation::{Aggregate, read_aggregate};

@@ -3,8 +3,8 @@
 ghost use Rattle.std.specs.Prelude.{◌≡◌};
 ghost use Rattle.bson.specs.View.{tree, pairs_of};
 ghost use Rattle.outcome.specs.Outcome.{Gives, Does};
-ghost use Rattle.commands.specs.Count.{no_count_fields, count_field, read_count};
-ghost use Rattle.commands.specs.Command.{as_command, count};
+ghost use Rattle.command_model.specs.Count.{no_count_fields, count_field, read_count};
+ghost use Rattle.command_model.specs.Command.{as_command, count};
 ghost use Rattle.commands.specs.View.{command_read};
 
 use crate::command::Command;
@@ -37,7 +37,7 @@ struct CountFields<'a> {
 }
 
 impl<'a> Model for CountFields<'a> {
-    ghost use Rattle.commands.specs.Count as counts;
+    ghost use Rattle.command_model.specs.Count as counts;
     ghost use Rattle.std.specs.Coded.{codes};
     ghost use Rattle.filter.specs.ConditionCode.{coded_conditions};
 

@@ -3,11 +3,11 @@
 ghost use Rattle.std.specs.Prelude.{◌≡◌};
 ghost use Rattle.bson.specs.View.{tree, pairs_of, items_of};
 ghost use Rattle.outcome.specs.Outcome.{Gives, Does};
-ghost use Rattle.commands.specs.CreateIndexes.{no_create_indexes_fields, new_indexes_in, create_indexes_field, read_create_indexes};
-ghost use Rattle.commands.specs.NewIndex.{read_new_index};
-ghost use Rattle.commands.specs.Statements.{each_of};
-ghost use Rattle.commands.specs.Values.{spelled_in};
-ghost use Rattle.commands.specs.Command.{as_command, create_indexes};
+ghost use Rattle.command_model.specs.CreateIndexes.{no_create_indexes_fields, new_indexes_in, create_indexes_field, read_create_indexes};
+ghost use Rattle.command_model.specs.NewIndex.{read_new_index};
+ghost use Rattle.command_model.specs.Statements.{each_of};
+ghost use Rattle.command_model.specs.Values.{spelled_in};
+ghost use Rattle.command_model.specs.Command.{as_command, create_indexes};
 ghost use Rattle.commands.specs.View.{command_read};
 
 use crate::command::Command;
@@ -56,9 +56,9 @@ struct CreateIndexesFields<'a> {
 
 impl<'a> Model for CreateIndexesFields<'a> {
     ghost use Rattle.std.specs.Prelude.{option_map};
-    ghost use Rattle.commands.specs.CreateIndexes as creates;
+    ghost use Rattle.command_model.specs.CreateIndexes as creates;
     ghost use Rattle.std.specs.Coded.{codes};
-    ghost use Rattle.commands.specs.NewIndexCode.{new_index_code};
+    ghost use Rattle.command_model.specs.NewIndexCode.{new_index_code};
 
     ghost Value = { creates.CreateIndexesFields };
 

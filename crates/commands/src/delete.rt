@@ -3,10 +3,10 @@
 ghost use Rattle.std.specs.Prelude.{◌≡◌};
 ghost use Rattle.bson.specs.View.{tree, pairs_of, items_of};
 ghost use Rattle.outcome.specs.Outcome.{Gives, Does};
-ghost use Rattle.commands.specs.Delete.{no_deletion_fields, only_first_in, deletion_field, read_deletion, no_delete_fields, deletions_in, delete_field, read_delete};
-ghost use Rattle.commands.specs.Statements.{each_of};
-ghost use Rattle.commands.specs.Values.{spelled_in};
-ghost use Rattle.commands.specs.Command.{as_command, delete};
+ghost use Rattle.command_model.specs.Delete.{no_deletion_fields, only_first_in, deletion_field, read_deletion, no_delete_fields, deletions_in, delete_field, read_delete};
+ghost use Rattle.command_model.specs.Statements.{each_of};
+ghost use Rattle.command_model.specs.Values.{spelled_in};
+ghost use Rattle.command_model.specs.Command.{as_command, delete};
 ghost use Rattle.commands.specs.View.{command_read};
 
 use crate::command::Command;
@@ -28,7 +28,7 @@ pub struct Deletion {
 }
 
 impl Model for Deletion {
-    ghost use Rattle.commands.specs.Delete as deletes;
+    ghost use Rattle.command_model.specs.Delete as deletes;
     ghost use Rattle.std.specs.Coded.{codes};
     ghost use Rattle.filter.specs.ConditionCode.{coded_conditions};
 
@@ -54,7 +54,7 @@ struct DeletionFields {
 }
 
 impl Model for DeletionFields {
-    ghost use Rattle.commands.specs.Delete as deletes;
+    ghost use Rattle.command_model.specs.Delete as deletes;
     ghost use Rattle.std.specs.Coded.{codes};
     ghost use Rattle.filter.specs.ConditionCode.{coded_conditions};
 
@@ -134,7 +134,7 @@ struct DeleteFields<'a> {
 
 impl<'a> Model for DeleteFields<'a> {
     ghost use Rattle.std.specs.Prelude.{option_map};
-    ghost use Rattle.commands.specs.Delete as deletes;
+    ghost use Rattle.command_model.specs.Delete as deletes;
     ghost use Rattle.std.specs.Coded.{codes};
     ghost use Rattle.filter.specs.ConditionCode.{coded_conditions};
 

@@ -2,8 +2,8 @@
 
 ghost use Rattle.bson.specs.View.{tree, pairs_of};
 ghost use Rattle.outcome.specs.Outcome.{Gives};
-ghost use Rattle.commands.specs.DropCollection.{read_drop};
-ghost use Rattle.commands.specs.Command.{as_command, drop};
+ghost use Rattle.command_model.specs.DropCollection.{read_drop};
+ghost use Rattle.command_model.specs.Command.{as_command, drop};
 ghost use Rattle.commands.specs.View.{command_read};
 
 use crate::alone::read_alone;

@@ -3,8 +3,8 @@
 ghost use Rattle.std.specs.Prelude.{◌≡◌};
 ghost use Rattle.bson.specs.View.{tree, pairs_of};
 ghost use Rattle.outcome.specs.Outcome.{Gives, Does};
-ghost use Rattle.commands.specs.DropIndexes.{dropped_by, no_drop_indexes_fields, drop_indexes_field, read_drop_indexes};
-ghost use Rattle.commands.specs.Command.{as_command, drop_indexes};
+ghost use Rattle.command_model.specs.DropIndexes.{dropped_by, no_drop_indexes_fields, drop_indexes_field, read_drop_indexes};
+ghost use Rattle.command_model.specs.Command.{as_command, drop_indexes};
 ghost use Rattle.commands.specs.View.{dropped_of, command_read};
 
 use crate::command::Command;
@@ -52,7 +52,7 @@ struct DropIndexesFields<'a> {
 
 impl<'a> Model for DropIndexesFields<'a> {
     ghost use Rattle.std.specs.Prelude.{option_map};
-    ghost use Rattle.commands.specs.DropIndexes as drops;
+    ghost use Rattle.command_model.specs.DropIndexes as drops;
 
     ghost Value = { drops.DropIndexesFields };
 

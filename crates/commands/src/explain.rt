@@ -3,9 +3,9 @@
 ghost use Rattle.std.specs.Prelude.{◌≡◌};
 ghost use Rattle.bson.specs.View.{tree, pairs_of};
 ghost use Rattle.outcome.specs.Outcome.{Gives};
-ghost use Rattle.commands.specs.Find.{no_find_fields};
-ghost use Rattle.commands.specs.Explain.{explained_field, read_explained_find, read_explained, read_explain};
-ghost use Rattle.commands.specs.Command.{as_command, explain};
+ghost use Rattle.command_model.specs.Find.{no_find_fields};
+ghost use Rattle.command_model.specs.Explain.{explained_field, read_explained_find, read_explained, read_explain};
+ghost use Rattle.command_model.specs.Command.{as_command, explain};
 ghost use Rattle.commands.specs.View.{command_read};
 
 use crate::command::Command;
@@ -32,7 +32,7 @@ struct ExplainedFields<'a> {
 }
 
 impl<'a> Model for ExplainedFields<'a> {
-    ghost use Rattle.commands.specs.Find as finds;
+    ghost use Rattle.command_model.specs.Find as finds;
     ghost use Rattle.std.specs.Coded.{codes};
     ghost use Rattle.filter.specs.ConditionCode.{coded_conditions};
 

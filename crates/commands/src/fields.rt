@@ -3,7 +3,7 @@
 ghost use Rattle.std.specs.Prelude.{◌≡◌};
 ghost use Rattle.bson.specs.View.{tree, pairs_of};
 ghost use Rattle.outcome.specs.Outcome.{or_refused, Gives, Does};
-ghost use Rattle.commands.specs.Fields.{read_fields, common_field, no_common};
+ghost use Rattle.command_model.specs.Fields.{read_fields, common_field, no_common};
 
 use crate::values::text_in;
 use bson::{Pair, Value};
@@ -49,7 +49,7 @@ pub(crate) struct CommonFields<'a> {
 
 impl<'a> Model for CommonFields<'a> {
     ghost use Rattle.std.specs.Prelude.{option_map};
-    ghost use Rattle.commands.specs.Fields as fields;
+    ghost use Rattle.command_model.specs.Fields as fields;
 
     ghost Value = { fields.CommonFields };
 

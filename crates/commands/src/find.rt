@@ -3,11 +3,11 @@
 ghost use Rattle.std.specs.Prelude.{◌≡◌};
 ghost use Rattle.bson.specs.View.{tree, pairs_of};
 ghost use Rattle.outcome.specs.Outcome.{Gives, Does};
-ghost use Rattle.commands.specs.Find.{no_find_fields, find_field, projection_field, window_field, query_of, read_find};
-ghost use Rattle.commands.specs.Values.{spelled_in};
+ghost use Rattle.command_model.specs.Find.{no_find_fields, find_field, projection_field, window_field, query_of, read_find};
+ghost use Rattle.command_model.specs.Values.{spelled_in};
 ghost use Rattle.projection.specs.ProjectionReading.{read_projection};
 ghost use Rattle.sort.specs.SortReading.{read_sort};
-ghost use Rattle.commands.specs.Command.{as_command, find};
+ghost use Rattle.command_model.specs.Command.{as_command, find};
 ghost use Rattle.commands.specs.View.{command_read};
 
 use crate::command::Command;
@@ -35,7 +35,7 @@ pub struct Query {
 }
 
 impl Model for Query {
-    ghost use Rattle.commands.specs.Find as finds;
+    ghost use Rattle.command_model.specs.Find as finds;
     ghost use Rattle.std.specs.Coded.{codes};
     ghost use Rattle.filter.specs.ConditionCode.{coded_conditions};
 
@@ -73,7 +73,7 @@ pub(crate) struct FindFields<'a> {
 }
 
 impl<'a> Model for FindFields<'a> {
-    ghost use Rattle.commands.specs.Find as finds;
+    ghost use Rattle.command_model.specs.Find as finds;
     ghost use Rattle.std.specs.Coded.{codes};
     ghost use Rattle.filter.specs.ConditionCode.{coded_conditions};
 

@@ -3,8 +3,8 @@
 ghost use Rattle.std.specs.Prelude.{◌≡◌};
 ghost use Rattle.bson.specs.View.{tree, pairs_of};
 ghost use Rattle.outcome.specs.Outcome.{Gives, Does};
-ghost use Rattle.commands.specs.GetMore.{batch_size_in, no_get_more_fields, get_more_field, read_get_more};
-ghost use Rattle.commands.specs.Command.{as_command, get_more};
+ghost use Rattle.command_model.specs.GetMore.{batch_size_in, no_get_more_fields, get_more_field, read_get_more};
+ghost use Rattle.command_model.specs.Command.{as_command, get_more};
 ghost use Rattle.commands.specs.View.{command_read};
 
 use crate::command::Command;
@@ -34,7 +34,7 @@ struct GetMoreFields<'a> {
 
 impl<'a> Model for GetMoreFields<'a> {
     ghost use Rattle.std.specs.Prelude.{option_map};
-    ghost use Rattle.commands.specs.GetMore as mores;
+    ghost use Rattle.command_model.specs.GetMore as mores;
 
     ghost Value = { mores.GetMoreFields };
 

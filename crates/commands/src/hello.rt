@@ -2,8 +2,8 @@
 
 ghost use Rattle.bson.specs.View.{tree, pairs_of};
 ghost use Rattle.outcome.specs.Outcome.{Gives};
-ghost use Rattle.commands.specs.Command.{as_command, hello};
-ghost use Rattle.commands.specs.Hello.{read_hello};
+ghost use Rattle.command_model.specs.Command.{as_command, hello};
+ghost use Rattle.command_model.specs.Hello.{read_hello};
 ghost use Rattle.commands.specs.View.{command_read};
 
 use crate::command::Command;

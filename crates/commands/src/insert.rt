@@ -3,11 +3,12 @@
 ghost use Rattle.std.specs.Prelude.{◌≡◌};
 ghost use Rattle.bson.specs.View.{tree, pairs_of, items_of};
 ghost use Rattle.outcome.specs.Outcome.{Gives};
-ghost use Rattle.commands.specs.Insert.{no_insert_fields, documents_in, insert_field, read_insert};
-ghost use Rattle.commands.specs.Statements.{each_of};
-ghost use Rattle.commands.specs.Values.{document_in};
-ghost use Rattle.commands.specs.Command.{as_command, insert};
-ghost use Rattle.commands.specs.View.{documents_at, command_read};
+ghost use Rattle.command_model.specs.Insert.{no_insert_fields, documents_in, insert_field, read_insert};
+ghost use Rattle.command_model.specs.Statements.{each_of};
+ghost use Rattle.command_model.specs.Values.{document_in};
+ghost use Rattle.command_model.specs.Command.{as_command, insert};
+ghost use Rattle.command_model.specs.Insert.{documents_at};
+ghost use Rattle.commands.specs.View.{command_read};
 
 use crate::command::Command;
 use crate::fields::{CommonFields, Fields, read_fields};
@@ -37,7 +38,7 @@ impl<'a> Model for InsertFields<'a> {
     ghost use Rattle.std.specs.Prelude.{option_map, map};
     ghost use Rattle.std.specs.Coded.{codes};
     ghost use Rattle.bson.specs.TreeCode.{coded_pairs};
-    ghost use Rattle.commands.specs.Insert as inserts;
+    ghost use Rattle.command_model.specs.Insert as inserts;
 
     ghost Value = { inserts.InsertFields };
 

@@ -3,10 +3,10 @@
 ghost use Rattle.std.specs.Prelude.{◌≡◌};
 ghost use Rattle.bson.specs.View.{tree, pairs_of, items_of};
 ghost use Rattle.outcome.specs.Outcome.{Gives, Does};
-ghost use Rattle.commands.specs.KillCursors.{no_kill_cursors_fields, ids_in, kill_cursors_field, read_kill_cursors};
-ghost use Rattle.commands.specs.Statements.{each_of};
-ghost use Rattle.commands.specs.Values.{id_in};
-ghost use Rattle.commands.specs.Command.{as_command, kill_cursors};
+ghost use Rattle.command_model.specs.KillCursors.{no_kill_cursors_fields, ids_in, kill_cursors_field, read_kill_cursors};
+ghost use Rattle.command_model.specs.Statements.{each_of};
+ghost use Rattle.command_model.specs.Values.{id_in};
+ghost use Rattle.command_model.specs.Command.{as_command, kill_cursors};
 ghost use Rattle.commands.specs.View.{command_read};
 
 use crate::command::Command;
@@ -35,7 +35,7 @@ struct KillCursorsFields<'a> {
 
 impl<'a> Model for KillCursorsFields<'a> {
     ghost use Rattle.std.specs.Prelude.{option_map};
-    ghost use Rattle.commands.specs.KillCursors as kills;
+    ghost use Rattle.command_model.specs.KillCursors as kills;
 
     ghost Value = { kills.KillCursorsFields };
 

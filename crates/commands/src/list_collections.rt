@@ -2,8 +2,8 @@
 
 ghost use Rattle.bson.specs.View.{tree, pairs_of};
 ghost use Rattle.outcome.specs.Outcome.{Gives};
-ghost use Rattle.commands.specs.ListCollections.{read_list_collections};
-ghost use Rattle.commands.specs.Command.{as_command, list_collections};
+ghost use Rattle.command_model.specs.ListCollections.{read_list_collections};
+ghost use Rattle.command_model.specs.Command.{as_command, list_collections};
 ghost use Rattle.commands.specs.View.{command_read};
 
 use crate::command::Command;

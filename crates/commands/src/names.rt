@@ -2,7 +2,7 @@
 
 ghost use Rattle.std.specs.Prelude.{◌≡◌, ◌==◌, ◌||◌, string_bytes};
 ghost use Rattle.std.specs.List.{list_any};
-ghost use Rattle.commands.specs.Names.{is_bad_byte, is_bad_database, is_bad_collection, namespace_of};
+ghost use Rattle.command_model.specs.Names.{is_bad_byte, is_bad_database, is_bad_collection, namespace_of};
 ghost use Rattle.outcome.specs.Outcome.{Gives};
 
 use path::Refusal;

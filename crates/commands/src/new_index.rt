@@ -5,7 +5,7 @@ ghost use Rattle.std.specs.List.{list_any};
 ghost use Rattle.bson.specs.View.{tree, pairs_of};
 ghost use Rattle.outcome.specs.Outcome.{Gives, Does};
 ghost use Rattle.index.specs.Definition.{IsPath, AreFields};
-ghost use Rattle.commands.specs.NewIndex.{defined, IsIndexName, IsNewIndex, direction_of, direction_in, field_to, field_in, is_among, key_field, read_key, is_bad_index_name, index_name_in, no_index_fields, new_index_field, read_new_index};
+ghost use Rattle.command_model.specs.NewIndex.{defined, IsIndexName, IsNewIndex, direction_of, direction_in, field_to, field_in, is_among, key_field, read_key, is_bad_index_name, index_name_in, no_index_fields, new_index_field, read_new_index};
 
 use crate::fields::{Fields, read_fields};
 use crate::values::{bool_in, document_in, text_in};
@@ -32,8 +32,8 @@ pub struct NewIndex {
 }
 
 impl Model for NewIndex {
-    ghost use Rattle.commands.specs.NewIndex as indexes;
-    ghost use Rattle.commands.specs.NewIndexCode.{new_index_code};
+    ghost use Rattle.command_model.specs.NewIndex as indexes;
+    ghost use Rattle.command_model.specs.NewIndexCode.{new_index_code};
 
     ghost Value = { indexes.NewIndex };
 
@@ -154,7 +154,7 @@ struct KeyFields {
 impl Model for KeyFields {
     ghost use Rattle.std.specs.Prelude.{List};
     ghost use Rattle.index.specs.Definition.{Field};
-    ghost use Rattle.commands.specs.NewIndex.{AreKeyFields};
+    ghost use Rattle.command_model.specs.NewIndex.{AreKeyFields};
 
     ghost Value = { List Field };
 
@@ -232,7 +232,7 @@ impl<'a> Model for NewIndexFields<'a> {
     ghost use Rattle.std.specs.Prelude.{option_map};
     ghost use Rattle.std.specs.Coded.{codes};
     ghost use Rattle.index.specs.DefinitionCode.{field_code};
-    ghost use Rattle.commands.specs.NewIndex as indexes;
+    ghost use Rattle.command_model.specs.NewIndex as indexes;
 
     ghost Value = { indexes.NewIndexFields };
 

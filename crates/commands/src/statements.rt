@@ -2,7 +2,7 @@
 
 ghost use Rattle.bson.specs.View.{tree, items_of};
 ghost use Rattle.outcome.specs.Outcome.{Gives};
-ghost use Rattle.commands.specs.Statements.{statements_in, some_in};
+ghost use Rattle.command_model.specs.Statements.{statements_in, some_in};
 
 use bson::Value;
 use path::Refusal;

@@ -3,12 +3,12 @@
 ghost use Rattle.std.specs.Prelude.{◌≡◌};
 ghost use Rattle.bson.specs.View.{tree, pairs_of, items_of};
 ghost use Rattle.outcome.specs.Outcome.{Gives, Does};
-ghost use Rattle.commands.specs.Update.{flag_field, no_statement_fields, statement_field, read_statement, no_update_fields, update_statements_in, update_field, read_update_command};
-ghost use Rattle.commands.specs.Statements.{each_of};
-ghost use Rattle.commands.specs.Values.{spelled_in};
+ghost use Rattle.command_model.specs.Update.{flag_field, no_statement_fields, statement_field, read_statement, no_update_fields, update_statements_in, update_field, read_update_command};
+ghost use Rattle.command_model.specs.Statements.{each_of};
+ghost use Rattle.command_model.specs.Values.{spelled_in};
 ghost use Rattle.update.specs.Reading.{read_update};
 ghost use Rattle.update.specs.View.{update_of};
-ghost use Rattle.commands.specs.Command.{as_command, update};
+ghost use Rattle.command_model.specs.Command.{as_command, update};
 ghost use Rattle.commands.specs.View.{command_read};
 
 use crate::command::Command;
@@ -34,7 +34,7 @@ pub struct UpdateStatement {
 }
 
 impl Model for UpdateStatement {
-    ghost use Rattle.commands.specs.Update as updates;
+    ghost use Rattle.command_model.specs.Update as updates;
     ghost use Rattle.std.specs.Coded.{codes};
     ghost use Rattle.filter.specs.ConditionCode.{coded_conditions};
     ghost use Rattle.update.specs.UpdateCode.{coded_update};
@@ -70,7 +70,7 @@ struct UpdateStatementFields {
 
 impl Model for UpdateStatementFields {
     ghost use Rattle.std.specs.Prelude.{option_map};
-    ghost use Rattle.commands.specs.Update as updates;
+    ghost use Rattle.command_model.specs.Update as updates;
     ghost use Rattle.std.specs.Coded.{codes};
     ghost use Rattle.filter.specs.ConditionCode.{coded_conditions};
     ghost use Rattle.update.specs.UpdateCode.{coded_update};
@@ -184,7 +184,7 @@ struct UpdateFields<'a> {
 
 impl<'a> Model for UpdateFields<'a> {
     ghost use Rattle.std.specs.Prelude.{option_map};
-    ghost use Rattle.commands.specs.Update as updates;
+    ghost use Rattle.command_model.specs.Update as updates;
     ghost use Rattle.std.specs.Coded.{codes};
     ghost use Rattle.filter.specs.ConditionCode.{coded_conditions};
     ghost use Rattle.update.specs.UpdateCode.{coded_update};

@@ -8,30 +8,30 @@ use Rattle.bson.specs.declared.fault.BsonFault.{BsonFault}
 use Rattle.outcome.specs.Outcome.{◌>>=◌, unless, or_refused}
 use Rattle.path.specs.declared.refusal.Refusal.{Refusal}
 use Rattle.path.specs.declared.refusal.Refusal.TheVariants as refusals
-use Rattle.commands.specs.Insert.{Insert}
-use Rattle.commands.specs.Find.{Find}
-use Rattle.commands.specs.GetMore.{GetMore}
-use Rattle.commands.specs.KillCursors.{KillCursors}
-use Rattle.commands.specs.Count.{Count}
-use Rattle.commands.specs.Delete.{Delete}
-use Rattle.commands.specs.Update.{Update}
-use Rattle.commands.specs.Aggregate.{Aggregate}
-use Rattle.commands.specs.Create.{Create}
-use Rattle.commands.specs.DropCollection.{DropCollection}
-use Rattle.commands.specs.ListCollections.{ListCollections}
-use Rattle.commands.specs.ListIndexes.{ListIndexes}
+use Rattle.command_model.specs.Insert.{Insert}
+use Rattle.command_model.specs.Find.{Find}
+use Rattle.command_model.specs.GetMore.{GetMore}
+use Rattle.command_model.specs.KillCursors.{KillCursors}
+use Rattle.command_model.specs.Count.{Count}
+use Rattle.command_model.specs.Delete.{Delete}
+use Rattle.command_model.specs.Update.{Update}
+use Rattle.command_model.specs.Aggregate.{Aggregate}
+use Rattle.command_model.specs.Create.{Create}
+use Rattle.command_model.specs.DropCollection.{DropCollection}
+use Rattle.command_model.specs.ListCollections.{ListCollections}
+use Rattle.command_model.specs.ListIndexes.{ListIndexes}
 use Rattle.database_model.specs.ListIndexes.{indexes_reply, run_list_indexes}
-use Rattle.commands.specs.Explain.{Explain}
+use Rattle.command_model.specs.Explain.{Explain}
 use Rattle.database_model.specs.Explain.{run_explain}
 use Rattle.database_model.specs.Create.{created, run_create}
-use Rattle.commands.specs.CreateIndexes.{CreateIndexes}
+use Rattle.command_model.specs.CreateIndexes.{CreateIndexes}
 use Rattle.database_model.specs.CreateIndexes.{create_indexes_reply, indexed, run_create_indexes}
-use Rattle.commands.specs.DropIndexes.{DropIndexes}
+use Rattle.command_model.specs.DropIndexes.{DropIndexes}
 use Rattle.database_model.specs.DropIndexes.{drop_indexes_reply, index_dropped, run_drop_indexes}
 use Rattle.database_model.specs.DropCollection.{drop_reply, dropped, index_count, run_drop}
 use Rattle.database_model.specs.ListCollections.{run_list_collections}
-use Rattle.commands.specs.Command.{Command, ping, hello, insert, find, get_more, kill_cursors, count, delete, update, aggregate, create, drop as drop_of}
-use Rattle.commands.specs.Command.{list_collections, create_indexes, drop_indexes, list_indexes, explain, command_of}
+use Rattle.command_model.specs.Command.{Command, ping, hello, insert, find, get_more, kill_cursors, count, delete, update, aggregate, create, drop as drop_of}
+use Rattle.command_model.specs.Command.{list_collections, create_indexes, drop_indexes, list_indexes, explain, command_of}
 use Rattle.aggregate.specs.Pipeline.{run as after_pipeline}
 use Rattle.database_model.specs.World.{collection_of, World, Cursor, documents_of, with_documents, untouched, are_untouched}
 use Rattle.entries.specs.State.{Collection, find_collection, put_collection}

@@ -2,7 +2,7 @@
 use Rattle.std.specs.Prelude.{length, codes, Result, Ok}
 use Rattle.bson.specs.Tree.{Pairs, no_pairs, pair}
 use Rattle.path.specs.declared.refusal.Refusal.{Refusal}
-use Rattle.commands.specs.Count.{Count}
+use Rattle.command_model.specs.Count.{Count}
 use Rattle.database_model.specs.World.{World, documents_of}
 use Rattle.database_model.specs.Find.{matching, window}
 use Rattle.database_model.specs.Refusals.{total}

@@ -4,7 +4,7 @@ use Rattle.bson.specs.Tree.{Pairs, no_pairs}
 use Rattle.outcome.specs.Outcome.{◌>>=◌, unless}
 use Rattle.path.specs.declared.refusal.Refusal.{Refusal}
 use Rattle.path.specs.declared.refusal.Refusal.TheVariants as refusals
-use Rattle.commands.specs.Create.{Create}
+use Rattle.command_model.specs.Create.{Create}
 use Rattle.database_model.specs.World.{World, with_documents}
 use Rattle.entries.specs.State.{Collection, find_collection, put_collection}
 

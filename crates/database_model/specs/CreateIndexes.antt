@@ -10,8 +10,8 @@ use Rattle.value_order.specs.declared.texts.Direction.TheVariants as directions
 use Rattle.outcome.specs.Outcome.{◌>>=◌, unless}
 use Rattle.path.specs.declared.refusal.Refusal.{Refusal}
 use Rattle.path.specs.declared.refusal.Refusal.TheVariants as refusals
-use Rattle.commands.specs.CreateIndexes.{CreateIndexes}
-use Rattle.commands.specs.NewIndex.{NewIndex, defined}
+use Rattle.command_model.specs.CreateIndexes.{CreateIndexes}
+use Rattle.command_model.specs.NewIndex.{NewIndex, defined}
 use Rattle.index.specs.Definition.{Field, Definition}
 use Rattle.entries.specs.IndexMaking.{with_index}
 use Rattle.entries.specs.State.{Collection, empty_collection, find_collection, put_collection}

@@ -6,8 +6,8 @@ use Rattle.std.specs.List.{filter, position}
 use Rattle.bson.specs.Tree.{Pairs}
 use Rattle.bson.specs.declared.fault.BsonFault.{BsonFault}
 use Rattle.path.specs.declared.refusal.Refusal.{Refusal}
-use Rattle.commands.specs.Command.{Command, get_more, command_of}
-use Rattle.commands.specs.GetMore.{GetMore}
+use Rattle.command_model.specs.Command.{Command, get_more, command_of}
+use Rattle.command_model.specs.GetMore.{GetMore}
 use Rattle.database_model.specs.World.{World, Cursor, forget, after_commit, after_undo}
 use Rattle.entries.specs.State.{Collection}
 use Rattle.database_model.specs.Cursors.{is_cursor, cursor_at, number_after}

@@ -5,7 +5,7 @@ use Rattle.std.specs.List.{filter, position}
 use Rattle.bson.specs.Tree.{Pairs, no_pairs, pair}
 use Rattle.filter.specs.Matches.{matches}
 use Rattle.path.specs.declared.refusal.Refusal.{Refusal}
-use Rattle.commands.specs.Delete.{Deletion, Delete}
+use Rattle.command_model.specs.Delete.{Deletion, Delete}
 use Rattle.database_model.specs.World.{World, documents_of}
 use Rattle.entries.specs.State.{Collection, find_collection, put_collection}
 use Rattle.database_model.specs.Refusals.{total}

@@ -4,7 +4,7 @@ use Rattle.bson.specs.Tree.{Pairs, no_pairs, pair}
 use Rattle.outcome.specs.Outcome.{◌>>=◌, unless}
 use Rattle.path.specs.declared.refusal.Refusal.{Refusal}
 use Rattle.path.specs.declared.refusal.Refusal.TheVariants as refusals
-use Rattle.commands.specs.DropCollection.{DropCollection}
+use Rattle.command_model.specs.DropCollection.{DropCollection}
 use Rattle.database_model.specs.World.{World, indexes_or_none}
 use Rattle.entries.specs.State.{Collection, find_collection, without_collection}
 use Rattle.database_model.specs.Refusals.{int, words}

@@ -7,7 +7,7 @@ use Rattle.bson.specs.Tree.{Pairs, no_pairs, pair}
 use Rattle.outcome.specs.Outcome.{◌>>=◌, unless}
 use Rattle.path.specs.declared.refusal.Refusal.{Refusal}
 use Rattle.path.specs.declared.refusal.Refusal.TheVariants as refusals
-use Rattle.commands.specs.DropIndexes.{DropIndexes, DroppedIndexes, all, named}
+use Rattle.command_model.specs.DropIndexes.{DropIndexes, DroppedIndexes, all, named}
 use Rattle.index.specs.Definition.{Definition}
 use Rattle.entries.specs.State.{Collection, find_collection, put_collection}
 use Rattle.database_model.specs.DropCollection.{index_count}

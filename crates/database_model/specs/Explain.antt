@@ -2,8 +2,8 @@
 use Rattle.std.specs.Prelude.{ℕ, List, Option, Some, None, codes, Result, Ok}
 use Rattle.bson.specs.Tree.{Pairs, no_pairs, pair}
 use Rattle.path.specs.declared.refusal.Refusal.{Refusal}
-use Rattle.commands.specs.Find.{Query}
-use Rattle.commands.specs.Explain.{Explain}
+use Rattle.command_model.specs.Find.{Query}
+use Rattle.command_model.specs.Explain.{Explain}
 use Rattle.entries.specs.State.{Collection, find_collection}
 use Rattle.planner.specs.Plan.{Plan, scan, choose}
 use Rattle.planner.specs.Explaining.{explain_text}

@@ -9,7 +9,7 @@ use Rattle.filter.specs.Matches.{matches}
 use Rattle.sort.specs.Sort.{order}
 use Rattle.projection.specs.Projection.{project}
 use Rattle.path.specs.declared.refusal.Refusal.{Refusal}
-use Rattle.commands.specs.Find.{Query, Find}
+use Rattle.command_model.specs.Find.{Query, Find}
 use Rattle.database_model.specs.World.{World, documents_of}
 use Rattle.database_model.specs.Cursors.{batch_of, first_batch}
 

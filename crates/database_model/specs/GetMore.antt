@@ -5,7 +5,7 @@ use Rattle.bson.specs.Tree.{Pairs}
 use Rattle.outcome.specs.Outcome.{◌>>=◌, or_refused}
 use Rattle.path.specs.declared.refusal.Refusal.{Refusal}
 use Rattle.path.specs.declared.refusal.Refusal.TheVariants as refusals
-use Rattle.commands.specs.GetMore.{GetMore}
+use Rattle.command_model.specs.GetMore.{GetMore}
 use Rattle.database_model.specs.World.{World, Cursor}
 use Rattle.database_model.specs.Cursors.{batch_of, batch_reply, is_cursor, cursor_at, advanced}
 

@@ -4,7 +4,7 @@ use Rattle.bson.specs.Tree.{Pairs, no_pairs, pair}
 use Rattle.outcome.specs.Outcome.{◌>>=◌, unless}
 use Rattle.path.specs.declared.refusal.Refusal.{Refusal}
 use Rattle.path.specs.declared.refusal.Refusal.TheVariants as refusals
-use Rattle.commands.specs.Insert.{Insert}
+use Rattle.command_model.specs.Insert.{Insert}
 use Rattle.database_model.specs.World.{World, collection_of}
 use Rattle.entries.specs.State.{Collection, find_collection, put_collection}
 use Rattle.database_model.specs.Documents.{insert_all}

@@ -5,7 +5,7 @@ use Rattle.std.specs.List.{filter, list_any}
 use Rattle.std.specs.Ordering.{int_eq}
 use Rattle.bson.specs.Tree.{scalar, int64, array, Pairs, no_pairs, pair, Items, no_items, item}
 use Rattle.path.specs.declared.refusal.Refusal.{Refusal}
-use Rattle.commands.specs.KillCursors.{KillCursors}
+use Rattle.command_model.specs.KillCursors.{KillCursors}
 use Rattle.database_model.specs.World.{World, Cursor}
 use Rattle.database_model.specs.Cursors.{is_cursor}
 

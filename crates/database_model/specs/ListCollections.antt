@@ -4,7 +4,7 @@ use Rattle.std.specs.Prelude.{codes, Option, Some, None, Result, Ok}
 use Rattle.std.specs.List.{starts_with}
 use Rattle.bson.specs.Tree.{Pairs, no_pairs, pair}
 use Rattle.path.specs.declared.refusal.Refusal.{Refusal}
-use Rattle.commands.specs.ListCollections.{ListCollections}
+use Rattle.command_model.specs.ListCollections.{ListCollections}
 use Rattle.database_model.specs.World.{World}
 use Rattle.entries.specs.State.{Collection}
 use Rattle.database_model.specs.Cursors.{cursor_reply}

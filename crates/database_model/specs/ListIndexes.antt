@@ -5,7 +5,7 @@ use Rattle.bson.specs.Tree.{scalar, boolean, document, Pairs, no_pairs, pair}
 use Rattle.outcome.specs.Outcome.{◌>>=◌, or_refused}
 use Rattle.path.specs.declared.refusal.Refusal.{Refusal}
 use Rattle.path.specs.declared.refusal.Refusal.TheVariants as refusals
-use Rattle.commands.specs.ListIndexes.{ListIndexes}
+use Rattle.command_model.specs.ListIndexes.{ListIndexes}
 use Rattle.index.specs.Definition.{Definition, key_document}
 use Rattle.entries.specs.State.{find_collection}
 use Rattle.database_model.specs.Cursors.{cursor_reply}

@@ -10,8 +10,8 @@ use Rattle.value_order.specs.Order.{compare}
 use Rattle.outcome.specs.Outcome.{◌>>=◌, or_refused}
 use Rattle.path.specs.declared.refusal.Refusal.{Refusal}
 use Rattle.path.specs.declared.refusal.Refusal.TheVariants as refusals
-use Rattle.commands.specs.Delete.{Deletion}
-use Rattle.commands.specs.Update.{UpdateStatement}
+use Rattle.command_model.specs.Delete.{Deletion}
+use Rattle.command_model.specs.Update.{UpdateStatement}
 use Rattle.entries.specs.Documents.{put_document}
 use Rattle.entries.specs.State.{Collection, put_collection}
 use Rattle.database_model.specs.Documents.{key_of, place}

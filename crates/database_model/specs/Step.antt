@@ -5,9 +5,12 @@ use Rattle.bson.specs.declared.fault.BsonFault.{BsonFault}
 use Rattle.outcome.specs.Outcome.{◌>>=◌}
 use Rattle.path.specs.declared.refusal.Refusal.{Refusal}
 use Rattle.path.specs.declared.refusal.Refusal.TheVariants as refusals
-use Rattle.commands.specs.Command.{Command, ping, insert, find, count, delete, update, aggregate}
-use Rattle.commands.specs.Command.{create, drop, list_collections, create_indexes, drop_indexes}
-use Rattle.commands.specs.Command.{list_indexes, explain, command_of, get_more, kill_cursors, hello}
+use Rattle.command_model.specs.Command.{Command, ping, insert, find}
+use Rattle.command_model.specs.Command.{count, delete, update, aggregate}
+use Rattle.command_model.specs.Command.{create, drop}
+use Rattle.command_model.specs.Command.{list_collections, create_indexes, drop_indexes}
+use Rattle.command_model.specs.Command.{list_indexes, explain, command_of}
+use Rattle.command_model.specs.Command.{get_more, kill_cursors, hello}
 use Rattle.database_model.specs.World.{World}
 use Rattle.database_model.specs.Refusals.{refusal_reply, ok_reply}
 use Rattle.database_model.specs.Hello.{run_hello}

@@ -14,7 +14,7 @@ use Rattle.update.specs.Upserts.{base_of}
 use Rattle.outcome.specs.Outcome.{◌>>=◌, unless, or_refused}
 use Rattle.path.specs.declared.refusal.Refusal.{Refusal}
 use Rattle.path.specs.declared.refusal.Refusal.TheVariants as refusals
-use Rattle.commands.specs.Update.{UpdateStatement}
+use Rattle.command_model.specs.Update.{UpdateStatement}
 use Rattle.database_model.specs.World.{documents_of, with_documents}
 use Rattle.entries.specs.State.{Collection, find_collection, put_collection}
 use Rattle.database_model.specs.Documents.{key_of, key_checked, place}

@@ -4,7 +4,7 @@ use Rattle.bson.specs.Tree.{Pairs}
 use Rattle.outcome.specs.Outcome.{◌>>=◌, unless}
 use Rattle.path.specs.declared.refusal.Refusal.{Refusal}
 use Rattle.path.specs.declared.refusal.Refusal.TheVariants as refusals
-use Rattle.commands.specs.Update.{UpdateStatement, Update}
+use Rattle.command_model.specs.Update.{UpdateStatement, Update}
 use Rattle.entries.specs.Entering.{DocumentWrite, enter_each}
 use Rattle.entries.specs.State.{Collection, put_collection}
 use Rattle.database_model.specs.Insert.{is_full}

@@ -8,7 +8,7 @@ use Rattle.bson.specs.Tree.{Pairs}
 use Rattle.filter.specs.Matches.{matches}
 use Rattle.update.specs.Applying.{apply}
 use Rattle.update.specs.Update.{Update as Change}
-use Rattle.commands.specs.Update.{UpdateStatement}
+use Rattle.command_model.specs.Update.{UpdateStatement}
 use Rattle.entries.specs.Entering.{DocumentWrite}
 use Rattle.database_model.specs.Merging.{Listed, made_of, not_listed, run_listed}
 use Rattle.database_model.specs.Update.{spelled}

@@ -6,7 +6,8 @@ ghost use Rattle.server.specs.View.{state};
 
 use front::Front;
 use page::Disk;
-use program::{Listened, ProgramFault, Served};
+use program::ProgramFault;
+use program_words::{Listened, Served};
 use server::{Core, serve_on};
 use std::io::Write;
 use std::net::{Ipv4Addr, Net, SocketAddr, TcpListener, TcpStream};

@@ -7,9 +7,8 @@ ghost use Rattle.server.specs.View.{state};
 
 use crate::ports::{listen, listen_to_drivers, serve};
 use page::{FileDisk, FileFault};
-use program::{
-    LocalTask, ProgramFault, Server, Task, Terminal, Words, help_for, read_words, run_local,
-};
+use program::{ProgramFault, Server, Terminal, run_local};
+use program_words::{LocalTask, Task, Words, help_for, read_words};
 use server::{Config, Core, OpenFault};
 use std::fs::File;
 use std::io::{Read, Write};

@@ -12,7 +12,7 @@ use Rattle.bson.specs.Tree.{Pairs, no_pairs}
 use Rattle.outcome.specs.Outcome.{◌>>=◌, unless}
 use Rattle.path.specs.declared.refusal.Refusal.{Refusal}
 use Rattle.path.specs.declared.refusal.Refusal.TheVariants as refusals
-use Rattle.commands.specs.OutcomeLaws.{passed}
+use Rattle.command_model.specs.OutcomeLaws.{passed}
 use Rattle.database_model.specs.World.{World, with_documents}
 use Rattle.entries.specs.State.{Collection, find_collection, uses, put_collection, without_collection}
 use Rattle.database_model.specs.Lawful.{IsKept, IsLawfulState}

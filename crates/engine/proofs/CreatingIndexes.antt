@@ -9,7 +9,7 @@ use Rattle.btree.specs.Keys.{Edit}
 use Rattle.outcome.specs.Outcome.{◌>>=◌, unless}
 use Rattle.path.specs.declared.refusal.Refusal.{Refusal}
 use Rattle.path.specs.declared.refusal.Refusal.TheVariants as refusals
-use Rattle.commands.specs.NewIndex.{NewIndex}
+use Rattle.command_model.specs.NewIndex.{NewIndex}
 use Rattle.collections.proofs.LawLemmas as laws
 use Rattle.entries.specs.LawfulState as states
 use Rattle.entries.specs.State.{Collection, find_collection, put_collection}

@@ -26,7 +26,7 @@ use Rattle.statements.proofs.NamesApart.{apart_set}
 use Rattle.statements.proofs.Numbers.{numbers_set}
 use Rattle.statements.specs.Places.{collection_at, no_collection, IsThere}
 use Rattle.database_model.specs.Delete.{deleted_in, without_at, without_first, after_deletion, after_deletions}
-use Rattle.commands.specs.Delete.{Deletion}
+use Rattle.command_model.specs.Delete.{Deletion}
 
 pub All-remove : {X : Type 0} (P : X → Type 0) (xs : List X) (i : ℕ) → All P xs → All P (remove xs i)
 All-remove P [] zero h = h

@@ -11,7 +11,7 @@ use Rattle.path.specs.declared.refusal.Refusal.{Refusal}
 use Rattle.path.specs.declared.refusal.Refusal.TheVariants as refusals
 use Rattle.collections.specs.Reading.{IsWithinLimits}
 use Rattle.collections.proofs.LawLemmas as laws
-use Rattle.commands.specs.DropIndexes.{DroppedIndexes}
+use Rattle.command_model.specs.DropIndexes.{DroppedIndexes}
 use Rattle.index.specs.Definition.{Definition}
 use Rattle.entries.specs.IndexBuilding.{HasRemovedEntries}
 use Rattle.entries.specs.IndexMaking.{DropsIndexAt, without_index_at}

@@ -4,8 +4,8 @@ use Rattle.std.specs.List.{AllByRecursion}
 use Rattle.bson.specs.Tree.{Pairs}
 use Rattle.page.specs.History.{History}
 use Rattle.path.specs.declared.refusal.Refusal.{Refusal}
-use Rattle.commands.specs.Explain.{Explain}
-use Rattle.commands.specs.Find.{Query}
+use Rattle.command_model.specs.Explain.{Explain}
+use Rattle.command_model.specs.Find.{Query}
 use Rattle.index.specs.Definition.{Definition}
 use Rattle.entries.specs.State.{Collection, find_collection}
 use Rattle.entries.specs.declared.catalogue_reading.Catalogued.{Catalogued}

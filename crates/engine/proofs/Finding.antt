@@ -17,7 +17,7 @@ use Rattle.database_model.specs.Lawful.{IsStored, IsWithin}
 use Rattle.sort.specs.Sort.{order}
 use Rattle.replies.proofs.Steps.{drop_step}
 use Rattle.queries.proofs.OrderingLemmas.{sorted_kept}
-use Rattle.commands.specs.Find.{Query}
+use Rattle.command_model.specs.Find.{Query}
 use Rattle.database_model.specs.Find.{matching, limited, window, selection, query_result, given, Suffices}
 
 limited_kept : {X : Type 0} (P : X → Type 0) (limit : ℕ) (xs : List X) → All P xs → All P (limited limit xs)

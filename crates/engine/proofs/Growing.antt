@@ -13,7 +13,7 @@ use Rattle.database_model.specs.Documents.{insert_all}
 use Rattle.database_model.specs.Insert.{is_full, inserted}
 use Rattle.path.specs.declared.refusal.Refusal.{Refusal}
 use Rattle.path.specs.declared.refusal.Refusal.TheVariants as refusals
-use Rattle.commands.specs.OutcomeLaws.{step_of, passed}
+use Rattle.command_model.specs.OutcomeLaws.{step_of, passed}
 use Rattle.statements.proofs.EnteredLemmas.{has_grown}
 use Rattle.statements.proofs.Ordered.{found_first, passes_on}
 

@@ -6,7 +6,7 @@ use Rattle.page.specs.History.{History, KeepsWord}
 use Rattle.btree.specs.Keys.{Edit}
 use Rattle.path.specs.declared.refusal.Refusal.{Refusal}
 use Rattle.path.specs.declared.refusal.Refusal.TheVariants as refusals
-use Rattle.commands.specs.NewIndex.{NewIndex, defined}
+use Rattle.command_model.specs.NewIndex.{NewIndex, defined}
 use Rattle.index.specs.Definition.{Definition, IsDefinition}
 use Rattle.entries.specs.IndexMaking.{Begins, MakesIndexOf, with_index}
 use Rattle.entries.specs.LawfulState as states

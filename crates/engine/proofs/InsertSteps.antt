@@ -9,7 +9,7 @@ use Rattle.page.specs.History.{History, KeepsWord}
 use Rattle.btree.specs.Keys.{Edit}
 use Rattle.path.specs.declared.refusal.Refusal.{Refusal}
 use Rattle.path.specs.declared.refusal.Refusal.TheVariants as refusals
-use Rattle.commands.specs.View.{documents_at}
+use Rattle.command_model.specs.Insert.{documents_at}
 use Rattle.collections.specs.Calls.{HasReadCause}
 use Rattle.collections.specs.Reading.{IsWithinLimits, catalogued_in, catalogued_of}
 use Rattle.update.specs.Stored.{id_first}

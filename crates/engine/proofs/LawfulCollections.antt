@@ -15,10 +15,10 @@ use Rattle.entries.specs.State.{Collection, find_collection, uses, put_collectio
 use Rattle.entries.proofs.PlaceLemmas.{found_name}
 use Rattle.outcome.specs.Outcome.{◌>>=◌}
 use Rattle.statements.proofs.KeptLemmas.{stored_at}
-use Rattle.commands.specs.NewIndex.{IsShortNewIndex, NewIndex}
+use Rattle.command_model.specs.NewIndex.{IsShortNewIndex, NewIndex}
 use Rattle.database_model.specs.CreateIndexes.{indexed, with_new_indexes}
 use Rattle.index_list.proofs.NewIndexLemmas.{with_new_indexes_more, with_new_indexes_short}
-use Rattle.commands.specs.DropIndexes.{DroppedIndexes}
+use Rattle.command_model.specs.DropIndexes.{DroppedIndexes}
 use Rattle.database_model.specs.DropIndexes.{dropped_in, index_dropped, left_by, without_indexes}
 use Rattle.statements.proofs.ShortIndexes.{left_short, short_at}
 use Rattle.database_model.specs.Lawful.{IsStored, IsKept, IsLawfulState}
@@ -27,7 +27,7 @@ use Rattle.statements.specs.Places.{collection_at, no_collection}
 use Rattle.database_model.specs.Insert.{is_full}
 use Rattle.path.specs.declared.refusal.Refusal.{Refusal}
 use Rattle.path.specs.declared.refusal.Refusal.TheVariants as refusals
-use Rattle.commands.specs.OutcomeLaws.{step_of, passed}
+use Rattle.command_model.specs.OutcomeLaws.{step_of, passed}
 use Rattle.statements.proofs.Located.{Gap, There, located}
 use Rattle.statements.proofs.Ordered.{Rises, rises_insert, All-inserted, missing, found, added, replaced}
 use Rattle.statements.proofs.Numbers.{found_kept, unused_unused, number_bounds, numbers_set, numbers_insert}

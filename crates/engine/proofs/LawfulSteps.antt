@@ -14,32 +14,32 @@ use Rattle.database_model.specs.World.{World, Cursor, collection_of, unused, num
 use Rattle.entries.specs.State.{Collection, find_collection, put_collection}
 use Rattle.outcome.specs.Outcome.{◌>>=◌, unless, or_refused}
 use Rattle.database_model.specs.Documents.{place, insert_all}
-use Rattle.commands.specs.Find.{Query}
-use Rattle.commands.specs.Count.{Count}
-use Rattle.commands.specs.Aggregate.{Aggregate}
+use Rattle.command_model.specs.Find.{Query}
+use Rattle.command_model.specs.Count.{Count}
+use Rattle.command_model.specs.Aggregate.{Aggregate}
 use Rattle.aggregate.specs.Pipeline.{run as after_pipeline}
 use Rattle.database_model.specs.Aggregate.{run_aggregate}
 use Rattle.engine.proofs.Piping.{piped_within}
 use Rattle.database_model.specs.Find.{query_result as found_by, matching, window, run_find}
-use Rattle.commands.specs.Delete.{Deletion}
+use Rattle.command_model.specs.Delete.{Deletion}
 use Rattle.database_model.specs.Delete.{after_deletions, deleted_in, run_delete}
-use Rattle.commands.specs.Update.{UpdateStatement, Update, IsRead}
+use Rattle.command_model.specs.Update.{UpdateStatement, Update, IsRead}
 use Rattle.database_model.specs.Update.{Updated, not_updated, run_statements, update_reply, judged, run_all, spelled}
 use Rattle.database_model.specs.UpdateCommand.{entered_in, run_update, writes_in}
 use Rattle.statements.specs.WriteLaws.{documents_in}
 use Rattle.entries.specs.Entering.{DocumentWrite, enter_each}
 use Rattle.statements.proofs.KeptLemmas.{Kept, stored_at}
 use Rattle.statements.proofs.WriteLawLemmas.{writes_stored}
-use Rattle.commands.specs.ListCollections.{ListCollections}
+use Rattle.command_model.specs.ListCollections.{ListCollections}
 use Rattle.database_model.specs.Create.{created, run_create}
-use Rattle.commands.specs.NewIndex.{IsShortNewIndex, NewIndex}
+use Rattle.command_model.specs.NewIndex.{IsShortNewIndex, NewIndex}
 use Rattle.database_model.specs.CreateIndexes.{create_indexes_reply, indexed, run_create_indexes}
-use Rattle.commands.specs.DropIndexes.{DroppedIndexes}
+use Rattle.command_model.specs.DropIndexes.{DroppedIndexes}
 use Rattle.database_model.specs.DropIndexes.{drop_indexes_reply, index_dropped, run_drop_indexes}
 use Rattle.database_model.specs.DropCollection.{drop_reply, dropped, index_count, run_drop}
 use Rattle.database_model.specs.ListCollections.{names_in, listed, run_list_collections}
 use Rattle.database_model.specs.ListIndexes.{indexes_reply, run_list_indexes}
-use Rattle.commands.specs.Explain.{Explain}
+use Rattle.command_model.specs.Explain.{Explain}
 use Rattle.planner.specs.Explaining.{explain_text}
 use Rattle.database_model.specs.Explain.{explain_reply, plan_in, run_explain}
 use Rattle.engine.proofs.ExplainingLemmas.{plan_short}
@@ -48,15 +48,16 @@ use Rattle.engine.proofs.Listing.{go_into_one}
 use Rattle.engine.proofs.ListingIndexes.{indexes-sendable}
 use Rattle.statements.proofs.ShortIndexes.{short_at}
 use Rattle.database_model.specs.Refusals.{int, total, ok_reply}
-use Rattle.commands.specs.Command.{Command, ping, insert as insert_of, find as find_of, count as count_of_all, delete, update, aggregate, create as create_of}
-use Rattle.commands.specs.Command.{drop as drop_of, list_collections, create_indexes, drop_indexes, list_indexes, explain, command_of, IsBounded, get_more}
-use Rattle.commands.specs.Command.{kill_cursors, hello}
+use Rattle.command_model.specs.Command.{Command, ping, insert as insert_of, find as find_of}
+use Rattle.command_model.specs.Command.{count as count_of_all, delete, update, aggregate, create as create_of}
+use Rattle.command_model.specs.Command.{drop as drop_of, list_collections, create_indexes, drop_indexes, list_indexes, explain, command_of, IsBounded, get_more}
+use Rattle.command_model.specs.Command.{kill_cursors, hello}
 use Rattle.database_model.specs.Lawful.{IsStored, IsWithin, IsKept, IsLawfulState, IsLawful, AreLawfulCursors}
 use Rattle.database_model.specs.Insert.{is_full}
 use Rattle.database_model.specs.Cursors.{items_of_documents, batch_of, cursor_reply, number_after, batch_reply, is_refused, new_cursor, open_cursor}
 use Rattle.database_model.specs.Cursors.{first_batch, is_cursor, no_cursor, cursor_at}
-use Rattle.commands.specs.GetMore.{GetMore}
-use Rattle.commands.specs.KillCursors.{KillCursors}
+use Rattle.command_model.specs.GetMore.{GetMore}
+use Rattle.command_model.specs.KillCursors.{KillCursors}
 use Rattle.database_model.specs.GetMore.{batch_len_of, next_batch, run_get_more}
 use Rattle.database_model.specs.KillCursors.{no_ids, told_apart, has_cursor, is_asked, kill_reply, run_kill_cursors}
 use Rattle.database_model.specs.Hello.{hello_reply}
@@ -66,8 +67,8 @@ use Rattle.database_model.specs.Step.{run, answered, step}
 use Rattle.replies.specs.View.{IsSendable}
 use Rattle.path.specs.declared.refusal.Refusal.{Refusal}
 use Rattle.path.specs.declared.refusal.Refusal.TheVariants as refusals
-use Rattle.commands.specs.OutcomeLaws.{step_of, passed}
-use Rattle.commands.specs.CommandLaws.{bounded}
+use Rattle.command_model.specs.OutcomeLaws.{step_of, passed}
+use Rattle.command_model.specs.CommandLaws.{bounded}
 use Rattle.statements.proofs.EnteredLemmas.{has_grown, stays_kept}
 use Rattle.engine.proofs.Deleting.{deleted_lawful}
 use Rattle.engine.proofs.Finding.{found_within}

@@ -15,7 +15,7 @@ use Rattle.path.specs.declared.refusal.Refusal.{Refusal}
 use Rattle.path.specs.declared.refusal.Refusal.TheVariants as refusals
 use Rattle.value_order.specs.declared.texts.Direction.{Direction}
 use Rattle.value_order.specs.declared.texts.Direction.TheVariants as directions
-use Rattle.commands.specs.ListIndexes.{ListIndexes}
+use Rattle.command_model.specs.ListIndexes.{ListIndexes}
 use Rattle.index.specs.Definition.{Definition, Field, direction_value, key_document}
 use Rattle.entries.specs.State.{Collection, find_collection}
 use Rattle.entries.specs.declared.catalogue_reading.Catalogued.{Catalogued}

@@ -12,7 +12,7 @@ use Rattle.bson.specs.Tree.{Pairs, no_pairs}
 use Rattle.filter.specs.Matches.{matches}
 use Rattle.value_order.specs.Order.{compare}
 use Rattle.value_order.specs.TotalLaws.{compare_total}
-use Rattle.commands.specs.Delete.{Deletion}
+use Rattle.command_model.specs.Delete.{Deletion}
 use Rattle.entries.specs.Documents.{without_document}
 use Rattle.entries.specs.LawfulState.{IsRising, IsStorable}
 use Rattle.entries.specs.State.{Collection}

@@ -9,7 +9,7 @@ use Rattle.bson.specs.Tree.{Pairs}
 use Rattle.page.specs.History.{History, KeepsWord}
 use Rattle.path.specs.declared.refusal.Refusal.{Refusal}
 use Rattle.path.specs.declared.refusal.Refusal.TheVariants as refusals
-use Rattle.commands.specs.Update.{UpdateStatement, IsRead}
+use Rattle.command_model.specs.Update.{UpdateStatement, IsRead}
 use Rattle.collections.specs.Calls.{HasReadCause}
 use Rattle.entries.specs.State.{Collection, find_collection}
 use Rattle.engine.specs.Durable.{disk_history, file_of, IsSound}

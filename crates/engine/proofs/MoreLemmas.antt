@@ -3,7 +3,7 @@ use Rattle.std.proofs.Common.{◌≡◌, inr, ℕ, List, Some, Result, Ok, Err, 
 use Rattle.std.specs.Prelude.{MatchResult, OnErr, codes}
 use Rattle.std.specs.List.{position}
 use Rattle.bson.specs.Tree.{Pairs}
-use Rattle.commands.specs.GetMore.{GetMore}
+use Rattle.command_model.specs.GetMore.{GetMore}
 use Rattle.page.specs.History.{History}
 use Rattle.path.specs.declared.refusal.Refusal.{Refusal}
 use Rattle.collections.specs.Calls.{HasReadCause}

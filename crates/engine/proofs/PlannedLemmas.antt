@@ -7,9 +7,9 @@ use Rattle.outcome.specs.Outcome.{unless}
 use Rattle.path.specs.declared.refusal.Refusal.{Refusal}
 use Rattle.path.specs.declared.refusal.Refusal.TheVariants as refusals
 use Rattle.entries.specs.State.{Collection, find_collection, put_collection}
-use Rattle.commands.specs.NewIndex.{IsShortNewIndex, NewIndex}
+use Rattle.command_model.specs.NewIndex.{IsShortNewIndex, NewIndex}
 use Rattle.database_model.specs.Create.{created, run_create}
-use Rattle.commands.specs.DropIndexes.{DroppedIndexes}
+use Rattle.command_model.specs.DropIndexes.{DroppedIndexes}
 use Rattle.database_model.specs.CreateIndexes.{indexed}
 use Rattle.database_model.specs.DropIndexes.{index_dropped}
 use Rattle.database_model.specs.Insert.{inserted, run_insert}

@@ -7,7 +7,7 @@ use Rattle.bson.specs.Tree.{Pairs, no_items}
 use Rattle.outcome.specs.Outcome.{◌>>=◌}
 use Rattle.path.specs.declared.refusal.Refusal.{Refusal}
 use Rattle.path.specs.declared.refusal.Refusal.TheVariants as refusals
-use Rattle.commands.specs.Update.{UpdateStatement, IsRead}
+use Rattle.command_model.specs.Update.{UpdateStatement, IsRead}
 use Rattle.entries.specs.LawfulState.{IsRising}
 use Rattle.entries.specs.State.{Collection, find_collection}
 use Rattle.entries.proofs.PlaceLemmas.{found_name}

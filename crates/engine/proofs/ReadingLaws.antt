@@ -6,24 +6,25 @@ use Rattle.bson.specs.declared.fault.BsonFault.{BsonFault}
 use Rattle.outcome.specs.Outcome.{◌>>=◌, unless, or_refused}
 use Rattle.path.specs.declared.refusal.Refusal.{Refusal}
 use Rattle.path.specs.declared.refusal.Refusal.TheVariants as refusals
-use Rattle.commands.specs.Find.{Find}
-use Rattle.commands.specs.Count.{Count}
-use Rattle.commands.specs.Aggregate.{Aggregate}
+use Rattle.command_model.specs.Find.{Find}
+use Rattle.command_model.specs.Count.{Count}
+use Rattle.command_model.specs.Aggregate.{Aggregate}
 use Rattle.aggregate.specs.Pipeline.{run as after_pipeline}
 use Rattle.database_model.specs.Aggregate.{run_aggregate}
-use Rattle.commands.specs.ListCollections.{ListCollections}
-use Rattle.commands.specs.ListIndexes.{ListIndexes}
+use Rattle.command_model.specs.ListCollections.{ListCollections}
+use Rattle.command_model.specs.ListIndexes.{ListIndexes}
 use Rattle.database_model.specs.ListIndexes.{indexes_reply, run_list_indexes}
-use Rattle.commands.specs.Explain.{Explain}
+use Rattle.command_model.specs.Explain.{Explain}
 use Rattle.database_model.specs.Explain.{run_explain}
 use Rattle.database_model.specs.ListCollections.{run_list_collections}
-use Rattle.commands.specs.Command.{Command, ping, insert, find, count, delete, update, aggregate, create, drop as drop_of, list_collections, create_indexes}
-use Rattle.commands.specs.Command.{drop_indexes, list_indexes, explain, command_of, get_more, kill_cursors, hello}
+use Rattle.command_model.specs.Command.{Command, ping, insert, find, count, delete}
+use Rattle.command_model.specs.Command.{update, aggregate, create, drop as drop_of, list_collections, create_indexes}
+use Rattle.command_model.specs.Command.{drop_indexes, list_indexes, explain, command_of, get_more, kill_cursors, hello}
 use Rattle.entries.specs.State.{Collection, find_collection}
 use Rattle.database_model.specs.World.{World, documents_of}
 use Rattle.database_model.specs.Cursors.{batch_of, batch_reply, open_cursor, is_refused, new_cursor, first_batch, is_cursor}
-use Rattle.commands.specs.GetMore.{GetMore}
-use Rattle.commands.specs.KillCursors.{KillCursors}
+use Rattle.command_model.specs.GetMore.{GetMore}
+use Rattle.command_model.specs.KillCursors.{KillCursors}
 use Rattle.database_model.specs.GetMore.{next_batch, run_get_more}
 use Rattle.database_model.specs.KillCursors.{run_kill_cursors}
 use Rattle.std.specs.List.{position}

@@ -9,7 +9,7 @@ use Rattle.page.specs.History.{History, KeepsWord}
 use Rattle.btree.specs.Keys.{Edit}
 use Rattle.path.specs.declared.refusal.Refusal.{Refusal}
 use Rattle.path.specs.declared.refusal.Refusal.TheVariants as refusals
-use Rattle.commands.specs.Delete.{Deletion}
+use Rattle.command_model.specs.Delete.{Deletion}
 use Rattle.collections.specs.Calls.{HasReadCause}
 use Rattle.collections.proofs.LawLemmas as laws
 use Rattle.index.specs.Definition.{Definition}

@@ -4,15 +4,15 @@ use Rattle.std.proofs.Common.{Err, refl, sym, ap, ◌∙◌, arith}
 use Rattle.std.specs.Prelude.{not, nat_le, if◌then◌else◌, codes, unwrap_or, IfOk, IfErr}
 use Rattle.std.proofs.lemmas.Bool.Decides.{nat_tests}
 use Rattle.bson.specs.Tree.{Pairs, pair, no_pairs}
-use Rattle.commands.specs.Insert.{Insert}
-use Rattle.commands.specs.Find.{Query, Find}
-use Rattle.commands.specs.Count.{Count}
-use Rattle.commands.specs.Aggregate.{Aggregate}
+use Rattle.command_model.specs.Insert.{Insert}
+use Rattle.command_model.specs.Find.{Query, Find}
+use Rattle.command_model.specs.Count.{Count}
+use Rattle.command_model.specs.Aggregate.{Aggregate}
 use Rattle.aggregate.specs.Stage.{Stage}
 use Rattle.aggregate.specs.Pipeline.{run as after_pipeline}
 use Rattle.database_model.specs.Aggregate.{run_aggregate}
 use Rattle.database_model.specs.Find.{query_result, matching, window, run_find}
-use Rattle.commands.specs.Delete.{Delete}
+use Rattle.command_model.specs.Delete.{Delete}
 use Rattle.replies.specs.FirstBatch.{IsFirstBatch, IsNoBatch}
 use Rattle.replies.specs.View.{with_ok}
 use Rattle.database_model.specs.Delete.{after_deletions, deleted_in, run_delete}
@@ -25,8 +25,8 @@ use Rattle.database_model.specs.Refusals.{int, total, ok_reply}
 use Rattle.database_model.specs.Cursors.{cursor_reply, is_refused, new_cursor, open_cursor, batch_of, batch_reply, first_batch, is_cursor}
 use Rattle.database_model.specs.GetMore.{next_batch, run_get_more}
 use Rattle.database_model.specs.KillCursors.{ToldApart, no_ids, told_apart, has_cursor, is_asked, kill_reply, run_kill_cursors}
-use Rattle.commands.specs.GetMore.{GetMore}
-use Rattle.commands.specs.KillCursors.{KillCursors}
+use Rattle.command_model.specs.GetMore.{GetMore}
+use Rattle.command_model.specs.KillCursors.{KillCursors}
 use Rattle.database_model.specs.Insert.{run_insert}
 use Rattle.database_model.specs.Count.{run_count}
 use Rattle.database_model.specs.Insert.{is_full, inserted}

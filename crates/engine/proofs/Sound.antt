@@ -10,7 +10,7 @@ use Rattle.collections.specs.View as views
 use Rattle.database_model.specs.World.{World, Cursor, forget, after_undo}
 use Rattle.entries.specs.State.{Collection}
 use Rattle.database_model.specs.Lawful.{IsWithin, IsLawfulState, IsLawful}
-use Rattle.commands.specs.Command.{Command, IsBounded}
+use Rattle.command_model.specs.Command.{Command, IsBounded}
 use Rattle.database_model.specs.Step.{run, answered, RefusedBeside}
 use Rattle.replies.specs.View.{with_ok, Runs}
 use Rattle.engine.specs.View.{world, turn_start}

@@ -7,7 +7,7 @@ use Rattle.std.specs.Global.{Vec}
 use Rattle.std.proofs.lemmas.List.{length-drop, take_all}
 use Rattle.std.proofs.lemmas.List.Elements.{All-append, All-cons, All-filter, All-take}
 use Rattle.bson.specs.Tree.{Pairs}
-use Rattle.commands.specs.Find.{Find, Query}
+use Rattle.command_model.specs.Find.{Find, Query}
 use Rattle.filter.specs.Condition.{Conditions}
 use Rattle.filter.specs.Matches.{matches}
 use Rattle.projection.specs.Projection.{Projection, project}

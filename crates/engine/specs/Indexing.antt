@@ -7,7 +7,7 @@ use Rattle.collections.specs.Walk.{IsWalk}
 use Rattle.collections.specs.declared.walk.Walk.{Walk}
 use Rattle.path.specs.declared.refusal.Refusal.{Refusal}
 use Rattle.path.specs.declared.refusal.Refusal.TheVariants as refusals
-use Rattle.commands.specs.NewIndex.{NewIndex}
+use Rattle.command_model.specs.NewIndex.{NewIndex}
 use Rattle.index.specs.Definition.{Definition}
 use Rattle.entries.specs.IndexMaking.{HasEntries, with_index}
 use Rattle.entries.specs.LawfulState as states

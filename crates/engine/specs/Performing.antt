@@ -1,7 +1,7 @@
 -- What running a command does to an engine.
 use Rattle.std.specs.Prelude.{◌≡◌, ◌⊎◌, Option, Result, Ok, Err, OnErr}
 use Rattle.bson.specs.Tree.{Pairs}
-use Rattle.commands.specs.Command as commands
+use Rattle.command_model.specs.Command as commands
 use Rattle.page.specs.History.{History, KeepsWord}
 use Rattle.path.specs.declared.refusal.Refusal.{Refusal}
 use Rattle.engine.specs.Continuing.{Continues}

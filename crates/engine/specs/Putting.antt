@@ -9,7 +9,7 @@ use Rattle.btree.specs.Keys.{Edit}
 use Rattle.path.specs.declared.refusal.Refusal.{Refusal}
 use Rattle.path.specs.declared.refusal.Refusal.TheVariants as refusals
 use Rattle.collections.specs.Calls.{HasReadCause}
-use Rattle.commands.specs.Update.{UpdateStatement}
+use Rattle.command_model.specs.Update.{UpdateStatement}
 use Rattle.entries.specs.Documents.{put_document}
 use Rattle.entries.specs.LawfulState as states
 use Rattle.entries.specs.LawfulState.{IsStorable}

@@ -2,7 +2,7 @@
 use Rattle.std.specs.Prelude.{◌≡◌, ℕ, ◌<◌, ◌-◌, ◌^◌, List, length, take, Some}
 use Rattle.std.specs.List.{filter}
 use Rattle.bson.specs.Tree.{Pairs}
-use Rattle.commands.specs.Delete.{Deletion}
+use Rattle.command_model.specs.Delete.{Deletion}
 use Rattle.entries.specs.State.{Collection, find_collection}
 use Rattle.database_model.specs.Delete.{deleted_in}
 use Rattle.database_model.specs.Merging.{is_deleted}

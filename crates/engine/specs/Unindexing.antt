@@ -7,7 +7,7 @@ use Rattle.collections.specs.Reading.{IsNumbered}
 use Rattle.collections.specs.Walk.{IsWalk}
 use Rattle.collections.specs.declared.walk.Walk.{Walk}
 use Rattle.path.specs.declared.refusal.Refusal.{Refusal}
-use Rattle.commands.specs.DropIndexes.{DroppedIndexes}
+use Rattle.command_model.specs.DropIndexes.{DroppedIndexes}
 use Rattle.index.specs.Definition.{Definition}
 use Rattle.entries.specs.IndexBuilding.{HasRemovedEntries}
 use Rattle.entries.specs.IndexMaking.{without_index_at}

@@ -1,7 +1,7 @@
 -- A find in the order of its walk.
 use Rattle.std.specs.Prelude.{◌≡◌, ℕ, All, List, [], Some, map}
 use Rattle.bson.specs.Tree.{Pairs}
-use Rattle.commands.specs.Find.{Query}
+use Rattle.command_model.specs.Find.{Query}
 use Rattle.database_model.specs.Find.{selection}
 use Rattle.entries.specs.State.{Collection, key_of}
 use Rattle.entries.specs.StateReads.{find_document}

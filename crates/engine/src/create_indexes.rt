@@ -2,7 +2,7 @@
 
 ghost use Rattle.std.specs.Prelude.{◌≡◌, ◌≤◌, All, Err, IfOk, false, length};
 ghost use Rattle.page.specs.History.{KeepsWord};
-ghost use Rattle.commands.specs.NewIndex.{IsShortNewIndex};
+ghost use Rattle.command_model.specs.NewIndex.{IsShortNewIndex};
 ghost use Rattle.database_model.specs.CreateIndexes.{indexed, run_create_indexes};
 ghost use Rattle.engine.specs.Durable.{disk_history, has_changes, IsSound};
 ghost use Rattle.engine.specs.Indexing.{ArePlanned};

@@ -17,7 +17,7 @@ ghost use Rattle.engine.specs.Performing.{IsAdministrative, Performs, PerformsRe
 ghost use Rattle.database_model.specs.World.{are_untouched, after_commit, after_undo, forget};
 ghost use Rattle.replies.specs.View.{answer_of, outcome_of, IsSendable, Runs};
 ghost use Rattle.engine.specs.View.{world, turn_start, reply_of, IsRefusal};
-ghost use Rattle.commands.specs.Command.{IsBounded};
+ghost use Rattle.command_model.specs.Command.{IsBounded};
 ghost use Rattle.commands.specs.View.{command_read};
 ghost use Rattle.database_model.specs.Step.{Answers, ChangesNone, WroteNothing, read_and_run, run};
 ghost use Rattle.engine.specs.Durable.{disk_history, failed_reads_of, file_of, full_takes_of, generation, has_changes, is_stopped, IsSound, KeepsChanges};

@@ -2,7 +2,7 @@
 
 ghost use Rattle.std.specs.Prelude.{◌≡◌, ◌≤◌, IfOk, length};
 ghost use Rattle.std.specs.Option.{unwrap_or};
-ghost use Rattle.commands.specs.View.{documents_at};
+ghost use Rattle.command_model.specs.Insert.{documents_at};
 ghost use Rattle.database_model.specs.Documents.{insert_all, insert_one};
 ghost use Rattle.database_model.specs.Insert.{inserted, run_insert};
 ghost use Rattle.page.specs.History.{KeepsWord};

@@ -10,7 +10,7 @@ use Rattle.std.proofs.lemmas.List.Quantifiers.{position-Some}
 use Rattle.std.proofs.lemmas.List.Sums.{count_by-le-length, length-filter}
 use Rattle.outcome.specs.Outcome.{◌>>=◌}
 use Rattle.path.specs.declared.refusal.Refusal.{Refusal}
-use Rattle.commands.specs.DropIndexes.{DroppedIndexes, all}
+use Rattle.command_model.specs.DropIndexes.{DroppedIndexes, all}
 use Rattle.index.specs.Definition.{Definition}
 use Rattle.entries.specs.State.{Collection, find_collection, put_collection}
 use Rattle.entries.proofs.IndexMakingLaws.{cut_at}

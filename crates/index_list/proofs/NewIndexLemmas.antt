@@ -9,8 +9,8 @@ use Rattle.std.proofs.lemmas.List.{drop_all}
 use Rattle.outcome.specs.Outcome.{unless}
 use Rattle.path.specs.declared.refusal.Refusal.{Refusal}
 use Rattle.path.specs.declared.refusal.Refusal.TheVariants as refusals
-use Rattle.commands.specs.NewIndex.{IsShortNewIndex, NewIndex, defined}
-use Rattle.commands.specs.OutcomeLaws.{step_of}
+use Rattle.command_model.specs.NewIndex.{IsShortNewIndex, NewIndex, defined}
+use Rattle.command_model.specs.OutcomeLaws.{step_of}
 use Rattle.index.specs.Definition.{Definition, Field}
 use Rattle.entries.specs.Entering.{DocumentWrite, enter_each, entered}
 use Rattle.entries.specs.IndexMaking.{alone, as_new, with_index}

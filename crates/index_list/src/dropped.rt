@@ -2,7 +2,7 @@
 
 ghost use Rattle.std.specs.Prelude.{◌≡◌, Err, IfErr, Ok, OnOk};
 ghost use Rattle.std.specs.List.{list_any, position};
-ghost use Rattle.commands.specs.DropIndexes.{named};
+ghost use Rattle.command_model.specs.DropIndexes.{named};
 ghost use Rattle.commands.specs.View.{dropped_of};
 ghost use Rattle.database_model.specs.DropIndexes.{is_dropped, left_by, remaining};
 

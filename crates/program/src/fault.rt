@@ -1,6 +1,7 @@
 //! Why the program ends early, and with which status.
 
 use op_msg::FrameFault;
+use program_words::WordsFault;
 use roots::OpenFault;
 use server::CheckFault;
 use shell::ShellFault;
@@ -56,6 +57,15 @@ impl ProgramFault {
             | ProgramFault::Frame(_)
             | ProgramFault::Check(_)
             | ProgramFault::Shell(_) => 1,
+        }
+    }
+}
+
+impl From<WordsFault> for ProgramFault {
+    fn from(fault: WordsFault) -> ProgramFault {
+        match fault {
+            WordsFault::Usage => ProgramFault::Usage,
+            WordsFault::Memory => ProgramFault::Memory,
         }
     }
 }

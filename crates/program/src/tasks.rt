@@ -9,8 +9,8 @@ use crate::fault::ProgramFault;
 use crate::in_process::Server;
 use crate::people::{ask_all, export_all, import_all};
 use crate::terminal::Terminal;
-use crate::words::LocalTask;
 use page::Disk;
+use program_words::LocalTask;
 use std::io::{Read, Write};
 use std::rt::Clock;
 

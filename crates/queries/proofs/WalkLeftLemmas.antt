@@ -20,7 +20,7 @@ use Rattle.value_order.proofs.KeyLaws.{texts_order}
 use Rattle.aggregate.proofs.SplitLemmas.{filter-all, filter-both}
 use Rattle.aggregate.specs.EnoughLaws.{filter-passes}
 use Rattle.btree.specs.Keys.{is_within, key_cmp}
-use Rattle.commands.specs.Find.{Query}
+use Rattle.command_model.specs.Find.{Query}
 use Rattle.filter.specs.Condition.{Conditions}
 use Rattle.filter.specs.Matches.{matches}
 use Rattle.projection.specs.Projection.{Projection, project}

@@ -6,7 +6,7 @@ ghost use Rattle.bson.specs.Tree.{Pairs};
 ghost use Rattle.aggregate.specs.Taking.{takes, IsEnough, SufficesTaken};
 ghost use Rattle.aggregate.specs.View.{pipeline_of};
 ghost use Rattle.collections.specs.Reading.{ReadsOf};
-ghost use Rattle.commands.specs.View.{documents_at};
+ghost use Rattle.command_model.specs.Insert.{documents_at};
 ghost use Rattle.database_model.specs.Aggregate.{AreEnough};
 ghost use Rattle.database_model.specs.Lawful.{IsWithin};
 ghost use Rattle.index.specs.View.{texts_of};

@@ -27,7 +27,7 @@ use Rattle.op_msg.specs.Request.{array_of, body_of, document_alone, document_in,
 use Rattle.op_msg.proofs.SectionWalks.{ok_is, unless_ok}
 use Rattle.op_msg.specs.declared.fault.FrameFault.{FrameFault}
 use Rattle.op_msg.specs.declared.fault.FrameFault.TheVariants as faults
-use Rattle.commands.specs.FieldsLaws.{later_false}
+use Rattle.command_model.specs.FieldsLaws.{later_false}
 use Rattle.statements.proofs.ReplyRoom.{replies_have_room}
 use Rattle.server.specs.Room.{UpdatesHaveRoom}
 use Rattle.statements.specs.Room.{field_size, fields_size, values_size}

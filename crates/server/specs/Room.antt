@@ -4,8 +4,8 @@ use Rattle.bson.specs.Lawful.{IsBytes}
 use Rattle.bson.specs.Tree.{Pairs}
 use Rattle.op_msg.specs.Frame.{Frame, front}
 use Rattle.op_msg.specs.Request.{body_of}
-use Rattle.commands.specs.Command.{command_of, update}
-use Rattle.commands.specs.Update.{Update}
+use Rattle.command_model.specs.Command.{command_of, update}
+use Rattle.command_model.specs.Update.{Update}
 use Rattle.database_model.specs.Update.{not_updated, run_all, run_statements}
 use Rattle.entries.specs.State.{Collection}
 

@@ -28,8 +28,8 @@ use Rattle.update.specs.Stored.{id_name, pairs_fault, no_array, id_of, id_first,
 use Rattle.update.specs.Applying.{changed, apply}
 use Rattle.update.specs.Upserts.{base_of}
 use Rattle.update.specs.UpdateLaws.{keeps_id, gives_stored}
-use Rattle.commands.specs.OutcomeLaws.{step_of, passed}
-use Rattle.commands.specs.Update.{UpdateStatement, IsRead}
+use Rattle.command_model.specs.OutcomeLaws.{step_of, passed}
+use Rattle.command_model.specs.Update.{UpdateStatement, IsRead}
 use Rattle.database_model.specs.Documents.{key_of, key_checked}
 use Rattle.database_model.specs.Lawful.{IsStored}
 use Rattle.entries.specs.LawfulState.{IsRising}

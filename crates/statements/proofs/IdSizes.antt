@@ -38,7 +38,7 @@ use Rattle.update.specs.Replacements.{in_place_of}
 use Rattle.update.specs.Stored.{id_first, id_name, judged}
 use Rattle.update.specs.UpdateLaws.{gives_stored, keeps_id, operators_avoid}
 use Rattle.update.specs.Upserts.{base_of, with_condition, with_conditions, with_equalities, with_equality}
-use Rattle.commands.specs.Update.{IsRead}
+use Rattle.command_model.specs.Update.{IsRead}
 use Rattle.database_model.specs.Documents.{key_of}
 use Rattle.statements.proofs.Applied.{id_is_first}
 use Rattle.statements.proofs.Checked.{lookup-id_first}

@@ -5,7 +5,7 @@ use Rattle.bson.specs.Tree.{document, Pairs, Items, item, no_items, append_items
 use Rattle.outcome.specs.Outcome.{◌>>=◌, or_refused, unless}
 use Rattle.path.specs.declared.refusal.Refusal.{Refusal}
 use Rattle.path.specs.declared.refusal.Refusal.TheVariants as refusals
-use Rattle.commands.specs.Update.{UpdateStatement}
+use Rattle.command_model.specs.Update.{UpdateStatement}
 use Rattle.entries.specs.State.{Collection, find_collection, put_collection}
 use Rattle.entries.proofs.FoundLawLemmas.{finds_put, put_twice}
 use Rattle.database_model.specs.Documents.{key_of, place}

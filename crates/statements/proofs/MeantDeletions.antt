@@ -6,7 +6,7 @@ use Rattle.std.specs.List.{filter, position, position_or_len}
 use Rattle.std.proofs.lemmas.Bool.Decides.{nat_tests}
 use Rattle.bson.specs.Tree.{Pairs}
 use Rattle.filter.specs.Matches.{matches}
-use Rattle.commands.specs.Delete.{Deletion}
+use Rattle.command_model.specs.Delete.{Deletion}
 use Rattle.database_model.specs.Delete.{without_at, after_deletion, after_deletions}
 use Rattle.database_model.specs.Merging.{is_deleted}
 use Rattle.statements.specs.Redoing.{taken_at, taken, all_taken}

@@ -15,7 +15,7 @@ use Rattle.outcome.specs.Outcome.{◌>>=◌, or_refused}
 use Rattle.path.specs.declared.refusal.Refusal.{Refusal}
 use Rattle.path.specs.declared.refusal.Refusal.TheVariants as refusals
 use Rattle.update.specs.Applying.{apply}
-use Rattle.commands.specs.Update.{UpdateStatement, IsRead}
+use Rattle.command_model.specs.Update.{UpdateStatement, IsRead}
 use Rattle.entries.specs.LawfulState.{IsRising}
 use Rattle.entries.specs.State.{by_order}
 use Rattle.database_model.specs.Documents.{key_of, place}

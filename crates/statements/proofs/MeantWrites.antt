@@ -12,7 +12,7 @@ use Rattle.value_order.specs.Order.{compare}
 use Rattle.path.specs.declared.refusal.Refusal.{Refusal}
 use Rattle.update.specs.Applying.{apply}
 use Rattle.update.specs.Update.{Update as Change}
-use Rattle.commands.specs.Update.{UpdateStatement, IsRead}
+use Rattle.command_model.specs.Update.{UpdateStatement, IsRead}
 use Rattle.entries.specs.LawfulState.{IsRising}
 use Rattle.entries.specs.StateReads.{find_document}
 use Rattle.database_model.specs.Documents.{key_of}

@@ -18,28 +18,28 @@ use Rattle.path.specs.declared.refusal.Refusal.{Refusal}
 use Rattle.path.specs.declared.refusal.Refusal.TheVariants as refusals
 use Rattle.update.specs.Applying.{apply}
 use Rattle.update.specs.Upserts.{base_of}
-use Rattle.commands.specs.Aggregate.{read_aggregate}
-use Rattle.commands.specs.Command.{aggregate, as_command, Command, command_of, count, create, create_indexes, delete, drop, drop_indexes, explain}
-use Rattle.commands.specs.Command.{find, get_more, hello}
-use Rattle.commands.specs.Command.{insert, kill_cursors, list_collections, list_indexes, ping, update}
-use Rattle.commands.specs.CommandLaws.{bounded}
-use Rattle.commands.specs.Count.{read_count}
-use Rattle.commands.specs.Create.{read_create}
-use Rattle.commands.specs.CreateIndexes.{read_create_indexes}
-use Rattle.commands.specs.Delete.{read_delete}
-use Rattle.commands.specs.DropCollection.{read_drop}
-use Rattle.commands.specs.DropIndexes.{read_drop_indexes}
-use Rattle.commands.specs.Explain.{read_explain}
-use Rattle.commands.specs.Find.{read_find}
-use Rattle.commands.specs.GetMore.{read_get_more}
-use Rattle.commands.specs.Hello.{read_hello}
-use Rattle.commands.specs.Insert.{read_insert}
-use Rattle.commands.specs.KillCursors.{read_kill_cursors}
-use Rattle.commands.specs.ListCollections.{read_list_collections}
-use Rattle.commands.specs.ListIndexes.{read_list_indexes}
-use Rattle.commands.specs.OutcomeLaws.{step_of, passed}
-use Rattle.commands.specs.Ping.{read_ping}
-use Rattle.commands.specs.Update.{UpdateStatement, Update, IsRead, read_update_command}
+use Rattle.command_model.specs.Aggregate.{read_aggregate}
+use Rattle.command_model.specs.Command.{aggregate, as_command, Command, command_of, count, create, create_indexes, delete, drop, drop_indexes, explain}
+use Rattle.command_model.specs.Command.{find, get_more, hello}
+use Rattle.command_model.specs.Command.{insert, kill_cursors, list_collections, list_indexes, ping, update}
+use Rattle.command_model.specs.CommandLaws.{bounded}
+use Rattle.command_model.specs.Count.{read_count}
+use Rattle.command_model.specs.Create.{read_create}
+use Rattle.command_model.specs.CreateIndexes.{read_create_indexes}
+use Rattle.command_model.specs.Delete.{read_delete}
+use Rattle.command_model.specs.DropCollection.{read_drop}
+use Rattle.command_model.specs.DropIndexes.{read_drop_indexes}
+use Rattle.command_model.specs.Explain.{read_explain}
+use Rattle.command_model.specs.Find.{read_find}
+use Rattle.command_model.specs.GetMore.{read_get_more}
+use Rattle.command_model.specs.Hello.{read_hello}
+use Rattle.command_model.specs.Insert.{read_insert}
+use Rattle.command_model.specs.KillCursors.{read_kill_cursors}
+use Rattle.command_model.specs.ListCollections.{read_list_collections}
+use Rattle.command_model.specs.ListIndexes.{read_list_indexes}
+use Rattle.command_model.specs.OutcomeLaws.{step_of, passed}
+use Rattle.command_model.specs.Ping.{read_ping}
+use Rattle.command_model.specs.Update.{UpdateStatement, Update, IsRead, read_update_command}
 use Rattle.entries.specs.State.{find_collection}
 use Rattle.database_model.specs.Documents.{key_of, key_checked, place}
 use Rattle.database_model.specs.Refusals.{int, total, ok_reply}

@@ -6,8 +6,8 @@ use Rattle.std.specs.List.{AllByRecursion, list_any}
 use Rattle.std.proofs.lemmas.Bool.Decides.{nat_tests}
 use Rattle.std.proofs.lemmas.List.{length-map}
 use Rattle.bson.specs.Tree.{Pairs}
-use Rattle.commands.specs.DropIndexes.{DroppedIndexes, all, named}
-use Rattle.commands.specs.OutcomeLaws.{passed}
+use Rattle.command_model.specs.DropIndexes.{DroppedIndexes, all, named}
+use Rattle.command_model.specs.OutcomeLaws.{passed}
 use Rattle.outcome.specs.Outcome.{fault_or, unless}
 use Rattle.path.specs.declared.refusal.Refusal.{Refusal}
 use Rattle.path.specs.declared.refusal.Refusal.TheVariants as refusals

@@ -15,15 +15,15 @@ use Rattle.filter.specs.Condition.{Conditions}
 use Rattle.filter.specs.Reading.{read_filter}
 use Rattle.update.specs.Reading.{read_update}
 use Rattle.update.specs.Update.{Update as Change, is_replacement}
-use Rattle.commands.specs.Fields.{CommonFields, read_fields, common_field}
-use Rattle.commands.specs.FieldsLaws.{there}
-use Rattle.commands.specs.Names.{namespace_of}
-use Rattle.commands.specs.OutcomeLaws.{step_of, passed}
-use Rattle.commands.specs.Statements.{statements_in, each_of}
-use Rattle.commands.specs.Update.{UpdateStatement, Update, UpdateStatementFields, no_statement_fields, statement_field, read_statement, UpdateFields}
-use Rattle.commands.specs.Update.{no_update_fields}
-use Rattle.commands.specs.Update.{update_statements_in, update_field, read_update_command}
-use Rattle.commands.specs.Values.{bool_in, document_in, spelled_in, text_in}
+use Rattle.command_model.specs.Fields.{CommonFields, read_fields, common_field}
+use Rattle.command_model.specs.FieldsLaws.{there}
+use Rattle.command_model.specs.Names.{namespace_of}
+use Rattle.command_model.specs.OutcomeLaws.{step_of, passed}
+use Rattle.command_model.specs.Statements.{statements_in, each_of}
+use Rattle.command_model.specs.Update.{UpdateStatement, Update, UpdateStatementFields, no_statement_fields, statement_field, read_statement, UpdateFields}
+use Rattle.command_model.specs.Update.{no_update_fields}
+use Rattle.command_model.specs.Update.{update_statements_in, update_field, read_update_command}
+use Rattle.command_model.specs.Values.{bool_in, document_in, spelled_in, text_in}
 use Rattle.statements.specs.Room.{values_size, field_size, fields_size}
 use Rattle.statements.proofs.IdSizes.{filter_size, filter_spelled, change_size, change_spelled}
 

@@ -5,7 +5,7 @@ use Rattle.bson.specs.Lawful.{IsDocument}
 use Rattle.outcome.specs.Outcome.{◌>>=◌, Fails, or_refused}
 use Rattle.path.specs.declared.refusal.Refusal.{Refusal}
 use Rattle.path.specs.declared.refusal.Refusal.TheVariants as refusals
-use Rattle.commands.specs.Update.{UpdateStatement}
+use Rattle.command_model.specs.Update.{UpdateStatement}
 use Rattle.entries.specs.Entering.{DocumentWrite}
 use Rattle.database_model.specs.Documents.{key_of, place}
 use Rattle.database_model.specs.Lawful.{IsStored}

@@ -13,8 +13,8 @@ use Rattle.path.specs.declared.refusal.Refusal.{Refusal}
 use Rattle.path.specs.declared.refusal.Refusal.TheVariants as refusals
 use Rattle.update.specs.Update.{Update as Change}
 use Rattle.update.specs.Applying.{apply}
-use Rattle.commands.specs.OutcomeLaws.{step_of}
-use Rattle.commands.specs.Update.{UpdateStatement, IsRead}
+use Rattle.command_model.specs.OutcomeLaws.{step_of}
+use Rattle.command_model.specs.Update.{UpdateStatement, IsRead}
 use Rattle.entries.specs.Entering.{DocumentWrite}
 use Rattle.database_model.specs.Documents.{key_of, place}
 use Rattle.database_model.specs.Lawful.{IsStored}

@@ -18,8 +18,8 @@ use Rattle.value_order.specs.TotalLaws.{compare_total}
 use Rattle.path.specs.declared.refusal.Refusal.{Refusal}
 use Rattle.update.specs.Update.{Update as Change}
 use Rattle.update.specs.Applying.{apply}
-use Rattle.commands.specs.OutcomeLaws.{step_of}
-use Rattle.commands.specs.Update.{UpdateStatement, IsRead}
+use Rattle.command_model.specs.OutcomeLaws.{step_of}
+use Rattle.command_model.specs.Update.{UpdateStatement, IsRead}
 use Rattle.entries.specs.Documents.{put_document}
 use Rattle.entries.specs.LawfulState.{IsRising}
 use Rattle.entries.specs.State.{by_order}

@@ -17,7 +17,7 @@ use Rattle.value_order.specs.Order.{compare}
 use Rattle.value_order.specs.TotalLaws.{compare_total}
 use Rattle.path.specs.declared.refusal.Refusal.{Refusal}
 use Rattle.update.specs.Applying.{apply}
-use Rattle.commands.specs.Update.{UpdateStatement}
+use Rattle.command_model.specs.Update.{UpdateStatement}
 use Rattle.entries.specs.Documents.{put_document}
 use Rattle.entries.specs.LawfulState.{IsRising}
 use Rattle.entries.specs.StateReads.{find_document}

@@ -2,8 +2,8 @@
 use Rattle.std.specs.Prelude.{◌≡◌, ℕ, ◌+◌, ◌≤◌, List, length, Ok}
 use Rattle.bson.specs.Tree.{Tree, array, Pairs, no_pairs, pair, Items, no_items, item}
 use Rattle.bson.specs.Spelling.{tree_bytes}
-use Rattle.commands.specs.Command.{command_of, update}
-use Rattle.commands.specs.Update.{Update}
+use Rattle.command_model.specs.Command.{command_of, update}
+use Rattle.command_model.specs.Update.{Update}
 use Rattle.database_model.specs.Refusals.{ok_reply}
 use Rattle.database_model.specs.Update.{Updated, not_updated, run_all, run_statements, spelled}
 use Rattle.database_model.specs.Update.{update_reply}

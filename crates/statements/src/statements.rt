@@ -10,7 +10,7 @@ ghost use Rattle.filter.specs.Matches.{matches};
 ghost use Rattle.outcome.specs.Outcome.{Fails, Gives};
 ghost use Rattle.update.specs.Applying.{apply};
 ghost use Rattle.update.specs.View.{update_of};
-ghost use Rattle.commands.specs.Update.{UpdateStatement, IsRead};
+ghost use Rattle.command_model.specs.Update.{UpdateStatement, IsRead};
 ghost use Rattle.database_model.specs.Documents.{key_of};
 ghost use Rattle.database_model.specs.Lawful.{IsStored, IsWithin};
 ghost use Rattle.database_model.specs.Merging.{one_or_none, run_each, run_listed, upsert_listed};

@@ -8,7 +8,7 @@ use Rattle.path.specs.declared.refusal.Refusal.{Refusal}
 use Rattle.aggregate.specs.Stage.{Stage}
 use Rattle.aggregate.specs.Pipeline.{read_pipeline}
 use Rattle.aggregate.specs.View.{pipeline_of}
-use Rattle.commands.specs.Aggregate.{stages_in}
+use Rattle.command_model.specs.Aggregate.{stages_in}
 use Rattle.path.specs.declared.refusal.Refusal.TheVariants as refusals
 use Rattle.commands.proofs.aggregation.stages_in.Goals as goal
 

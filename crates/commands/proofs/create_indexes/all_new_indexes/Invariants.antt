@@ -1,5 +1,5 @@
-use Rattle.commands.specs.Values.{spelled_in}
-use Rattle.commands.specs.NewIndex.{read_new_index}
+use Rattle.command_model.specs.Values.{spelled_in}
+use Rattle.command_model.specs.NewIndex.{read_new_index}
 use Rattle.commands.proofs.Readings.{Read}
 use Rattle.commands.proofs.create_indexes.all_new_indexes.Given as goal
 

@@ -1,5 +1,5 @@
-use Rattle.commands.specs.Values.{spelled_in}
-use Rattle.commands.specs.Delete.{read_deletion}
+use Rattle.command_model.specs.Values.{spelled_in}
+use Rattle.command_model.specs.Delete.{read_deletion}
 use Rattle.commands.proofs.Readings.{Read}
 use Rattle.commands.proofs.delete.all_deletions.Given as goal
 

@@ -1,6 +1,6 @@
 use Rattle.std.proofs.Common.{◌≡◌, drop}
 use Rattle.bson.specs.View.{pairs_of}
-use Rattle.commands.specs.Fields.{read_fields}
+use Rattle.command_model.specs.Fields.{read_fields}
 use Rattle.commands.proofs.fields.read_fields.Given as goal
 
 abbrev pub invariant-pairs : goal.invariant-pairs

@@ -1,5 +1,5 @@
-use Rattle.commands.specs.Values.{document_in}
-use Rattle.commands.specs.View.{documents_at}
+use Rattle.command_model.specs.Values.{document_in}
+use Rattle.command_model.specs.Insert.{documents_at}
 use Rattle.commands.proofs.Readings.{Read}
 use Rattle.commands.proofs.insert.all_documents.Given as goal
 

@@ -1,4 +1,4 @@
-use Rattle.commands.specs.Values.{id_in}
+use Rattle.command_model.specs.Values.{id_in}
 use Rattle.commands.proofs.Readings.{Read}
 use Rattle.commands.proofs.kill_cursors.all_ids.Given as goal
 

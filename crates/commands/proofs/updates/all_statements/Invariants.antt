@@ -1,5 +1,5 @@
-use Rattle.commands.specs.Values.{spelled_in}
-use Rattle.commands.specs.Update.{read_statement}
+use Rattle.command_model.specs.Values.{spelled_in}
+use Rattle.command_model.specs.Update.{read_statement}
 use Rattle.commands.proofs.Readings.{Read}
 use Rattle.commands.proofs.updates.all_statements.Given as goal
 

@@ -1,5 +1,5 @@
 use Rattle.std.proofs.Common.{sym, ap, ◌∙◌}
-use Rattle.commands.specs.Delete.{Deletion}
+use Rattle.command_model.specs.Delete.{Deletion}
 use Rattle.engine.proofs.TakenLemmas.{all_suffice, one_suffices}
 use Rattle.engine.proofs.delete.enough.Goals as goal
 

@@ -1,5 +1,5 @@
 use Rattle.std.proofs.Common.{subst}
-use Rattle.commands.specs.Find.{Query}
+use Rattle.command_model.specs.Find.{Query}
 use Rattle.database_model.specs.Find.{Suffices}
 use Rattle.engine.proofs.Finding.{all_suffice, front_suffices}
 use Rattle.engine.proofs.find.enough.Goals as goal

@@ -1,7 +1,7 @@
 use Rattle.std.proofs.Common.{◌+◌, ◌++◌, List, drop, sym, ap, ◌∙◌, append_assoc}
 use Rattle.std.proofs.lemmas.List.{append-nil, drop_all}
 use Rattle.bson.specs.Tree.{Pairs}
-use Rattle.commands.specs.Update.{UpdateStatement}
+use Rattle.command_model.specs.Update.{UpdateStatement}
 use Rattle.database_model.specs.Merging.{made_by, made_of}
 use Rattle.replies.proofs.Steps.{drop_step}
 use Rattle.engine.proofs.updates.all_made.Goals as goal

@@ -1,5 +1,5 @@
 use Rattle.std.proofs.Common.{◌≡◌, ◌++◌, drop}
-use Rattle.commands.specs.View.{documents_at}
+use Rattle.command_model.specs.Insert.{documents_at}
 use Rattle.queries.proofs.needed.copies.Given as goal
 
 abbrev pub invariant-documents : goal.invariant-documents

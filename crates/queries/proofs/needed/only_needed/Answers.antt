@@ -1,6 +1,6 @@
 use Rattle.std.proofs.Common.{◌≡◌, List, rules, ap, sym, subst, ◌∙◌}
 use Rattle.bson.specs.Tree.{Pairs}
-use Rattle.commands.specs.View.{documents_at}
+use Rattle.command_model.specs.Insert.{documents_at}
 use Rattle.aggregate.specs.Taking.{IsEnough}
 use Rattle.aggregate.specs.View.{pipeline_of}
 use Rattle.queries.proofs.NeededLemmas.{if_ok}

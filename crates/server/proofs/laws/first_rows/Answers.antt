@@ -8,7 +8,7 @@ use Rattle.bson.specs.Reading.{item_by, pairs_by, items_by, value_at, length_at,
 use Rattle.op_msg.specs.Frame.{part_at, each_by, section_at, frame_of, front}
 use Rattle.op_msg.specs.Request.{reply_bytes}
 use Rattle.database_model.specs.Documents.{checked, insert_one}
-use Rattle.commands.specs.Command.{command_of}
+use Rattle.command_model.specs.Command.{command_of}
 use Rattle.database_model.specs.Insert.{run_insert}
 use Rattle.database_model.specs.Find.{run_find}
 use Rattle.server.specs.Rows.{insert_frame, find_frame}

@@ -3,7 +3,7 @@ use Rattle.std.specs.Prelude.{not}
 use Rattle.std.specs.List.{filter}
 use Rattle.std.proofs.lemmas.Fn.{filter_same}
 use Rattle.filter.specs.Matches.{matches}
-use Rattle.commands.specs.Delete.{Deletion}
+use Rattle.command_model.specs.Delete.{Deletion}
 use Rattle.database_model.specs.Delete.{after_deletion}
 use Rattle.statements.proofs.deletions.run_deletion.Goals as goal
 

@@ -4,7 +4,7 @@ use Rattle.std.proofs.lemmas.Result.{err_from_is_err_and}
 use Rattle.outcome.specs.Outcome.{Gives}
 use Rattle.path.specs.declared.refusal.Refusal.{Refusal}
 use Rattle.path.specs.declared.refusal.Refusal.TheVariants as refusals
-use Rattle.commands.specs.Update.{UpdateStatement}
+use Rattle.command_model.specs.Update.{UpdateStatement}
 use Rattle.database_model.specs.Merging.{Listed}
 use Rattle.statements.specs.Updating.{listed_of}
 use Rattle.statements.proofs.UpdatingLoop.{done, found_wrote, makes, none_wrote, refused_statement, upsert_wrote}

@@ -3,7 +3,7 @@ use Rattle.std.proofs.lemmas.List.{get_or_default}
 use Rattle.std.proofs.lemmas.Result.{err_from_is_err_and}
 use Rattle.bson.specs.Tree.{no_pairs}
 use Rattle.filter.specs.Matches.{matches}
-use Rattle.commands.specs.Update.{UpdateStatement, IsRead}
+use Rattle.command_model.specs.Update.{UpdateStatement, IsRead}
 use Rattle.outcome.specs.Outcome.{Fails}
 use Rattle.path.specs.declared.refusal.Refusal.TheVariants as refusals
 use Rattle.update.specs.Applying.{apply}

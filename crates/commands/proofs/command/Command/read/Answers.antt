@@ -1,5 +1,5 @@
 use Rattle.commands.specs.View.{command_read}
-use Rattle.commands.specs.CommandLaws.{bounded, gives-bounded}
+use Rattle.command_model.specs.CommandLaws.{bounded, gives-bounded}
 use Rattle.commands.proofs.command.Command.read.Goals as goal
 
 pub returns-in-Some-clause-bounded : goal.returns-in-Some-clause-bounded

@@ -2,7 +2,7 @@ use Rattle.std.proofs.Common.{◌≡◌, false, List, length, sym, ap, subst, �
 use Rattle.std.specs.Prelude.{◌≢◌}
 use Rattle.bson.specs.View.{tree}
 use Rattle.index.specs.Definition.{Field}
-use Rattle.commands.specs.NewIndex.{is_among, AreKeyFields}
+use Rattle.command_model.specs.NewIndex.{is_among, AreKeyFields}
 use Rattle.commands.proofs.NewIndexLemmas.{field_path, one_path_more}
 use Rattle.commands.proofs.new_index.KeyFieldsFields.read_field.Goals as goal
 

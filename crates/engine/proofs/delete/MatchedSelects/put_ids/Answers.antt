@@ -1,4 +1,4 @@
-use Rattle.commands.specs.Delete.{Deletion}
+use Rattle.command_model.specs.Delete.{Deletion}
 use Rattle.index.specs.View.{texts_of}
 use Rattle.queries.proofs.TellingLemmas.{filters_tell}
 use Rattle.queries.proofs.IdTextLemmas.{put_none}

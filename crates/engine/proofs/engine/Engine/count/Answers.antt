@@ -1,6 +1,6 @@
 use Rattle.std.proofs.Common.{Ok, ap, sym, subst, ◌∙◌, min, ◌^◌, ◌-◌}
 use Rattle.std.proofs.lemmas.Result.{err_from_is_err_and}
-use Rattle.commands.specs.Count.{Count}
+use Rattle.command_model.specs.Count.{Count}
 use Rattle.database_model.specs.Count.{run_count}
 use Rattle.database_model.specs.Find.{matching}
 use Rattle.replies.specs.View.{with_ok, IsSendable}

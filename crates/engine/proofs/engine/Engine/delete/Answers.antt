@@ -1,6 +1,6 @@
 use Rattle.std.proofs.Common.{◌-◌, ◌^◌, min, List, Ok, Err, ap, sym, subst, ◌∙◌}
 use Rattle.std.proofs.lemmas.Result.{err_from_is_err_and}
-use Rattle.commands.specs.Delete.{Delete}
+use Rattle.command_model.specs.Delete.{Delete}
 use Rattle.entries.specs.State.{Collection}
 use Rattle.database_model.specs.Delete.{run_delete}
 use Rattle.engine.specs.Durable.{file_of}

@@ -1,5 +1,5 @@
 use Rattle.std.proofs.Common.{◌≡◌, List, ap, ◌∙◌}
-use Rattle.commands.specs.Find.{Query}
+use Rattle.command_model.specs.Find.{Query}
 use Rattle.index.specs.Definition.{Definition}
 use Rattle.planner.specs.Plan.{choose}
 use Rattle.planner.specs.View.{plan_of}

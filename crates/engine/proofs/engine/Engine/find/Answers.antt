@@ -1,7 +1,7 @@
 use Rattle.std.proofs.Common.{Option, Some, None, Ok, ap, subst, ◌∙◌}
 use Rattle.std.proofs.lemmas.Result.{err_from_is_err_and}
 use Rattle.bson.specs.Tree.{Pairs}
-use Rattle.commands.specs.Find.{Find}
+use Rattle.command_model.specs.Find.{Find}
 use Rattle.database_model.specs.Find.{run_find}
 use Rattle.database_model.specs.World.{World}
 use Rattle.engine.specs.Performing.{MayPerform}

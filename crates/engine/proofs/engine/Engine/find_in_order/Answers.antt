@@ -1,6 +1,6 @@
 use Rattle.std.proofs.Common.{List, Some, sym, ap, subst, ◌∙◌}
 use Rattle.std.proofs.lemmas.Result.{err_from_is_err_and}
-use Rattle.commands.specs.Find.{Find}
+use Rattle.command_model.specs.Find.{Find}
 use Rattle.database_model.specs.Find.{run_find}
 use Rattle.database_model.specs.World.{World}
 use Rattle.entries.specs.State.{Collection}

@@ -2,7 +2,7 @@ use Rattle.std.proofs.Common.{◌≡◌, ◌^◌, ◌-◌, ℕ, List, Some, Vec,
 use Rattle.std.proofs.lemmas.List.{take_all}
 use Rattle.std.proofs.lemmas.Result.{err_from_is_err_and}
 use Rattle.bson.specs.Tree.{Pairs}
-use Rattle.commands.specs.Find.{Find, Query}
+use Rattle.command_model.specs.Find.{Find, Query}
 use Rattle.database_model.specs.Find.{given, matching, run_find, window}
 use Rattle.database_model.specs.World.{World}
 use Rattle.entries.specs.State.{Collection}

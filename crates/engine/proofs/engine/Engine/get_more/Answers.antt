@@ -1,7 +1,7 @@
 use Rattle.std.proofs.Common.{refl, sym, ◌∙◌, arith}
 use Rattle.std.proofs.lemmas.List.{length-map}
 use Rattle.std.proofs.lemmas.List.Quantifiers.{position-Some}
-use Rattle.commands.specs.GetMore.{GetMore}
+use Rattle.command_model.specs.GetMore.{GetMore}
 use Rattle.cursors.specs.Held.{HeldCursor, cursors_of}
 use Rattle.database_model.specs.Cursors.{is_cursor, no_cursor}
 use Rattle.database_model.specs.GetMore.{run_get_more}

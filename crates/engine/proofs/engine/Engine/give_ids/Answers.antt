@@ -1,7 +1,7 @@
 use Rattle.std.proofs.Common.{List, sym, subst}
 use Rattle.std.specs.Prelude.{All}
 use Rattle.bson.specs.Tree.{Pairs}
-use Rattle.commands.specs.Find.{Query}
+use Rattle.command_model.specs.Find.{Query}
 use Rattle.cursors.specs.Held.{listed}
 use Rattle.database_model.specs.Find.{query_result}
 use Rattle.database_model.specs.Lawful.{IsWithin}

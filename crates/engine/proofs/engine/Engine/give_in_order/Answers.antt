@@ -1,7 +1,7 @@
 use Rattle.std.proofs.Common.{List, Option, Some, inl, inr, refl, sym, subst, ◌∙◌}
 use Rattle.std.specs.Prelude.{All}
 use Rattle.bson.specs.Tree.{Pairs}
-use Rattle.commands.specs.Find.{Find}
+use Rattle.command_model.specs.Find.{Find}
 use Rattle.database_model.specs.Find.{query_result, run_find}
 use Rattle.database_model.specs.Lawful.{IsWithin}
 use Rattle.database_model.specs.World.{documents_of}

@@ -2,7 +2,7 @@ use Rattle.std.proofs.Common.{◌≡◌, List, map, refl, sym, ap, subst, ◌∙
 use Rattle.std.specs.Prelude.{All}
 use Rattle.bson.specs.Tree.{Pairs}
 use Rattle.projection.specs.Projection.{project}
-use Rattle.commands.specs.Find.{Query}
+use Rattle.command_model.specs.Find.{Query}
 use Rattle.database_model.specs.Cursors.{batch_of, first_batch}
 use Rattle.database_model.specs.Find.{given, window}
 use Rattle.database_model.specs.Lawful.{IsWithin}

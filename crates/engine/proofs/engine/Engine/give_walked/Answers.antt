@@ -2,7 +2,7 @@ use Rattle.std.proofs.Common.{◌≡◌, ◌<◌, ◌^◌, ◌-◌, ◌+◌, tru
 use Rattle.std.specs.Prelude.{All}
 use Rattle.std.proofs.lemmas.Result.{err_from_is_err_and}
 use Rattle.bson.specs.Tree.{Pairs}
-use Rattle.commands.specs.Find.{Find}
+use Rattle.command_model.specs.Find.{Find}
 use Rattle.database_model.specs.Cursors.{is_refused, new_cursor}
 use Rattle.database_model.specs.Find.{run_find}
 use Rattle.database_model.specs.Lawful.{IsWithin}

@@ -3,7 +3,7 @@ use Rattle.std.specs.Prelude.{codes}
 use Rattle.std.proofs.lemmas.List.{length-map}
 use Rattle.std.proofs.lemmas.Result.{err_from_is_err_and}
 use Rattle.bson.specs.Tree.{pair, no_pairs}
-use Rattle.commands.specs.View.{documents_at}
+use Rattle.command_model.specs.Insert.{documents_at}
 use Rattle.database_model.specs.Insert.{inserted, run_insert}
 use Rattle.database_model.specs.Refusals.{int, ok_reply}
 use Rattle.replies.specs.View.{IsSendable}

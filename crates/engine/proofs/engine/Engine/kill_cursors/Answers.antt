@@ -1,7 +1,7 @@
 use Rattle.std.proofs.Common.{◌≤◌, length, Ok, refl, sym, ap, subst, ◌∙◌, arith}
 use Rattle.std.specs.Prelude.{not}
 use Rattle.std.specs.List.{filter}
-use Rattle.commands.specs.KillCursors.{KillCursors}
+use Rattle.command_model.specs.KillCursors.{KillCursors}
 use Rattle.cursors.specs.EndingLaws.{others_to_table}
 use Rattle.cursors.specs.Held.{cursors_of, table_of}
 use Rattle.cursors.specs.declared.ending.Ends.{Ends}

@@ -1,7 +1,7 @@
 use Rattle.std.proofs.Common.{◌∷◌, ◌+◌, List, drop, subst}
 use Rattle.std.proofs.lemmas.Result.{err_from_is_err_and}
 use Rattle.bson.specs.Tree.{Pairs}
-use Rattle.commands.specs.View.{documents_at}
+use Rattle.command_model.specs.Insert.{documents_at}
 use Rattle.engine.proofs.InsertSteps.{NotesSoFar, left_none, left_step, notes_all, notes_none, notes_on, notes_refused}
 use Rattle.engine.proofs.OnlyReading.{reads_none}
 use Rattle.engine.proofs.engine.Engine.note_documents.Goals as goal

@@ -1,5 +1,5 @@
 use Rattle.std.proofs.Common.{drop}
-use Rattle.commands.specs.View.{documents_at}
+use Rattle.command_model.specs.Insert.{documents_at}
 use Rattle.engine.proofs.InsertSteps.{NotesSoFar}
 use Rattle.engine.proofs.engine.Engine.note_documents.Given as goal
 

@@ -1,6 +1,6 @@
 use Rattle.std.proofs.Common.{◌≡◌, ◌<◌, ◌≤◌, ℕ, List, length, sym, ap, ◌∙◌, arith}
 use Rattle.std.proofs.lemmas.Result.{err_from_is_err_and}
-use Rattle.commands.specs.NewIndex.{defined}
+use Rattle.command_model.specs.NewIndex.{defined}
 use Rattle.index.specs.Definition.{Definition}
 use Rattle.database_model.specs.CreateIndexes.{is_in_conflict, is_there, unused_index}
 use Rattle.engine.proofs.IndexingSteps.{index_conflict, index_full, index_made, index_refused, index_stopped, index_there, index_unmade, index_without_memory}

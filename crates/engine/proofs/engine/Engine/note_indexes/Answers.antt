@@ -1,7 +1,7 @@
 use Rattle.std.proofs.Common.{◌∷◌, ◌+◌, List, drop, subst}
 use Rattle.std.proofs.lemmas.List.{drop_all}
 use Rattle.std.proofs.lemmas.Result.{err_from_is_err_and}
-use Rattle.commands.specs.NewIndex.{NewIndex}
+use Rattle.command_model.specs.NewIndex.{NewIndex}
 use Rattle.engine.proofs.IndexingSteps.{each_index}
 use Rattle.engine.proofs.NotingEach.{NotesTo, noted_all, noted_none, noted_on, noted_refused}
 use Rattle.engine.proofs.OnlyReading.{reads_none}

@@ -2,7 +2,7 @@ use Rattle.std.proofs.Common.{◌≡◌, ℕ, Vec, Global, map, take, refl, subs
 use Rattle.index.specs.View.{texts_of}
 use Rattle.queries.specs.Listed.{id_text_of}
 use Rattle.collections.specs.Reading.{ReadsOf}
-use Rattle.commands.specs.Find.{Query}
+use Rattle.command_model.specs.Find.{Query}
 use Rattle.database_model.specs.Find.{matching}
 use Rattle.sort.specs.Sort.{order}
 use Rattle.queries.specs.Asking.{IsAsked}

@@ -1,10 +1,10 @@
 use Rattle.std.proofs.Common.{◌≡◌, Some, sym, ap, subst, ◌∙◌, rules}
 use Rattle.std.specs.Prelude.{Ok, unwrap_or}
-use Rattle.commands.specs.Command as commands
-use Rattle.commands.specs.Find as finds
-use Rattle.commands.specs.GetMore as mores
-use Rattle.commands.specs.Aggregate as aggregates
-use Rattle.commands.specs.Update as updates
+use Rattle.command_model.specs.Command as commands
+use Rattle.command_model.specs.Find as finds
+use Rattle.command_model.specs.GetMore as mores
+use Rattle.command_model.specs.Aggregate as aggregates
+use Rattle.command_model.specs.Update as updates
 use Rattle.database_model.specs.Aggregate.{run_aggregate}
 use Rattle.database_model.specs.Step.{run, ChangesNone}
 use Rattle.database_model.specs.Find.{run_find}

@@ -1,5 +1,5 @@
 use Rattle.std.proofs.Common.{Result, Err, refl, sym, ap, subst}
-use Rattle.commands.specs.Command.{Command}
+use Rattle.command_model.specs.Command.{Command}
 use Rattle.database_model.specs.Step.{read_and_run, run}
 use Rattle.outcome.specs.Outcome.{◌>>=◌}
 use Rattle.path.specs.declared.refusal.Refusal.{Refusal}

@@ -1,7 +1,7 @@
 use Rattle.std.proofs.Common.{rules}
 use borrow.Author.Rules.{in_lives}
 use Rattle.std.proofs.lemmas.Result.{err_from_is_err_and}
-use Rattle.commands.specs.View.{documents_at}
+use Rattle.command_model.specs.Insert.{documents_at}
 use Rattle.engine.specs.View.{world}
 use Rattle.engine.proofs.InsertSteps.{stores_leads, stores_refused, stores_untargeted, stores_written}
 use Rattle.engine.proofs.PlannedLemmas.{inserted_lawful}

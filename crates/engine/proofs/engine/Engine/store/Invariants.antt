@@ -1,4 +1,4 @@
-use Rattle.commands.specs.View.{documents_at}
+use Rattle.command_model.specs.Insert.{documents_at}
 use Rattle.database_model.specs.Insert.{inserted}
 use Rattle.engine.specs.Writing.{planned_or}
 use Rattle.engine.proofs.engine.Engine.store.Given as goal

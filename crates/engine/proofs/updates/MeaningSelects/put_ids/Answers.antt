@@ -1,4 +1,4 @@
-use Rattle.commands.specs.Update.{UpdateStatement}
+use Rattle.command_model.specs.Update.{UpdateStatement}
 use Rattle.database_model.specs.Merging.{has_key_of}
 use Rattle.index.specs.View.{texts_of}
 use Rattle.queries.proofs.TellingLemmas.{others_tell}
