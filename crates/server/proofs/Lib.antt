@@ -18,4 +18,3 @@ pub mod Ascending
 pub mod AnewLemmas
 pub mod Reading
 pub mod Dumping
-pub mod MessageSizes

@@ -14,7 +14,6 @@ pub mod Prefix
 pub mod Anew
 pub mod Faults
 pub mod Dump
-pub mod Rows
 pub mod Chunks
 pub mod InOrder
 pub mod Streams
@@ -22,4 +21,3 @@ pub mod Batches
 pub mod Taking
 pub mod Messages
 pub mod Serving
-pub mod Room

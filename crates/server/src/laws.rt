@@ -1,11 +1,9 @@
-//! Laws of runs: what a crash leaves of one, what the definitions say of chunks, of the first frames, and of the replies of updates.
+//! Laws of runs: what a crash leaves of one, and what the definitions say of chunks, streams and batches.
 
 ghost use Rattle.server.specs.Batches.{BatchesCutTheList};
 ghost use Rattle.server.specs.Chunks.{ChunksJoin};
 ghost use Rattle.server.specs.InOrder.{CallsAscend};
 ghost use Rattle.server.specs.Prefix.{FindsAPrefix};
-ghost use Rattle.server.specs.Room.{UpdatesHaveRoom};
-ghost use Rattle.server.specs.Rows.{FirstRows};
 ghost use Rattle.server.specs.Streams.{TakesTheStream};
 
 use page::Disk;
@@ -36,14 +34,4 @@ pub fn batches_cut_the_list()
 /// A turn runs its messages in ascending connection number, since the connections of a server ascend.
 pub fn calls_ascend()
     ensures { CallsAscend }
-{}
-
-/// The bytes of the first replies, from the bytes of the first frames.
-pub fn first_rows()
-    ensures { FirstRows }
-{}
-
-/// No update whose message is within its limit is refused because its reply is too long.
-pub fn updates_have_room()
-    ensures { UpdatesHaveRoom }
 {}

@@ -29,7 +29,7 @@ use Rattle.op_msg.specs.declared.fault.FrameFault.{FrameFault}
 use Rattle.op_msg.specs.declared.fault.FrameFault.TheVariants as faults
 use Rattle.command_model.specs.FieldsLaws.{later_false}
 use Rattle.statements.proofs.ReplyRoom.{replies_have_room}
-use Rattle.server.specs.Room.{UpdatesHaveRoom}
+use Rattle.message_laws.specs.Room.{UpdatesHaveRoom}
 use Rattle.statements.specs.Room.{field_size, fields_size, values_size}
 
 -- ---- results

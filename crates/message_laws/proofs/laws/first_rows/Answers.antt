@@ -11,8 +11,8 @@ use Rattle.database_model.specs.Documents.{checked, insert_one}
 use Rattle.command_model.specs.Command.{command_of}
 use Rattle.database_model.specs.Insert.{run_insert}
 use Rattle.database_model.specs.Find.{run_find}
-use Rattle.server.specs.Rows.{insert_frame, find_frame}
-use Rattle.server.proofs.laws.first_rows.Goals as goal
+use Rattle.message_laws.specs.Rows.{insert_frame, find_frame}
+use Rattle.message_laws.proofs.laws.first_rows.Goals as goal
 
 pub returns : goal.returns
 unfolding is_utf8 chars digits encode tree_bytes pairs_bytes items_bytes fixed_at count_at ended_at text_at content_at string_at int32_at int64_at scalar_at
