@@ -5,9 +5,9 @@ ghost use Rattle.page.specs.Unknown.{unknown_history};
 ghost use Rattle.server.specs.Durable.{IsSound};
 ghost use Rattle.server.specs.View.{state};
 
-use crate::ports::{listen, listen_to_drivers, serve};
+use crate::drivers::listen_to_drivers;
 use page::{FileDisk, FileFault};
-use program::{ProgramFault, Server, Terminal, run_local};
+use program::{ProgramFault, Server, Terminal, listen, run_local, serve};
 use program_words::{LocalTask, Task, Words, help_for, read_words};
 use server::{Config, Core, OpenFault};
 use std::fs::File;

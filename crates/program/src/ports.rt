@@ -1,12 +1,9 @@
-//! The program over a port of this machine.
+//! A server over a port of this machine.
 
-ghost use Rattle.std.specs.Prelude.{◌≡◌, []};
 ghost use Rattle.server.specs.Durable.{IsSound};
-ghost use Rattle.server.specs.View.{state};
 
-use front::Front;
+use crate::fault::ProgramFault;
 use page::Disk;
-use program::ProgramFault;
 use program_words::{Listened, Served};
 use server::{Core, serve_on};
 use std::io::Write;
@@ -14,7 +11,7 @@ use std::net::{Ipv4Addr, Net, SocketAddr, TcpListener, TcpStream};
 use std::rt::Clock;
 
 /// Serves connections of a port for some turns.
-pub(crate) fn serve<R: AllocGlobal + Net<Listener = TcpListener, Stream = TcpStream>, D: Disk>(
+pub fn serve<R: AllocGlobal + Net<Listener = TcpListener, Stream = TcpStream>, D: Disk>(
     rt: &R,
     core: &mut Core<D>,
     served: &Served,
@@ -28,7 +25,7 @@ pub(crate) fn serve<R: AllocGlobal + Net<Listener = TcpListener, Stream = TcpStr
 }
 
 /// Serves all connections of a port.
-pub(crate) fn listen<
+pub fn listen<
     R: AllocGlobal + Clock + Net<Listener = TcpListener, Stream = TcpStream>,
     D: Disk,
 >(
@@ -44,32 +41,8 @@ pub(crate) fn listen<
     Ok(sockets::listen(rt, listener, listened.idle, core)?)
 }
 
-/// Serves MongoDB drivers on all connections of a port.
-pub(crate) fn listen_to_drivers<
-    R: AllocGlobal + Clock + Net<Listener = TcpListener, Stream = TcpStream>,
-    D: Disk + Drop,
->(rt: &R, core: Core<D>, listened: &Listened, output: &mut impl Write) -> Result<(), ProgramFault>
-    requires sound { IsSound D.history core }
-    requires fresh { (state core).connections ≡ [] }
-{
-    let listener = bind(rt, listened.port, output)?;
-    answer_drivers(rt, listener, listened, core)
-}
-
-/// Serves MongoDB drivers on all connections that come to a listener.
-fn answer_drivers<
-    R: AllocGlobal + Clock + Net<Listener = TcpListener, Stream = TcpStream>,
-    D: Disk + Drop,
->(rt: &R, listener: TcpListener, listened: &Listened, core: Core<D>) -> Result<(), ProgramFault>
-    requires sound { IsSound D.history core }
-    requires fresh { (state core).connections ≡ [] }
-{
-    let mut front = Front::new(rt, core);
-    Ok(sockets::listen(rt, listener, listened.idle, &mut front)?)
-}
-
-/// Listens on a port of this machine's own address, and says on which.
-fn bind<R: Net<Listener = TcpListener, Stream = TcpStream>>(
+/// Listens on a port of this machine's own address, and says on which. `Accept` says that it can't be listened on, `Device` that this can't be said.
+pub fn bind<R: Net<Listener = TcpListener, Stream = TcpStream>>(
     rt: &R,
     port: u16,
     output: &mut impl Write,
