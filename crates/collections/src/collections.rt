@@ -13,7 +13,6 @@ use trusted_disk::TrustedDisk;
 
 /// The collections of a database file: a turn begins with those that are committed, changes them by edits of the tree, and is made
 /// durable or taken back as a whole.
-#[derive(Drop)]
 pub struct Collections<D: Disk> {
     pub(crate) alloc: Global,
     pub(crate) pager: Pager<D>,
@@ -23,6 +22,19 @@ pub struct Collections<D: Disk> {
     begun: pager::Mark,
     /// What the catalogue said of the last collection with indexes that was asked for.
     pub(crate) remembered: Option<Remembered>,
+}
+
+// (written out, so that no crate above proves again that pages and their cache are let go)
+impl<D: Disk + Drop> Drop for Collections<D> {
+    fn drop(self) {
+        let Collections {
+            alloc: _,
+            pager: _,
+            root: _,
+            begun: _,
+            remembered: _,
+        } = self;
+    }
 }
 
 impl<D: Disk> Model for Collections<D> {
@@ -72,7 +84,14 @@ impl<D: Disk> Collections<D> {
     pub fn into_disk(self) -> D
         ensures { result ≡ self.pager.store.disk }
     {
-        self.pager.into_disk()
+        let Collections {
+            alloc: _,
+            pager,
+            root: _,
+            begun: _,
+            remembered: _,
+        } = self;
+        pager.into_disk()
     }
 
     /// The same collections on the same disk, whose word counts from now on only where what the caller chooses is true.
@@ -80,12 +99,19 @@ impl<D: Disk> Collections<D> {
         ghost trusted: { Bool }
         ensures { result ≡ trusting_state trusted self }
     {
+        let Collections {
+            alloc,
+            pager,
+            root,
+            begun,
+            remembered,
+        } = self;
         Collections {
-            alloc: self.alloc,
-            pager: self.pager.trusting(),
-            root: self.root,
-            begun: self.begun,
-            remembered: self.remembered,
+            alloc,
+            pager: pager.trusting(),
+            root,
+            begun,
+            remembered,
         }
     }
 

@@ -81,10 +81,16 @@ fn rest_all(cursors: &mut [OpenCursor])
 }
 
 /// The open cursors in the order in which they were opened, and the number of the next one.
-#[derive(Drop)]
 pub struct Cursors {
     list: Vec<OpenCursor>,
     next: u64,
+}
+
+// (written out, so that no crate above proves again that what cursors hold is let go)
+impl Drop for Cursors {
+    fn drop(self) {
+        let Cursors { list: _, next: _ } = self;
+    }
 }
 
 impl Model for Cursors {

@@ -50,7 +50,6 @@ pub enum Reply {
 
 /// Collections of documents, kept on a disk. Commands run in turns: `commit_turn` makes durable what the commands of a
 /// turn changed, `undo_turn` takes it back.
-#[derive(Drop)]
 pub struct Engine<D: Disk> {
     pub(crate) alloc: Global,
     pub(crate) cursors: Cursors,
@@ -58,6 +57,19 @@ pub struct Engine<D: Disk> {
     pub(crate) told: Told,
     /// Whether a command of the turn has changed something.
     pub(crate) is_changed: bool,
+}
+
+// (written out, so that no crate above proves again that the parts are let go)
+impl<D: Disk + Drop> Drop for Engine<D> {
+    fn drop(self) {
+        let Engine {
+            alloc: _,
+            cursors: _,
+            file: _,
+            told: _,
+            is_changed: _,
+        } = self;
+    }
 }
 
 impl<D: Disk> Engine<D> {
@@ -89,7 +101,14 @@ impl<D: Disk> Engine<D> {
     pub fn into_disk(self) -> D
         ensures { result ≡ (file_of self).pager.store.disk }
     {
-        self.file.into_disk()
+        let Engine {
+            alloc: _,
+            cursors: _,
+            file,
+            told: _,
+            is_changed: _,
+        } = self;
+        file.into_disk()
     }
 
     /// Whether a write or a sync has failed. Nothing is committed any more then.

@@ -57,10 +57,19 @@ pub struct TurnOut {
 }
 
 /// The engine, with no turn open between calls, and the connections in ascending order of their numbers.
-#[derive(Drop)]
 pub struct Core<D: Disk> {
     pub(crate) engine: Engine<TrustedDisk<D>>,
     pub(crate) connections: Vec<Connection>,
+}
+
+// (written out, so that no crate above proves again that the parts are let go)
+impl<D: Disk + Drop> Drop for Core<D> {
+    fn drop(self) {
+        let Core {
+            engine: _,
+            connections: _,
+        } = self;
+    }
 }
 
 impl<D: Disk> Core<D> {
@@ -96,7 +105,11 @@ impl<D: Disk> Core<D> {
     pub fn into_disk(self) -> D
         ensures { D.history result ≡ inner_history D.history self }
     {
-        self.engine.into_disk().into_inner()
+        let Core {
+            engine,
+            connections: _,
+        } = self;
+        engine.into_disk().into_inner()
     }
 
     /// Where its memory comes from.
