@@ -25,10 +25,7 @@ pub fn serve<R: AllocGlobal + Net<Listener = TcpListener, Stream = TcpStream>, D
 }
 
 /// Serves all connections of a port.
-pub fn listen<
-    R: AllocGlobal + Clock + Net<Listener = TcpListener, Stream = TcpStream>,
-    D: Disk,
->(
+pub fn listen<R: AllocGlobal + Clock + Net<Listener = TcpListener, Stream = TcpStream>, D: Disk>(
     rt: &R,
     core: &mut Core<D>,
     listened: &Listened,
