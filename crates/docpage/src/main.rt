@@ -1,7 +1,7 @@
 //! The program `docpage`: a document database that answers frames of MongoDB-style commands.
 #![tactic(auto)]
 
-mod drivers;
+mod driver_ports;
 mod start;
 
 use program::Terminal;

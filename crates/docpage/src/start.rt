@@ -5,7 +5,7 @@ ghost use Rattle.page.specs.Unknown.{unknown_history};
 ghost use Rattle.server.specs.Durable.{IsSound};
 ghost use Rattle.server.specs.View.{state};
 
-use crate::drivers::listen_to_drivers;
+use crate::driver_ports::listen_to_drivers;
 use page::{FileDisk, FileFault};
 use program::{ProgramFault, Server, Terminal, listen, run_local, serve};
 use program_words::{LocalTask, Task, Words, help_for, read_words};
