@@ -51,7 +51,7 @@ pub enum Command<'a> {
 }
 
 /// The command of this name, read from the value of its name and the fields behind it.
-#[tactic(auto, unfolding(crate::specs::Command::command_of))]
+#[tactic(auto, unfolding(command_model::specs::Command::command_of))]
 fn read_named<'a>(
     alloc: Global,
     name: &str,
@@ -89,7 +89,7 @@ impl<'a> Command<'a> {
     /// The first of these refusals: `CommandNotFound`; `TypeMismatch` where the collection's name is no
     /// string, the number of a cursor no int64, or what is explained no document; what is wrong with a field, in the order written; `FailedToParse` where a field
     /// is missing; `InvalidNamespace`.
-    #[tactic(auto, unfolding(crate::specs::Command::command_of))]
+    #[tactic(auto, unfolding(command_model::specs::Command::command_of))]
     pub fn read(alloc: Global, body: &'a Document) -> Result<Command<'a>, Refusal>
         ensures gives { Gives Refusal.OutOfMemory command_read result (command_of body.now) }
         ensures bounded { IfOk result (λ c. IsBounded (command_read c)) }
