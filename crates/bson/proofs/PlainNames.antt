@@ -1,8 +1,8 @@
 -- A name of ASCII is text.
 use Rattle.std.proofs.Common.{◌≡◌, ◌⊎◌, inl, inr, ℕ, zero, suc, ◌+◌, ◌<◌, ◌≤◌, Bool, true, false}
 use Rattle.std.proofs.Common.{◌||◌, ◌==◌, List, [], ◌∷◌, length, get_or, take, drop, Some, None, Ok, Err}
-use Rattle.std.proofs.Common.{refl, sym, subst, arith, eq-eqb}
-use Rattle.std.specs.Prelude.{nat_le, position}
+use Rattle.std.proofs.Common.{refl, sym, subst, ap, arith, eq-eqb}
+use Rattle.std.specs.Prelude.{IsUtf8, nat_le, not, position}
 use Rattle.std.specs.Str.{IsAscii, is_utf8}
 use Rattle.std.specs.List.{position_or_len}
 use Rattle.std.proofs.lemmas.Bool.{cases_lt}
@@ -10,8 +10,9 @@ use Rattle.std.proofs.lemmas.Grind.{common_steps}
 use Rattle.std.proofs.lemmas.List.{length-take, get_or-take}
 use Rattle.std.proofs.lemmas.List.Quantifiers.{position-Some}
 use Rattle.std.proofs.lemmas.List.Sums.{position_or_len_is}
-use Rattle.std.proofs.lemmas.Str.{is_utf8-from_IsUtf8, IsUtf8-from_ascii}
+use Rattle.std.proofs.lemmas.Str.{is_utf8-from_IsUtf8, IsUtf8-from_is_utf8, IsUtf8-from_ascii}
 use Rattle.std.proofs.lemmas.Str.Ascii.{IsAscii-from_reads}
+use Rattle.outcome.specs.Outcome.{unless}
 use Rattle.bson.specs.declared.fault.BsonFault.TheVariants as faults
 use Rattle.bson.specs.Reading.{zero_at, name_at}
 use Rattle.bson.proofs.FrameLaws.{or_false, zero_later}
@@ -86,3 +87,19 @@ pub stops_nowhere : (bytes : List ℕ) (n : ℕ) → length bytes ≤ n → n �
 stops_nowhere bytes n most least plain =
     let place : position_or_len stops bytes ≡ n = position_or_len_is stops bytes n 0 least plain (λ lt. absurd (omega arith)) in
     grind (arith, common_steps)
+
+-- what is read as a name is text
+pub name_text : (bytes name rest : List ℕ) → name_at bytes ≡ Ok (name, rest) → IsUtf8 name
+unfolding name_at
+name_text bytes name rest e = at (nat_le (length bytes) (zero_at bytes)) (is_utf8 (take (zero_at bytes) bytes)) refl e
+  where
+    at : (short text : Bool) → is_utf8 (take (zero_at bytes) bytes) ≡ text
+        → unless {X = List ℕ × List ℕ} short faults.Name
+        (unless {X = List ℕ × List ℕ} (not text) faults.Name (Ok (take (zero_at bytes) bytes, drop (zero_at bytes + 1) bytes))) ≡ Ok (name, rest)
+        → IsUtf8 name
+    at true text is e = absurd cc
+    at false false is e = absurd cc
+    at false true is e =
+        let both : (take (zero_at bytes) bytes, drop (zero_at bytes + 1) bytes) ≡ (name, rest) = cc in
+        let same : take (zero_at bytes) bytes ≡ name = ap (λ (x : List ℕ × List ℕ). x.0) both in
+        subst IsUtf8 same (IsUtf8-from_is_utf8 (take (zero_at bytes) bytes) is)

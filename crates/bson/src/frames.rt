@@ -217,12 +217,19 @@ pub(crate) fn read_marked_name(bytes: &[u8]) -> Result<((&[u8], usize), &[u8]), 
 
 /// The same of a name with other characters.
 #[inline(never)]
+#[tactic(auto, unfolding(crate::specs::Reading::name_at))]
 fn read_wide_name(bytes: &[u8]) -> Result<((&[u8], usize), &[u8]), BsonFault>
     ensures gives { GivesExactly (λ x. (x.0.0.now, x.1.now)) result (name_at bytes.now) }
     ensures mark { IfOk result (λ x. x.0.1 ≡ name_mark x.0.0.now) }
 {
-    let (name, rest) = read_name(bytes)?;
-    let name = name.as_bytes();
+    let Some(end) = first_zero(bytes) else {
+        return Err(BsonFault::Name);
+    };
+    let (name, _) = bytes.split_at(end);
+    let (_, rest) = bytes.split_at(end + 1);
+    if text_in(name).is_none() {
+        return Err(BsonFault::Name);
+    }
     Ok(((name, mark_of(mixed_in(name))), rest))
 }
 
@@ -236,17 +243,10 @@ pub(crate) fn read_name_bytes(bytes: &[u8]) -> Result<(&[u8], &[u8]), BsonFault>
 }
 
 /// A name, which the first zero ends.
-#[tactic(auto, unfolding(crate::specs::Reading::name_at))]
 pub fn read_name(bytes: &[u8]) -> Result<(&str, &[u8]), BsonFault>
     ensures { GivesExactly (λ x. (x.0.now, x.1.now)) result (name_at bytes.now) }
 {
-    let Some(end) = first_zero(bytes) else {
-        return Err(BsonFault::Name);
-    };
-    let (front, _) = bytes.split_at(end);
-    let (_, rest) = bytes.split_at(end + 1);
-    let Some(name) = text_in(front) else {
-        return Err(BsonFault::Name);
-    };
-    Ok((name, rest))
+    let (name, rest) = read_name_bytes(bytes)?;
+    // what `read_name_bytes` gives is text
+    Ok((unsafe { str::from_utf8_unchecked(name) }, rest))
 }
