@@ -60,14 +60,6 @@ impl Array {
         self.items.is_empty()
     }
 
-    /// The items, to be changed and put back by `from_items`.
-    pub fn into_items(self) -> Vec<Value>
-        ensures items { items_of result.items ≡ self }
-        ensures lawful { IsArray self }
-    {
-        self.items
-    }
-
     /// The array of these items.
     pub fn from_items(items: Vec<Value>) -> Array
         requires { IsArray (items_of items.items) }

@@ -139,14 +139,6 @@ impl Document {
         }
     }
 
-    /// The pairs, to be changed and put back by `from_pairs`.
-    pub fn into_pairs(self) -> Vec<Pair>
-        ensures pairs { pairs_of result.items ≡ self }
-        ensures lawful { IsDocument self }
-    {
-        self.pairs
-    }
-
     /// The document of these pairs. It compares no names, so it takes time in proportion to their number.
     pub fn from_pairs(pairs: Vec<Pair>) -> Document
         requires { IsDocument (pairs_of pairs.items) }

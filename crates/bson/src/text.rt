@@ -18,9 +18,16 @@ enum Place {
 }
 
 /// A text of its own, in UTF-8. It may hold a zero byte.
-#[derive(Debug, Drop)]
+#[derive(Debug)]
 pub struct Text {
     place: Place,
+}
+
+// (written out, so that no crate above proves again that the parts are let go)
+impl Drop for Text {
+    fn drop(self) {
+        let Text { place: _ } = self;
+    }
 }
 
 impl Model for Text {

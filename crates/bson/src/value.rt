@@ -1,6 +1,8 @@
 //! Values: what a document holds, and what contracts see of it.
 
 ghost use Rattle.std.specs.Prelude.{◌≡◌, ◌≤◌};
+ghost use Rattle.bson.specs.View.{pairs_of, items_of};
+ghost use Rattle.bson.specs.Lawful.{IsArray, IsDocument};
 
 use crate::beside::Beside;
 use crate::binary::Binary;
@@ -53,7 +55,7 @@ pub struct Pair {
 /// Names with their values, in order: at every level the names are distinct and have no zero byte, and
 /// documents and arrays nest at most 100 levels, the document itself among them.
 #[cycle(value)]
-#[derive(Debug, Drop)]
+#[derive(Debug)]
 pub struct Document {
     pub(crate) pairs: Vec<Pair>,
     // how deep the values nest, and how to find names where there are many
@@ -62,11 +64,54 @@ pub struct Document {
 
 /// Values in order, nesting at most 99 levels, the array itself among them.
 #[cycle(value)]
-#[derive(Debug, Drop)]
+#[derive(Debug)]
 pub struct Array {
     pub(crate) items: Vec<Value>,
     // how deep the items nest, and how many how deep where there are many
     pub(crate) nesting: Nesting,
+}
+
+// (written out, so that no crate above proves again that the parts are let go)
+impl Drop for Document {
+    #[cycle(dropping)]
+    fn drop(self) {
+        let Document {
+            pairs: _,
+            beside: _,
+        } = self;
+    }
+}
+
+impl Drop for Array {
+    #[cycle(dropping)]
+    fn drop(self) {
+        let Array {
+            items: _,
+            nesting: _,
+        } = self;
+    }
+}
+
+impl Document {
+    /// The pairs, to be changed and put back by `from_pairs`.
+    pub fn into_pairs(self) -> Vec<Pair>
+        ensures pairs { pairs_of result.items ≡ self }
+        ensures lawful { IsDocument self }
+    {
+        let Document { pairs, beside: _ } = self;
+        pairs
+    }
+}
+
+impl Array {
+    /// The items, to be changed and put back by `from_items`.
+    pub fn into_items(self) -> Vec<Value>
+        ensures items { items_of result.items ≡ self }
+        ensures lawful { IsArray self }
+    {
+        let Array { items, nesting: _ } = self;
+        items
+    }
 }
 
 impl Model for Document {
@@ -77,9 +122,9 @@ impl Model for Document {
 
     ghost coded = { coded_pairs };
 
-    ghost use Rattle.bson.specs.View.{pairs_of};
     ghost use Rattle.bson.specs.Lawful.{HoldsDocument};
     ghost use Rattle.bson.specs.Overview.{levels_of, Fits};
+    ghost use Rattle.bson.specs.View.{pairs_of};
 
     ghost view = { λ a. pairs_of a.pairs.items };
 
@@ -101,9 +146,9 @@ impl Model for Array {
 
     ghost coded = { coded_items };
 
-    ghost use Rattle.bson.specs.View.{items_of};
     ghost use Rattle.bson.specs.Lawful.{HoldsArray};
     ghost use Rattle.bson.specs.Overview.{nested, FitsItems};
+    ghost use Rattle.bson.specs.View.{items_of};
 
     ghost view = { λ a. items_of a.items.items };
 

@@ -72,11 +72,22 @@ pub enum Condition {
 
 /// Conditions that all have to hold.
 #[cycle(conditions)]
-#[derive(Debug, Drop)]
+#[derive(Debug)]
 pub struct Filter {
     pub(crate) conditions: Vec<Condition>,
     // the values of which one is asked for, where that is what they ask
     pub(crate) values: Option<ValueSet>,
+}
+
+// (written out, so that no crate above proves again that its parts are let go)
+impl Drop for Filter {
+    #[cycle(dropping)]
+    fn drop(self) {
+        let Filter {
+            conditions: _,
+            values: _,
+        } = self;
+    }
 }
 
 impl Model for Filter {
@@ -122,5 +133,16 @@ impl Filter {
         ensures { conditions_of result.now ≡ self.now }
     {
         &self.conditions
+    }
+
+    /// The conditions themselves.
+    pub(crate) fn into_conditions(self) -> Vec<Condition>
+        ensures { conditions_of result.items ≡ self }
+    {
+        let Filter {
+            conditions,
+            values: _,
+        } = self;
+        conditions
     }
 }

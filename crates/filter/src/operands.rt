@@ -107,10 +107,7 @@ fn one_of(alloc: Global, value: &Value) -> Result<Filter, Refusal>
         (if_ok (array_in (tree value.now)) (λ ts. Ok (equals ts))) }
 {
     let array = array_in(value)?;
-    let Filter {
-        conditions,
-        values: _,
-    } = equals(alloc, array)?;
+    let conditions = equals(alloc, array)?.into_conditions();
     if array.len() < MANY {
         return Ok(Filter {
             conditions,

@@ -94,13 +94,26 @@ pub fn copy_fields(alloc: Global, fields: &[IndexField]) -> Result<Vec<IndexFiel
 }
 
 /// What defines an index. A collection's indexes have numbers from 1 on; that on `_id` isn't among them.
-#[derive(Debug, Drop)]
+#[derive(Debug)]
 pub struct IndexSpec {
     number: u32,
     name: Text,
     fields: Vec<IndexField>,
     is_unique: bool,
     is_multi: bool,
+}
+
+// (written out, so that no crate above proves again that its parts are let go)
+impl Drop for IndexSpec {
+    fn drop(self) {
+        let IndexSpec {
+            number: _,
+            name: _,
+            fields: _,
+            is_unique: _,
+            is_multi: _,
+        } = self;
+    }
 }
 
 impl Model for IndexSpec {

@@ -13,9 +13,16 @@ use std::alloc::Global;
 use std::marker::Model;
 
 /// A path: one part or more.
-#[derive(Debug, Drop)]
+#[derive(Debug)]
 pub struct Path {
     parts: Vec<Part>,
+}
+
+// (written out, so that no crate above proves again that its parts are let go)
+impl Drop for Path {
+    fn drop(self) {
+        let Path { parts: _ } = self;
+    }
 }
 
 impl Model for Path {

@@ -22,9 +22,16 @@ pub struct Field {
 }
 
 /// The fields that documents are ordered by, the first one first.
-#[derive(Debug, Drop)]
+#[derive(Debug)]
 pub struct Sort {
     pub(crate) fields: Vec<Field>,
+}
+
+// (written out, so that no crate above proves again that its parts are let go)
+impl Drop for Sort {
+    fn drop(self) {
+        let Sort { fields: _ } = self;
+    }
 }
 
 impl Model for Sort {

@@ -10,6 +10,6 @@ use Rattle.filter.proofs.operands.one_of.Goals as goal
 pub invariant_of-result-2 : goal.invariant_of-result-2
 invariant_of-result-2 c =
     let vs = c.in_ok-values.values in
-    subst (λ (rs : Conditions). AsksOneOf (Some vs) rs) (sym (c.conditions.view_is ∙ c.in_ok-conditions.ensures))
+    subst (λ (rs : Conditions). AsksOneOf (Some vs) rs) (sym (c.into_conditions-conditions.ensures ∙ c.in_ok-equals.ensures))
     (asks_permuted c.in_ok-array.array.now vs
     (subst (λ (ts : Items). IsPermutation (items_list ts) vs) c.items.ensures.items c.in_ok-values.ensures))
