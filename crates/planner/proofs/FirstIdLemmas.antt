@@ -2,29 +2,28 @@
 use Rattle.std.proofs.Common.{◌≡◌, ◌⊎◌, ⊎_elim, ℕ, true, List, [], ◌∷◌, ◌++◌, map, Some, inl, inr, refl, sym, ap, subst, ◌∙◌}
 use Rattle.std.specs.Prelude.{All, Contains}
 use Rattle.std.specs.Int.{w32, to_be_bytes}
-use Rattle.std.specs.List.{AllByRecursion, filter}
+use Rattle.std.specs.List.{filter}
 use Rattle.std.specs.Option.{option_to_list}
-use Rattle.std.specs.Ordering.{on, nat_cmp, ordering_then}
+use Rattle.std.specs.Ordering.{on, ordering_then}
 use Rattle.std.specs.declared.cmp.Ordering.{Ordering}
 use Rattle.std.specs.declared.cmp.Ordering.TheVariants.{Less}
 use Rattle.std.proofs.lemmas.Cmp.{nat_cmp_total, tied_itself}
 use Rattle.bson.specs.Tree.{Pairs}
-use Rattle.value_order.specs.KeyText.{tree_text}
 use Rattle.value_order.specs.Order.{Key, bytes_cmp, compare}
 use Rattle.filter.specs.Condition.{Conditions}
 use Rattle.filter.specs.Matches.{matches}
 use Rattle.sort.specs.Sort.{SortField}
 use Rattle.index.specs.Definition.{Definition}
 use Rattle.index.specs.IndexKeys.{index_keys, is_multikey}
-use Rattle.index.specs.KeyTexts.{encoded_keys, key_bytes, entry_key}
-use Rattle.entries.specs.LawfulState.{IsStorable, IsRising}
+use Rattle.index.specs.KeyTexts.{encoded_keys, key_bytes}
+use Rattle.entries.specs.LawfulState.{IsStorable}
 use Rattle.entries.specs.State.{key_of}
 use Rattle.entries.proofs.MemberLemmas.{Among, among_map, among_of, contains_of, of_all}
 use Rattle.index.proofs.SpellableLaws.{keys_spellable}
 use Rattle.planner.specs.AnswerLaws.{IsNotedFor, RisesInOrder, answer_cmp}
-use Rattle.planner.specs.FirstIds.{AreFirstReadFrom, FirstIdsLead, LeadToFirst}
+use Rattle.planner.specs.FirstIds.{FirstIdsLead}
 use Rattle.planner.specs.FoundIds.{ids_of}
-use Rattle.planner.specs.KeyRange.{IsSpellable, has_key}
+use Rattle.planner.specs.KeyRange.{has_key}
 use Rattle.planner.specs.KeyScan.{id_text}
 use Rattle.planner.specs.KeySpan.{first_key, last_key}
 use Rattle.planner.specs.Plan.{is_multi, range_in}

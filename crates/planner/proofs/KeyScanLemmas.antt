@@ -43,7 +43,7 @@ plain_above : (d : Direction) (b : ℕ) → b ≢ 0 → plain d (plain d b) ≢ 
 plain_above Ascending b h = h
 plain_above Descending b h = λ e. h (omega (arith, e))
 
-not_equal : (b : ℕ) → b ≢ 0 → (b == 0) ≡ false
+pub not_equal : (b : ℕ) → b ≢ 0 → (b == 0) ≡ false
 not_equal b h = elim (eqb_tells b 0) [ inl p ↦ absurd (h p.1) | inr p ↦ p.0 ]
 
 not_zero : (d : Direction) (b : ℕ) → b ≢ 0 → (plain d (plain d b) == 0) ≡ false

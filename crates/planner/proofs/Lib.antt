@@ -11,6 +11,7 @@ pub mod KeySpanLemmas
 pub mod SpanTextLemmas
 pub mod IdLemmas
 pub mod KeyScanLemmas
+pub mod ZeroLemmas
 pub mod IdBackLemmas
 pub mod RangeReadingLemmas
 pub mod FoundIdLemmas

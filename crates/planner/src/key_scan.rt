@@ -1,9 +1,11 @@
 //! What stands in the entry of an index behind its key: the text of an `_id`.
 
 ghost use Rattle.std.specs.Prelude.{◌≡◌, false, option_map};
+ghost use Rattle.value_order.specs.declared.texts.Direction.TheVariants.{Ascending, Descending};
 ghost use Rattle.planner.specs.KeyScan.{plain, behind, behind_name, behind_string, behind_binary, behind_scalar, behind_value, behind_pairs, behind_items, id_text};
 
 use index::IndexSpec;
+use memchr::memchr;
 use value_order::Direction;
 
 /// A byte of a text in a direction, as the ascending text has it.
@@ -40,14 +42,34 @@ fn behind_name(direction: Direction, text: &[u8]) -> Option<&[u8]>
     None
 }
 
-/// What stands behind a string and the two zeros that end it. A zero and another byte are in it.
-fn behind_string(direction: Direction, text: &[u8]) -> Option<&[u8]>
-    ensures { option_map (λ r. r.now) result ≡ behind_string direction false text.now }
+/// What stands behind a string of an ascending text and the two zeros that end it. A zero and another byte are in it.
+fn behind_ascending_string(text: &[u8]) -> Option<&[u8]>
+    ensures { option_map (λ r. r.now) result ≡ behind_string Ascending false text.now }
+{
+    let mut rest = text;
+    'zeros: while let Some(at) = memchr(0, rest) {
+        let Some((_, behind)) = rest[at..].split_first() else {
+            return None;
+        };
+        let Some((byte, after)) = behind.split_first() else {
+            return None;
+        };
+        if *byte == 0 {
+            return Some(after);
+        }
+        rest = after;
+    }
+    None
+}
+
+/// The same of a descending one, where each byte is taken from 255.
+fn behind_descending_string(text: &[u8]) -> Option<&[u8]>
+    ensures { option_map (λ r. r.now) result ≡ behind_string Descending false text.now }
 {
     let mut rest = text;
     let mut after_zero = false;
     'bytes: while let Some((byte, after)) = rest.split_first() {
-        let is_zero = plain(direction, *byte) == 0;
+        let is_zero = plain(Direction::Descending, *byte) == 0;
         if is_zero && after_zero {
             return Some(after);
         }
@@ -55,6 +77,16 @@ fn behind_string(direction: Direction, text: &[u8]) -> Option<&[u8]>
         rest = after;
     }
     None
+}
+
+/// What stands behind a string and the two zeros that end it.
+fn behind_string(direction: Direction, text: &[u8]) -> Option<&[u8]>
+    ensures { option_map (λ r. r.now) result ≡ behind_string direction false text.now }
+{
+    match direction {
+        Direction::Ascending => behind_ascending_string(text),
+        Direction::Descending => behind_descending_string(text),
+    }
 }
 
 /// What stands behind a binary's length, subtype and bytes.
