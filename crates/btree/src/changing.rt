@@ -24,6 +24,7 @@ use crate::opening::{children_between, leaf_cells, units_of_branch};
 use crate::search::{branch_child, leaf_key, low_bound};
 use crate::settling::settle;
 use crate::{Pages, TreeFault};
+use key_order::compare_keys;
 use page::{Branch, Leaf, PageContent};
 use std::alloc::Global;
 use std::cmp::Ordering;
@@ -38,7 +39,7 @@ fn edits_from(edits: &[Edit<'_>], key: &[u8]) -> usize
 {
     let mut from = edits.len();
     while from > 0 {
-        if let Ordering::Less = edits[from - 1].key.cmp(key) {
+        if let Ordering::Less = compare_keys(edits[from - 1].key, key) {
             return from;
         }
         from -= 1;
@@ -70,7 +71,7 @@ fn child_place(units: &[Unit], key: &[u8]) -> usize
 {
     let mut at = units.len() - 1;
     while at > 0 {
-        match key.cmp(units[at].key.as_slice()) {
+        match compare_keys(key, units[at].key.as_slice()) {
             Ordering::Less => at -= 1,
             _ => return at,
         }
@@ -125,7 +126,10 @@ fn come_behind(leaf: &Leaf, edits: &[Edit<'_>]) -> bool {
     let Some(first) = edits.first() else {
         return false;
     };
-    matches!(leaf_key(leaf, len - 1).cmp(first.key), Ordering::Less)
+    matches!(
+        compare_keys(leaf_key(leaf, len - 1), first.key),
+        Ordering::Less
+    )
 }
 
 // The cells of a leaf after edits, out of their page.

@@ -7,6 +7,7 @@ ghost use Rattle.btree.specs.LooseView.{stub_in};
 ghost use Rattle.std.specs.Option.{option_map};
 
 use crate::loose::{Hold, Unit};
+use key_order::compare_keys;
 use std::cmp::Ordering;
 
 /// The bytes behind a page's header.
@@ -72,7 +73,7 @@ pub(crate) fn is_over(key: &[u8], last: Option<&[u8]>) -> bool
 {
     match last {
         None => true,
-        Some(last) => matches!(last.cmp(key), Ordering::Less),
+        Some(last) => matches!(compare_keys(last, key), Ordering::Less),
     }
 }
 

@@ -13,6 +13,7 @@ ghost use Rattle.btree.specs.Calls.{Edits, PutsIn, Retires, StoresValue, TakesOu
 
 use crate::chain::{retire_chain, write_chain};
 use crate::{Pages, TreeFault};
+use key_order::compare_keys;
 use page::{Cell, Stored};
 use std::alloc::Global;
 use std::cmp::Ordering;
@@ -25,7 +26,7 @@ fn place_among(cells: &[Cell<'_>], key: &[u8]) -> usize
     let mut high = cells.len();
     while low < high {
         let middle = low + (high - low) / 2;
-        match cells[middle].key.cmp(key) {
+        match compare_keys(cells[middle].key, key) {
             Ordering::Less => low = middle + 1,
             _ => high = middle,
         }
@@ -72,7 +73,7 @@ fn take_out<P: Pages>(
         return Ok(at);
     }
     let cell = cells[at];
-    if !cell.key.cmp(key).is_eq() {
+    if !compare_keys(cell.key, key).is_eq() {
         return Ok(at);
     }
     retire_value(pages, cell.stored)?;

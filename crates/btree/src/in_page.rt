@@ -19,6 +19,7 @@ use crate::opening::units_of_leaf;
 use crate::parts::child_unit;
 use crate::search::{leaf_cell, leaf_key, place_of_key};
 use crate::{Pages, TreeFault};
+use key_order::compare_keys;
 use page::{Cell, Leaf, PageContent};
 use std::alloc::{AllocError, Global};
 
@@ -88,7 +89,7 @@ fn cut_key<P: Pages>(
         return Ok((None, at));
     }
     let cell = leaf_cell(leaf, at);
-    if !cell.key.cmp(key).is_eq() {
+    if !compare_keys(cell.key, key).is_eq() {
         return Ok((None, at));
     }
     retire_value(pages, cell.stored)?;

@@ -13,6 +13,7 @@ use crate::search::{
     branch_child, child_of_key, high_bound, leaf_cell, lies_between, low_bound, place_of_key,
 };
 use crate::{Pages, TreeFault};
+use key_order::compare_keys;
 use page::{Leaf, PageContent, Stored};
 use std::alloc::Global;
 
@@ -26,7 +27,7 @@ fn stored_at<'a>(leaf: &'a Leaf, key: &[u8]) -> Option<Stored<'a>>
         return None;
     }
     let cell = leaf_cell(leaf, at);
-    if !cell.key.cmp(key).is_eq() {
+    if !compare_keys(cell.key, key).is_eq() {
         return None;
     }
     Some(cell.stored)

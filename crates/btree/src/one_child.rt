@@ -19,6 +19,7 @@ use crate::loose::{Loose, Unit, page_below, push_unit};
 use crate::parts::{child_unit, children_of};
 use crate::search::{branch_key, child_of_key, high_bound, is_within};
 use crate::{Pages, TreeFault};
+use key_order::compare_keys;
 use page::{Branch, PageContent};
 use std::alloc::Global;
 use std::cmp::Ordering;
@@ -39,7 +40,7 @@ pub(crate) fn child_of_all(branch: &Branch, edits: &[Edit<'_>]) -> Option<usize>
     if at >= last {
         return Some(at);
     }
-    match edits[len - 1].key.cmp(branch_key(branch, at + 1)) {
+    match compare_keys(edits[len - 1].key, branch_key(branch, at + 1)) {
         Ordering::Less => Some(at),
         _ => None,
     }

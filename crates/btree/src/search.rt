@@ -6,6 +6,7 @@ ghost use Rattle.page.specs.Content.{Arm, Item, leaf as leaf_content, branch as 
 ghost use Rattle.btree.specs.View.{content_in, item_in, arm_in};
 ghost use Rattle.btree.specs.Search.{IsPlace, IsEndPlace, IsChildPlace, LieBetween};
 
+use key_order::compare_keys;
 use page::{Branch, Cell, Child, Leaf, PageContent};
 use std::cmp::Ordering;
 
@@ -49,7 +50,7 @@ pub(crate) fn place_of_key(leaf: &Leaf, key: &[u8]) -> usize
     let mut high = leaf.len();
     while low < high {
         let middle = low + (high - low) / 2;
-        match leaf_key(leaf, middle).cmp(key) {
+        match compare_keys(leaf_key(leaf, middle), key) {
             Ordering::Less => low = middle + 1,
             _ => high = middle,
         }
@@ -83,7 +84,7 @@ pub(crate) fn child_of_key(branch: &Branch, key: &[u8]) -> usize
     let mut high = branch.len() - 1;
     while low < high {
         let middle = low + (high - low) / 2;
-        match key.cmp(branch_key(branch, middle + 1)) {
+        match compare_keys(key, branch_key(branch, middle + 1)) {
             Ordering::Less => high = middle,
             _ => low = middle + 1,
         }
@@ -98,7 +99,7 @@ pub fn is_within(key: &[u8], high: Option<&[u8]>) -> bool
 {
     match high {
         None => true,
-        Some(high) => matches!(key.cmp(high), Ordering::Less),
+        Some(high) => matches!(compare_keys(key, high), Ordering::Less),
     }
 }
 
@@ -107,12 +108,12 @@ pub fn is_between(key: &[u8], low: &[u8], high: Option<&[u8]>) -> bool
     ensures yes { IsBetween low.now (option_map (λ b. b.now) high.entry) key.now → result ≡ true }
     ensures no { result ≡ true → IsBetween low.now (option_map (λ b. b.now) high.entry) key.now }
 {
-    if let Ordering::Less = key.cmp(low) {
+    if let Ordering::Less = compare_keys(key, low) {
         return false;
     }
     match high {
         None => true,
-        Some(high) => matches!(key.cmp(high), Ordering::Less),
+        Some(high) => matches!(compare_keys(key, high), Ordering::Less),
     }
 }
 

@@ -9,6 +9,7 @@ ghost use Rattle.entries.specs.EditList.{edit_at, IsEditList, IsShortEdit, Leads
 
 use bson::NoMemory;
 use btree::Edit;
+use key_order::compare_keys;
 use std::alloc::Global;
 use std::collections::BTreeMap;
 use std::marker::Model;
@@ -58,7 +59,7 @@ fn is_above_all(noted: &BTreeMap<Vec<u8>, Option<Vec<u8>>>, key: &[u8]) -> bool
     ensures { result ≡ true → edit_at key.now (edits_in noted.now.entries) ≡ None }
 {
     match noted.last_key_value() {
-        Some((last, _)) => last.as_slice().cmp(key).is_lt(),
+        Some((last, _)) => compare_keys(last.as_slice(), key).is_lt(),
         None => true,
     }
 }

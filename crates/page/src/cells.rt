@@ -11,6 +11,7 @@ ghost use Rattle.page.specs.CellView.{place_of, item_of, arm_of, size_by, key_by
 
 use crate::{PageFault, is_all_zero};
 use byteorder::{ByteOrder, LittleEndian};
+use key_order::compare_keys;
 use std::alloc::{AllocError, Global};
 use std::cmp::Ordering;
 
@@ -262,7 +263,7 @@ pub(crate) fn keys_rise(form: CellForm, bytes: &[u8], above: &[u8], places: &[u1
     let mut last = above;
     for at in places {
         let key = form.key(&bytes[*at as usize..]);
-        match last.cmp(key) {
+        match compare_keys(last, key) {
             Ordering::Less => last = key,
             _ => return false,
         }

@@ -7,7 +7,7 @@ use Rattle.std.specs.Cmp.{nat_cmp_is}
 use Rattle.bson.specs.Lawful.{NoZero}
 use Rattle.value_order.specs.Order.{bytes_cmp}
 use Rattle.value_order.specs.KeyText.{escaped_text}
-use Rattle.value_order.specs.SortingLaws.{SortsAs, SortsAs-cell, SortsAs-is, SortsAs-append, SortsAs-less, SortsAs-greater}
+use Rattle.key_order.specs.SortingLaws.{SortsAs, SortsAs-cell, SortsAs-is, SortsAs-append, SortsAs-less, SortsAs-greater}
 
 above_zero : (b : ℕ) → b ≢ 0 → nat_cmp 0 b ≡ Less
 above_zero b h = sym (nat_cmp_is 0 b Less (omega arith))

@@ -8,7 +8,7 @@ use Rattle.std.specs.Cmp.Lexicographic.{slice_cmp}
 use Rattle.std.proofs.lemmas.Cmp.{nat_list_cmp_total}
 use Rattle.std.proofs.lemmas.Map.Lookups.{exact_bytes}
 use Rattle.value_order.specs.KeyText.{complement}
-use Rattle.value_order.specs.SortingLaws.{SortsAs, SortsAs-none, SortsAs-cell, SortsAs-is, SortsAs-append, SortsAs-greater, order_of}
+use Rattle.key_order.specs.SortingLaws.{SortsAs, SortsAs-none, SortsAs-cell, SortsAs-is, SortsAs-append, SortsAs-greater, order_of}
 
 abbrev pub AreBytes : List ℕ → Type 0
 AreBytes [] = Unit {0}

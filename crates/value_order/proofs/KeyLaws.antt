@@ -18,7 +18,7 @@ use Rattle.value_order.specs.KeyText.{scalar_text, content_text, pairs_text, ite
 use Rattle.value_order.specs.Laws.{IsKey, TextsOrder, TextsAgree, NoneBegins}
 use Rattle.value_order.specs.declared.texts.Direction.{Direction}
 use Rattle.value_order.specs.declared.texts.Direction.TheVariants as directions
-use Rattle.value_order.specs.SortingLaws.{SortsAs, SortsAs-cell, SortsAs-append, order_of}
+use Rattle.key_order.specs.SortingLaws.{SortsAs, SortsAs-cell, SortsAs-append, order_of}
 use Rattle.value_order.specs.CodingLaws.{body, pairs_body, items_body, GoodTree, GoodPairs, GoodItems, tree_sorts, class_above}
 use Rattle.value_order.proofs.ScalarLaws.{IsSized, scalar_sorts}
 use Rattle.value_order.proofs.EscapingLaws.{name_sorts}

@@ -1,5 +1,4 @@
 pub mod ClassLaws
-pub mod NumberLaws
 pub mod EscapingLaws
 pub mod ScalarLaws
 pub mod InversionLaws

@@ -13,8 +13,8 @@ use Rattle.bson.specs.Tree.{Scalar, text, binary, object_id, boolean, date, null
 use Rattle.bson.specs.Lawful.{IsScalar}
 use Rattle.value_order.specs.Order.{scalar_class, alike, scalar_leaf, leaf_cmp}
 use Rattle.value_order.specs.KeyText.{escaped_text, sortable_bits, scalar_text}
-use Rattle.value_order.specs.SortingLaws.{SortsAs, SortsAs-none, SortsAs-cell, SortsAs-is, SortsAs-append, SortsAs-even, then-Equal}
-use Rattle.value_order.proofs.NumberLaws.{SortsAs-bytes}
+use Rattle.key_order.specs.SortingLaws.{SortsAs, SortsAs-none, SortsAs-cell, SortsAs-is, SortsAs-append, SortsAs-even, then-Equal}
+use Rattle.key_order.proofs.NumberLaws.{SortsAs-bytes}
 use Rattle.value_order.proofs.EscapingLaws.{escaped_sorts}
 
 -- a binary's length fits its four bytes

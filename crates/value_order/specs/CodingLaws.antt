@@ -11,8 +11,8 @@ use Rattle.bson.specs.Tree.{int64, min_key, max_key, Tree, scalar, document, arr
 use Rattle.bson.specs.Tree.{pair, Items, no_items, item}
 use Rattle.value_order.specs.Order.{scalar_class, class, bytes_cmp, scalar_leaf, leaf_cmp}
 use Rattle.value_order.specs.Order.{content_cmp, pairs_cmp, items_cmp, compare}
-use Rattle.value_order.specs.SortingLaws.{SortsAs, SortsAs-cell, SortsAs-is, SortsAs-append}
-use Rattle.value_order.specs.SortingLaws.{SortsAs-less, SortsAs-greater}
+use Rattle.key_order.specs.SortingLaws.{SortsAs, SortsAs-cell, SortsAs-is, SortsAs-append}
+use Rattle.key_order.specs.SortingLaws.{SortsAs-less, SortsAs-greater}
 
 -- no scalar is of the class of documents or of arrays
 nested_class : (s : Scalar) → (scalar_class s ≡ 0x50 → ⊥) × (scalar_class s ≡ 0x60 → ⊥)

@@ -6,7 +6,6 @@ pub mod View
 pub mod Writing
 pub mod Laws
 pub mod Wrapped
-pub mod SortingLaws
 pub mod CodingLaws
 pub mod TotalLaws
 pub mod KeyOrderLaws

@@ -10,8 +10,8 @@ use Rattle.std.specs.Cmp.Lexicographic.{slice_cmp, lists_total}
 use Rattle.bson.specs.Tree.{Scalar, Tree, scalar, document, array, Pairs, no_pairs, pair, Items}
 use Rattle.bson.specs.Tree.{no_items, item}
 use Rattle.value_order.specs.Order.{class, bytes_cmp, Leaf, scalar_leaf, leaf_cmp, compare}
-use Rattle.value_order.specs.SortingLaws.{SortsAs, SortsAs-cell, SortsAs-is, SortsAs-append}
-use Rattle.value_order.specs.SortingLaws.{SortsAs-less, SortsAs-greater, order_of}
+use Rattle.key_order.specs.SortingLaws.{SortsAs, SortsAs-cell, SortsAs-is, SortsAs-append}
+use Rattle.key_order.specs.SortingLaws.{SortsAs-less, SortsAs-greater, order_of}
 use Rattle.value_order.specs.CodingLaws.{body, GoodTree, GoodPairs, GoodItems, tree_sorts}
 use Rattle.value_order.specs.CodingLaws.{class_above}
 

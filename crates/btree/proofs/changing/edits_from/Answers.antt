@@ -7,5 +7,5 @@ loop-from-preserved c =
     record {
       within = omega (arith, c.loop-from.invariant.within);
       behind = behind_more c.args.edits.now c.loop-from.from c.args.key.now _ c.loop-from-test.true c.loop-from.invariant.within
-          (λ u. c.in_default.not-Less (c.cmp.ensures ∙ u)) c.loop-from.invariant.behind;
+          (λ u. c.in_default.not-Less (c.compare_keys.ensures ∙ u)) c.loop-from.invariant.behind;
     }

@@ -19,17 +19,17 @@ pub returns-then-not-is_eq-clause-takes : goal.returns-then-not-is_eq-clause-tak
 returns-then-not-is_eq-clause-takes g c =
     λ pairs e rise shown k. taken_other c.args.cells.now.items pairs c.args.key.now c.place_among-at.result e rise
     (subst (λ cs. IsPlace (map item_in cs) c.args.key.now c.place_among-at.result) c.deref.ensures.value c.place_among-at.ensures)
-    (g.P.Pages.store c.args.pages.now) c.index.result.now
-    (let long : vec_len c.args.cells.now ≡ length c.args.cells.now.items = search rules in omega arith) c.index.ensures
-    (ap is_eq (sym c.cmp.ensures) ∙ sym c.is_eq.ensures ∙ c.if-not-is_eq.true)
+    (g.P.Pages.store c.args.pages.now) c.index-cell.result.now
+    (let long : vec_len c.args.cells.now ≡ length c.args.cells.now.items = search rules in omega arith) c.index-cell.ensures
+    (ap is_eq (sym c.compare_keys.ensures) ∙ sym c.is_eq.ensures ∙ c.if-not-is_eq.true)
 
 pub returns-in_err-retire_value-clause-takes : goal.returns-in_err-retire_value-clause-takes
 returns-in_err-retire_value-clause-takes g c =
     λ pairs e rise shown k. taken_failed c.args.cells.now.items pairs c.args.key.now c.place_among-at.result e rise
     (subst (λ cs. IsPlace (map item_in cs) c.args.key.now c.place_among-at.result) c.deref.ensures.value c.place_among-at.ensures)
     (g.P.Pages.store c.args.pages.now) (g.P.Pages.store c.retire_value.new.pages)
-    c.index.result.now _ _ _ (let long : vec_len c.args.cells.now ≡ length c.args.cells.now.items = search rules in
-    omega arith) c.index.ensures shown c.from_residual.ensures.1 (λ x is has. c.in_err-retire_value.ensures.retires x is has k)
+    c.index-cell.result.now _ _ _ (let long : vec_len c.args.cells.now ≡ length c.args.cells.now.items = search rules in
+    omega arith) c.index-cell.ensures shown c.from_residual.ensures.1 (λ x is has. c.in_err-retire_value.ensures.retires x is has k)
 
 pub returns-clause-takes : goal.returns-clause-takes
 returns-clause-takes g c =
@@ -39,8 +39,8 @@ returns-clause-takes g c =
     (taken_here c.args.cells.now.items pairs c.args.key.now c.place_among-at.result e rise
     (subst (λ cs. IsPlace (map item_in cs) c.args.key.now c.place_among-at.result) c.deref.ensures.value c.place_among-at.ensures)
     (g.P.Pages.store c.args.pages.now) (g.P.Pages.store c.retire_value.new.pages)
-    c.index.result.now (let long : vec_len c.args.cells.now ≡ length c.args.cells.now.items = search rules in omega arith) c.index.ensures
-    (ap is_eq (sym c.cmp.ensures) ∙ sym c.is_eq.ensures ∙ c.if-not-is_eq.false) shown (λ x is has. c.in_ok-retire_value.ensures.retires x is has k))
+    c.index-cell.result.now (let long : vec_len c.args.cells.now ≡ length c.args.cells.now.items = search rules in omega arith) c.index-cell.ensures
+    (ap is_eq (sym c.compare_keys.ensures) ∙ sym c.is_eq.ensures ∙ c.if-not-is_eq.false) shown (λ x is has. c.in_ok-retire_value.ensures.retires x is has k))
 
 pub returns-clause-small : goal.returns-clause-small
 returns-clause-small g c =

@@ -21,13 +21,13 @@ pub returns-then-not-is_eq-clause-gap : goal.returns-then-not-is_eq-clause-gap
 returns-then-not-is_eq-clause-gap g c =
     gap_other c.args.leaf.now c.len.ensures.sound c.place_of_key-at.result (omega (arith, c.len.ensures.count)) c.args.key.now c.place_of_key-at.ensures
     (item_in c.leaf_cell-cell.result) (c.leaf_cell-cell.ensures _)
-    (ap is_eq (sym c.cmp.ensures) ∙ sym c.is_eq.ensures ∙ c.if-not-is_eq.true)
+    (ap is_eq (sym c.compare_keys.ensures) ∙ sym c.is_eq.ensures ∙ c.if-not-is_eq.true)
 
 pub returns-then-not-is_eq-clause-takes : goal.returns-then-not-is_eq-clause-takes
 returns-then-not-is_eq-clause-takes g c =
     λ pairs e rise shown k. other_taken c.args.leaf.now pairs c.args.key.now c.place_of_key-at.result e rise c.place_of_key-at.ensures
     (g.P.Pages.store c.args.pages.now) (item_in c.leaf_cell-cell.result) (omega (arith, c.len.ensures.count)) (c.leaf_cell-cell.ensures _)
-    (ap is_eq (sym c.cmp.ensures) ∙ sym c.is_eq.ensures ∙ c.if-not-is_eq.true)
+    (ap is_eq (sym c.compare_keys.ensures) ∙ sym c.is_eq.ensures ∙ c.if-not-is_eq.true)
 
 pub returns-in_err-retire_value-clause-takes : goal.returns-in_err-retire_value-clause-takes
 returns-in_err-retire_value-clause-takes g c =
@@ -68,5 +68,5 @@ returns-clause-takes g c =
     (sym c.in_ok-left.ensures)
     (here_taken c.args.leaf.now pairs c.args.key.now c.place_of_key-at.result e rise c.place_of_key-at.ensures (g.P.Pages.store c.args.pages.now)
     (g.P.Pages.store c.retire_value.new.pages) (item_in c.leaf_cell-cell.result)
-    (omega (arith, c.len.ensures.count)) (c.leaf_cell-cell.ensures _) (ap is_eq (sym c.cmp.ensures) ∙ sym c.is_eq.ensures ∙ c.if-not-is_eq.false) shown
+    (omega (arith, c.len.ensures.count)) (c.leaf_cell-cell.ensures _) (ap is_eq (sym c.compare_keys.ensures) ∙ sym c.is_eq.ensures ∙ c.if-not-is_eq.false) shown
     (λ x is has. c.in_ok-retire_value.ensures.retires x is has k))

@@ -1,0 +1,2 @@
+pub mod NumberLaws
+mod CompareLemmas
