@@ -17,6 +17,8 @@ pub enum Fault {
     Stopped,
     /// The server answered that the device failed, or that no page was free.
     Refused,
+    /// The file isn't opened, or a check of it ends, for the fault of this name.
+    File(&'static str),
 }
 
 impl From<AllocError> for Fault {

@@ -17,7 +17,7 @@ pub use byte_text::bytes_in;
 pub use expansion::{opened, with_number};
 pub use fault::{Fault, differs};
 pub use lines::{Line, lines_of};
-pub use message::{Draft, Shape};
+pub use message::{Draft, Shape, put_over};
 pub use numbers::{number_in, row_in};
 pub use reply::{Reply, batch_reply, done, is_document, number_of, with_ids};
 pub use tables::{Subject, subject_of};

@@ -110,19 +110,19 @@ impl Draft {
     pub fn frame(&mut self, number: u32) -> Result<Vec<u8>, Fault> {
         let mut frame = self.unpatched(number)?;
         for (place, bytes) in self.patches.iter() {
-            put_patch(&mut frame, *place, bytes.as_slice())?;
+            put_over(&mut frame, *place, bytes.as_slice())?;
         }
         Ok(frame)
     }
 }
 
-/// Puts bytes in the place of those that stand in a frame.
-fn put_patch(frame: &mut [u8], place: usize, bytes: &[u8]) -> Result<(), Fault> {
-    let Some((_, rest)) = frame.split_at_mut_checked(place) else {
-        return Err(Fault::Form("a patch behind the frame"));
+/// Puts bytes in the place of those that stand in a frame or a sector from a place on.
+pub fn put_over(all: &mut [u8], place: usize, bytes: &[u8]) -> Result<(), Fault> {
+    let Some((_, rest)) = all.split_at_mut_checked(place) else {
+        return Err(Fault::Form("bytes behind the end of the frame or sector"));
     };
     let Some((old, _)) = rest.split_at_mut_checked(bytes.len()) else {
-        return Err(Fault::Form("a patch behind the frame"));
+        return Err(Fault::Form("bytes behind the end of the frame or sector"));
     };
     old.copy_from_slice(bytes);
     Ok(())

@@ -29,6 +29,8 @@ pub enum Word {
     Cut,
     Calls,
     Check,
+    Put,
+    Sector,
     Json,
     Text,
     Bson,
@@ -39,7 +41,7 @@ pub enum Word {
 }
 
 /// Each word as it is written.
-const WORDS: [(&str, Word); 33] = [
+const WORDS: [(&str, Word); 35] = [
     (">", Word::Command),
     (">>", Word::WholeCommand),
     ("look", Word::Look),
@@ -66,6 +68,8 @@ const WORDS: [(&str, Word); 33] = [
     ("cut", Word::Cut),
     ("calls", Word::Calls),
     ("check", Word::Check),
+    ("put", Word::Put),
+    ("sector", Word::Sector),
     ("json", Word::Json),
     ("text", Word::Text),
     ("bson", Word::Bson),
@@ -139,7 +143,9 @@ impl Word {
             | Word::Fail
             | Word::Cut
             | Word::Calls
-            | Word::Check => Kind::Between,
+            | Word::Check
+            | Word::Put
+            | Word::Sector => Kind::Between,
             Word::Json
             | Word::Text
             | Word::Bson

@@ -79,6 +79,7 @@ impl<'a> Trial<'a> {
             Manner {
                 max_pages: self.test.head.max_pages,
                 is_patient: self.test.head.grows,
+                is_recorded: self.test.head.is_one_run,
                 last_look,
             },
         )
@@ -185,6 +186,9 @@ impl<'a> Trial<'a> {
     fn play_whole(&self) -> Result<(u64, u64), Failure> {
         let mut player = self.player(0).map_err(|fault| self.failure(fault))?;
         self.play(&mut player)?;
+        if self.test.head.is_one_run {
+            player.is_same_anew().map_err(|fault| self.failure(fault))?;
+        }
         Ok((player.orders.calls(), player.orders.writes()))
     }
 

@@ -1,6 +1,7 @@
 //! A file whose last commit has the greatest number that there is.
 
-use page::{Disk, MemDisk};
+use crate::sectors::{read_sector, write_sector};
+use page::MemDisk;
 use script_text::Fault;
 
 /// The number of a root's commit.
@@ -11,29 +12,17 @@ fn number_in(root: &[u8; 512]) -> u64 {
     }
 }
 
-/// Reads a sector.
-fn sector(memory: &mut MemDisk, number: u64) -> Result<[u8; 512], Fault> {
-    let mut bytes = [0; 512];
-    match memory.read(number, &mut bytes) {
-        Ok(()) => Ok(bytes),
-        Err(_) => Err(Fault::Memory),
-    }
-}
-
 /// Writes a root with this number in the sector where that belongs.
 fn put_root(memory: &mut MemDisk, root: &[u8; 512], number: u64) -> Result<(), Fault> {
     let mut bytes = *root;
     bytes[16..24].copy_from_slice(&number.to_le_bytes());
-    match memory.write(number % 2, &bytes) {
-        Ok(()) => Ok(()),
-        Err(_) => Err(Fault::Memory),
-    }
+    write_sector(memory, number % 2, &bytes)
 }
 
 /// Gives the last commit the greatest number, and the one before it the greatest but one.
 pub fn with_last_commit(memory: &mut MemDisk) -> Result<(), Fault> {
-    let even = sector(memory, 0)?;
-    let odd = sector(memory, 1)?;
+    let even = read_sector(memory, 0)?;
+    let odd = read_sector(memory, 1)?;
     let newest = if number_in(&odd) < number_in(&even) {
         even
     } else {

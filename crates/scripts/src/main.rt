@@ -5,9 +5,11 @@
 mod device;
 mod everywhere;
 mod last_commit;
+mod one_run;
 mod player;
 mod playing;
 mod script;
+mod sectors;
 mod session;
 mod test;
 
@@ -37,6 +39,7 @@ fn print_failure(rt: &HostRuntime, file: &str, failure: &Failure) -> io::Result<
         Fault::Other(what) => println!(rt; "{file}:{line}: {what}"),
         Fault::Stopped => println!(rt; "{file}:{line}: the server has stopped"),
         Fault::Refused => println!(rt; "{file}:{line}: the server answers that its device failed"),
+        Fault::File(name) => println!(rt; "{file}:{line}: the file is refused: {name}"),
     }
 }
 

@@ -1,6 +1,7 @@
 //! Plays the lines of a test to a server: what is sent, turns, and what they hand out.
 
 use crate::device::Orders;
+use crate::one_run::OneRun;
 use crate::session::Session;
 use op_msg::FrameFault;
 use page::MemDisk;
@@ -31,6 +32,8 @@ pub struct Manner {
     pub max_pages: u32,
     /// What finds no memory is asked once more.
     pub is_patient: bool,
+    /// What is done is recorded.
+    pub is_recorded: bool,
     /// It ends behind the look with this number, counted from 1; 0 where it goes on to its end.
     pub last_look: usize,
 }
@@ -89,13 +92,14 @@ impl Player {
         let Manner {
             max_pages,
             is_patient,
+            is_recorded: _,
             last_look: _,
         } = self.manner;
         match Session::open(self.alloc, memory, orders, max_pages, is_patient) {
             Ok(session) => Ok(session),
             Err((memory, OpenFault::Device)) => Err((memory, Fault::Stopped)),
             Err((memory, OpenFault::Memory)) => Err((memory, Fault::Memory)),
-            Err((memory, _)) => Err((memory, Fault::Form("the file is refused"))),
+            Err((memory, fault)) => Err((memory, Fault::File(fault.name()))),
         }
     }
 
@@ -103,7 +107,10 @@ impl Player {
     pub fn open(&mut self, memory: MemDisk) -> Result<(), Fault> {
         let _calls = self.orders.take_calls();
         match self.try_open(memory) {
-            Ok(session) => {
+            Ok(mut session) => {
+                if self.manner.is_recorded {
+                    session.record(OneRun::new(self.alloc));
+                }
                 self.session = Some(session);
                 Ok(())
             }
@@ -125,6 +132,22 @@ impl Player {
             return Ok(session.into_memory());
         }
         self.spare.take().ok_or(Fault::Form("no server is open"))
+    }
+
+    /// The device, between turns. The server is closed, if one is open.
+    pub fn device(&mut self) -> Result<&mut MemDisk, Fault> {
+        self.is_idle()?;
+        let memory = self.close()?;
+        self.spare = Some(memory);
+        self.spare.as_mut().ok_or(Fault::Form("no server is open"))
+    }
+
+    /// Whether `run_anew` does what was done, and hands out the same.
+    pub fn is_same_anew(&self) -> Result<(), Fault> {
+        match self.session.as_ref() {
+            Some(session) => session.is_same_anew(self.manner.max_pages),
+            None => Err(Fault::Form("no server is open")),
+        }
     }
 
     /// Sends the message that was put together, if there is one.

@@ -2,16 +2,21 @@
 
 use crate::last_commit::with_last_commit;
 use crate::player::Player;
+use crate::sectors::{is_sector, put_in_sector, read_sector};
 use bson::{Array, Document, Text, Value, decode};
 use page::MemDisk;
 use script_text::{
     Draft, Fault, Reply, Word, batch_reply, bytes_in, differs, document_in, documents_in, done,
     is_document, number_in, values_in, with_ids,
 };
+use server::Counts;
 use std::alloc::{AllocError, Global};
 
 /// The code of a refusal because the device failed.
 const STORAGE_FAILED: i32 = 9005;
+
+/// What `reopen` gives where no fault is said.
+const OPENED: &str = "a server";
 
 /// A text as a value.
 fn text(alloc: Global, text: &str) -> Result<Value, AllocError> {
@@ -151,10 +156,15 @@ impl Player {
     /// A connection is closed for this fault.
     pub fn is_closed(&mut self, wanted: &str) -> Result<(), Fault> {
         let fault = self.take_closed()?;
-        if fault.name() == wanted {
+        self.is_same(wanted, fault.name())
+    }
+
+    /// What came is what was wanted.
+    fn is_same(&self, wanted: &str, came: &str) -> Result<(), Fault> {
+        if came == wanted {
             return Ok(());
         }
-        Err(differs(self.alloc, wanted, fault.name())?)
+        Err(differs(self.alloc, wanted, came)?)
     }
 
     /// The server is closed, and opened again over a device that holds this.
@@ -164,14 +174,38 @@ impl Player {
         self.open(memory)
     }
 
-    /// `reopen`: over what its device holds; `last`: the same, at the greatest number of a commit.
-    pub fn reopen(&mut self, is_last: bool) -> Result<(), Fault> {
+    /// `reopen`: over what its device holds; `reopen FAULT`: that is refused for this fault.
+    pub fn reopen(&mut self, wanted: &str) -> Result<(), Fault> {
         self.is_idle()?;
-        let mut memory = self.close()?;
-        if is_last {
-            with_last_commit(&mut memory)?;
-        }
-        self.open_over(memory)
+        let memory = self.close()?;
+        let came = match self.open_over(memory) {
+            Ok(()) => OPENED,
+            Err(Fault::File(name)) => name,
+            Err(fault) => return Err(fault),
+        };
+        self.is_same(if wanted.is_empty() { OPENED } else { wanted }, came)
+    }
+
+    /// `last`: opens again at the greatest number of a commit.
+    pub fn reopen_last(&mut self) -> Result<(), Fault> {
+        with_last_commit(self.device()?)?;
+        self.reopen("")
+    }
+
+    /// `put N BYTES` or `put N+AT BYTES`.
+    pub fn put(&mut self, rest: &str) -> Result<(), Fault> {
+        let (place, bytes) = rest.split_once(' ').unwrap_or((rest, ""));
+        let (number, at) = place.split_once('+').unwrap_or((place, "0"));
+        let bytes = bytes_in(self.alloc, bytes)?;
+        put_in_sector(self.device()?, number_in(number)?, number_in(at)?, &bytes)
+    }
+
+    /// `sector N BYTES`.
+    pub fn sector(&mut self, rest: &str) -> Result<(), Fault> {
+        let (number, front) = rest.split_once(' ').unwrap_or((rest, ""));
+        let front = bytes_in(self.alloc, front)?;
+        let came = read_sector(self.device()?, number_in(number)?)?;
+        is_sector(self.alloc, &came, &front)
     }
 
     /// Opens again over what a power cut leaves.
@@ -193,9 +227,17 @@ impl Player {
         Err(differs(self.alloc, "fewer calls of the device", came.as_str())?)
     }
 
-    /// A check of the file counts this.
-    pub fn counts(&mut self, wanted: &str) -> Result<(), Fault> {
-        let counts = self.check()?;
+    /// A check of the file counts this, or ends for this fault.
+    pub fn checks(&mut self, wanted: &str) -> Result<(), Fault> {
+        match self.check() {
+            Ok(counts) => self.counts(wanted, counts),
+            Err(Fault::File(name)) => self.is_same(wanted, name),
+            Err(fault) => Err(fault),
+        }
+    }
+
+    /// The counts of a check are these.
+    fn counts(&self, wanted: &str, counts: Counts) -> Result<(), Fault> {
         let came = format!(in self.alloc;
             "generation {} collections {} documents {} indexes {} pages {} free {}",
             counts.generation,
@@ -205,10 +247,7 @@ impl Player {
             counts.pages,
             counts.free,
         )?;
-        if came.as_str() == wanted {
-            return Ok(());
-        }
-        Err(differs(self.alloc, wanted, came.as_str())?)
+        self.is_same(wanted, came.as_str())
     }
 
     /// `fail N` or `fail N lands`.

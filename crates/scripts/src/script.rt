@@ -26,6 +26,8 @@ pub struct Head {
     pub cuts: bool,
     /// It is played while growths of memory are refused.
     pub grows: bool,
+    /// Its steps are done once more by `run_anew`.
+    pub is_one_run: bool,
 }
 
 impl Head {
@@ -37,6 +39,7 @@ impl Head {
             fails: false,
             cuts: false,
             grows: false,
+            is_one_run: false,
         }
     }
 
@@ -47,6 +50,7 @@ impl Head {
             "everywhere fail" => self.fails = true,
             "everywhere cut" => self.cuts = true,
             "each growth" => self.grows = true,
+            "one run" => self.is_one_run = true,
             _ => {
                 let Some(pages) = line.strip_prefix("pages ") else {
                     return Ok(false);

@@ -1,6 +1,7 @@
 //! A server whose device a script has in its hands.
 
 use crate::device::{Device, Orders};
+use crate::one_run::OneRun;
 use engine::ConnId;
 use page::MemDisk;
 use script_text::Fault;
@@ -15,6 +16,8 @@ pub struct Session {
     core: Core<Device>,
     // a call that finds no memory is made once more
     is_patient: bool,
+    // what was done so far, where that is recorded
+    run: Option<OneRun>,
 }
 
 impl Model for Session {
@@ -48,7 +51,11 @@ impl Session {
     ) -> Result<Session, (MemDisk, OpenFault)> {
         let device = Device::new(memory, orders);
         match Core::open(alloc, device, Config { max_pages }) {
-            Ok(core) => Ok(Session { core, is_patient }),
+            Ok(core) => Ok(Session {
+                core,
+                is_patient,
+                run: None,
+            }),
             Err((device, fault)) => Err((device.into_memory(), fault)),
         }
     }
@@ -58,13 +65,30 @@ impl Session {
         let Session {
             core,
             is_patient: _,
+            run: _,
         } = self;
         core.into_disk().into_memory()
+    }
+
+    /// Records what is done from here on.
+    pub fn record(&mut self, run: OneRun) {
+        self.run = Some(run);
+    }
+
+    /// Whether `run_anew` does what was recorded and hands out the same.
+    pub fn is_same_anew(&self, max_pages: u32) -> Result<(), Fault> {
+        match self.run.as_ref() {
+            Some(run) => run.is_same_anew(max_pages),
+            None => Ok(()),
+        }
     }
 
     /// Bytes come on a connection. What comes behind a fault of a frame is passed over.
     pub fn feed(&mut self, connection: u8, bytes: &[u8]) -> Result<(), Fault> {
         let connection = connection_of(connection)?;
+        if let Some(run) = self.run.as_mut() {
+            run.push_bytes(connection, bytes)?;
+        }
         let mut fed = self.core.feed(connection, bytes);
         if self.is_patient && matches!(fed, Err(FeedFault::Memory)) {
             fed = self.core.feed(connection, bytes);
@@ -80,6 +104,9 @@ impl Session {
         let mut out = self.core.turn();
         if self.is_patient && matches!(out, Err(TurnFault::Memory)) {
             out = self.core.turn();
+        }
+        if let (Some(run), Ok(out)) = (self.run.as_mut(), &out) {
+            run.push_turn(out)?;
         }
         match out {
             Ok(out) => Ok(out),
@@ -98,14 +125,18 @@ impl Session {
             Ok(counts) => Ok(counts),
             Err(CheckFault::Device) => Err(Fault::Refused),
             Err(CheckFault::Memory) => Err(Fault::Memory),
-            Err(_) => Err(Fault::Form("the file is damaged")),
+            Err(fault) => Err(Fault::File(fault.name())),
         }
     }
 
     /// A connection ends.
     pub fn gone(&mut self, connection: u8) -> Result<(), Fault> {
-        self.core.gone(connection_of(connection)?);
-        Ok(())
+        let connection = connection_of(connection)?;
+        self.core.gone(connection);
+        match self.run.as_mut() {
+            Some(run) => run.push_end(connection),
+            None => Ok(()),
+        }
     }
 
     /// Whether a connection has a whole message or a fault of a frame waiting.

@@ -75,12 +75,14 @@ impl Player {
         self.send()?;
         match word {
             Word::Gone => self.gone(number_in(rest)?),
-            Word::Reopen => self.reopen(false),
-            Word::Last => self.reopen(true),
+            Word::Reopen => self.reopen(rest),
+            Word::Last => self.reopen_last(),
             Word::Fail => self.fail(rest),
             Word::Cut => self.cut(rest),
             Word::Calls => self.calls(rest),
-            Word::Check => self.counts(rest),
+            Word::Check => self.checks(rest),
+            Word::Put => self.put(rest),
+            Word::Sector => self.sector(rest),
             _ => {
                 self.orders.stop_after(number_in(rest)?);
                 Ok(())

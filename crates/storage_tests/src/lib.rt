@@ -1,4 +1,4 @@
-//! Tests of the storage, from `page` to `pager`: pages, roots and trees byte by byte, files that no commit left, how many pages a
+//! Tests of the storage, from `page` to `pager`: pages and trees byte by byte, files that no commit left, how many pages a
 //! file has, lists of free pages, and a disk in a file.
 #![tactic(auto)]
 
@@ -14,7 +14,5 @@ mod free_lists;
 mod page_bytes;
 #[cfg(test)]
 mod page_counts;
-#[cfg(test)]
-mod root_bytes;
 #[cfg(test)]
 mod tree_bytes;
