@@ -17,7 +17,7 @@ use Rattle.database_model.specs.Documents.{place, insert_all}
 use Rattle.command_model.specs.Find.{Query}
 use Rattle.command_model.specs.Count.{Count}
 use Rattle.command_model.specs.Aggregate.{Aggregate}
-use Rattle.aggregate.specs.Pipeline.{run as after_pipeline}
+use Rattle.aggregate_model.specs.Pipeline.{run as after_pipeline}
 use Rattle.database_model.specs.Aggregate.{run_aggregate}
 use Rattle.engine.proofs.Piping.{piped_within}
 use Rattle.database_model.specs.Find.{query_result as found_by, matching, window, run_find}

@@ -10,7 +10,7 @@ use Rattle.path.specs.declared.refusal.Refusal.{Refusal}
 use Rattle.path.specs.declared.refusal.Refusal.TheVariants as refusals
 use Rattle.btree.specs.Keys.{Edit}
 use Rattle.collections.specs.Reading.{catalogued_in, catalogued_of}
-use Rattle.update.specs.Stored.{id_first}
+use Rattle.update_model.specs.Stored.{id_first}
 use Rattle.index.specs.Definition.{Definition}
 use Rattle.entries.specs.Documents.{AddsCollection}
 use Rattle.entries.specs.LawfulState as states

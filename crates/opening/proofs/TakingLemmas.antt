@@ -16,7 +16,7 @@ use Rattle.bson.specs.Lookup.{lookup}
 use Rattle.bson.specs.Lawful.{IsDocument}
 use Rattle.btree.specs.Keys.{Entry}
 use Rattle.btree.proofs.ListLemmas.{map_append}
-use Rattle.update.specs.Stored.{no_array}
+use Rattle.update_model.specs.Stored.{no_array}
 use Rattle.entries.specs.Documents.{put_document, with_documents}
 use Rattle.entries.specs.Entering.{AreIndexed, clashes}
 use Rattle.index.specs.IndexKeys.{noted}

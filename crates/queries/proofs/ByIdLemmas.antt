@@ -12,7 +12,7 @@ use Rattle.bson.specs.Lookup.{lookup}
 use Rattle.page.specs.History.{History, KeepsWord}
 use Rattle.path.specs.Reach.{reach, candidates}
 use Rattle.path.specs.declared.refusal.Refusal.TheVariants as refusals
-use Rattle.update.specs.Stored.{id_name, no_array}
+use Rattle.update_model.specs.Stored.{id_name, no_array}
 use Rattle.filter.specs.Condition.{equal, Conditions}
 use Rattle.filter.specs.Matches.{is_equal, matches, is_null, candidate_passes, passes, holds, all_hold, Subject}
 use Rattle.filter.specs.IdPaths.{is_id}
@@ -31,8 +31,8 @@ use Rattle.queries.specs.ById.{AreIdsOf}
 use Rattle.database_model.specs.Documents.{key_of}
 use Rattle.database_model.specs.Lawful.{IsStored, IsWithin}
 use Rattle.queries.specs.ByIndex.{AsksMatching}
-use Rattle.aggregate.specs.Stage.{Stage, match_stage}
-use Rattle.aggregate.specs.Taking.{leading_match, takes}
+use Rattle.aggregate_model.specs.Stage.{Stage, match_stage}
+use Rattle.aggregate_model.specs.Taking.{leading_match, takes}
 use Rattle.index.specs.View.{texts_of}
 use Rattle.std.specs.Global.{Vec}
 use Rattle.queries.specs.Within.{is_within}

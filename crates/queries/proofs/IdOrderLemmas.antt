@@ -9,7 +9,7 @@ use Rattle.std.proofs.lemmas.List.Elements.{All-filter, All-head, All-tail}
 use Rattle.bson.specs.Tree.{Tree, scalar, document, array, Pairs}
 use Rattle.bson.specs.Lookup.{lookup}
 use Rattle.path.specs.Reach.{Reached}
-use Rattle.update.specs.Stored.{id_name, no_array}
+use Rattle.update_model.specs.Stored.{id_name, no_array}
 use Rattle.filter.specs.Condition.{Conditions}
 use Rattle.filter.specs.IdPaths.{is_id}
 use Rattle.filter.specs.Matches.{matches}

@@ -25,7 +25,7 @@ use Rattle.collections.specs.Reading.{IsNumbered, ReadsOf}
 use Rattle.collections.specs.State.{State}
 use Rattle.collections.specs.View.{is_stopped}
 use Rattle.database_model.specs.Lawful.{IsStored}
-use Rattle.update.specs.Stored.{no_array as no_list}
+use Rattle.update_model.specs.Stored.{no_array as no_list}
 use Rattle.planner.specs.IdRange.{HasIdBetween, HasPlainId}
 use Rattle.planner.specs.KeyRange.{IsSpellable, place_by}
 use Rattle.planner.specs.KeySpan.{first_key, last_key}

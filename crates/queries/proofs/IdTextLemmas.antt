@@ -15,7 +15,7 @@ use Rattle.value_order.specs.TotalLaws.{compare_total}
 use Rattle.value_order.specs.declared.texts.Direction.TheVariants as directions
 use Rattle.value_order.proofs.KeyLaws.{texts_agree}
 use Rattle.path.specs.Reach.{Reached}
-use Rattle.update.specs.Stored.{id_name}
+use Rattle.update_model.specs.Stored.{id_name}
 use Rattle.filter.specs.Condition.{equal, at, is, Conditions}
 use Rattle.filter.specs.Matches.{all_hold, along, holds, is_equal, passes, whole, Subject}
 use Rattle.filter.specs.IdPaths.{is_id}
@@ -34,7 +34,7 @@ use Rattle.entries.proofs.MemberLemmas.{among_back, among_front, among_of, conta
 use Rattle.index.proofs.SetLemmas.{set_among, set_sorted}
 use Rattle.planner.specs.IdLaws.{AreIdTexts}
 use Rattle.planner.proofs.RisingLemmas.{pairs_of}
-use Rattle.aggregate.specs.EnoughLaws.{All-append}
+use Rattle.aggregate_model.specs.EnoughLaws.{All-append}
 use Rattle.database_model.specs.Lawful.{IsStored}
 use Rattle.queries.specs.Asking.{IsAsked}
 use Rattle.queries.specs.ById.{AreIdsOf, ArePut, HasId, IsIdText, IsIn, IsPlain, Tell, TellBeside, TellIds, TellValues}

@@ -7,13 +7,13 @@ use Rattle.std.proofs.lemmas.List.{take-append-drop, append-nil}
 use Rattle.std.proofs.lemmas.List.Elements.{All-append as append_all, All-cons, All-nil, filter-append}
 use Rattle.bson.specs.Tree.{Pairs}
 use Rattle.value_order.specs.KeyText.{tree_text}
-use Rattle.aggregate.specs.Limits.{first_fault, limit_fault}
-use Rattle.aggregate.specs.Pipeline.{run}
-use Rattle.aggregate.specs.Stage.{Stage}
-use Rattle.aggregate.specs.Taking.{takes, SufficesTaken, IsEnough}
-use Rattle.aggregate.specs.EnoughLaws.{All-append, All-filter, All-front, Pass, Within, enough_of_all, enough_by_then, fault-within, filter-passes}
-use Rattle.aggregate.specs.EnoughLaws.{none_is_enough, passed-filter, within-fault}
-use Rattle.aggregate.specs.TakingLaws.{only_taken}
+use Rattle.aggregate_model.specs.Limits.{first_fault, limit_fault}
+use Rattle.aggregate_model.specs.Pipeline.{run}
+use Rattle.aggregate_model.specs.Stage.{Stage}
+use Rattle.aggregate_model.specs.Taking.{takes, SufficesTaken, IsEnough}
+use Rattle.aggregate_model.specs.EnoughLaws.{All-append, All-filter, All-front, Pass, Within, enough_of_all, enough_by_then, fault-within, filter-passes}
+use Rattle.aggregate_model.specs.EnoughLaws.{none_is_enough, passed-filter, within-fault}
+use Rattle.aggregate_model.specs.TakingLaws.{only_taken}
 use Rattle.btree.specs.declared.folding.Bounds.{Bounds}
 use Rattle.collections.specs.Folding.{documents_within, lies_within}
 use Rattle.database_model.specs.Aggregate.{AreEnough}

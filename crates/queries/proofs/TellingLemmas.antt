@@ -9,9 +9,9 @@ use Rattle.page.specs.History.{History}
 use Rattle.path.specs.declared.refusal.Refusal.{Refusal}
 use Rattle.collections.specs.Reading.{ReadsOf}
 use Rattle.collections.specs.State.{State}
-use Rattle.aggregate.specs.EnoughLaws.{All-append}
-use Rattle.aggregate.specs.Stage.{Stage, match_stage}
-use Rattle.aggregate.specs.Taking.{leading_match, takes}
+use Rattle.aggregate_model.specs.EnoughLaws.{All-append}
+use Rattle.aggregate_model.specs.Stage.{Stage, match_stage}
+use Rattle.aggregate_model.specs.Taking.{leading_match, takes}
 use Rattle.filter.specs.Condition.{Conditions}
 use Rattle.filter.specs.Matches.{matches}
 use Rattle.value_order.specs.KeyText.{tree_text}

@@ -18,7 +18,7 @@ use Rattle.value_order.specs.Order.{compare, value}
 use Rattle.value_order.specs.declared.texts.Direction.TheVariants.{Ascending}
 use Rattle.value_order.proofs.KeyLaws.{texts_order}
 use Rattle.aggregate.proofs.SplitLemmas.{filter-all, filter-both}
-use Rattle.aggregate.specs.EnoughLaws.{filter-passes}
+use Rattle.aggregate_model.specs.EnoughLaws.{filter-passes}
 use Rattle.btree.specs.Keys.{is_within, key_cmp}
 use Rattle.command_model.specs.Find.{Query}
 use Rattle.filter.specs.Condition.{Conditions}

@@ -9,8 +9,8 @@ use Rattle.bson.specs.Spelling.{frame_of, pairs_bytes}
 use Rattle.bson.specs.Tree.{Pairs}
 use Rattle.path.specs.declared.refusal.Refusal.{Refusal}
 use Rattle.path.specs.declared.refusal.Refusal.TheVariants as refusals
-use Rattle.update.specs.Stored.{fault_if, or_else}
-use Rattle.aggregate.specs.Limits.{limit_fault, else_fault, first_fault}
+use Rattle.update_model.specs.Stored.{fault_if, or_else}
+use Rattle.aggregate_model.specs.Limits.{limit_fault, else_fault, first_fault}
 use Rattle.entries.specs.LawfulState.{IsStorable}
 use Rattle.database_model.specs.Lawful.{IsWithin}
 use Rattle.queries.specs.Within.{is_within}

@@ -2,8 +2,8 @@
 use Rattle.std.specs.Prelude.{◌≡◌, ◌≤◌, ℕ, Bool, true, List, length, take, Some, Contains}
 use Rattle.std.specs.List.{filter}
 use Rattle.bson.specs.Tree.{Tree, Pairs}
-use Rattle.aggregate.specs.Stage.{Stage}
-use Rattle.aggregate.specs.Taking.{takes}
+use Rattle.aggregate_model.specs.Stage.{Stage}
+use Rattle.aggregate_model.specs.Taking.{takes}
 use Rattle.filter.specs.Condition.{Conditions}
 use Rattle.filter.specs.Matches.{matches}
 use Rattle.sort.specs.Sort.{SortField, order}

@@ -5,8 +5,8 @@ use Rattle.std.specs.List.{filter}
 use Rattle.bson.specs.Tree.{Pairs}
 use Rattle.sort.specs.Sort.{SortField, order}
 use Rattle.aggregate.specs.Gathering.{HasGathered}
-use Rattle.aggregate.specs.Stage.{Stage}
-use Rattle.aggregate.specs.Taking.{IsEnough, SufficesTaken, takes}
+use Rattle.aggregate_model.specs.Stage.{Stage}
+use Rattle.aggregate_model.specs.Taking.{IsEnough, SufficesTaken, takes}
 use Rattle.aggregate.specs.View.{pipeline_of}
 use Rattle.database_model.specs.Find.{matching}
 use Rattle.database_model.specs.Lawful.{IsWithin}

@@ -1,7 +1,7 @@
 -- Documents that a file gave, and the limits of those that are stored.
 use Rattle.std.specs.Prelude.{Bool, not, is_some}
 use Rattle.bson.specs.Tree.{Pairs}
-use Rattle.update.specs.Stored.{limits_fault}
+use Rattle.update_model.specs.Stored.{limits_fault}
 
 -- the document is within the limits of those that are stored
 abbrev pub is_within : Pairs → Bool

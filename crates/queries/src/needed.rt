@@ -3,7 +3,7 @@
 ghost use Rattle.std.specs.Prelude.{◌≡◌, true, All, IfOk, IfSome, List, [], ◌∷◌, ◌++◌};
 ghost use Rattle.std.specs.List.{filter};
 ghost use Rattle.bson.specs.Tree.{Pairs};
-ghost use Rattle.aggregate.specs.Taking.{takes, IsEnough, SufficesTaken};
+ghost use Rattle.aggregate_model.specs.Taking.{takes, IsEnough, SufficesTaken};
 ghost use Rattle.aggregate.specs.View.{pipeline_of};
 ghost use Rattle.collections.specs.Reading.{ReadsOf};
 ghost use Rattle.command_model.specs.Insert.{documents_at};

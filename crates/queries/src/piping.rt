@@ -2,7 +2,7 @@
 
 ghost use Rattle.std.specs.Prelude.{◌≡◌, All, IfOk, [], length};
 ghost use Rattle.aggregate.specs.Gathering.{HasGathered};
-ghost use Rattle.aggregate.specs.Taking.{takes};
+ghost use Rattle.aggregate_model.specs.Taking.{takes};
 ghost use Rattle.aggregate.specs.View.{pipeline_of};
 ghost use Rattle.collections.specs.Reading.{ReadsOf};
 ghost use Rattle.database_model.specs.Lawful.{IsWithin};

@@ -1,10 +1,10 @@
 //! Which documents are looked for.
 
 ghost use Rattle.std.specs.Prelude.{◌≡◌, ◌∷◌, [], true, Bool, List, IfOk, IfSome, OnOk, get_or, length, option_to_list};
-ghost use Rattle.aggregate.specs.Taking.{takes};
+ghost use Rattle.aggregate_model.specs.Taking.{takes};
 ghost use Rattle.aggregate.specs.View.{pipeline_of};
 ghost use Rattle.bson.specs.Tree.{Pairs};
-ghost use Rattle.aggregate.specs.Taking.{leading_match};
+ghost use Rattle.aggregate_model.specs.Taking.{leading_match};
 ghost use Rattle.filter.specs.Condition.{Conditions};
 ghost use Rattle.filter.specs.Matches.{matches};
 ghost use Rattle.index.specs.View.{texts_of};

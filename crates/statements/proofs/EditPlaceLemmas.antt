@@ -14,7 +14,7 @@ use Rattle.bson.specs.Lookup.{lookup}
 use Rattle.bson.specs.Tree.{Tree, scalar, document, array, Pairs, no_pairs}
 use Rattle.value_order.specs.Order.{compare}
 use Rattle.value_order.specs.TotalLaws.{compare_total}
-use Rattle.update.specs.Stored.{id_name, no_array}
+use Rattle.update_model.specs.Stored.{id_name, no_array}
 use Rattle.entries.specs.Documents.{put_document, without_document}
 use Rattle.entries.specs.LawfulState.{IsRising, IsStorable}
 use Rattle.entries.specs.State.{by_order}

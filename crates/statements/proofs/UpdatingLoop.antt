@@ -18,8 +18,8 @@ use Rattle.path.specs.declared.refusal.Refusal.{Refusal}
 use Rattle.path.specs.declared.refusal.Refusal.TheVariants as refusals
 use Rattle.value_order.specs.Order.{compare}
 use Rattle.value_order.specs.TotalLaws.{compare_total}
-use Rattle.update.specs.Update.{Update as Change}
-use Rattle.update.specs.Applying.{apply}
+use Rattle.update_model.specs.Update.{Update as Change}
+use Rattle.update_model.specs.Applying.{apply}
 use Rattle.command_model.specs.Update.{UpdateStatement, IsRead}
 use Rattle.entries.specs.Documents.{put_document}
 use Rattle.entries.specs.LawfulState.{IsRising, IsStorable}

@@ -2,7 +2,7 @@ use Rattle.std.proofs.Common.{Option, Some, None, Ok, Err, Vec, Global, subst}
 use Rattle.std.specs.Prelude.{IfSome}
 use Rattle.std.proofs.lemmas.Result.{err_from_is_err_and}
 use Rattle.bson.specs.Tree.{Pairs}
-use Rattle.aggregate.specs.Taking.{takes}
+use Rattle.aggregate_model.specs.Taking.{takes}
 use Rattle.aggregate.specs.View.{pipeline_of}
 use Rattle.collections.specs.Folding.{HasTaken, documents_within}
 use Rattle.collections.proofs.ReadingLemmas.{asked_on, asked_refused}

@@ -2,7 +2,7 @@ use Rattle.std.proofs.Common.{◌≡◌, ◌++◌, ◌∷◌, true, false, List,
 use Rattle.std.specs.Prelude.{IfOk}
 use Rattle.std.specs.List.{filter}
 use Rattle.bson.specs.Tree.{Pairs}
-use Rattle.aggregate.specs.Taking.{takes, IsEnough}
+use Rattle.aggregate_model.specs.Taking.{takes, IsEnough}
 use Rattle.aggregate.specs.View.{pipeline_of}
 use Rattle.planner.specs.IdLaws.{with_found}
 use Rattle.queries.proofs.NeededLemmas.{if_ok, none_found_enough, passed_enough, taken_alone}

@@ -1,7 +1,7 @@
 use Rattle.std.proofs.Common.{◌≡◌, true, false, sym, ap, ◌∙◌}
 use Rattle.std.specs.Prelude.{is_some, not}
 use Rattle.bson.specs.Tree.{Pairs}
-use Rattle.update.specs.Stored.{limits_fault}
+use Rattle.update_model.specs.Stored.{limits_fault}
 use Rattle.queries.proofs.WithinLemmas.{storable_within}
 use Rattle.queries.specs.Within.{is_within}
 use Rattle.queries.proofs.within.built_within.Goals as goal

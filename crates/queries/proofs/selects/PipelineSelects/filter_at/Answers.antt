@@ -1,5 +1,5 @@
 use Rattle.std.specs.Borrow.{Bor}
-use Rattle.aggregate.specs.Taking.{leading_match}
+use Rattle.aggregate_model.specs.Taking.{leading_match}
 use Rattle.aggregate.specs.View.{pipeline_of}
 use Rattle.filter.specs.Condition.{Conditions}
 use Rattle.queries.proofs.TellingLemmas.{leading_at}

@@ -1,6 +1,6 @@
 use Rattle.std.proofs.Common.{sym, ◌∙◌}
 use Rattle.std.specs.Borrow.{Bor}
-use Rattle.aggregate.specs.Taking.{leading_match}
+use Rattle.aggregate_model.specs.Taking.{leading_match}
 use Rattle.aggregate.specs.View.{pipeline_of}
 use Rattle.filter.specs.Condition.{Conditions}
 use Rattle.index.specs.View.{texts_of}
