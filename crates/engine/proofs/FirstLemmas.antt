@@ -38,7 +38,7 @@ use Rattle.queries.proofs.InOrderLemmas.{whole_order}
 use Rattle.replies.specs.FirstBatch.{IsFirstBatch, IsNoBatch}
 use Rattle.replies.specs.View.{with_ok}
 use Rattle.sort.specs.Sort.{order}
-use Rattle.statements.proofs.Numbers.{found_kept}
+use Rattle.database_model.proofs.Numbers.{found_kept}
 use Rattle.engine.specs.Durable.{IsSound, disk_history, is_stopped}
 use Rattle.engine.specs.Continuing.{Continues}
 use Rattle.engine.specs.Performing.{DoesReading, MayPerform, PerformsReading, StaysAlike}

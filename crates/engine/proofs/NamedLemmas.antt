@@ -16,7 +16,7 @@ use Rattle.queries.specs.Asking.{IsAsked}
 use Rattle.entries.specs.declared.catalogue_reading.Catalogued.{Catalogued}
 use Rattle.engine.specs.TakingOut.{HasHome, IsHome}
 use Rattle.engine.proofs.CataloguedLemmas.{IsCatalogueOf, has_home, not_catalogued}
-use Rattle.statements.proofs.Numbers.{found_kept}
+use Rattle.database_model.proofs.Numbers.{found_kept}
 use Rattle.engine.proofs.LookingLemmas.{looks_behind, looks_made}
 
 -- ---- the collection of a name and of a number

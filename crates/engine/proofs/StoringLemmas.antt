@@ -28,7 +28,7 @@ use Rattle.statements.specs.Updating.{MayBePut}
 use Rattle.database_model.specs.World.{collection_of, documents_or_none, indexes_or_none, number_or, unused}
 use Rattle.statements.proofs.Checked.{keeps}
 use Rattle.statements.proofs.EditPlaceLemmas.{storable}
-use Rattle.statements.proofs.Numbers.{unused_unused}
+use Rattle.database_model.proofs.Numbers.{unused_unused}
 
 -- ---- a collection that documents go to
 

@@ -41,7 +41,7 @@ use Rattle.queries.proofs.WalkLeftLemmas.{whole_walk}
 use Rattle.replies.specs.View.{batch_name, with_ok}
 use Rattle.replies.specs.declared.batch_spelling.BatchKind.TheVariants as kinds
 use Rattle.statements.proofs.KeptLemmas.{stored_at}
-use Rattle.statements.proofs.Numbers.{found_kept}
+use Rattle.database_model.proofs.Numbers.{found_kept}
 use Rattle.engine.specs.Durable.{IsSound, disk_history}
 use Rattle.engine.specs.Performing.{PerformsReading}
 use Rattle.engine.specs.TakingOut.{HasHome}

@@ -35,7 +35,7 @@ use Rattle.database_model.specs.Documents.{key_of}
 use Rattle.opening.specs.Judging.{AreLoaded, IsIndexable, IsLoadingAs, IsName, IsStoredAt, bare, keys_among, listed_of, numbered, stands_behind}
 use Rattle.opening.specs.Judging.{with_document_at, with_document_in}
 use Rattle.database_model.specs.Lawful.{IsLawfulState, IsStored}
-use Rattle.statements.proofs.ShortIndexes.{definitions_short}
+use Rattle.database_model.proofs.ShortIndexes.{definitions_short}
 
 -- ---- what is lawful
 

@@ -36,7 +36,7 @@ use Rattle.entries.specs.LawfulState.{IsRising}
 use Rattle.database_model.specs.Update.{spelled, upsert_document}
 use Rattle.statements.specs.Updating.{IsChange, MayBePut}
 use Rattle.statements.proofs.Checked.{id_first-id_first}
-use Rattle.statements.proofs.Ordered.{flipped}
+use Rattle.database_model.proofs.Ordered.{flipped}
 
 -- what an update gives, but for the length of its key text
 pub record Applied (ps : Pairs) : Type 0 where

@@ -20,8 +20,8 @@ use Rattle.entries.specs.LawfulState.{IsRising, IsStorable}
 use Rattle.entries.specs.State.{by_order}
 use Rattle.database_model.specs.Documents.{key_of, place}
 use Rattle.database_model.specs.Lawful.{IsStored}
-use Rattle.statements.specs.Places.{IsGap, by_key}
-use Rattle.statements.proofs.Ordered.{Rises, flipped, rises_tail}
+use Rattle.database_model.specs.Places.{IsGap, by_key}
+use Rattle.database_model.proofs.Ordered.{Rises, flipped, rises_tail}
 
 -- ---- a stored document may be put
 

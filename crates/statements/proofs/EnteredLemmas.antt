@@ -17,7 +17,7 @@ use Rattle.database_model.specs.Documents.{checked, insert_all, insert_one, key_
 use Rattle.database_model.specs.Lawful.{AreShortIndexes, IsStored}
 use Rattle.statements.specs.WriteLaws.{documents_in}
 use Rattle.statements.proofs.Checked.{keeps}
-use Rattle.statements.proofs.ShortIndexes.{noted_short}
+use Rattle.database_model.proofs.ShortIndexes.{noted_short}
 
 -- a document put among others keeps them in ascending order
 pub rising_put : (d : Pairs) (ds : List Pairs) → IsRising ds → IsRising (put_document d ds)

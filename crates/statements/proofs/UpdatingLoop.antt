@@ -37,7 +37,7 @@ use Rattle.statements.specs.declared.statements.Write.{Write}
 use Rattle.statements.proofs.Applied.{applied, change_kept, change_puttable, rising_set, stored_puttable}
 use Rattle.statements.proofs.EditPlaceLemmas.{storable}
 use Rattle.statements.proofs.KeptLemmas.{kept_place}
-use Rattle.statements.proofs.Ordered.{flipped}
+use Rattle.database_model.proofs.Ordered.{flipped}
 use Rattle.replies.proofs.Steps.{drop_step}
 use Rattle.statements.proofs.EditPlaceLemmas.{put_where_placed}
 use Rattle.statements.proofs.WriteSteps.{changes_on, changes_only, changes_refused, found_at, news_more, none_written, old_more, one_written, or_false, or_true}

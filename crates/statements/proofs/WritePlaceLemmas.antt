@@ -37,7 +37,7 @@ use Rattle.statements.proofs.LawfulUpdates.{SameKeys, SameKeys-rising}
 use Rattle.statements.proofs.MeantUpdates.{one_step}
 use Rattle.statements.proofs.MeantWrites.{documents_append}
 use Rattle.statements.proofs.MergingLemmas.{Each, Each-map}
-use Rattle.statements.proofs.Ordered.{flipped}
+use Rattle.database_model.proofs.Ordered.{flipped}
 use Rattle.statements.proofs.EditPlaceLemmas.{put_where_placed}
 use Rattle.statements.proofs.UpdatingLoop.{put_in_place}
 use Rattle.statements.proofs.WriteLawLemmas.{HasChanged, HasMade, left_by, next_kept}

@@ -8,7 +8,7 @@ use Rattle.database_model.specs.ListIndexes.{described_all}
 use Rattle.database_model.specs.Refusals.{ok_reply}
 use Rattle.queries.proofs.NeededLemmas.{if_ok}
 use Rattle.engine.proofs.ListingIndexes.{all_within, reply_is}
-use Rattle.statements.proofs.ShortIndexes.{definitions_short}
+use Rattle.database_model.proofs.ShortIndexes.{definitions_short}
 use Rattle.engine.proofs.list_indexes.indexes_reply.Goals as goal
 
 pub whole_reply-requires-clause-within : goal.whole_reply-requires-clause-within

@@ -3,8 +3,8 @@ use Rattle.std.proofs.Common.{◌≡◌, ◌⊎◌, inl, inr, ℕ, zero, suc, �
 use Rattle.std.specs.Cmp.{IsTotalOrder}
 use Rattle.std.specs.declared.cmp.Ordering.{Ordering}
 use Rattle.std.specs.declared.cmp.Ordering.TheVariants as orders
-use Rattle.statements.specs.Places.{IsGap}
-use Rattle.statements.proofs.Ordered.{Rises, flipped, rises_tail}
+use Rattle.database_model.specs.Places.{IsGap}
+use Rattle.database_model.proofs.Ordered.{Rises, flipped, rises_tail}
 
 abbrev pub Gap : {X K : Type 0} → (K → K → Ordering) → (X → K) → List X → K → Type 0
 Gap R key xs x = (i : ℕ) × IsGap (λ y. R (key y) x) xs i

@@ -8,7 +8,7 @@ use Rattle.database_model.specs.World.{unused_from, unused, number_or}
 use Rattle.entries.specs.State.{Collection, find_collection, uses}
 use Rattle.database_model.specs.Lawful.{IsKept}
 use Rattle.entries.specs.LawfulState.{AreNumberedApart}
-use Rattle.statements.specs.Places.{collection_at}
+use Rattle.database_model.specs.Places.{collection_at}
 
 -- ---- among one number more than there are collections one is not in use
 

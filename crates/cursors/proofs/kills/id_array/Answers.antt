@@ -4,7 +4,7 @@ use Rattle.std.proofs.lemmas.List.{drop_all}
 use Rattle.bson.specs.Tree.{Items, scalar, int64, append_items}
 use Rattle.bson.specs.EditPlaces.{append_items-none, append_items-one}
 use Rattle.database_model.specs.KillCursors.{id_items}
-use Rattle.engine.proofs.kill_cursors.id_array.Goals as goal
+use Rattle.cursors.proofs.kills.id_array.Goals as goal
 
 pub ids-preserved : goal.ids-preserved
 ids-preserved c =

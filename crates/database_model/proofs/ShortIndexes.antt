@@ -20,7 +20,7 @@ use Rattle.entries.specs.State.{Collection, find_collection}
 use Rattle.database_model.specs.DropIndexes.{is_dropped, left_by, remaining}
 use Rattle.database_model.specs.Lawful.{AreShortIndexes, IsKept, IsShortIndex}
 use Rattle.database_model.specs.World.{indexes_or_none}
-use Rattle.statements.proofs.Numbers.{found_kept}
+use Rattle.database_model.proofs.Numbers.{found_kept}
 
 -- ---- lawful definitions
 

@@ -1,7 +1,7 @@
 use Rattle.std.proofs.Common.{◌≡◌, drop}
 use Rattle.cursors.specs.Held.{cursors_of}
 use Rattle.database_model.specs.KillCursors.{no_ids, told_apart, has_cursor}
-use Rattle.engine.proofs.kill_cursors.tell_apart.Given as goal
+use Rattle.cursors.proofs.kills.tell_apart.Given as goal
 
 abbrev pub invariant-ids : goal.invariant-ids
 invariant-ids l =

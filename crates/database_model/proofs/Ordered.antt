@@ -22,7 +22,7 @@ use Rattle.value_order.specs.Order.{compare}
 use Rattle.value_order.specs.TotalLaws.{compare_total}
 use Rattle.entries.specs.State.{Collection, by_order, find_collection, put_collection, without_collection}
 use Rattle.database_model.specs.Documents.{key_of, place}
-use Rattle.statements.specs.Places.{IsGap, IsPlace, by_key, by_name, no_collection, IsNamedAt}
+use Rattle.database_model.specs.Places.{IsGap, IsPlace, by_key, by_name, no_collection, IsNamedAt}
 
 abbrev pub Rises : {X K : Type 0} → (K → K → Ordering) → (X → K) → List X → Type 0
 Rises R key xs = AllPairs (λ x y. R (key x) (key y) ≡ orders.Less) xs
