@@ -30,11 +30,11 @@ use Rattle.pinned_cursors.specs.Batches.{ReadsThenPins}
 use Rattle.pinned_cursors.specs.First.{GivesFirst, GivesNone, IsFirstGiven, OrNone}
 use Rattle.pinned_cursors.specs.Opening.{IsLeftOf, that_keep, way_in_order}
 use Rattle.pinned_cursors.specs.Turns.{OnlyPins}
-use Rattle.queries.specs.InOrder.{IsOrderOf}
-use Rattle.queries.specs.Listed.{id_text_of}
-use Rattle.queries.specs.declared.in_order.OrderedWalk.{OrderedWalk}
+use Rattle.queries.specs.IndexOrder.{IsOrderOf}
+use Rattle.walks.specs.Listed.{id_text_of}
+use Rattle.walks.specs.declared.in_order.OrderedWalk.{OrderedWalk}
 use Rattle.queries.specs.declared.index_order.IndexOrder.{IndexOrder}
-use Rattle.queries.proofs.InOrderLemmas.{whole_order}
+use Rattle.walks.proofs.InOrderLemmas.{whole_order}
 use Rattle.replies.specs.FirstBatch.{IsFirstBatch, IsNoBatch}
 use Rattle.replies.specs.View.{with_ok}
 use Rattle.sort.specs.Sort.{order}

@@ -11,7 +11,7 @@ use Rattle.database_model.specs.World.{documents_of}
 use Rattle.statements.proofs.KeptLemmas.{stored_at}
 use Rattle.database_model.specs.Lawful.{IsLawfulState, IsStored, IsWithin}
 use Rattle.engine.proofs.Finding.{stored_within}
-use Rattle.queries.proofs.WithinLemmas.{faultless_within, none_at_fault}
+use Rattle.queries.proofs.FaultlessLemmas.{faultless_within, none_at_fault}
 
 pub piped_within : (stages : List Stage) (ds es : List Pairs) → All IsStored ds → after_pipeline stages 65535 ds ≡ Ok es → All IsWithin es
 piped_within stages ds es h e =

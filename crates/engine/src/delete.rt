@@ -14,13 +14,13 @@ ghost use Rattle.engine.specs.View.{world};
 
 use crate::engine::Engine;
 use crate::removing::note_removed;
+use asked_documents::Selects;
 use bson::{Document, NoMemory, RawDoc};
 use commands::Deletion;
 use entries::{Catalogued, Edits};
 use filter::Filter;
 use page::Disk;
 use path::Refusal;
-use queries::Selects;
 use replies::{SharedDocument, total_reply};
 use statements::{after_deletions, is_deleted};
 use std::alloc::Global;

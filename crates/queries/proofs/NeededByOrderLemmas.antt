@@ -11,7 +11,7 @@ use Rattle.aggregate_model.specs.Stage.{Stage, match_stage}
 use Rattle.aggregate_model.specs.Taking.{IsEnough, KeepsFirst, leading_match, takes}
 use Rattle.database_model.specs.Aggregate.{AreEnough}
 use Rattle.database_model.specs.Find.{matching}
-use Rattle.queries.specs.ByIndex.{AsksTaken}
+use Rattle.queries.specs.Folding.{AsksTaken}
 
 -- A pipeline takes what its `$match` in front asks for, and all documents where there is none.
 taken_by : (s : Stage) (stages : List Stage) → AsksTaken (s ∷ stages) (unwrap_or (leading_match (s ∷ stages)) no_conditions)

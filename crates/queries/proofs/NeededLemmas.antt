@@ -1,7 +1,7 @@
 -- Documents that are met one after the other, and those of them that are needed.
 use Rattle.std.proofs.Common.{◌≡◌, ℕ, zero, suc, ◌≤◌, Bool, true, false, List, [], ◌∷◌, ◌++◌, length, take, drop, Option, Some, refl, sym, ap, subst, ◌∙◌}
 use Rattle.std.proofs.Common.{append_assoc, arith}
-use Rattle.std.specs.Prelude.{None, All, IfOk, IfSome, Result, Ok, Err}
+use Rattle.std.specs.Prelude.{None, All, IfSome}
 use Rattle.std.specs.List.{filter}
 use Rattle.std.proofs.lemmas.List.{take-append-drop, append-nil}
 use Rattle.std.proofs.lemmas.List.Elements.{All-append as append_all, All-cons, All-nil, filter-append}
@@ -23,8 +23,8 @@ use Rattle.entries.specs.State.{key_of}
 use Rattle.planner.specs.IdLaws.{with_found}
 use Rattle.queries.specs.Folding.{Needs}
 use Rattle.queries.specs.declared.needed.Needing.{Needing}
-use Rattle.queries.proofs.LookingUpLemmas.{found_first}
-use Rattle.queries.proofs.WithinLemmas.{faultless_within, none_at_fault}
+use Rattle.walks.proofs.LookingUpLemmas.{found_first}
+use Rattle.queries.proofs.FaultlessLemmas.{faultless_within, none_at_fault}
 
 -- ---- more than enough
 
@@ -103,11 +103,6 @@ module _ (stages : List Stage) (x : Pairs) where
 
   pub taken_within : takes stages x ≡ true → IsWithin x → All IsWithin (filter (takes stages) (x ∷ []))
   taken_within is within = subst (All IsWithin) (sym (taken_alone is)) (All-cons IsWithin x [] within (All-nil IsWithin))
-
--- what holds of an answer holds less of it
-pub if_ok : {X E : Type 0} {P Q : X → Type 0} (r : Result X E) → ((x : X) → P x → Q x) → IfOk r P → IfOk r Q
-if_ok (Ok x) f h = f x h
-if_ok (Err e) f h = tt
 
 -- ---- documents that are lent
 

@@ -19,7 +19,7 @@ use Rattle.entries.specs.State.{key_of}
 use Rattle.path.specs.declared.refusal.Refusal.{Refusal}
 use Rattle.path.specs.declared.refusal.Refusal.TheVariants as refusals
 use Rattle.queries.specs.Piping.{Pipes}
-use Rattle.queries.proofs.WithinLemmas.{faultless_within, none_at_fault}
+use Rattle.queries.proofs.FaultlessLemmas.{faultless_within, none_at_fault}
 
 -- what is given of documents within the limits is within them
 pub outcome_within : (stages : List Stage) (ds : List Pairs) (r : Result (Vec Pairs Global) Refusal) → All IsWithin ds → Pipes stages r ds

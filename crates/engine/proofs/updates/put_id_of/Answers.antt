@@ -2,8 +2,9 @@ use Rattle.std.proofs.Common.{rules, ◌≡◌}
 use Rattle.bson.specs.View.{tree}
 use Rattle.index.specs.View.{texts_of}
 use Rattle.database_model.specs.Documents.{key_of}
-use Rattle.queries.proofs.IdTextLemmas.{made_tells, put_none}
-use Rattle.queries.proofs.NeededLemmas.{if_ok}
+use Rattle.candidate_ids.proofs.IdTextLemmas.{made_tells}
+use Rattle.asked_documents.proofs.SelectsLemmas.{put_none}
+use Rattle.asked_documents.proofs.AskingLemmas.{if_ok}
 use Rattle.engine.proofs.updates.put_id_of.Goals as goal
 
 pub returns-in-None-clause-put : goal.returns-in-None-clause-put

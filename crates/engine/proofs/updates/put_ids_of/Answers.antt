@@ -8,8 +8,9 @@ use Rattle.index.specs.View.{texts_of}
 use Rattle.replies.proofs.Steps.{drop_step}
 use Rattle.database_model.specs.Documents.{key_of}
 use Rattle.database_model.specs.Merging.{has_key_of}
-use Rattle.queries.specs.ById.{HasId, TellBeside}
-use Rattle.queries.proofs.IdTextLemmas.{left_all, left_next, left_none, put_none, put_on}
+use Rattle.asked_documents.specs.ById.{HasId, TellBeside}
+use Rattle.candidate_ids.proofs.IdTextLemmas.{left_all, left_next, left_none}
+use Rattle.asked_documents.proofs.SelectsLemmas.{put_none, put_on}
 use Rattle.engine.proofs.updates.put_ids_of.Goals as goal
 
 pub documents-init : goal.documents-init

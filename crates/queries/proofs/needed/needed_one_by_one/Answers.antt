@@ -8,8 +8,8 @@ use Rattle.collections.specs.Reading.{stored_at}
 use Rattle.database_model.specs.Aggregate.{AreEnough}
 use Rattle.index.specs.View.{texts_of}
 use Rattle.planner.specs.IdLaws.{with_found}
-use Rattle.queries.specs.ById.{AreIdsOf}
-use Rattle.queries.proofs.LookingUpLemmas.{HasLookedUp, answered, begins, ends, fails, forgets, looks_one, next_text, told_by_ids}
+use Rattle.asked_documents.specs.ById.{AreIdsOf}
+use Rattle.walks.proofs.LookingUpLemmas.{HasLookedUp, answered, begins, ends, fails, forgets, looks_one, next_text, told_by_ids}
 use Rattle.queries.proofs.NeededLemmas.{AreOfWithin, AreTakenOf, all_taken_of, are_within, batch_of_within, enough_taken_of, found_within, none_of_within}
 use Rattle.queries.proofs.NeededLemmas.{none_taken_of, one_taken_of}
 use Rattle.queries.proofs.needed.needed_one_by_one.Goals as goal

@@ -8,9 +8,9 @@ use Rattle.collections.specs.Folding.{HasTaken, documents_within}
 use Rattle.collections.proofs.ReadingLemmas.{asked_on, asked_refused}
 use Rattle.database_model.specs.Aggregate.{AreEnough}
 use Rattle.index.specs.View.{texts_of}
-use Rattle.queries.specs.ById.{AreIdsOf}
+use Rattle.asked_documents.specs.ById.{AreIdsOf}
 use Rattle.queries.specs.Folding.{Needs}
-use Rattle.queries.specs.IdRange.{IsWalked}
+use Rattle.walks.specs.IdRange.{IsWalked}
 use Rattle.queries.specs.declared.needed.Needing.{Needing}
 use Rattle.queries.proofs.NeededLemmas.{all_needed, are_within, enough_needed, enough_within, needed_of_within, none_needed}
 use Rattle.queries.proofs.needed.needed_side_by_side.Goals as goal

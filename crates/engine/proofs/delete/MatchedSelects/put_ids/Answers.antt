@@ -1,7 +1,7 @@
 use Rattle.command_model.specs.Delete.{Deletion}
 use Rattle.index.specs.View.{texts_of}
-use Rattle.queries.proofs.TellingLemmas.{filters_tell}
-use Rattle.queries.proofs.IdTextLemmas.{put_none}
+use Rattle.candidate_ids.proofs.TellingLemmas.{filters_tell}
+use Rattle.asked_documents.proofs.SelectsLemmas.{put_none}
 use Rattle.engine.proofs.delete.MatchedSelects.put_ids.Goals as goal
 
 pub returns-clause-put : goal.returns-clause-put
