@@ -10,7 +10,7 @@ use Rattle.database_model.specs.Documents.{key_of}
 use Rattle.database_model.specs.Merging.{has_key_of}
 use Rattle.queries.specs.ById.{HasId, TellBeside}
 use Rattle.queries.proofs.IdTextLemmas.{left_all, left_next, left_none, put_none, put_on}
-use Rattle.engine.proofs.updates.put_ids_of.Goals as goal
+use Rattle.meant_documents.proofs.updates.put_ids_of.Goals as goal
 
 pub documents-init : goal.documents-init
 documents-init c = record {

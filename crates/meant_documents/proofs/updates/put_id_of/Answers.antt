@@ -4,7 +4,7 @@ use Rattle.index.specs.View.{texts_of}
 use Rattle.database_model.specs.Documents.{key_of}
 use Rattle.queries.proofs.IdTextLemmas.{made_tells, put_none}
 use Rattle.queries.proofs.NeededLemmas.{if_ok}
-use Rattle.engine.proofs.updates.put_id_of.Goals as goal
+use Rattle.meant_documents.proofs.updates.put_id_of.Goals as goal
 
 pub returns-in-None-clause-put : goal.returns-in-None-clause-put
 returns-in-None-clause-put c = put_none (texts_of c.args.ids.now.items)
