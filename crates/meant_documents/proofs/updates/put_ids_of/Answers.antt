@@ -11,7 +11,7 @@ use Rattle.database_model.specs.Merging.{has_key_of}
 use Rattle.asked_documents.specs.ById.{HasId, TellBeside}
 use Rattle.candidate_ids.proofs.IdTextLemmas.{left_all, left_next, left_none}
 use Rattle.asked_documents.proofs.SelectsLemmas.{put_none, put_on}
-use Rattle.engine.proofs.updates.put_ids_of.Goals as goal
+use Rattle.meant_documents.proofs.updates.put_ids_of.Goals as goal
 
 pub documents-init : goal.documents-init
 documents-init c = record {

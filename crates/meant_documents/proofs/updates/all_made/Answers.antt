@@ -4,7 +4,7 @@ use Rattle.bson.specs.Tree.{Pairs}
 use Rattle.command_model.specs.Update.{UpdateStatement}
 use Rattle.database_model.specs.Merging.{made_by, made_of}
 use Rattle.replies.proofs.Steps.{drop_step}
-use Rattle.engine.proofs.updates.all_made.Goals as goal
+use Rattle.meant_documents.proofs.updates.all_made.Goals as goal
 
 pub statements-preserved : goal.statements-preserved
 statements-preserved c =

@@ -5,7 +5,7 @@ use Rattle.database_model.specs.Documents.{key_of}
 use Rattle.candidate_ids.proofs.IdTextLemmas.{made_tells}
 use Rattle.asked_documents.proofs.SelectsLemmas.{put_none}
 use Rattle.asked_documents.proofs.AskingLemmas.{if_ok}
-use Rattle.engine.proofs.updates.put_id_of.Goals as goal
+use Rattle.meant_documents.proofs.updates.put_id_of.Goals as goal
 
 pub returns-in-None-clause-put : goal.returns-in-None-clause-put
 returns-in-None-clause-put c = put_none (texts_of c.args.ids.now.items)

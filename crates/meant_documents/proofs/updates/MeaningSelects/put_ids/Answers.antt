@@ -3,7 +3,7 @@ use Rattle.database_model.specs.Merging.{has_key_of}
 use Rattle.index.specs.View.{texts_of}
 use Rattle.candidate_ids.proofs.TellingLemmas.{others_tell}
 use Rattle.asked_documents.proofs.AskingLemmas.{if_ok}
-use Rattle.engine.proofs.updates.MeaningSelects.put_ids.Goals as goal
+use Rattle.meant_documents.proofs.updates.MeaningSelects.put_ids.Goals as goal
 
 pub returns-clause-tells : goal.returns-clause-tells
 returns-clause-tells c =

@@ -4,7 +4,7 @@ use Rattle.index.specs.View.{texts_of}
 use Rattle.database_model.specs.Documents.{key_of}
 use Rattle.database_model.specs.Merging.{has_key_of}
 use Rattle.asked_documents.specs.ById.{ArePut, HasId, TellBeside}
-use Rattle.engine.proofs.updates.put_ids_of.Given as goal
+use Rattle.meant_documents.proofs.updates.put_ids_of.Given as goal
 
 abbrev pub invariant-documents : goal.invariant-documents
 invariant-documents l = record {
