@@ -35,6 +35,7 @@ use Rattle.queries.specs.IndexOrder.{IsOrderOf}
 use Rattle.queries.specs.declared.index_order.IndexOrder.{IndexOrder}
 use Rattle.candidate_ids.proofs.ByIndexLemmas.{told}
 use Rattle.walks.proofs.LookingUpLemmas.{IsTold, found_first, one_at_most}
+use Rattle.walks.proofs.OrderedBatchLemmas.{order-length, texts_up}
 use Rattle.asked_documents.proofs.ReadingLemmas.{IsOther}
 
 -- ---- documents that are found by their `_id`s

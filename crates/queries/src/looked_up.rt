@@ -6,10 +6,8 @@ ghost use Rattle.collections.specs.Reading.{ReadsOf};
 ghost use Rattle.filter.specs.Matches.{matches};
 ghost use Rattle.index.specs.View.{texts_of};
 ghost use Rattle.asked_documents.specs.Asking.{IsAsked};
-ghost use Rattle.asked_documents.specs.ById.{AreIdsOf, AreIdsOfAsked};
+ghost use Rattle.asked_documents.specs.ById.{AreIdsOfAsked};
 ghost use Rattle.queries.specs.LookedUp.{IsLookedUp, IsLookedUpWithin};
-ghost use Rattle.walks.specs.Batches.{IsWholeBatch};
-ghost use Rattle.replies.specs.View.{IsSendable};
 
 use bson::SpelledDocument;
 use candidate_ids::asked_ids;
