@@ -11,7 +11,7 @@ use Rattle.bson.specs.declared.value.Value.{Value}
 use Rattle.path.specs.declared.refusal.Refusal.{Refusal}
 use Rattle.path.specs.declared.refusal.Refusal.TheVariants as refusals
 use Rattle.path.specs.Edits.{within}
-use Rattle.aggregate.specs.Accumulators.{pushed_with}
+use Rattle.aggregate_model.specs.Accumulators.{pushed_with}
 
 pub item_more : (ts next : Items) (left rest : List Value) (v : Value) (planned : Items) → left ≡ v ∷ rest
     → next ≡ append_items ts (item (tree v) no_items) → append_items ts (items_of left) ≡ planned → append_items next (items_of rest) ≡ planned

@@ -2,7 +2,7 @@
 use Rattle.std.proofs.Common.{◌≡◌, ◌++◌, List, [], ◌∷◌, Result, Ok, Err, refl, sym, ap, ◌∙◌}
 use Rattle.std.proofs.lemmas.List.{append_assoc}
 use Rattle.path.specs.declared.refusal.Refusal.{Refusal}
-use Rattle.aggregate.specs.Each.{behind, each}
+use Rattle.aggregate_model.specs.Each.{behind, each}
 
 pub behind-none : {X : Type 0} (more : Result (List X) Refusal) → behind [] more ≡ more
 behind-none (Ok xs) = refl

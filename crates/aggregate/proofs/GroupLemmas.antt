@@ -11,12 +11,12 @@ use Rattle.value_order.specs.Order.{compare}
 use Rattle.value_order.specs.TotalLaws.{compare_total}
 use Rattle.outcome.specs.Outcome.{◌>>=◌}
 use Rattle.path.specs.declared.refusal.Refusal.{Refusal}
-use Rattle.aggregate.specs.Accumulators.{State, start, take}
-use Rattle.aggregate.specs.Each.{just, behind, each}
-use Rattle.aggregate.specs.Expression.{expression_value}
-use Rattle.aggregate.specs.Fields.{set_field}
-use Rattle.aggregate.specs.Group.{GroupField, Grouping, Identified, id_value, identify, same, first_of_each, members, groups, field_value, with_fields}
-use Rattle.aggregate.specs.Group.{group_document, grouped}
+use Rattle.aggregate_model.specs.Accumulators.{State, start, take}
+use Rattle.aggregate_model.specs.Each.{just, behind, each}
+use Rattle.aggregate_model.specs.Expression.{expression_value}
+use Rattle.aggregate_model.specs.Fields.{set_field}
+use Rattle.aggregate_model.specs.Group.{GroupField, Grouping, Identified, id_value, identify, same, first_of_each, members, groups, field_value, with_fields}
+use Rattle.aggregate_model.specs.Group.{group_document, grouped}
 use Rattle.aggregate.specs.Table.{taken, starts, Entry, put_document, with_outcomes, entry_document, entry_documents, grouped_from}
 use Rattle.aggregate.proofs.SplitLemmas.{add_all, split}
 

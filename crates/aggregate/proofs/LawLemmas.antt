@@ -8,9 +8,9 @@ use Rattle.outcome.specs.Outcome.{◌>>=◌}
 use Rattle.path.specs.declared.refusal.Refusal.{Refusal}
 use Rattle.filter.specs.Condition.{Conditions, no_conditions, condition, append_conditions}
 use Rattle.filter.specs.Matches.{Subject, whole, holds, all_hold, matches}
-use Rattle.aggregate.specs.Group.{Identified, same, first_of_each, members}
-use Rattle.aggregate.specs.Laws.{MatchesBoth, GroupsAll, RunsOneAfterOther}
-use Rattle.aggregate.specs.Pipeline.{after_stage, run}
+use Rattle.aggregate_model.specs.Group.{Identified, same, first_of_each, members}
+use Rattle.aggregate_model.specs.Laws.{MatchesBoth, GroupsAll, RunsOneAfterOther}
+use Rattle.aggregate_model.specs.Pipeline.{after_stage, run}
 use Rattle.aggregate.specs.Table.{put}
 use Rattle.aggregate.proofs.GroupLemmas.{same_laws}
 use Rattle.aggregate.proofs.SplitLemmas.{filter-both, add_all, split}

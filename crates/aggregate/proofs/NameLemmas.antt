@@ -4,7 +4,7 @@ use Rattle.std.proofs.lemmas.Bool.{false≢true}
 use Rattle.std.specs.Prelude.{◌==◌, ◌||◌}
 use Rattle.bson.specs.Lawful.{NoZero}
 use Rattle.path.specs.Parts.{is_empty, begins_with_dollar, has_zero}
-use Rattle.aggregate.specs.Names.{has_dot, is_unfit}
+use Rattle.aggregate_model.specs.Names.{has_dot, is_unfit}
 
 or_none : (a b : Bool) → (a || b) ≡ false → (a ≡ false) × (b ≡ false)
 or_none true b e = absurd cc

@@ -13,8 +13,8 @@ use Rattle.bson.specs.View.{tree, items_of}
 use Rattle.bson.specs.EditPlaces.{append_items-none, append_items-one}
 use Rattle.bson.specs.declared.value.Value.{Value}
 use Rattle.projection.specs.Projection.{add_item}
-use Rattle.aggregate.specs.Operands.{dollar_path}
-use Rattle.aggregate.specs.PathValue.{by_field, each_by_field, path_value}
+use Rattle.aggregate_model.specs.Operands.{dollar_path}
+use Rattle.aggregate_model.specs.PathValue.{by_field, each_by_field, path_value}
 use Rattle.aggregate.proofs.ReadingLemmas.{drop_step}
 
 pub dollar : (bs : List ℕ) (r : Option (Bor (List ℕ))) → MatchOption r ((rest : List ℕ) → bs ≢ 36 ∷ rest) (λ x. bs ≡ 36 ∷ x.now)

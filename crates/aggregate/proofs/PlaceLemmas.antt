@@ -10,8 +10,8 @@ use Rattle.bson.specs.Tree.{Tree, Pairs}
 use Rattle.bson.specs.View.{tree}
 use Rattle.indexmap.specs.IndexMap.{get}
 use Rattle.value_order.specs.KeyText.{tree_text}
-use Rattle.aggregate.specs.Accumulators.{State}
-use Rattle.aggregate.specs.Group.{GroupField, same}
+use Rattle.aggregate_model.specs.Accumulators.{State}
+use Rattle.aggregate_model.specs.Group.{GroupField, same}
 use Rattle.aggregate.specs.GroupView.{state_of, group_field_of}
 use Rattle.aggregate.specs.Groups.{entry_of, entries_of, same_text, IsIndexed}
 use Rattle.aggregate.specs.Table.{Entry, has, Apart, starts, taken, put_document}

@@ -9,7 +9,7 @@ use Rattle.std.specs.Result.{IsErrAnd, IfOk}
 use Rattle.outcome.specs.Outcome.{Gives, ◌>>=◌}
 use Rattle.path.specs.declared.refusal.Refusal.{Refusal}
 use Rattle.path.specs.declared.refusal.Refusal.TheVariants as refusals
-use Rattle.aggregate.specs.Operands.{only_pair}
+use Rattle.aggregate_model.specs.Operands.{only_pair}
 
 -- what is left begins with the element at hand
 pub drop_step : {X : Type 0} (xs : List X) (i : ℕ) (x : X) → i < length xs → x ≡ get_or xs i x → drop i xs ≡ x ∷ drop (i + 1) xs

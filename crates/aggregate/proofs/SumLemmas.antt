@@ -3,8 +3,8 @@ use Rattle.std.proofs.Common.{◌≡◌, ℤ, pos, ◌+ℤ◌, Bool, true, false
 use Rattle.std.proofs.lemmas.Int.{ints}
 use Rattle.std.specs.Prelude.{◌&&◌}
 use Rattle.bson.specs.Tree.{Tree, scalar, text, binary, object_id, boolean, date, null, int32, timestamp, int64, min_key, max_key, document, array}
-use Rattle.aggregate.specs.Accumulators.{State, total, take, outcome}
-use Rattle.aggregate.specs.Laws.{SumsInAnyOrder}
+use Rattle.aggregate_model.specs.Accumulators.{State, total, take, outcome}
+use Rattle.aggregate_model.specs.Laws.{SumsInAnyOrder}
 
 -- whether a value leaves an int32 what it is, and what it adds
 abbrev narrows : Option Tree → Bool

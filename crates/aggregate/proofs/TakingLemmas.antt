@@ -12,14 +12,15 @@ use Rattle.sort.specs.Sort.{SortField, order, compare_by}
 use Rattle.sort.specs.SortLaws.{SortsInParts, All-sorted, sorted-permuted}
 use Rattle.std.proofs.lemmas.List.Sorted.{length_permutation}
 use Rattle.std.proofs.lemmas.List.Elements.{filter-append}
-use Rattle.aggregate.specs.EnoughLaws.{All-filter, All-append, All-front, All-back, Pass, filter-passes, passed-filter, Within, fault-within, within-fault}
-use Rattle.aggregate.specs.Limits.{limit_fault, first_fault, if_faultless, within_limits}
-use Rattle.aggregate.specs.Pipeline.{run}
-use Rattle.aggregate.specs.Group.{Grouping}
-use Rattle.aggregate.specs.Stage.{Stage, match_stage, group_stage, sort_stage, skip_stage, limit_stage}
-use Rattle.aggregate.specs.Stages.{apply_stage}
-use Rattle.aggregate.specs.Taking.{takes_by, takes, behind_if_match, behind_match, run_behind_groups, Suffices, SufficesTaken, IsEnough}
-use Rattle.aggregate.specs.TakingLaws.{all_pass}
+use Rattle.aggregate_model.specs.EnoughLaws.{All-filter, All-append, All-front, All-back, Pass, filter-passes, passed-filter, Within, fault-within}
+use Rattle.aggregate_model.specs.EnoughLaws.{within-fault}
+use Rattle.aggregate_model.specs.Limits.{limit_fault, first_fault, if_faultless, within_limits}
+use Rattle.aggregate_model.specs.Pipeline.{run}
+use Rattle.aggregate_model.specs.Group.{Grouping}
+use Rattle.aggregate_model.specs.Stage.{Stage, match_stage, group_stage, sort_stage, skip_stage, limit_stage}
+use Rattle.aggregate_model.specs.Stages.{apply_stage}
+use Rattle.aggregate_model.specs.Taking.{takes_by, takes, behind_if_match, behind_match, run_behind_groups, Suffices, SufficesTaken, IsEnough}
+use Rattle.aggregate_model.specs.TakingLaws.{all_pass}
 
 -- ---- fronts and backs of lists
 

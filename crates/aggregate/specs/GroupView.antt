@@ -2,10 +2,10 @@
 use Rattle.std.specs.Prelude.{map, option_map}
 use Rattle.bson.specs.Tree.{Tree}
 use Rattle.bson.specs.View.{tree, items_of}
-use Rattle.aggregate.specs.Accumulators.{State, total, least, greatest, first, last, pushed}
-use Rattle.aggregate.specs.Expression.{Expression, constant, source}
-use Rattle.aggregate.specs.Group.{IdField, GroupId, one_value, id_document, GroupField, Grouping}
-use Rattle.aggregate.specs.Group.{Parts}
+use Rattle.aggregate_model.specs.Accumulators.{State, total, least, greatest, first, last, pushed}
+use Rattle.aggregate_model.specs.Expression.{Expression, constant, source}
+use Rattle.aggregate_model.specs.Group.{IdField, GroupId, one_value, id_document, GroupField}
+use Rattle.aggregate_model.specs.Group.{Grouping, Parts}
 use Rattle.aggregate.specs.declared.accumulators.State.{State as Has}
 use Rattle.aggregate.specs.declared.accumulators.State.TheVariants as states
 use Rattle.aggregate.specs.declared.accumulators.Total.{Total}

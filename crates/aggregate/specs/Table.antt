@@ -5,11 +5,11 @@ use Rattle.std.specs.Prelude.{codes}
 use Rattle.bson.specs.Tree.{Tree, Pairs, no_pairs}
 use Rattle.outcome.specs.Outcome.{◌>>=◌}
 use Rattle.path.specs.declared.refusal.Refusal.{Refusal}
-use Rattle.aggregate.specs.Accumulators.{State, start, take, outcome}
-use Rattle.aggregate.specs.Each.{just, each}
-use Rattle.aggregate.specs.Expression.{expression_value}
-use Rattle.aggregate.specs.Fields.{set_field}
-use Rattle.aggregate.specs.Group.{GroupField, Grouping, Identified, id_value, same}
+use Rattle.aggregate_model.specs.Accumulators.{State, start, take, outcome}
+use Rattle.aggregate_model.specs.Each.{just, each}
+use Rattle.aggregate_model.specs.Expression.{expression_value}
+use Rattle.aggregate_model.specs.Fields.{set_field}
+use Rattle.aggregate_model.specs.Group.{GroupField, Grouping, Identified, id_value, same}
 
 module _ {K D S : Type 0} (alike : K → K → Bool) (step : S → D → S) (begin : S) where
   -- one more in the first entry of its key, or in a new one at the end

@@ -1,12 +1,13 @@
 -- What the types of the crate stand for.
 use Rattle.std.specs.Prelude.{List, map}
-use Rattle.aggregate.specs.Stage.{Stage, match_stage, project_stage, unwind_stage, group_stage}
-use Rattle.aggregate.specs.Stage.{sort_stage, skip_stage, limit_stage, count_stage}
+use Rattle.aggregate_model.specs.Stage.{Stage, match_stage, project_stage, unwind_stage}
+use Rattle.aggregate_model.specs.Stage.{group_stage, sort_stage, skip_stage, limit_stage}
+use Rattle.aggregate_model.specs.Stage.{count_stage}
 use Rattle.aggregate.specs.declared.stage.Stage.{Stage as Made}
 use Rattle.aggregate.specs.declared.stage.Stage.TheVariants as stages
 use Rattle.projection.specs.Seen.{seen_of}
 use Rattle.aggregate.specs.GroupView.{grouping_of}
-use Rattle.aggregate.specs.Project.{Computed, Fields, Projecting}
+use Rattle.aggregate_model.specs.Project.{Computed, Fields, Projecting}
 use Rattle.aggregate.specs.declared.projecting.Computed.{Computed as Added}
 use Rattle.aggregate.specs.declared.projecting.Fields.{Fields as Read}
 use Rattle.aggregate.specs.declared.projecting.Projecting.{Projecting as Held}

@@ -10,31 +10,21 @@ ghost use Rattle.path.specs.Edits.{within};
 ghost use Rattle.outcome.specs.Outcome.{Gives};
 ghost use Rattle.filter.specs.Matches.{is_null};
 ghost use Rattle.value_order.specs.Order.{compare};
-ghost use Rattle.aggregate.specs.Accumulators.{accumulator_named, start, is_below, lesser, greater, best_with, first_with};
-ghost use Rattle.aggregate.specs.Accumulators.{pushed_with, take, outcome};
-ghost use Rattle.aggregate.specs.Expression.{or_null};
+ghost use Rattle.aggregate_model.specs.Accumulators.{accumulator_named, start, is_below, lesser, greater, best_with, first_with};
+ghost use Rattle.aggregate_model.specs.Accumulators.{pushed_with, take, outcome};
+ghost use Rattle.aggregate_model.specs.Expression.{or_null};
 ghost use Rattle.aggregate.specs.Found.{found_of};
 ghost use Rattle.aggregate.specs.GroupView.{state_of, total_of};
 
 use crate::numbers::total_value;
 use crate::path_value::Found;
+use aggregate_model::Accumulator;
 use bson::{Array, BuildFault, NoMemory, Value};
 use path::Refusal;
 use std::alloc::{AllocError, Global};
 use std::cmp::Ordering;
 use std::mem;
 use value_order::compare;
-
-/// What is made of the values of a group.
-#[derive(Clone, Copy)]
-pub(crate) enum Accumulator {
-    Sum,
-    Least,
-    Greatest,
-    First,
-    Last,
-    Push,
-}
 
 /// The accumulator that is called so.
 pub(crate) fn accumulator_named(name: &str) -> Option<Accumulator>

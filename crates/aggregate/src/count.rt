@@ -2,7 +2,7 @@
 
 ghost use Rattle.std.specs.Prelude.{◌≡◌};
 ghost use Rattle.outcome.specs.Outcome.{Gives};
-ghost use Rattle.aggregate.specs.Count.{number_document, counted};
+ghost use Rattle.aggregate_model.specs.Count.{number_document, counted};
 
 use crate::fields::set_field;
 use crate::names::FieldName;

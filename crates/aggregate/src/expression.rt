@@ -3,7 +3,7 @@
 ghost use Rattle.std.specs.Prelude.{◌≡◌, IfOk};
 ghost use Rattle.bson.specs.View.{tree};
 ghost use Rattle.outcome.specs.Outcome.{Gives};
-ghost use Rattle.aggregate.specs.Expression.{read_expression, expression_value};
+ghost use Rattle.aggregate_model.specs.Expression.{read_expression, expression_value};
 ghost use Rattle.aggregate.specs.Found.{found_of};
 ghost use Rattle.aggregate.specs.GroupView.{expression_of};
 

@@ -4,7 +4,7 @@ ghost use Rattle.std.specs.Prelude.{◌≡◌};
 ghost use Rattle.bson.specs.Lawful.{IsName};
 ghost use Rattle.bson.specs.View.{tree};
 ghost use Rattle.outcome.specs.Outcome.{Gives};
-ghost use Rattle.aggregate.specs.Fields.{set_field};
+ghost use Rattle.aggregate_model.specs.Fields.{set_field};
 
 use bson::{BuildFault, Document, MOST_LEVELS, Value};
 use path::Refusal;

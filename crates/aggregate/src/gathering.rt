@@ -6,10 +6,10 @@ ghost use Rattle.outcome.specs.Outcome.{Gives};
 ghost use Rattle.aggregate.specs.Gathering.{HasGathered, after_groups};
 ghost use Rattle.aggregate.specs.GroupView.{grouping_of};
 ghost use Rattle.aggregate.specs.Groups.{entries_of};
-ghost use Rattle.aggregate.specs.Limits.{first_fault};
-ghost use Rattle.aggregate.specs.Pipeline.{run};
-ghost use Rattle.aggregate.specs.Stage.{Stage as Step};
-ghost use Rattle.aggregate.specs.Taking.{behind_match, groups_first};
+ghost use Rattle.aggregate_model.specs.Limits.{first_fault};
+ghost use Rattle.aggregate_model.specs.Pipeline.{run};
+ghost use Rattle.aggregate_model.specs.Stage.{Stage as Step};
+ghost use Rattle.aggregate_model.specs.Taking.{behind_match, groups_first};
 ghost use Rattle.aggregate.specs.View.{pipeline_of, stage_of};
 
 use crate::grouping::Grouping;

@@ -3,20 +3,21 @@
 ghost use Rattle.std.specs.Prelude.{◌≡◌, [], IfOk, map};
 ghost use Rattle.bson.specs.View.{tree};
 ghost use Rattle.outcome.specs.Outcome.{Gives, Does};
-ghost use Rattle.aggregate.specs.Group.{read_id_fields, read_id, read_group_field, no_parts, read_part, read_parts, read_grouping};
-ghost use Rattle.aggregate.specs.Group.{with_id_field, with_id_fields, id_value};
-ghost use Rattle.aggregate.specs.Expression.{expression_value, or_null};
+ghost use Rattle.aggregate_model.specs.Group.{read_id_fields, read_id, read_group_field, no_parts, read_part, read_parts, read_grouping};
+ghost use Rattle.aggregate_model.specs.Group.{with_id_field, with_id_fields, id_value};
+ghost use Rattle.aggregate_model.specs.Expression.{expression_value, or_null};
 ghost use Rattle.aggregate.specs.Found.{found_of};
 ghost use Rattle.aggregate.specs.GroupView.{expression_of, id_field_of, id_of, group_field_of, grouping_of, parts_of, id_value_of};
 ghost use Rattle.bson.specs.Tree.{no_pairs};
 
-use crate::accumulators::{Accumulator, accumulator_named};
+use crate::accumulators::accumulator_named;
 use crate::expression::Expression;
 use crate::fields::set_field;
 use crate::names::FieldName;
 use crate::operands::only_pair_in;
 use crate::path_source::PathSource;
 use crate::path_value::Found;
+use aggregate_model::Accumulator;
 use bson::{Document, NoMemory, Value};
 use path::Refusal;
 use std::alloc::Global;

@@ -7,7 +7,7 @@ ghost use Rattle.std.specs.Prelude.{◌≡◌, ◌<◌, [], false, true, IfOk, I
 ghost use Rattle.bson.specs.View.{tree};
 ghost use Rattle.outcome.specs.Outcome.{Gives};
 ghost use Rattle.value_order.specs.KeyText.{tree_text};
-ghost use Rattle.aggregate.specs.Group.{same, grouped};
+ghost use Rattle.aggregate_model.specs.Group.{same, grouped};
 ghost use Rattle.aggregate.specs.GroupView.{state_of, group_field_of, grouping_of, id_value_of};
 ghost use Rattle.aggregate.specs.Groups.{entry_of, entries_of, IsIndexed, IsPlace};
 ghost use Rattle.aggregate.specs.Table.{has, starts, taken, put_document, with_outcomes, entry_document, entry_documents, grouped_from};

@@ -1,7 +1,7 @@
 //! Laws of the definitions, as contracts.
 
-ghost use Rattle.aggregate.specs.Laws.{MatchesBoth, GivesWindow, GroupsNone, GroupsAll, RunsOneAfterOther};
-ghost use Rattle.aggregate.specs.Laws.{SumsInAnyOrder};
+ghost use Rattle.aggregate_model.specs.Laws.{MatchesBoth, GivesWindow, GroupsNone, GroupsAll, RunsOneAfterOther};
+ghost use Rattle.aggregate_model.specs.Laws.{SumsInAnyOrder};
 
 /// `$match` and then `$match` keep what one `$match` of all their conditions keeps.
 pub fn matches_both()

@@ -2,7 +2,7 @@
 
 ghost use Rattle.std.specs.Prelude.{◌≡◌};
 ghost use Rattle.outcome.specs.Outcome.{Gives};
-ghost use Rattle.aggregate.specs.Limits.{limit_fault, first_fault, within_limits};
+ghost use Rattle.aggregate_model.specs.Limits.{limit_fault, first_fault, within_limits};
 
 use bson::Document;
 use path::Refusal;

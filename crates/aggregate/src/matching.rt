@@ -2,7 +2,7 @@
 
 ghost use Rattle.std.specs.Prelude.{◌≡◌};
 ghost use Rattle.filter.specs.Matches.{matches};
-ghost use Rattle.aggregate.specs.Match.{matching};
+ghost use Rattle.aggregate_model.specs.Match.{matching};
 
 use bson::Document;
 use filter::Filter;

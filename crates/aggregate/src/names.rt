@@ -3,7 +3,7 @@
 ghost use Rattle.std.specs.Prelude.{◌≡◌, IfOk};
 ghost use Rattle.bson.specs.Lawful.{IsName};
 ghost use Rattle.outcome.specs.Outcome.{Gives};
-ghost use Rattle.aggregate.specs.Names.{is_unfit, field_name};
+ghost use Rattle.aggregate_model.specs.Names.{is_unfit, field_name};
 
 use bson::{NoMemory, Text};
 use path::Refusal;

@@ -3,7 +3,7 @@
 ghost use Rattle.std.specs.Prelude.{◌≡◌};
 ghost use Rattle.bson.specs.View.{tree};
 ghost use Rattle.outcome.specs.Outcome.{Gives};
-ghost use Rattle.aggregate.specs.Numbers.{fits_int32, fits_int64, total_value};
+ghost use Rattle.aggregate_model.specs.Numbers.{fits_int32, fits_int64, total_value};
 
 use bson::Value;
 use path::Refusal;

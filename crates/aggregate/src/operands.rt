@@ -3,8 +3,8 @@
 ghost use Rattle.std.specs.Prelude.{◌≡◌, option_map};
 ghost use Rattle.bson.specs.View.{tree};
 ghost use Rattle.outcome.specs.Outcome.{Gives};
-ghost use Rattle.aggregate.specs.Operands.{document_in, text_in, no_less, number_in, only_pair, only_pair_in};
-ghost use Rattle.aggregate.specs.Operands.{dollar_path, source_path, dollar_path_in};
+ghost use Rattle.aggregate_model.specs.Operands.{document_in, text_in, no_less, number_in, only_pair, only_pair_in};
+ghost use Rattle.aggregate_model.specs.Operands.{dollar_path, source_path, dollar_path_in};
 
 use bson::{Document, Pair, Value};
 use path::{Path, PathFault, Refusal};

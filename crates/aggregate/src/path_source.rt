@@ -4,7 +4,7 @@ ghost use Rattle.std.specs.Prelude.{◌≡◌, IfOk};
 ghost use Rattle.bson.specs.Tree.{document};
 ghost use Rattle.bson.specs.View.{tree};
 ghost use Rattle.aggregate.specs.Found.{found_of};
-ghost use Rattle.aggregate.specs.PathValue.{path_value};
+ghost use Rattle.aggregate_model.specs.PathValue.{path_value};
 
 use crate::path_value::{Found, of_value, path_value};
 use bson::{Document, NoMemory, RawDoc, Value};

@@ -5,7 +5,7 @@ ghost use Rattle.bson.specs.Tree.{document, no_items, append_items};
 ghost use Rattle.bson.specs.View.{tree, items_of};
 ghost use Rattle.projection.specs.Projection.{add_item};
 ghost use Rattle.aggregate.specs.Found.{found_of};
-ghost use Rattle.aggregate.specs.PathValue.{by_field, each_by_field, path_value};
+ghost use Rattle.aggregate_model.specs.PathValue.{by_field, each_by_field, path_value};
 
 use bson::{Array, Document, NoMemory, Value};
 use path::{Part, Path};

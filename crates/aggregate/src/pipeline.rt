@@ -3,7 +3,7 @@
 ghost use Rattle.std.specs.Prelude.{◌≡◌, map};
 ghost use Rattle.bson.specs.View.{tree};
 ghost use Rattle.outcome.specs.Outcome.{Gives};
-ghost use Rattle.aggregate.specs.Pipeline.{read_stage, read_pipeline, after_stage, run};
+ghost use Rattle.aggregate_model.specs.Pipeline.{read_stage, read_pipeline, after_stage, run};
 ghost use Rattle.aggregate.specs.View.{stage_of, pipeline_of};
 
 use crate::limits::within_limits;

@@ -4,11 +4,11 @@ ghost use Rattle.std.specs.Prelude.{◌≡◌, IfOk, map, option_map};
 ghost use Rattle.bson.specs.Tree.{document as whole_tree};
 ghost use Rattle.bson.specs.View.{tree};
 ghost use Rattle.outcome.specs.Outcome.{Gives};
-ghost use Rattle.aggregate.specs.Operands.{dollar_path};
-ghost use Rattle.aggregate.specs.PathValue.{path_value};
-ghost use Rattle.aggregate.specs.Project.{no_fields, is_dotted, source_in, add_computed, read_computed, add_taken};
-ghost use Rattle.aggregate.specs.Project.{read_pair, read_pairs, projecting, read_projecting};
-ghost use Rattle.aggregate.specs.Project.{put_last, with_all_computed, projected, all_projected};
+ghost use Rattle.aggregate_model.specs.Operands.{dollar_path};
+ghost use Rattle.aggregate_model.specs.PathValue.{path_value};
+ghost use Rattle.aggregate_model.specs.Project.{no_fields, is_dotted, source_in, add_computed, read_computed, add_taken};
+ghost use Rattle.aggregate_model.specs.Project.{read_pair, read_pairs, projecting, read_projecting};
+ghost use Rattle.aggregate_model.specs.Project.{put_last, with_all_computed, projected, all_projected};
 ghost use Rattle.aggregate.specs.View.{computed_of, fields_of, projecting_of};
 
 use crate::operands::{dollar_path, source_path};

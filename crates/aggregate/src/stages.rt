@@ -6,9 +6,9 @@
 ghost use Rattle.std.specs.Prelude.{◌≡◌};
 ghost use Rattle.bson.specs.View.{tree};
 ghost use Rattle.outcome.specs.Outcome.{Gives};
-ghost use Rattle.aggregate.specs.Stages.{stage_named, read_operand, apply_stage};
+ghost use Rattle.aggregate_model.specs.Stages.{stage_named, read_operand, apply_stage};
 ghost use Rattle.aggregate.specs.View.{stage_of};
-ghost use Rattle.aggregate.specs.declared.stages.StageName.TheVariants as names;
+ghost use Rattle.aggregate_model.specs.declared.stages.StageName.TheVariants as names;
 
 use crate::count::counted;
 use crate::grouping::Grouping;
@@ -20,24 +20,12 @@ use crate::projecting::{Projecting, all_projected};
 use crate::stage::Stage;
 use crate::unwinding::unwound;
 use crate::windows::{limited, skipped};
+use aggregate_model::StageName;
 use bson::{Document, Value};
 use filter::Filter;
 use path::Refusal;
 use sort::Sort;
 use std::alloc::Global;
-
-/// The name of a stage.
-#[derive(Clone, Copy)]
-pub(crate) enum StageName {
-    Match,
-    Project,
-    Unwind,
-    Group,
-    Sort,
-    Skip,
-    Limit,
-    Count,
-}
 
 /// The stage that is called so.
 pub(crate) fn stage_named(name: &str) -> Option<StageName>

@@ -4,10 +4,10 @@ ghost use Rattle.std.specs.Prelude.{◌≡◌, None, IfOk, IfSome, is_some, List
 ghost use Rattle.bson.specs.Tree.{Pairs};
 ghost use Rattle.outcome.specs.Outcome.{Gives};
 ghost use Rattle.std.specs.List.{filter};
-ghost use Rattle.aggregate.specs.Limits.{first_fault};
-ghost use Rattle.aggregate.specs.Pipeline.{run};
+ghost use Rattle.aggregate_model.specs.Limits.{first_fault};
+ghost use Rattle.aggregate_model.specs.Pipeline.{run};
 ghost use Rattle.aggregate.specs.GroupView.{grouping_of};
-ghost use Rattle.aggregate.specs.Taking.{takes, behind_match, groups_first, leading_match, run_behind_groups, KeepsFirst, Suffices, SufficesTaken, IsEnough};
+ghost use Rattle.aggregate_model.specs.Taking.{takes, behind_match, groups_first, leading_match, run_behind_groups, KeepsFirst, Suffices, SufficesTaken, IsEnough};
 ghost use Rattle.aggregate.specs.View.{stage_of, pipeline_of};
 
 use crate::pipeline::Pipeline;

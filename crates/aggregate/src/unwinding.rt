@@ -3,8 +3,8 @@
 ghost use Rattle.std.specs.Prelude.{◌≡◌};
 ghost use Rattle.path.specs.Reach.{items_list};
 ghost use Rattle.outcome.specs.Outcome.{Gives};
-ghost use Rattle.aggregate.specs.Each.{behind, each};
-ghost use Rattle.aggregate.specs.Unwind.{with_element, with_elements, unwound_document, unwound};
+ghost use Rattle.aggregate_model.specs.Each.{behind, each};
+ghost use Rattle.aggregate_model.specs.Unwind.{with_element, with_elements, unwound_document, unwound};
 
 use bson::{Array, Document, Value};
 use path::{Path, Refusal, passes_array, value_at, write_at};

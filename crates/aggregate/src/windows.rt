@@ -1,7 +1,7 @@
 //! `$skip` and `$limit`.
 
 ghost use Rattle.std.specs.Prelude.{◌≡◌, IfOk};
-ghost use Rattle.aggregate.specs.Windows.{skipped, limited};
+ghost use Rattle.aggregate_model.specs.Windows.{skipped, limited};
 
 use bson::{Document, NoMemory};
 use std::alloc::Global;

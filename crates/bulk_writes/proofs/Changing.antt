@@ -19,16 +19,16 @@ use Rattle.path.specs.Edits.{cut_at, set_at, write_at}
 use Rattle.path.specs.Place.{passes_array, value_at}
 use Rattle.outcome.specs.Outcome.{fault_or}
 use Rattle.value_order.specs.Order.{compare}
-use Rattle.update.specs.Applying.{apply, apply_edit, apply_edits, changed}
-use Rattle.update.specs.Arrays.{if_there, items_without, pull_at, pulled, pushed}
-use Rattle.update.specs.Bounds.{is_below, lowered, raised}
-use Rattle.update.specs.Numbers.{as_int64, fits_int32, fits_int64, incremented, number_in, number_tree, sum}
-use Rattle.update.specs.Operators.{apply_action}
-use Rattle.update.specs.Renames.{moved, rename_at}
-use Rattle.update.specs.Replacements.{in_place_of, replace, with_id}
-use Rattle.update.specs.Stored.{first_pair, id_first, id_name, judged, stored_fault, without}
-use Rattle.update.specs.Update.{Action, at_least, at_most, Edit, edits, increment, int32, int64, Number, Path, pull, push, rename, replacement, set}
-use Rattle.update.specs.Update.{unset, Update as Change}
+use Rattle.update_model.specs.Applying.{apply, apply_edit, apply_edits, changed}
+use Rattle.update_model.specs.Arrays.{if_there, items_without, pull_at, pulled, pushed}
+use Rattle.update_model.specs.Bounds.{is_below, lowered, raised}
+use Rattle.update_model.specs.Numbers.{as_int64, fits_int32, fits_int64, incremented, number_in, number_tree, sum}
+use Rattle.update_model.specs.Operators.{apply_action}
+use Rattle.update_model.specs.Renames.{moved, rename_at}
+use Rattle.update_model.specs.Replacements.{in_place_of, replace, with_id}
+use Rattle.update_model.specs.Stored.{first_pair, id_first, id_name, judged, stored_fault, without}
+use Rattle.update_model.specs.Update.{Action, at_least, at_most, Edit, edits, increment, int32, int64, Number, Path, pull, push, rename, replacement, set}
+use Rattle.update_model.specs.Update.{unset, Update as Change}
 use Rattle.bulk_writes.proofs.Values.{AreNames, cut_lawful, field_there, given, IfGiven, IfThere, set_given, value_there, written_at}
 
 -- ---- lists and numbers

@@ -4,7 +4,7 @@ use Rattle.bson.specs.Tree.{Pairs}
 use Rattle.outcome.specs.Outcome.{◌>>=◌, unless}
 use Rattle.path.specs.declared.refusal.Refusal.{Refusal}
 use Rattle.path.specs.declared.refusal.Refusal.TheVariants as refusals
-use Rattle.update.specs.Stored.{id_first}
+use Rattle.update_model.specs.Stored.{id_first}
 use Rattle.command_model.specs.Command.{Command}
 use Rattle.command_model.specs.Insert.{Insert}
 use Rattle.command_model.specs.OutcomeLaws.{step_of}

@@ -18,13 +18,13 @@ use Rattle.filter.specs.Words.{all_kinds, operator_of, size_in}
 use Rattle.path.specs.declared.refusal.Refusal.{Refusal}
 use Rattle.path.specs.declared.refusal.Refusal.TheVariants as refusals
 use Rattle.path.specs.Edits.{if_ok, set_at}
-use Rattle.update.specs.Arrays.{each_items, items_to_push, no_more}
-use Rattle.update.specs.Numbers.{number_in}
-use Rattle.update.specs.Operators.{editable_path, new_path, no_id, operator_of as edit_operator_of, read_action}
-use Rattle.update.specs.Reading.{conflicts, known_operator, operands_in, read_edit, read_edits, read_operator, read_operators as read_edits_of}
-use Rattle.update.specs.Reading.{read_update, without_conflict}
-use Rattle.update.specs.Update.{Edit, edits, Path, replacement}
-use Rattle.update.specs.Upserts.{base_of, is_below_id, with_condition, with_conditions, with_equal, with_equalities, with_equality}
+use Rattle.update_model.specs.Arrays.{each_items, items_to_push, no_more}
+use Rattle.update_model.specs.Numbers.{number_in}
+use Rattle.update_model.specs.Operators.{editable_path, new_path, no_id, operator_of as edit_operator_of, read_action}
+use Rattle.update_model.specs.Reading.{conflicts, known_operator, operands_in, read_edit, read_edits, read_operator, read_operators as read_edits_of}
+use Rattle.update_model.specs.Reading.{read_update, without_conflict}
+use Rattle.update_model.specs.Update.{Edit, edits, Path, replacement}
+use Rattle.update_model.specs.Upserts.{base_of, is_below_id, with_condition, with_conditions, with_equal, with_equalities, with_equality}
 use Rattle.bulk_writes.proofs.Changing.{AreEdits, IsAction, IsChange, IsEdit, IsNumber, number_given}
 use Rattle.bulk_writes.proofs.Parts.{path_given}
 use Rattle.bulk_writes.proofs.Values.{AreNames, given, IfGiven, set_given}

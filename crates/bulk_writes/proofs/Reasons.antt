@@ -16,8 +16,8 @@ use Rattle.filter.specs.Matches.{matches}
 use Rattle.outcome.specs.Outcome.{◌>>=◌, or_refused, unless}
 use Rattle.path.specs.declared.refusal.Refusal.{Refusal}
 use Rattle.path.specs.declared.refusal.Refusal.TheVariants as refusals
-use Rattle.update.specs.Applying.{apply}
-use Rattle.update.specs.Stored.{id_name, id_of, no_array}
+use Rattle.update_model.specs.Applying.{apply}
+use Rattle.update_model.specs.Stored.{id_name, id_of, no_array}
 use Rattle.command_model.specs.OutcomeLaws.{step_of}
 use Rattle.command_model.specs.Update.{IsRead, UpdateStatement}
 use Rattle.entries.specs.Entering.{DocumentWrite}

@@ -10,10 +10,10 @@ use Rattle.filter.specs.Reading.{read_filter}
 use Rattle.outcome.specs.Outcome.{◌>>=◌, or_refused, unless}
 use Rattle.path.specs.declared.refusal.Refusal.{Refusal}
 use Rattle.path.specs.declared.refusal.Refusal.TheVariants as refusals
-use Rattle.update.specs.Applying.{apply}
-use Rattle.update.specs.Reading.{read_update}
-use Rattle.update.specs.Update.{is_replacement, Update as Change}
-use Rattle.update.specs.Upserts.{base_of}
+use Rattle.update_model.specs.Applying.{apply}
+use Rattle.update_model.specs.Reading.{read_update}
+use Rattle.update_model.specs.Update.{is_replacement, Update as Change}
+use Rattle.update_model.specs.Upserts.{base_of}
 use Rattle.command_model.specs.Command.{aggregate, as_command, Command, command_of, count}
 use Rattle.command_model.specs.Command.{create, create_indexes, delete, drop as drop_of, drop_indexes, explain}
 use Rattle.command_model.specs.Command.{find, get_more, hello, insert, kill_cursors, list_collections, list_indexes, ping, update}

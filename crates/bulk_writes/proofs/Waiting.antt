@@ -21,11 +21,11 @@ use Rattle.path.specs.declared.refusal.Refusal.{Refusal}
 use Rattle.path.specs.declared.refusal.Refusal.TheVariants as refusals
 use Rattle.path.specs.Edits.{if_ok}
 use Rattle.path.specs.Parts.{parts_of, path_fault}
-use Rattle.update.specs.Applying.{apply}
-use Rattle.update.specs.Reading.{read_operators as read_edits_of, read_update}
-use Rattle.update.specs.Stored.{id_name}
-use Rattle.update.specs.Update.{Edit, edits, is_replacement, replacement, Update as Change}
-use Rattle.update.specs.Upserts.{base_of}
+use Rattle.update_model.specs.Applying.{apply}
+use Rattle.update_model.specs.Reading.{read_operators as read_edits_of, read_update}
+use Rattle.update_model.specs.Stored.{id_name}
+use Rattle.update_model.specs.Update.{Edit, edits, is_replacement, replacement, Update as Change}
+use Rattle.update_model.specs.Upserts.{base_of}
 use Rattle.command_model.specs.Fields.{read_fields}
 use Rattle.command_model.specs.OutcomeLaws.{passed, step_of}
 use Rattle.command_model.specs.Update.{IsRead, no_statement_fields, read_statement, statement_field, UpdateStatement, UpdateStatementFields}

@@ -2,8 +2,8 @@
 use Rattle.std.specs.Prelude.{ℕ, if◌then◌else◌, List, codes, Option, Some, None, Result, Ok, Err}
 use Rattle.std.specs.Str.{bytes_eq}
 use Rattle.bson.specs.Tree.{Tree, Pairs}
-use Rattle.aggregate.specs.Stage.{Stage}
-use Rattle.aggregate.specs.Pipeline.{read_pipeline}
+use Rattle.aggregate_model.specs.Stage.{Stage}
+use Rattle.aggregate_model.specs.Pipeline.{read_pipeline}
 use Rattle.outcome.specs.Outcome.{◌>>=◌, or_refused}
 use Rattle.path.specs.Reach.{items_list}
 use Rattle.path.specs.declared.refusal.Refusal.{Refusal}

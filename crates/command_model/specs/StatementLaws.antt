@@ -7,8 +7,8 @@ use Rattle.std.specs.Str.{bytes_eq}
 use Rattle.std.proofs.lemmas.Bool.{ltb-false, eqb-false}
 use Rattle.filter.specs.Condition.{Conditions}
 use Rattle.filter.specs.Reading.{read_filter}
-use Rattle.update.specs.Update.{is_replacement}
-use Rattle.update.specs.Reading.{read_update}
+use Rattle.update_model.specs.Update.{is_replacement}
+use Rattle.update_model.specs.Reading.{read_update}
 use Rattle.bson.specs.Tree.{Tree, Pairs, no_pairs, pair, Items, no_items, item}
 use Rattle.bson.specs.Edits.{items_len}
 use Rattle.outcome.specs.Outcome.{◌>>=◌, unless, or_refused}
@@ -28,7 +28,7 @@ use Rattle.command_model.specs.Update.{statement_field, read_statement, UpdateFi
 use Rattle.command_model.specs.Update.{update_statements_in}
 use Rattle.command_model.specs.Update.{IsRead}
 use Rattle.command_model.specs.Command.{update}
-use Rattle.update.specs.Update.{Update as Change}
+use Rattle.update_model.specs.Update.{Update as Change}
 
 pub short : (database name namespace : List ℕ) → namespace_of database name ≡ Ok namespace
     → length namespace ≤ 255

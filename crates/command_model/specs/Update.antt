@@ -5,8 +5,8 @@ use Rattle.std.specs.Str.{bytes_eq}
 use Rattle.bson.specs.Tree.{Tree, Pairs}
 use Rattle.filter.specs.Condition.{Conditions}
 use Rattle.filter.specs.Reading.{read_filter}
-use Rattle.update.specs.Update.{Update as Change, is_replacement}
-use Rattle.update.specs.Reading.{read_update}
+use Rattle.update_model.specs.Update.{Update as Change, is_replacement}
+use Rattle.update_model.specs.Reading.{read_update}
 use Rattle.outcome.specs.Outcome.{◌>>=◌, unless, or_refused}
 use Rattle.path.specs.declared.refusal.Refusal.{Refusal}
 use Rattle.path.specs.declared.refusal.Refusal.TheVariants as refusals

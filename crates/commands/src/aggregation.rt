@@ -81,7 +81,7 @@ impl<'a> Model for AggregateFields<'a> {
     ghost use Rattle.std.specs.Prelude.{option_map};
     ghost use Rattle.command_model.specs.Aggregate as aggregates;
     ghost use Rattle.std.specs.Coded.{codes};
-    ghost use Rattle.aggregate.specs.StageCode.{coded_stage};
+    ghost use Rattle.aggregate_model.specs.StageCode.{coded_stage};
     ghost use Rattle.aggregate.specs.View.{pipeline_of};
 
     ghost Value = { aggregates.AggregateFields };

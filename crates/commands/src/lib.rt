@@ -41,7 +41,6 @@ pub use insert::Insert;
 pub use kill_cursors::KillCursors;
 pub use list_collections::ListCollections;
 pub use list_indexes::ListIndexes;
-pub use names::NAMESPACE_LIMIT;
 pub use new_index::NewIndex;
 pub use statements::MOST_STATEMENTS;
 pub use updates::{Update, UpdateStatement};

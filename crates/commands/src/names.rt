@@ -5,13 +5,12 @@ ghost use Rattle.std.specs.List.{list_any};
 ghost use Rattle.command_model.specs.Names.{is_bad_byte, is_bad_database, is_bad_collection, namespace_of};
 ghost use Rattle.outcome.specs.Outcome.{Gives};
 
+use command_model::NAMESPACE_LIMIT;
 use path::Refusal;
 use std::alloc::Global;
 
 /// The most bytes of a database's name.
 const DATABASE_LIMIT: usize = 63;
-/// The most bytes of a namespace.
-pub const NAMESPACE_LIMIT: usize = 255;
 
 /// No database's name has this byte.
 fn is_bad_byte(byte: u8) -> bool

@@ -6,7 +6,7 @@ ghost use Rattle.outcome.specs.Outcome.{Gives, Does};
 ghost use Rattle.command_model.specs.Update.{flag_field, no_statement_fields, statement_field, read_statement, no_update_fields, update_statements_in, update_field, read_update_command};
 ghost use Rattle.command_model.specs.Statements.{each_of};
 ghost use Rattle.command_model.specs.Values.{spelled_in};
-ghost use Rattle.update.specs.Reading.{read_update};
+ghost use Rattle.update_model.specs.Reading.{read_update};
 ghost use Rattle.update.specs.View.{update_of};
 ghost use Rattle.command_model.specs.Command.{as_command, update};
 ghost use Rattle.commands.specs.View.{command_read};
@@ -37,7 +37,7 @@ impl Model for UpdateStatement {
     ghost use Rattle.command_model.specs.Update as updates;
     ghost use Rattle.std.specs.Coded.{codes};
     ghost use Rattle.filter.specs.ConditionCode.{coded_conditions};
-    ghost use Rattle.update.specs.UpdateCode.{coded_update};
+    ghost use Rattle.update_model.specs.UpdateCode.{coded_update};
     ghost use Rattle.update.specs.View.{update_of};
 
     ghost Value = { updates.UpdateStatement };
@@ -73,7 +73,7 @@ impl Model for UpdateStatementFields {
     ghost use Rattle.command_model.specs.Update as updates;
     ghost use Rattle.std.specs.Coded.{codes};
     ghost use Rattle.filter.specs.ConditionCode.{coded_conditions};
-    ghost use Rattle.update.specs.UpdateCode.{coded_update};
+    ghost use Rattle.update_model.specs.UpdateCode.{coded_update};
     ghost use Rattle.update.specs.View.{update_of};
 
     ghost Value = { updates.UpdateStatementFields };
@@ -187,7 +187,7 @@ impl<'a> Model for UpdateFields<'a> {
     ghost use Rattle.command_model.specs.Update as updates;
     ghost use Rattle.std.specs.Coded.{codes};
     ghost use Rattle.filter.specs.ConditionCode.{coded_conditions};
-    ghost use Rattle.update.specs.UpdateCode.{coded_update};
+    ghost use Rattle.update_model.specs.UpdateCode.{coded_update};
 
     ghost Value = { updates.UpdateFields };
 

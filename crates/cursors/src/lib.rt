@@ -4,6 +4,7 @@
 mod cursors;
 mod ending;
 mod kept;
+mod kills;
 mod list;
 mod open_cursor;
 mod order;
@@ -14,6 +15,7 @@ mod walk;
 pub use cursors::Cursors;
 pub use ending::Ends;
 pub use kept::KeptDocuments;
+pub use kills::{ToldApart, kill_reply, tell_apart};
 pub use list::{PinnedList, TextList};
 pub use order::PinnedOrder;
 pub use rest::Rest;

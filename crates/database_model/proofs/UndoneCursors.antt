@@ -32,7 +32,7 @@ use Rattle.database_model.specs.DropCollection.{drop_reply, dropped, index_count
 use Rattle.database_model.specs.ListCollections.{run_list_collections}
 use Rattle.command_model.specs.Command.{Command, ping, hello, insert, find, get_more, kill_cursors, count, delete, update, aggregate, create, drop as drop_of}
 use Rattle.command_model.specs.Command.{list_collections, create_indexes, drop_indexes, list_indexes, explain, command_of}
-use Rattle.aggregate.specs.Pipeline.{run as after_pipeline}
+use Rattle.aggregate_model.specs.Pipeline.{run as after_pipeline}
 use Rattle.database_model.specs.World.{collection_of, World, Cursor, documents_of, with_documents, untouched, are_untouched}
 use Rattle.entries.specs.State.{Collection, find_collection, put_collection}
 use Rattle.database_model.specs.Documents.{insert_all}

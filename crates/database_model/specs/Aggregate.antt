@@ -2,9 +2,9 @@
 -- first batch.
 use Rattle.std.specs.Prelude.{◌≡◌, ℕ, None, List, Result, unwrap_or}
 use Rattle.bson.specs.Tree.{Pairs}
-use Rattle.aggregate.specs.Limits.{first_fault}
-use Rattle.aggregate.specs.Pipeline.{run as after_pipeline}
-use Rattle.aggregate.specs.Stage.{Stage}
+use Rattle.aggregate_model.specs.Limits.{first_fault}
+use Rattle.aggregate_model.specs.Pipeline.{run as after_pipeline}
+use Rattle.aggregate_model.specs.Stage.{Stage}
 use Rattle.outcome.specs.Outcome.{◌>>=◌}
 use Rattle.path.specs.declared.refusal.Refusal.{Refusal}
 use Rattle.command_model.specs.Aggregate.{Aggregate}

@@ -5,7 +5,7 @@ use Rattle.value_order.specs.Order.{compare}
 use Rattle.value_order.specs.KeyText.{tree_text}
 use Rattle.bson.specs.Tree.{Tree, scalar, null, Pairs}
 use Rattle.bson.specs.Lookup.{lookup}
-use Rattle.update.specs.Stored.{limits_fault, pairs_fault, id_name, id_of, id_first}
+use Rattle.update_model.specs.Stored.{limits_fault, pairs_fault, id_name, id_of, id_first}
 use Rattle.entries.specs.Entering.{entered}
 use Rattle.entries.specs.State.{Collection, by_order}
 use Rattle.outcome.specs.Outcome.{◌>>=◌, unless, or_refused}

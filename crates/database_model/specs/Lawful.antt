@@ -16,7 +16,7 @@ use Rattle.entries.specs.State.{Collection}
 use Rattle.entries.specs.LawfulState.{IsRising, AreNamedApart, AreNumberedApart}
 use Rattle.database_model.specs.World.{World, Cursor, CursorTable}
 use Rattle.database_model.specs.Documents.{key_of}
-use Rattle.update.specs.Stored.{pairs_fault, id_first, id_of}
+use Rattle.update_model.specs.Stored.{pairs_fault, id_first, id_of}
 
 -- A document that may be stored: within the limits, each name good, its `_id` first, with a key
 -- text within the limit.

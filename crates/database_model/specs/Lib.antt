@@ -1,5 +1,6 @@
 pub mod World
 pub mod Documents
+pub mod Places
 pub mod Refusals
 pub mod Cursors
 pub mod Hello

@@ -9,8 +9,8 @@ use Rattle.bson.specs.Tree.{append_items}
 use Rattle.bson.specs.Edits.{items_len}
 use Rattle.bson.specs.Spelling.{frame_of, pairs_bytes}
 use Rattle.filter.specs.Matches.{matches}
-use Rattle.update.specs.Applying.{apply}
-use Rattle.update.specs.Upserts.{base_of}
+use Rattle.update_model.specs.Applying.{apply}
+use Rattle.update_model.specs.Upserts.{base_of}
 use Rattle.outcome.specs.Outcome.{◌>>=◌, unless, or_refused}
 use Rattle.path.specs.declared.refusal.Refusal.{Refusal}
 use Rattle.path.specs.declared.refusal.Refusal.TheVariants as refusals

@@ -6,8 +6,8 @@ use Rattle.std.specs.List.{filter, list_any}
 use Rattle.std.specs.Str.{bytes_eq}
 use Rattle.bson.specs.Tree.{Pairs}
 use Rattle.filter.specs.Matches.{matches}
-use Rattle.update.specs.Applying.{apply}
-use Rattle.update.specs.Update.{Update as Change}
+use Rattle.update_model.specs.Applying.{apply}
+use Rattle.update_model.specs.Update.{Update as Change}
 use Rattle.command_model.specs.Update.{UpdateStatement}
 use Rattle.entries.specs.Entering.{DocumentWrite}
 use Rattle.database_model.specs.Merging.{Listed, made_of, not_listed, run_listed}

@@ -17,13 +17,13 @@ use Rattle.database_model.specs.World.{World, with_documents}
 use Rattle.entries.specs.State.{Collection, find_collection, uses, put_collection, without_collection}
 use Rattle.database_model.specs.Lawful.{IsKept, IsLawfulState}
 use Rattle.entries.specs.LawfulState.{AreNamedApart, AreNumberedApart}
-use Rattle.statements.specs.Places.{IsThere}
+use Rattle.database_model.specs.Places.{IsThere}
 use Rattle.database_model.specs.Insert.{is_full}
 use Rattle.database_model.specs.Create.{created, run_create}
 use Rattle.database_model.specs.DropCollection.{drop_reply, dropped, index_count, run_drop}
 use Rattle.engine.specs.Writing.{planned_or}
 use Rattle.engine.proofs.Growing.{put_found}
-use Rattle.statements.proofs.Ordered.{without_there}
+use Rattle.database_model.proofs.Ordered.{without_there}
 
 -- ---- a collection is made
 

@@ -20,11 +20,11 @@ use Rattle.entries.specs.State.{Collection, find_collection}
 use Rattle.database_model.specs.Documents.{key_of}
 use Rattle.database_model.specs.Lawful.{IsStored, IsHeld, IsKept, IsLawfulState}
 use Rattle.entries.specs.LawfulState.{AreNamedApart}
-use Rattle.statements.proofs.Ordered.{missing, found, replaced}
-use Rattle.statements.proofs.Located.{Gap, There, located}
+use Rattle.database_model.proofs.Ordered.{missing, found, replaced}
+use Rattle.database_model.proofs.Located.{Gap, There, located}
 use Rattle.statements.proofs.NamesApart.{apart_set}
-use Rattle.statements.proofs.Numbers.{numbers_set}
-use Rattle.statements.specs.Places.{collection_at, no_collection, IsThere}
+use Rattle.database_model.proofs.Numbers.{numbers_set}
+use Rattle.database_model.specs.Places.{collection_at, no_collection, IsThere}
 use Rattle.database_model.specs.Delete.{deleted_in, without_at, without_first, after_deletion, after_deletions}
 use Rattle.command_model.specs.Delete.{Deletion}
 

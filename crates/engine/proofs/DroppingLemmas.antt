@@ -44,7 +44,7 @@ use Rattle.engine.proofs.MakingLemmas.{lawful_now, leads_planned, makes_behind, 
 use Rattle.engine.proofs.MakingLemmas.{with_reply}
 use Rattle.engine.proofs.OnlyReading.{cause_from, now_same, reads_file, reads_none, reads_on, word_before}
 use Rattle.engine.proofs.TakingOutLemmas.{all_indexable, front_out, front_there}
-use Rattle.queries.proofs.WalkingLemmas.{none_there}
+use Rattle.asked_documents.proofs.AskingLemmas.{none_there}
 
 -- ---- what a drop comes to
 

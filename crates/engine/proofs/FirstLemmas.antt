@@ -30,15 +30,15 @@ use Rattle.pinned_cursors.specs.Batches.{ReadsThenPins}
 use Rattle.pinned_cursors.specs.First.{GivesFirst, GivesNone, IsFirstGiven, OrNone}
 use Rattle.pinned_cursors.specs.Opening.{IsLeftOf, that_keep, way_in_order}
 use Rattle.pinned_cursors.specs.Turns.{OnlyPins}
-use Rattle.queries.specs.InOrder.{IsOrderOf}
-use Rattle.queries.specs.Listed.{id_text_of}
-use Rattle.queries.specs.declared.in_order.OrderedWalk.{OrderedWalk}
+use Rattle.queries.specs.IndexOrder.{IsOrderOf}
+use Rattle.walks.specs.Listed.{id_text_of}
+use Rattle.walks.specs.declared.in_order.OrderedWalk.{OrderedWalk}
 use Rattle.queries.specs.declared.index_order.IndexOrder.{IndexOrder}
-use Rattle.queries.proofs.InOrderLemmas.{whole_order}
+use Rattle.walks.proofs.InOrderLemmas.{whole_order}
 use Rattle.replies.specs.FirstBatch.{IsFirstBatch, IsNoBatch}
 use Rattle.replies.specs.View.{with_ok}
 use Rattle.sort.specs.Sort.{order}
-use Rattle.statements.proofs.Numbers.{found_kept}
+use Rattle.database_model.proofs.Numbers.{found_kept}
 use Rattle.engine.specs.Durable.{IsSound, disk_history, is_stopped}
 use Rattle.engine.specs.Continuing.{Continues}
 use Rattle.engine.specs.Performing.{DoesReading, MayPerform, PerformsReading, StaysAlike}

@@ -15,7 +15,7 @@ use Rattle.path.specs.declared.refusal.Refusal.{Refusal}
 use Rattle.path.specs.declared.refusal.Refusal.TheVariants as refusals
 use Rattle.command_model.specs.OutcomeLaws.{step_of, passed}
 use Rattle.statements.proofs.EnteredLemmas.{has_grown}
-use Rattle.statements.proofs.Ordered.{found_first, passes_on}
+use Rattle.database_model.proofs.Ordered.{found_first, passes_on}
 
 -- ---- in its collection
 

@@ -12,7 +12,7 @@ use Rattle.path.specs.declared.refusal.Refusal.TheVariants as refusals
 use Rattle.command_model.specs.Insert.{documents_at}
 use Rattle.collections.specs.Calls.{HasReadCause}
 use Rattle.collections.specs.Reading.{IsWithinLimits, catalogued_in, catalogued_of}
-use Rattle.update.specs.Stored.{id_first}
+use Rattle.update_model.specs.Stored.{id_first}
 use Rattle.entries.specs.Documents.{AddsCollection}
 use Rattle.entries.specs.LawfulState as states
 use Rattle.entries.specs.LawfulState.{IsStorable}

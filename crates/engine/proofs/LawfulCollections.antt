@@ -20,17 +20,17 @@ use Rattle.database_model.specs.CreateIndexes.{indexed, with_new_indexes}
 use Rattle.index_list.proofs.NewIndexLemmas.{with_new_indexes_more, with_new_indexes_short}
 use Rattle.command_model.specs.DropIndexes.{DroppedIndexes}
 use Rattle.database_model.specs.DropIndexes.{dropped_in, index_dropped, left_by, without_indexes}
-use Rattle.statements.proofs.ShortIndexes.{left_short, short_at}
+use Rattle.database_model.proofs.ShortIndexes.{left_short, short_at}
 use Rattle.database_model.specs.Lawful.{IsStored, IsKept, IsLawfulState}
 use Rattle.entries.specs.LawfulState.{AreNamedApart, AreNumberedApart, IsRising}
-use Rattle.statements.specs.Places.{collection_at, no_collection}
+use Rattle.database_model.specs.Places.{collection_at, no_collection}
 use Rattle.database_model.specs.Insert.{is_full}
 use Rattle.path.specs.declared.refusal.Refusal.{Refusal}
 use Rattle.path.specs.declared.refusal.Refusal.TheVariants as refusals
 use Rattle.command_model.specs.OutcomeLaws.{step_of, passed}
-use Rattle.statements.proofs.Located.{Gap, There, located}
-use Rattle.statements.proofs.Ordered.{Rises, rises_insert, All-inserted, missing, found, added, replaced}
-use Rattle.statements.proofs.Numbers.{found_kept, unused_unused, number_bounds, numbers_set, numbers_insert}
+use Rattle.database_model.proofs.Located.{Gap, There, located}
+use Rattle.database_model.proofs.Ordered.{Rises, rises_insert, All-inserted, missing, found, added, replaced}
+use Rattle.database_model.proofs.Numbers.{found_kept, unused_unused, number_bounds, numbers_set, numbers_insert}
 use Rattle.statements.proofs.NamesApart.{apart_set}
 
 -- ---- collections

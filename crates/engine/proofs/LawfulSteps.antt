@@ -17,7 +17,7 @@ use Rattle.database_model.specs.Documents.{place, insert_all}
 use Rattle.command_model.specs.Find.{Query}
 use Rattle.command_model.specs.Count.{Count}
 use Rattle.command_model.specs.Aggregate.{Aggregate}
-use Rattle.aggregate.specs.Pipeline.{run as after_pipeline}
+use Rattle.aggregate_model.specs.Pipeline.{run as after_pipeline}
 use Rattle.database_model.specs.Aggregate.{run_aggregate}
 use Rattle.engine.proofs.Piping.{piped_within}
 use Rattle.database_model.specs.Find.{query_result as found_by, matching, window, run_find}
@@ -46,7 +46,7 @@ use Rattle.engine.proofs.ExplainingLemmas.{plan_short}
 use Rattle.engine.proofs.Creating.{dropped_lawful}
 use Rattle.engine.proofs.Listing.{go_into_one}
 use Rattle.engine.proofs.ListingIndexes.{indexes-sendable}
-use Rattle.statements.proofs.ShortIndexes.{short_at}
+use Rattle.database_model.proofs.ShortIndexes.{short_at}
 use Rattle.database_model.specs.Refusals.{int, total, ok_reply}
 use Rattle.command_model.specs.Command.{Command, ping, insert as insert_of, find as find_of}
 use Rattle.command_model.specs.Command.{count as count_of_all, delete, update, aggregate, create as create_of}
@@ -72,7 +72,7 @@ use Rattle.command_model.specs.CommandLaws.{bounded}
 use Rattle.statements.proofs.EnteredLemmas.{has_grown, stays_kept}
 use Rattle.engine.proofs.Deleting.{deleted_lawful}
 use Rattle.engine.proofs.Finding.{found_within}
-use Rattle.statements.proofs.Numbers.{found_kept, number_bounds}
+use Rattle.database_model.proofs.Numbers.{found_kept, number_bounds}
 use Rattle.replies.proofs.SpelledSizes.{create_indexes-sendable, drop_indexes-sendable, ping-sendable, insert-sendable, drop-sendable, explain-sendable}
 use Rattle.replies.proofs.SpelledSizes.{refusal-sendable, batch_items, cursor-sendable, kill-sendable, told_few, hello-sendable}
 use Rattle.engine.proofs.LawfulCollections.{index_dropped_lawful, indexed_lawful, put_kept, room}

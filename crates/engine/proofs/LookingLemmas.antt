@@ -24,7 +24,7 @@ use Rattle.cursors.specs.Held.{Held, cursors_of, table_of}
 use Rattle.pinned_cursors.specs.Tied.{AreTied}
 use Rattle.pinned_cursors.proofs.TurnTied.{tied_on}
 use Rattle.engine.specs.declared.engine.Engine.{Engine}
-use Rattle.queries.proofs.ReadingLemmas.{goes_itself, goes_on, widen_before, word_before}
+use Rattle.asked_documents.proofs.ReadingLemmas.{goes_itself, goes_on, widen_before, word_before}
 use Rattle.engine.proofs.Continuing.{continues_further, continues_of}
 use Rattle.engine.proofs.OnlyReading.{does_any}
 

@@ -24,7 +24,7 @@ use Rattle.statements.specs.Redoing.{without_each, taken_at, taken, all_taken}
 use Rattle.engine.specs.TakingOut.{AreThere}
 use Rattle.engine.proofs.Deleting.{left_apart, left_kept}
 use Rattle.statements.proofs.EditPlaceLemmas.{goes_first, passes_by, storable, without_place}
-use Rattle.statements.proofs.Ordered.{flipped, rises_tail}
+use Rattle.database_model.proofs.Ordered.{flipped, rises_tail}
 use Rattle.engine.proofs.TakingOutLemmas.{first_there}
 
 pub without_more : (xs ys ds : List Pairs) → without_each (xs ++ ys) ds ≡ without_each ys (without_each xs ds)

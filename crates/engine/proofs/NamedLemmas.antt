@@ -12,11 +12,11 @@ use Rattle.engine.specs.Durable.{IsSound}
 use Rattle.engine.specs.View.{world}
 use Rattle.engine.specs.declared.engine.Engine.{Engine}
 use Rattle.database_model.specs.World.{documents_of}
-use Rattle.queries.specs.Asking.{IsAsked}
+use Rattle.asked_documents.specs.Asking.{IsAsked}
 use Rattle.entries.specs.declared.catalogue_reading.Catalogued.{Catalogued}
 use Rattle.engine.specs.TakingOut.{HasHome, IsHome}
 use Rattle.engine.proofs.CataloguedLemmas.{IsCatalogueOf, has_home, not_catalogued}
-use Rattle.statements.proofs.Numbers.{found_kept}
+use Rattle.database_model.proofs.Numbers.{found_kept}
 use Rattle.engine.proofs.LookingLemmas.{looks_behind, looks_made}
 
 -- ---- the collection of a name and of a number

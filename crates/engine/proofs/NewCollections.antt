@@ -21,7 +21,7 @@ use Rattle.database_model.specs.World.{indexes_or_none, number_or, unused, with_
 use Rattle.engine.specs.Writing.{Makes, planned_or, Writes}
 use Rattle.engine.specs.declared.engine.Engine.{Engine}
 use Rattle.engine.proofs.MakingLemmas.{lawful_now, leads_planned, makes_none, makes_written, planned_is}
-use Rattle.statements.proofs.Numbers.{unused_unused}
+use Rattle.database_model.proofs.Numbers.{unused_unused}
 use Rattle.engine.proofs.OnlyReading.{cause_from, now_same, reads_on, word_before}
 use Rattle.engine.proofs.PlannedLemmas.{created_full, created_new, created_there}
 

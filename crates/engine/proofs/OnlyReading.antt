@@ -22,7 +22,7 @@ use Rattle.engine.specs.View.{world, world_of}
 use Rattle.engine.specs.declared.engine.Engine.{Engine}
 use Rattle.bson.specs.Tree.{Pairs}
 use Rattle.database_model.specs.World.{World}
-use Rattle.queries.proofs.ReadingLemmas.{of_file}
+use Rattle.asked_documents.proofs.ReadingLemmas.{of_file}
 
 module _ {D : Type 0} (history : D → History) where
   -- ---- what was read

@@ -2,16 +2,16 @@
 use Rattle.std.proofs.Common.{◌≡◌, ℕ, List, get_or, None, Ok}
 use Rattle.std.specs.Prelude.{All}
 use Rattle.bson.specs.Tree.{Pairs}
-use Rattle.aggregate.specs.Stage.{Stage}
-use Rattle.aggregate.specs.Limits.{first_fault}
-use Rattle.aggregate.specs.Pipeline.{run as after_pipeline}
-use Rattle.aggregate.specs.TakingLaws.{stays_within}
+use Rattle.aggregate_model.specs.Stage.{Stage}
+use Rattle.aggregate_model.specs.Limits.{first_fault}
+use Rattle.aggregate_model.specs.Pipeline.{run as after_pipeline}
+use Rattle.aggregate_model.specs.TakingLaws.{stays_within}
 use Rattle.entries.specs.State.{Collection}
 use Rattle.database_model.specs.World.{documents_of}
 use Rattle.statements.proofs.KeptLemmas.{stored_at}
 use Rattle.database_model.specs.Lawful.{IsLawfulState, IsStored, IsWithin}
 use Rattle.engine.proofs.Finding.{stored_within}
-use Rattle.queries.proofs.WithinLemmas.{faultless_within, none_at_fault}
+use Rattle.queries.proofs.FaultlessLemmas.{faultless_within, none_at_fault}
 
 pub piped_within : (stages : List Stage) (ds es : List Pairs) → All IsStored ds → after_pipeline stages 65535 ds ≡ Ok es → All IsWithin es
 piped_within stages ds es h e =

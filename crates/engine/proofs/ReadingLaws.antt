@@ -9,7 +9,7 @@ use Rattle.path.specs.declared.refusal.Refusal.TheVariants as refusals
 use Rattle.command_model.specs.Find.{Find}
 use Rattle.command_model.specs.Count.{Count}
 use Rattle.command_model.specs.Aggregate.{Aggregate}
-use Rattle.aggregate.specs.Pipeline.{run as after_pipeline}
+use Rattle.aggregate_model.specs.Pipeline.{run as after_pipeline}
 use Rattle.database_model.specs.Aggregate.{run_aggregate}
 use Rattle.command_model.specs.ListCollections.{ListCollections}
 use Rattle.command_model.specs.ListIndexes.{ListIndexes}

@@ -20,7 +20,7 @@ use Rattle.statements.specs.Updating.{HaveOld, news_of, replaced_in, seen}
 use Rattle.statements.specs.WriteLaws.{AreThere}
 use Rattle.statements.specs.declared.statements.Write.{Write}
 use Rattle.statements.proofs.MergingLemmas.{Above, Ascends, ascends, Each}
-use Rattle.statements.proofs.Ordered.{flipped}
+use Rattle.database_model.proofs.Ordered.{flipped}
 
 -- ---- a document that is put among others is found by its `_id`, and each other as before
 

@@ -8,8 +8,8 @@ use Rattle.command_model.specs.Insert.{Insert}
 use Rattle.command_model.specs.Find.{Query, Find}
 use Rattle.command_model.specs.Count.{Count}
 use Rattle.command_model.specs.Aggregate.{Aggregate}
-use Rattle.aggregate.specs.Stage.{Stage}
-use Rattle.aggregate.specs.Pipeline.{run as after_pipeline}
+use Rattle.aggregate_model.specs.Stage.{Stage}
+use Rattle.aggregate_model.specs.Pipeline.{run as after_pipeline}
 use Rattle.database_model.specs.Aggregate.{run_aggregate}
 use Rattle.database_model.specs.Find.{query_result, matching, window, run_find}
 use Rattle.command_model.specs.Delete.{Delete}

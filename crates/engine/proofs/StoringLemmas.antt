@@ -10,7 +10,7 @@ use Rattle.path.specs.declared.refusal.Refusal.{Refusal}
 use Rattle.path.specs.declared.refusal.Refusal.TheVariants as refusals
 use Rattle.btree.specs.Keys.{Edit}
 use Rattle.collections.specs.Reading.{catalogued_in, catalogued_of}
-use Rattle.update.specs.Stored.{id_first}
+use Rattle.update_model.specs.Stored.{id_first}
 use Rattle.index.specs.Definition.{Definition}
 use Rattle.entries.specs.Documents.{AddsCollection}
 use Rattle.entries.specs.LawfulState as states
@@ -28,7 +28,7 @@ use Rattle.statements.specs.Updating.{MayBePut}
 use Rattle.database_model.specs.World.{collection_of, documents_or_none, indexes_or_none, number_or, unused}
 use Rattle.statements.proofs.Checked.{keeps}
 use Rattle.statements.proofs.EditPlaceLemmas.{storable}
-use Rattle.statements.proofs.Numbers.{unused_unused}
+use Rattle.database_model.proofs.Numbers.{unused_unused}
 
 -- ---- a collection that documents go to
 

@@ -31,17 +31,17 @@ use Rattle.queries.proofs.OrderingLemmas.{first_kept}
 use Rattle.database_model.specs.Lawful.{IsKept, IsLawful, IsStored, IsWithin}
 use Rattle.database_model.specs.Refusals.{ok_reply}
 use Rattle.database_model.specs.World.{Cursor, World, documents_of}
-use Rattle.queries.specs.Batches.{GoesOn, IsGivenBatch, is_from, rest_from, rest_of, walk_rest}
+use Rattle.walks.specs.Batches.{GoesOn, IsGivenBatch, is_from, rest_from, rest_of, walk_rest}
 use Rattle.queries.specs.IdOrder.{keeps_id_order}
-use Rattle.queries.specs.Listed.{id_text_of}
-use Rattle.queries.specs.declared.batches.BatchAsked.{BatchAsked}
-use Rattle.queries.specs.declared.batches.GivenBatch.{GivenBatch}
-use Rattle.queries.specs.declared.batches.Walk.{Walk}
-use Rattle.queries.proofs.WalkLeftLemmas.{whole_walk}
+use Rattle.walks.specs.Listed.{id_text_of}
+use Rattle.walks.specs.declared.batches.BatchAsked.{BatchAsked}
+use Rattle.walks.specs.declared.batches.GivenBatch.{GivenBatch}
+use Rattle.walks.specs.declared.batches.Walk.{Walk}
+use Rattle.walks.proofs.WalkLeftLemmas.{whole_walk}
 use Rattle.replies.specs.View.{batch_name, with_ok}
 use Rattle.replies.specs.declared.batch_spelling.BatchKind.TheVariants as kinds
 use Rattle.statements.proofs.KeptLemmas.{stored_at}
-use Rattle.statements.proofs.Numbers.{found_kept}
+use Rattle.database_model.proofs.Numbers.{found_kept}
 use Rattle.engine.specs.Durable.{IsSound, disk_history}
 use Rattle.engine.specs.Performing.{PerformsReading}
 use Rattle.engine.specs.TakingOut.{HasHome}

@@ -8,10 +8,10 @@ use Rattle.entries.specs.StateReads.{find_document}
 use Rattle.entries.specs.declared.catalogue_reading.Catalogued.{Catalogued}
 use Rattle.engine.specs.TakingOut.{HasHome}
 use Rattle.replies.specs.declared.batch_spelling.BatchKind.TheVariants as kinds
-use Rattle.queries.specs.Listed.{id_text_of}
-use Rattle.queries.specs.declared.batches.BatchAsked.{BatchAsked}
-use Rattle.queries.specs.declared.batches.Walk.{Walk}
-use Rattle.queries.specs.declared.in_order.OrderedWalk.{OrderedWalk}
+use Rattle.walks.specs.Listed.{id_text_of}
+use Rattle.walks.specs.declared.batches.BatchAsked.{BatchAsked}
+use Rattle.walks.specs.declared.batches.Walk.{Walk}
+use Rattle.walks.specs.declared.in_order.OrderedWalk.{OrderedWalk}
 use Rattle.queries.specs.declared.index_order.IndexOrder.{IndexOrder}
 
 -- The walk is from the beginning, and gives what the query asks for.

@@ -28,8 +28,8 @@ use page::Disk;
 use path::Refusal;
 use pinned_cursors::{FirstAsked, ListLeft, give_first, open_listed};
 use projection::Projection;
-use queries::listed_texts;
 use replies::ConnId;
+use walks::listed_texts;
 
 /// So many documents that a sort gives are kept while they are sorted; of more the `_id`s and what the sort looks at alone.
 const FEW: usize = 1_024;

@@ -1,9 +1,8 @@
 //! `delete`: what its statements leave of a collection.
 
-ghost use Rattle.std.specs.Prelude.{◌≡◌, [], map, IfOk, Ok};
+ghost use Rattle.std.specs.Prelude.{◌≡◌, [], IfOk, Ok};
 ghost use Rattle.database_model.specs.Delete.{run_delete};
 ghost use Rattle.engine.specs.Looking.{Looks};
-ghost use Rattle.database_model.specs.Merging.{is_deleted};
 ghost use Rattle.page.specs.History.{KeepsWord};
 ghost use Rattle.engine.specs.Durable.{disk_history, has_changes, IsSound};
 ghost use Rattle.engine.specs.Performing.{Performs};
@@ -14,54 +13,15 @@ ghost use Rattle.engine.specs.View.{world};
 
 use crate::engine::Engine;
 use crate::removing::note_removed;
-use bson::{Document, NoMemory, RawDoc};
+use bson::Document;
 use commands::Deletion;
 use entries::{Catalogued, Edits};
-use filter::Filter;
+use meant_documents::Matched;
 use page::Disk;
 use path::Refusal;
-use queries::Selects;
 use replies::{SharedDocument, total_reply};
-use statements::{after_deletions, is_deleted};
+use statements::after_deletions;
 use std::alloc::Global;
-
-/// The documents that a statement of a delete matches.
-#[derive(Drop)]
-struct Matched<'a> {
-    deletions: &'a [Deletion],
-}
-
-impl Selects for Matched<'_> {
-    ghost selects = { λ a. is_deleted a.deletions.now };
-
-    ghost filters = { λ a. map (λ d. d.filter) a.deletions.now };
-
-    fn selects_raw(&self, alloc: Global, document: &RawDoc<'_>) -> Result<bool, NoMemory> {
-        is_deleted(alloc, self.deletions, document)
-    }
-
-    fn filter_count(&self) -> usize {
-        self.deletions.len()
-    }
-
-    fn filter_at(&self, at: usize) -> Option<&Filter> {
-        match self.deletions.get(at) {
-            Some(deletion) => Some(&deletion.filter),
-            None => None,
-        }
-    }
-
-    fn put_ids(&self, _alloc: Global, _ids: &mut Vec<Vec<u8>>) -> Result<bool, NoMemory> {
-        Ok(true)
-    }
-
-    fn asked_filter(&self) -> Option<&Filter> {
-        match self.deletions {
-            [only] => Some(&only.filter),
-            _ => None,
-        }
-    }
-}
 
 /// So many of the documents that statements match, in ascending order of `_id`, are enough: one, where a
 /// single statement takes the first one.

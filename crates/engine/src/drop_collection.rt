@@ -19,9 +19,9 @@ use collections::Walk;
 use entries::{Catalogued, Edits};
 use page::Disk;
 use path::Refusal;
-use queries::BATCH;
 use replies::drop_reply;
 use std::alloc::Global;
+use walks::BATCH;
 
 impl<D: Disk> Engine<D> {
     /// Takes a collection away with its documents; `NamespaceNotFound` where there is none of its name.

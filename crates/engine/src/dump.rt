@@ -13,7 +13,7 @@ use crate::troubles::{told_fault, troubles_of};
 use bson::SpelledDocument;
 use collections::Walk;
 use page::Disk;
-use queries::BATCH;
+use walks::BATCH;
 
 impl<D: Disk> Engine<D> {
     /// A walk through the documents of the collection of a name, in ascending order of `_id`. `NamespaceNotFound` where there

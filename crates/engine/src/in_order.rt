@@ -9,7 +9,7 @@ ghost use Rattle.engine.specs.View.{world};
 ghost use Rattle.engine.specs.Walking.{IsWholeOrder};
 ghost use Rattle.page.specs.History.{KeepsWord};
 ghost use Rattle.pinned_cursors.specs.Opening.{that_keep};
-ghost use Rattle.queries.specs.InOrder.{IsOrderOf};
+ghost use Rattle.queries.specs.IndexOrder.{IsOrderOf};
 ghost use Rattle.replies.specs.View.{IsSendable};
 
 use crate::by_list::all_asked;
@@ -20,8 +20,9 @@ use entries::Catalogued;
 use page::Disk;
 use path::Refusal;
 use pinned_cursors::{FirstAsked, InOrder, give_first_in_order};
-use queries::{IndexOrder, OrderedWalk, order_asked};
+use queries::{IndexOrder, order_asked};
 use replies::ConnId;
+use walks::OrderedWalk;
 
 /// So many times entries are read for a first batch where the filter passes over some: where these don't suffice, all that
 /// matches is sorted.

@@ -18,9 +18,9 @@ use entries::{Catalogued, Edits, NewEntries};
 use index_list::{is_in_conflict, is_there, unused_number};
 use page::Disk;
 use path::Refusal;
-use queries::BATCH;
 use std::alloc::Global;
 use stored_documents::id_text;
+use walks::BATCH;
 
 /// Documents enter an index, one after the other, up to the first that it refuses.
 fn take_each(alloc: Global, made: &mut NewEntries, documents: &[Document]) -> Result<(), Refusal>

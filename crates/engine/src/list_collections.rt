@@ -15,9 +15,9 @@ use bson::{Document, NoMemory, SpelledDocument};
 use collections::Name;
 use page::Disk;
 use path::Refusal;
-use queries::are_within;
 use replies::{listed_document, whole_reply};
 use std::alloc::Global;
+use walks::are_within;
 
 /// The name of a collection without its database, where the namespace begins with this.
 fn name_in<'a>(database: &str, namespace: &'a str) -> Option<&'a str>

@@ -12,22 +12,21 @@ ghost use Rattle.database_model.specs.Lawful.{IsWithin};
 ghost use Rattle.engine.specs.Looking.{Looks, LooksOf};
 ghost use Rattle.engine.specs.TakingOut.{IsHome};
 ghost use Rattle.index.specs.View.{texts_of};
-ghost use Rattle.queries.specs.Batches.{IsGivenBatch};
-ghost use Rattle.queries.specs.Listed.{id_text_of};
+ghost use Rattle.walks.specs.Batches.{IsGivenBatch};
+ghost use Rattle.walks.specs.Listed.{id_text_of};
 ghost use Rattle.queries.specs.LookedUp.{IsLookedUp, IsLookedUpWithin};
 ghost use Rattle.replies.specs.View.{IsSendable};
 
 use crate::engine::Engine;
+use asked_documents::Selects;
 use bson::SpelledDocument;
 use commands::Query;
 use entries::Catalogued;
 use page::Disk;
 use path::Refusal;
-use queries::{
-    BatchAsked, GivenBatch, LookedUp, Selects, Walk, batch_of_turn, looked_up_first,
-    ordered_ids_in, ordered_in, selected_in,
-};
+use queries::{LookedUp, looked_up_first, ordered_ids_in, ordered_in, selected_in};
 use replies::SharedDocument;
+use walks::{BatchAsked, GivenBatch, Walk, batch_of_turn};
 
 impl<D: Disk> Engine<D> {
     /// The number and the indexes of the collection of a name, if there is one.

@@ -21,9 +21,9 @@ use index::IndexSpec;
 use index_list::first_dropped;
 use page::Disk;
 use path::Refusal;
-use queries::BATCH;
 use std::alloc::Global;
 use stored_documents::id_text;
+use walks::BATCH;
 
 /// Notes that a document's entries in an index are removed.
 fn unindex_one(

@@ -1,23 +1,18 @@
 //! `update`: documents are changed and made, statement by statement; all statements are done, or none.
 
-ghost use Rattle.std.specs.Prelude.{◌≡◌, ◌≢◌, ◌≤◌, ◌++◌, [], false, true, IfErr, IfOk, None, OnOk, All, length, map};
-ghost use Rattle.std.specs.Ordering.{is_eq};
-ghost use Rattle.value_order.specs.Order.{compare};
+ghost use Rattle.std.specs.Prelude.{◌≡◌, ◌≢◌, ◌≤◌, [], false, true, IfOk, None, All, length, map};
 ghost use Rattle.page.specs.History.{KeepsWord};
 ghost use Rattle.collections.specs.Reading.{IsWithinLimits};
 ghost use Rattle.command_model.specs.Update.{UpdateStatement, IsRead};
 ghost use Rattle.command_model.specs.Command.{update};
-ghost use Rattle.database_model.specs.Documents.{key_of};
 ghost use Rattle.engine.specs.Durable.{disk_history, has_changes, IsSound};
 ghost use Rattle.database_model.specs.Lawful.{IsWithin};
-ghost use Rattle.database_model.specs.Merging.{has_key_of, is_meant_by, is_updated, made_by, made_of, makes_any};
+ghost use Rattle.database_model.specs.Merging.{made_by, makes_any};
 ghost use Rattle.engine.specs.Performing.{Performs};
 ghost use Rattle.engine.specs.Putting.{AreWritesOf, HasNumber, IsFullFor, IsFullWithout, IsMeant, IsUpdate, MeansIn, NotesWrites, RepliesTo, Suffices};
 ghost use Rattle.database_model.specs.Step.{ChangesNone};
 ghost use Rattle.engine.specs.Storing.{MayEnter, Notes, entering};
 ghost use Rattle.engine.specs.Trying.{Tries};
-ghost use Rattle.index.specs.View.{texts_of};
-ghost use Rattle.queries.specs.ById.{ArePut, TellIds};
 ghost use Rattle.entries.specs.Entering.{enter_each};
 ghost use Rattle.database_model.specs.UpdateCommand.{run_update};
 ghost use Rattle.statements.specs.Updating.{MayBePut, news_of, seen};
@@ -25,17 +20,15 @@ ghost use Rattle.replies.specs.View.{IsSendable};
 ghost use Rattle.engine.specs.View.{world};
 
 use crate::engine::Engine;
-use bson::{Document, NoMemory, RawDoc};
+use bson::Document;
 use commands::UpdateStatement;
 use entries::{Catalogued, Edits};
-use filter::Filter;
+use meant_documents::{Meaning, all_made};
 use page::Disk;
 use path::Refusal;
-use queries::{Selects, put_id};
 use replies::{REPLY_LIMIT, SharedDocument};
-use statements::{Ran, Tally, Write, run_on, unless_memory, update_reply, upsert_document};
+use statements::{Ran, Tally, Write, run_on, update_reply};
 use std::alloc::Global;
-use stored_documents::{ID, compare_id, read_id};
 
 /// The documents that the statements of an update may mean, as many as are enough, and the collection that
 /// has them.
@@ -47,159 +40,11 @@ pub(crate) struct Meant {
     documents: Vec<SharedDocument>,
 }
 
-/// Adds the document that a statement makes where none matches.
-fn add_made(
-    alloc: Global,
-    statement: &UpdateStatement,
-    made: &mut Vec<Document>,
-) -> Result<(), Refusal>
-    ensures ok { OnOk result (made.new.items ≡ made.old.items ++ made_of statement.now) }
-    ensures err { IfErr result (λ e. e ≡ Refusal.OutOfMemory) }
-{
-    if !statement.upsert {
-        return Ok(());
-    }
-    let document = match upsert_document(alloc, statement) {
-        Ok(document) => document,
-        Err(refusal) => {
-            let _refusal = unless_memory(refusal)?;
-            return Ok(());
-        }
-    };
-    made.push(document)?;
-    Ok(())
-}
-
-/// The documents that statements make where none matches.
-fn all_made(alloc: Global, statements: &[UpdateStatement]) -> Result<Vec<Document>, Refusal>
-    ensures ok { IfOk result (λ made. made.items ≡ made_by statements.now) }
-    ensures err { IfErr result (λ e. e ≡ Refusal.OutOfMemory) }
-{
-    let mut made = Vec::new(alloc);
-    'statements: for statement in statements {
-        add_made(alloc, statement, &mut made)?;
-    }
-    Ok(made)
-}
-
 /// Whether a statement makes a document where none matches.
 fn makes_any(statements: &[UpdateStatement]) -> bool
     ensures { result ≡ makes_any statements.now }
 {
     statements.iter().any(|statement| statement.upsert)
-}
-
-/// Whether a statement matches a document that stays its bytes.
-fn is_updated_raw(
-    alloc: Global,
-    statements: &[UpdateStatement],
-    document: &RawDoc<'_>,
-) -> Result<bool, NoMemory>
-    ensures { IfOk result (λ answer. answer ≡ is_updated statements.now document.now) }
-{
-    'statements: for statement in statements {
-        if statement.filter.matches_raw(alloc, document)? {
-            return Ok(true);
-        }
-    }
-    Ok(false)
-}
-
-/// Whether one of these documents has the `_id` of another, which stays its bytes.
-fn has_id_of_raw(
-    alloc: Global,
-    documents: &[Document],
-    other: &RawDoc<'_>,
-) -> Result<bool, NoMemory>
-    ensures { IfOk result (λ answer. answer ≡ has_key_of documents.now other.now) }
-{
-    if documents.is_empty() {
-        return Ok(false);
-    }
-    let id = read_id(alloc, other)?;
-    Ok(
-        documents
-            .iter()
-            .any(|document| compare_id(document, &id).is_eq()),
-    )
-}
-
-/// Puts the key text of a document's `_id` behind others; false where it has none, or a longer one than a
-/// stored document's.
-fn put_id_of(alloc: Global, ids: &mut Vec<Vec<u8>>, document: &Document) -> Result<bool, NoMemory>
-    ensures put { OnOk result (ArePut (texts_of ids.old.items) (texts_of ids.new.items)) }
-    ensures tells { IfOk result (λ told. told ≡ true
-        → TellIds (λ d. is_eq (compare (key_of document.now) (key_of d)))
-        (texts_of ids.new.items)) }
-{
-    match document.get(ID) {
-        Some(id) => put_id(alloc, ids, id),
-        None => Ok(false),
-    }
-}
-
-/// Puts the key texts of the `_id`s of documents behind others.
-fn put_ids_of(
-    alloc: Global,
-    ids: &mut Vec<Vec<u8>>,
-    documents: &[Document],
-) -> Result<bool, NoMemory>
-    ensures put { OnOk result (ArePut (texts_of ids.old.items) (texts_of ids.new.items)) }
-    ensures tells { IfOk result (λ told. told ≡ true
-        → TellIds (has_key_of documents.now) (texts_of ids.new.items)) }
-{
-    'documents: for document in documents {
-        if !put_id_of(alloc, ids, document)? {
-            return Ok(false);
-        }
-    }
-    Ok(true)
-}
-
-/// The documents that a statement matches, and those that have the `_id` of one that is made.
-#[derive(Drop)]
-struct Meaning<'a> {
-    statements: &'a [UpdateStatement],
-    made: &'a [Document],
-}
-
-impl Selects for Meaning<'_> {
-    ghost selects = { λ a. is_meant_by a.statements.now a.made.now };
-
-    ghost filters = { λ a. map (λ s. s.filter) a.statements.now };
-
-    fn selects_raw(&self, alloc: Global, document: &RawDoc<'_>) -> Result<bool, NoMemory> {
-        if is_updated_raw(alloc, self.statements, document)? {
-            return Ok(true);
-        }
-        has_id_of_raw(alloc, self.made, document)
-    }
-
-    fn filter_count(&self) -> usize {
-        self.statements.len()
-    }
-
-    fn filter_at(&self, at: usize) -> Option<&Filter> {
-        match self.statements.get(at) {
-            Some(statement) => Some(&statement.filter),
-            None => None,
-        }
-    }
-
-    fn put_ids(&self, alloc: Global, ids: &mut Vec<Vec<u8>>) -> Result<bool, NoMemory> {
-        put_ids_of(alloc, ids, self.made)
-    }
-
-    fn asked_filter(&self) -> Option<&Filter> {
-        let [only] = self.statements else {
-            return None;
-        };
-        if self.made.is_empty() {
-            Some(&only.filter)
-        } else {
-            None
-        }
-    }
 }
 
 /// So many of the documents that statements may mean are enough, in ascending order of `_id`: one, where the

@@ -9,7 +9,7 @@ ghost use Rattle.engine.specs.TakingOut.{HasHome};
 ghost use Rattle.engine.specs.View.{world};
 ghost use Rattle.engine.specs.Walking.{IsFirstAsked, IsWholeWalk};
 ghost use Rattle.page.specs.History.{KeepsWord};
-ghost use Rattle.queries.specs.Batches.{walk_rest};
+ghost use Rattle.walks.specs.Batches.{walk_rest};
 ghost use Rattle.queries.specs.IdOrder.{keeps_id_order};
 ghost use Rattle.pinned_cursors.specs.Opening.{that_keep};
 ghost use Rattle.replies.specs.View.{IsSendable};
@@ -24,8 +24,9 @@ use opening::Told;
 use page::Disk;
 use path::Refusal;
 use pinned_cursors::{WalkSoFar, open_pinned};
-use queries::{BatchAsked, GivenBatch, LookedUp, Walk};
+use queries::LookedUp;
 use replies::{BatchKind, ConnId};
+use walks::{BatchAsked, GivenBatch, Walk};
 
 /// The walk from the beginning that gives what a query asks for.
 fn whole_walk(query: &Query) -> Walk<'_>

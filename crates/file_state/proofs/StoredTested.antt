@@ -8,8 +8,8 @@ use Rattle.std.proofs.lemmas.Slice.Eq.{bytes_eq-Decides}
 use Rattle.bson.specs.Lawful.{IsPairs, Lacks}
 use Rattle.bson.specs.Lookup.{lookup}
 use Rattle.bson.specs.Tree.{Tree, scalar, null, document, array, Pairs, no_pairs, pair}
-use Rattle.update.specs.Stored.{first_pair, id_first, id_name, no_array, pairs_fault, without}
-use Rattle.update.proofs.IdLemmas.{without-absent}
+use Rattle.update_model.specs.Stored.{first_pair, id_first, id_name, no_array, pairs_fault, without}
+use Rattle.update_model.proofs.IdLemmas.{without-absent}
 use Rattle.entries.specs.LawfulState.{IsLawfulState}
 use Rattle.entries.specs.State.{Collection}
 use Rattle.entries.proofs.HomeLemmas.{kept_of, storable_of}

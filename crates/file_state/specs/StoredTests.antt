@@ -4,7 +4,7 @@ use Rattle.std.specs.Prelude.{ℕ, Bool, false, ◌&&◌, if◌then◌else◌, L
 use Rattle.std.specs.List.{list_all}
 use Rattle.std.specs.Str.{bytes_eq}
 use Rattle.bson.specs.Tree.{Pairs, no_pairs, pair}
-use Rattle.update.specs.Stored.{id_name, id_of, pairs_fault}
+use Rattle.update_model.specs.Stored.{id_name, id_of, pairs_fault}
 use Rattle.entries.specs.State.{Collection}
 use Rattle.file_state.specs.Collections.{held_in}
 

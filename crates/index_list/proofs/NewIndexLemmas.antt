@@ -23,8 +23,8 @@ use Rattle.entries.proofs.MemberLemmas.{Among}
 use Rattle.database_model.specs.CreateIndexes.{are_same_fields, is_in_conflict, is_same_field, is_there, numbered, unused_index, with_new_index}
 use Rattle.database_model.specs.CreateIndexes.{with_new_indexes}
 use Rattle.database_model.specs.Lawful.{AreShortIndexes, IsShortIndex}
-use Rattle.statements.proofs.Numbers.{unused_unused}
-use Rattle.statements.proofs.ShortIndexes.{noted_short}
+use Rattle.database_model.proofs.Numbers.{unused_unused}
+use Rattle.database_model.proofs.ShortIndexes.{noted_short}
 use Rattle.replies.proofs.Steps.{drop_step}
 
 -- ---- fields

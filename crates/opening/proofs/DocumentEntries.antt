@@ -35,13 +35,13 @@ use Rattle.entries.proofs.LawfulLaws.{put_in}
 use Rattle.index.proofs.SetLemmas.{set_sorted}
 use Rattle.collections.specs.IndexChecks.{has_entry, is_empty_at, lacks_any, lacks_key, lacks_one}
 use Rattle.opening.specs.Totals.{total_documents}
-use Rattle.statements.specs.Places.{collection_at, no_collection}
+use Rattle.database_model.specs.Places.{collection_at, no_collection}
 use Rattle.opening.specs.Judging.{AreLoaded, HasItsKeys, IsStoredAt, Progress, bare, key_count, keys_among, listed_of, numbered, with_document_at}
 use Rattle.opening.specs.Judging.{with_document_in}
 use Rattle.opening.proofs.OnceLists.{AreOnce, once_append, once_flat, once_map, sorted_once}
 use Rattle.opening.proofs.TakingLemmas.{document_loaded, find_there, is_storable, kept_with}
-use Rattle.statements.proofs.Located.{Gap, There, located}
-use Rattle.statements.proofs.Ordered.{found as found_at, missing, replaced}
+use Rattle.database_model.proofs.Located.{Gap, There, located}
+use Rattle.database_model.proofs.Ordered.{found as found_at, missing, replaced}
 use Rattle.opening.proofs.EntriesSoFar.{count_set, IsKeyed, IsPlain, Stands, index_fits, not_both, one_of_one, seen_same, under_none}
 
 -- ---- what a check of keys tells

@@ -11,8 +11,8 @@ use Rattle.bson.specs.Lawful.{IsDocument, pairs_levels}
 use Rattle.bson.specs.Spelling.{frame_of, pairs_bytes}
 use Rattle.value_order.specs.KeyText.{tree_text}
 use Rattle.path.specs.declared.refusal.Refusal.TheVariants as refusals
-use Rattle.update.specs.Stored.{fault_if, first_pair, id_name, id_of, limits_fault, no_array, or_else, pairs_fault, without}
-use Rattle.update.proofs.IdLemmas.{id_first-at, to_front-first}
+use Rattle.update_model.specs.Stored.{fault_if, first_pair, id_name, id_of, limits_fault, no_array, or_else, pairs_fault, without}
+use Rattle.update_model.proofs.IdLemmas.{id_first-at, to_front-first}
 use Rattle.database_model.specs.Documents.{key_of}
 use Rattle.database_model.specs.Lawful.{IsStored}
 

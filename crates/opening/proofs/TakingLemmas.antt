@@ -16,7 +16,7 @@ use Rattle.bson.specs.Lookup.{lookup}
 use Rattle.bson.specs.Lawful.{IsDocument}
 use Rattle.btree.specs.Keys.{Entry}
 use Rattle.btree.proofs.ListLemmas.{map_append}
-use Rattle.update.specs.Stored.{no_array}
+use Rattle.update_model.specs.Stored.{no_array}
 use Rattle.entries.specs.Documents.{put_document, with_documents}
 use Rattle.entries.specs.Entering.{AreIndexed, clashes}
 use Rattle.index.specs.IndexKeys.{noted}
@@ -35,7 +35,7 @@ use Rattle.database_model.specs.Documents.{key_of}
 use Rattle.opening.specs.Judging.{AreLoaded, IsIndexable, IsLoadingAs, IsName, IsStoredAt, bare, keys_among, listed_of, numbered, stands_behind}
 use Rattle.opening.specs.Judging.{with_document_at, with_document_in}
 use Rattle.database_model.specs.Lawful.{IsLawfulState, IsStored}
-use Rattle.statements.proofs.ShortIndexes.{definitions_short}
+use Rattle.database_model.proofs.ShortIndexes.{definitions_short}
 
 -- ---- what is lawful
 

@@ -17,7 +17,7 @@ ghost use Rattle.opening.specs.Loading.{named_as};
 use crate::MOST_COLLECTIONS;
 use bson::{Document, NoMemory};
 use btree::Entry;
-use commands::NAMESPACE_LIMIT;
+use command_model::NAMESPACE_LIMIT;
 use entries::{catalogue_told, document_in, document_key, namespace_in};
 use index::{IndexSpec, keys_in_all};
 use path::Refusal;

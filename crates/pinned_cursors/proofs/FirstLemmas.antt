@@ -25,11 +25,11 @@ use Rattle.replies.specs.View.{batch_name}
 use Rattle.replies.specs.declared.batch_spelling.BatchKind.TheVariants as batches
 use Rattle.projection.specs.Projection.{Projection}
 use Rattle.entries.specs.State.{Collection}
-use Rattle.queries.specs.InOrder.{IsOrderedBatch}
-use Rattle.queries.specs.Listed.{AreListedIn, Chosen, IsListedBatch, given_of}
-use Rattle.queries.specs.declared.batches.BatchAsked.{BatchAsked}
-use Rattle.queries.specs.declared.batches.GivenBatch.{GivenBatch}
-use Rattle.queries.specs.declared.in_order.OrderedWalk.{OrderedWalk}
+use Rattle.walks.specs.InOrder.{IsOrderedBatch}
+use Rattle.walks.specs.Listed.{AreListedIn, Chosen, IsListedBatch, given_of}
+use Rattle.walks.specs.declared.batches.BatchAsked.{BatchAsked}
+use Rattle.walks.specs.declared.batches.GivenBatch.{GivenBatch}
+use Rattle.walks.specs.declared.in_order.OrderedWalk.{OrderedWalk}
 use Rattle.cursors.specs.Changes.{further, opened}
 use Rattle.cursors.specs.Held.{Held, HeldCursor, HeldWalk, Way, listed, cursors_of, table_of}
 use Rattle.cursors.specs.TableLaws.{opened_in_table}

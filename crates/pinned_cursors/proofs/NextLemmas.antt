@@ -24,16 +24,16 @@ use Rattle.entries.specs.State.{Collection, key_of}
 use Rattle.entries.specs.StateReads.{find_document}
 use Rattle.index.specs.View.{texts_of}
 use Rattle.projection.specs.Projection.{Projection, project}
-use Rattle.queries.specs.Asking.{IsAskedIn}
-use Rattle.queries.specs.Batches.{GoesOn, IsGivenBatch, rest_of, walk_rest}
-use Rattle.queries.specs.Listed.{AreListedIn, Chosen, IsListedBatch, given_of, id_text_of}
-use Rattle.queries.specs.InOrder.{IsOrderedBatch}
-use Rattle.queries.specs.declared.in_order.OrderedWalk.{OrderedWalk}
-use Rattle.queries.specs.declared.listed.Listed.{Listed}
-use Rattle.queries.proofs.ListedLemmas.{as_many}
-use Rattle.queries.specs.declared.batches.BatchAsked.{BatchAsked}
-use Rattle.queries.specs.declared.batches.GivenBatch.{GivenBatch}
-use Rattle.queries.specs.declared.batches.Walk.{Walk}
+use Rattle.asked_documents.specs.Asking.{IsAskedIn}
+use Rattle.walks.specs.Batches.{GoesOn, IsGivenBatch, rest_of, walk_rest}
+use Rattle.walks.specs.Listed.{AreListedIn, Chosen, IsListedBatch, given_of, id_text_of}
+use Rattle.walks.specs.InOrder.{IsOrderedBatch}
+use Rattle.walks.specs.declared.in_order.OrderedWalk.{OrderedWalk}
+use Rattle.walks.specs.declared.listed.Listed.{Listed}
+use Rattle.walks.proofs.ListedLemmas.{as_many}
+use Rattle.walks.specs.declared.batches.BatchAsked.{BatchAsked}
+use Rattle.walks.specs.declared.batches.GivenBatch.{GivenBatch}
+use Rattle.walks.specs.declared.batches.Walk.{Walk}
 use Rattle.cursors.specs.Changes.{after, further, gone_on, onwards, without}
 use Rattle.cursors.specs.Held.{Held, HeldCursor, HeldWalk, Way, through, listed, cursors_of, held_at, no_held_cursor, table_of}
 use Rattle.cursors.specs.TableLaws.{ended_in_table, gone_on_in_table}
@@ -60,7 +60,7 @@ lists_on texts p ds rest n l = record {
   same = ap (drop n) l.same ∙ drop-map (project p) n l.some;
 }
 
--- the walk by which a cursor goes on, and its list, as queries take them
+-- the walk by which a cursor goes on, and its list, as walks take them
 pub record IsWalkOf (w : HeldWalk) (walk : Walk) : Type 0 where
   pub way : w.way ≡ through walk.filter.now walk.limit walk.from.now
   pub projection : walk.projection.now ≡ w.projection

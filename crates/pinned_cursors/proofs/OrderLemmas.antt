@@ -14,11 +14,11 @@ use Rattle.collections.specs.View.{disk_history}
 use Rattle.database_model.specs.Cursors.{batch_of, batch_reply}
 use Rattle.database_model.specs.Refusals.{ok_reply}
 use Rattle.replies.specs.View.{batch_name}
-use Rattle.queries.specs.InOrder.{GoesOnInOrder, IsOrderedBatch, IsOrderedIn, rest_in_order}
-use Rattle.queries.specs.Listed.{IsListedBatch}
-use Rattle.queries.specs.declared.batches.BatchAsked.{BatchAsked}
-use Rattle.queries.specs.declared.batches.GivenBatch.{GivenBatch}
-use Rattle.queries.specs.declared.in_order.OrderedWalk.{OrderedWalk}
+use Rattle.walks.specs.InOrder.{GoesOnInOrder, IsOrderedBatch, IsOrderedIn, rest_in_order}
+use Rattle.walks.specs.Listed.{IsListedBatch}
+use Rattle.walks.specs.declared.batches.BatchAsked.{BatchAsked}
+use Rattle.walks.specs.declared.batches.GivenBatch.{GivenBatch}
+use Rattle.walks.specs.declared.in_order.OrderedWalk.{OrderedWalk}
 use Rattle.cursors.specs.Changes.{further}
 use Rattle.cursors.specs.Held.{HeldWalk}
 use Rattle.pinned_cursors.specs.Opening.{held_walk, way_in_order}

@@ -14,7 +14,7 @@ use Rattle.database_model.specs.GetMore.{batch_len_of}
 use Rattle.database_model.specs.Refusals.{ok_reply}
 use Rattle.cursors.specs.Changes.{onwards}
 use Rattle.cursors.specs.Held.{Held, HeldCursor, HeldWalk, cursors_of, held_at, table_of}
-use Rattle.queries.specs.declared.batches.GivenBatch.{GivenBatch}
+use Rattle.walks.specs.declared.batches.GivenBatch.{GivenBatch}
 use Rattle.pinned_cursors.specs.Tied.{AreTied, ReadsRest}
 use Rattle.pinned_cursors.specs.Turns.{OnlyPins}
 

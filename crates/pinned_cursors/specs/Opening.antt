@@ -19,7 +19,7 @@ use Rattle.cursors.specs.Held.{Held, HeldCursor, HeldWalk, Way, through, listed,
 use Rattle.cursors.specs.Held.{cursors_of, table_of}
 use Rattle.pinned_cursors.specs.Tied.{AreTied, IsLeftBy}
 use Rattle.pinned_cursors.specs.Turns.{OnlyPins}
-use Rattle.queries.specs.declared.in_order.OrderedWalk.{OrderedWalk}
+use Rattle.walks.specs.declared.in_order.OrderedWalk.{OrderedWalk}
 use Rattle.pinned_cursors.specs.declared.opening.ListLeft.{ListLeft}
 use Rattle.pinned_cursors.specs.declared.opening.OrderSoFar.{OrderSoFar}
 use Rattle.pinned_cursors.specs.declared.opening.WalkSoFar.{WalkSoFar}

@@ -16,9 +16,9 @@ use Rattle.filter.specs.Condition.{Conditions}
 use Rattle.index.specs.Definition.{Definition}
 use Rattle.sort.specs.Sort.{SortField}
 use Rattle.projection.specs.Projection.{Projection, project}
-use Rattle.queries.specs.Batches.{walk_rest}
-use Rattle.queries.specs.InOrder.{IsInOrder, ordered_rest}
-use Rattle.queries.specs.Listed.{HasListed}
+use Rattle.walks.specs.Batches.{walk_rest}
+use Rattle.walks.specs.InOrder.{IsInOrder, ordered_rest}
+use Rattle.walks.specs.Listed.{HasListed}
 use Rattle.cursors.specs.Held.{HeldCursor, HeldWalk, Way, through, listed, ordered}
 
 -- The texts are those of some of the documents, and this is what a projection leaves of them.

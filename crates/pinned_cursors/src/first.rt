@@ -14,9 +14,9 @@ use cursors::{Cursors, Rest};
 use page::Disk;
 use pager::Version;
 use path::Refusal;
-use queries::{BatchAsked, GivenBatch, Listed, batch_of_listed};
 use replies::{BatchKind, ConnId};
 use std::alloc::Global;
+use walks::{BatchAsked, GivenBatch, Listed, batch_of_listed};
 
 /// Who asks for a first batch of a list, and for how many documents.
 #[derive(Clone, Copy)]

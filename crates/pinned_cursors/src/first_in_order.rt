@@ -15,9 +15,9 @@ use cursors::{Cursors, Rest};
 use page::Disk;
 use pager::Version;
 use path::Refusal;
-use queries::{BatchAsked, GivenBatch, OrderedWalk, batch_in_order};
 use replies::BatchKind;
 use std::alloc::Global;
+use walks::{BatchAsked, GivenBatch, OrderedWalk, batch_in_order};
 
 /// What is asked for in the order of an index.
 #[derive(Clone, Copy)]

@@ -12,9 +12,9 @@ use cursors::{Cursors, PinnedList, PinnedOrder, PinnedWalk, Rest, TextList};
 use page::Disk;
 use pager::Version;
 use projection::Projection;
-use queries::{OrderedWalk, Walk};
 use replies::ConnId;
 use std::alloc::Global;
+use walks::{OrderedWalk, Walk};
 
 /// What a cursor is opened on: what a walk through a collection has left behind a batch.
 #[derive(Drop)]

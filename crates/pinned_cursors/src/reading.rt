@@ -6,7 +6,7 @@ ghost use Rattle.cursors.specs.Held.{cursors_of, held_at};
 ghost use Rattle.index.specs.View.{texts_of};
 ghost use Rattle.database_model.specs.Lawful.{AreLawfulCursors};
 ghost use Rattle.pinned_cursors.specs.Batches.{GivesNext, ReadsAt};
-ghost use Rattle.queries.specs.InOrder.{IsOrderedBatch, IsOrderedIn};
+ghost use Rattle.walks.specs.InOrder.{IsOrderedBatch, IsOrderedIn};
 ghost use Rattle.replies.specs.View.{IsSendable};
 
 use crate::ending::end;
@@ -16,14 +16,14 @@ use cursors::{Cursors, PinnedList, PinnedOrder, PinnedWalk, Source};
 use page::Disk;
 use pager::Version;
 use path::Refusal;
-use queries::{
+use replies::BatchKind;
+use std::alloc::Global;
+use walks::{
     BatchAsked, GivenBatch, Listed, OrderedWalk, Walk, batch_in_order, batch_of_listed,
     batch_of_version,
 };
-use replies::BatchKind;
-use std::alloc::Global;
 
-/// The walk by which a cursor goes on, as queries take it.
+/// The walk by which a cursor goes on, as walks take it.
 fn walk_on(pinned: &PinnedWalk) -> Walk<'_>
     ensures filter { result.filter.now ≡ pinned.now.filter }
     ensures projection { result.projection.now ≡ pinned.now.projection }

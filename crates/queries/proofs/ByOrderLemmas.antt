@@ -4,14 +4,11 @@ use Rattle.std.proofs.Common.{◌∙◌, arith, append_assoc, length-append}
 use Rattle.std.specs.Prelude.{Contains, unwrap_or}
 use Rattle.std.specs.List.{AllByRecursion, filter}
 use Rattle.std.proofs.lemmas.List.{append-nil, length-take, take_all}
-use Rattle.std.proofs.lemmas.List.Sorted.{length_permutation}
 use Rattle.std.proofs.Math.Seq.{take-append_seam}
 use Rattle.bson.specs.Tree.{Pairs}
 use Rattle.filter.specs.Condition.{Conditions}
 use Rattle.filter.specs.Matches.{matches}
-use Rattle.sort.specs.Sort.{SortField, compare_by, order}
-use Rattle.sort.specs.SortLaws.{sorted-permuted}
-use Rattle.btree.specs.Keys.{Each, IsUnder, Rises as KeysRise}
+use Rattle.sort.specs.Sort.{SortField, order}
 use Rattle.value_order.specs.Order.{bytes_cmp}
 use Rattle.index.specs.Definition.{Definition}
 use Rattle.entries.specs.LawfulState.{IsKept, IsLawfulState}
@@ -28,34 +25,24 @@ use Rattle.planner.specs.KeySpan.{first_key, last_key}
 use Rattle.planner.specs.Plan.{Range, fields_of, range_in}
 use Rattle.planner.proofs.AnswerLemmas.{kept_are_noted}
 use Rattle.planner.proofs.FirstIdLemmas.{first_ids_lead}
-use Rattle.planner.proofs.RisingLemmas.{Below, Rises, pairs_of}
-use Rattle.queries.specs.Asking.{IsAsked}
+use Rattle.planner.proofs.RisingLemmas.{pairs_of}
+use Rattle.asked_documents.specs.Asking.{IsAsked}
 use Rattle.index.specs.View.{texts_of}
 use Rattle.queries.specs.declared.by_order.FirstIds.{FirstIds}
-use Rattle.queries.specs.ByIndex.{AreFirstIds, IsRangeOf, LeadInOrder}
-use Rattle.queries.specs.InOrder.{IsOrderOf}
+use Rattle.candidate_ids.specs.ByIndex.{IsRangeOf}
+use Rattle.queries.specs.ByOrder.{AreFirstIds, LeadInOrder}
+use Rattle.queries.specs.IndexOrder.{IsOrderOf}
 use Rattle.queries.specs.declared.index_order.IndexOrder.{IndexOrder}
-use Rattle.queries.proofs.ByIndexLemmas.{told}
-use Rattle.queries.proofs.LookingUpLemmas.{IsTold, found_first, one_at_most}
-use Rattle.queries.proofs.ReadingLemmas.{IsOther}
+use Rattle.candidate_ids.proofs.ByIndexLemmas.{told}
+use Rattle.walks.proofs.LookingUpLemmas.{IsTold, found_first, one_at_most}
+use Rattle.walks.proofs.OrderedBatchLemmas.{order-length, texts_up}
+use Rattle.asked_documents.proofs.ReadingLemmas.{IsOther}
 
--- ---- texts that rise
+-- ---- documents that are found by their `_id`s
 
-below_keys : (k : List ℕ) (ks : List (List ℕ)) → Each (λ l. IsUnder k l) ks → Below bytes_cmp k ks
-below_keys k [] h = tt
-below_keys k (l ∷ ks) h = (h.0, below_keys k ks h.1)
-
-pub texts_up : (ks : List (List ℕ)) → KeysRise ks → Rises bytes_cmp ks
-texts_up [] h = tt
-texts_up (k ∷ ks) h = (below_keys k ks h.0, texts_up ks h.1)
-
--- documents that are found by their `_id`s
 found_back : (ds es : List Pairs) → AllByRecursion (λ d. find_document ds (key_of d) ≡ Some d) es → found_by ds (map key_of es) ≡ es
 found_back ds [] h = refl
 found_back ds (e ∷ es) h = ap (λ (o : Option Pairs). with_found o (found_by ds (map key_of es))) h.0 ∙ ap (λ (xs : List Pairs). e ∷ xs) (found_back ds es h.1)
-
-pub order-length : (sort : List SortField) (ds : List Pairs) → length (order sort ds) ≡ length ds
-order-length sort ds = length_permutation ds (order sort ds) (sorted-permuted (compare_by sort) ds)
 
 -- ---- what an index in the order of the sort tells of the collection that is asked
 

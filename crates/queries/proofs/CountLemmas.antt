@@ -1,5 +1,5 @@
 -- Documents that are counted as they come.
-use Rattle.std.proofs.Common.{◌≡◌, ℕ, min, ◌+◌, ◌-◌, ◌^◌, ◌≤◌, Bool, true, false, List, [], ◌∷◌, ◌++◌, length, Option, refl, sym, ap, ◌∙◌}
+use Rattle.std.proofs.Common.{◌≡◌, ℕ, min, ◌+◌, ◌-◌, ◌^◌, ◌≤◌, true, false, List, [], ◌∷◌, ◌++◌, length, Option, refl, sym, ap, ◌∙◌}
 use Rattle.std.proofs.Common.{append-nil, arith, length-append}
 use Rattle.std.specs.List.{filter}
 use Rattle.std.proofs.lemmas.List.Elements.{filter-append}
@@ -10,15 +10,8 @@ use Rattle.database_model.specs.Find.{matching}
 use Rattle.planner.specs.IdLaws.{with_found}
 use Rattle.queries.specs.Folding.{Counts}
 use Rattle.queries.specs.declared.counting.Counting.{Counting}
-use Rattle.queries.proofs.LookingUpLemmas.{found_first}
-
-pub filter_fewer : {X : Type 0} (p : X → Bool) (xs : List X) → length (filter p xs) ≤ length xs
-filter_fewer p [] = omega arith
-filter_fewer p (x ∷ xs) = at (p x) refl (filter_fewer p xs)
-  where
-    at : (b : Bool) → p x ≡ b → length (filter p xs) ≤ length xs → length (filter p (x ∷ xs)) ≤ length (x ∷ xs)
-    at true e later = rw e (omega (arith, later))
-    at false e later = rw e (omega (arith, later))
+use Rattle.walks.proofs.LookingUpLemmas.{found_first}
+use Rattle.walks.proofs.FilterLemmas.{filter_fewer}
 
 -- ---- documents that are lent
 

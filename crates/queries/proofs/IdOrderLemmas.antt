@@ -9,7 +9,7 @@ use Rattle.std.proofs.lemmas.List.Elements.{All-filter, All-head, All-tail}
 use Rattle.bson.specs.Tree.{Tree, scalar, document, array, Pairs}
 use Rattle.bson.specs.Lookup.{lookup}
 use Rattle.path.specs.Reach.{Reached}
-use Rattle.update.specs.Stored.{id_name, no_array}
+use Rattle.update_model.specs.Stored.{id_name, no_array}
 use Rattle.filter.specs.Condition.{Conditions}
 use Rattle.filter.specs.IdPaths.{is_id}
 use Rattle.filter.specs.Matches.{matches}
@@ -22,9 +22,10 @@ use Rattle.entries.proofs.FoundLawLemmas.{found_collection}
 use Rattle.planner.proofs.RisingLemmas.{Below, Rises, rises_filter, rises_of}
 use Rattle.database_model.specs.Find.{matching}
 use Rattle.database_model.specs.Lawful.{IsStored}
-use Rattle.queries.specs.Asking.{IsAsked}
+use Rattle.asked_documents.specs.Asking.{IsAsked}
 use Rattle.queries.specs.IdOrder.{keeps_id_order}
-use Rattle.queries.proofs.ByIdLemmas.{and_first, and_second, reached_id}
+use Rattle.planner.proofs.UsableLemmas.{and_first, and_second}
+use Rattle.candidate_ids.proofs.ByIdLemmas.{reached_id}
 
 abbrev by_key : Pairs → Pairs → Ordering
 by_key = on key_of compare

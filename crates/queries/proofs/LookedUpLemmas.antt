@@ -1,62 +1,14 @@
 -- A first batch of documents whose `_id`s lie side by side.
-use Rattle.std.proofs.Common.{◌≡◌, List, [], ℕ, Bool, Option, Some, None, false, refl, sym, ap, ◌∙◌}
-use Rattle.std.specs.Prelude.{IfSome, Result, is_some}
+use Rattle.std.proofs.Common.{List, ℕ, Bool}
+use Rattle.std.specs.Prelude.{Result}
 use Rattle.bson.specs.Tree.{Pairs}
-use Rattle.std.specs.List.{filter}
 use Rattle.page.specs.History.{History}
 use Rattle.path.specs.declared.refusal.Refusal.{Refusal}
 use Rattle.collections.specs.Reading.{ReadsOf}
 use Rattle.collections.specs.State.{State}
-use Rattle.collections.specs.View.{is_stopped}
-use Rattle.filter.specs.Matches.{matches}
-use Rattle.entries.specs.LawfulState.{IsLawfulState}
-use Rattle.entries.specs.State.{Collection}
 use Rattle.entries.specs.declared.catalogue_reading.Catalogued.{Catalogued}
-use Rattle.entries.proofs.FoundLawLemmas.{found_collection}
-use Rattle.queries.specs.Batches.{Gives, rest_from}
-use Rattle.queries.specs.ById.{AreIdsOf}
-use Rattle.queries.specs.IdRange.{IsWalked}
-use Rattle.queries.specs.LookedUp.{AreIdsOfAsked}
-use Rattle.queries.specs.declared.batches.Giving.{Giving}
-use Rattle.queries.specs.declared.batches.Walk.{Walk}
-use Rattle.queries.proofs.GivenLemmas.{AreLent}
-use Rattle.queries.proofs.ReadingLemmas.{reads_as, reads_within}
-use Rattle.queries.proofs.WalkLeftLemmas.{from_beginning}
-
-module _ (w : Walk) (from : w.from.now ≡ []) (start : Giving) (home : Catalogued) (texts : List (List ℕ)) where
-  lent_walked : (now : List Collection) (c : Collection) (done : Giving) → IsLawfulState now → AreIdsOfAsked home (matches w.filter.now) texts now c
-      → IsWalked (matches w.filter.now) Gives start c.documents done → AreLent w start c.documents done
-  lent_walked now c done state h walked =
-      let kept = (found_collection now c.name c state h.asked.numbered.found).0 in
-      record {
-        texts = walked.texts;
-        folded = walked.folded;
-        same = walked.same
-            ∙ ap (filter (matches w.filter.now)) (sym (ap (λ (f : List ℕ). rest_from f c.documents) from ∙ from_beginning c.documents));
-        storable = kept.storable;
-        stored = h.asked.stored;
-        rising = kept.rising;
-      }
-
-  -- of the collection that is asked
-  pub lent_asked : {D : Type 0} (history : D → History) (old new : State D) (r : Result (Option Giving) Refusal) → is_stopped old ≡ false
-      → ReadsOf history (AreIdsOf home.number (matches w.filter.now) texts)
-      (λ now c (o : Option Giving). IfSome o (IsWalked (matches w.filter.now) Gives start c.documents)) r old new
-      → ReadsOf history (AreIdsOfAsked home (matches w.filter.now) texts) (λ now c (o : Option Giving). IfSome o (AreLent w start c.documents)) r old new
-  lent_asked history old new r running reads =
-      reads_as history (AreIdsOfAsked home (matches w.filter.now) texts) (AreIdsOf home.number (matches w.filter.now) texts)
-      (λ now c (o : Option Giving). IfSome o (IsWalked (matches w.filter.now) Gives start c.documents))
-      (λ now c (o : Option Giving). IfSome o (AreLent w start c.documents)) old new r running reads
-      (λ now state c asked. record { other = c; was = asked.ids; right = λ o walked. if_walked now c state asked o walked })
-    where
-      if_walked : (now : List Collection) (c : Collection) → IsLawfulState now → AreIdsOfAsked home (matches w.filter.now) texts now c → (o : Option Giving)
-          → IfSome o (IsWalked (matches w.filter.now) Gives start c.documents) → IfSome o (AreLent w start c.documents)
-      if_walked now c state asked None h = tt
-      if_walked now c state asked (Some done) h = lent_walked now c done state asked h
-
-pub is_none : {X : Type 0} (o : Option X) (some : Bool) → some ≡ is_some o → some ≡ false → o ≡ None
-is_none None some told is = refl
-is_none (Some x) some told is = absurd cc
+use Rattle.asked_documents.specs.ById.{AreIdsOf, AreIdsOfAsked}
+use Rattle.asked_documents.proofs.ReadingLemmas.{reads_within}
 
 -- what was found of these `_id`s, of the collection that is asked
 pub found_asked : {D X : Type 0} (history : D → History) (home : Catalogued) (passes : Pairs → Bool) (texts : List (List ℕ)) (P : List Pairs → X → Type 0)

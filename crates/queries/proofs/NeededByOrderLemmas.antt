@@ -6,12 +6,12 @@ use Rattle.bson.specs.Tree.{Pairs}
 use Rattle.filter.specs.Condition.{Conditions, no_conditions}
 use Rattle.filter.specs.Matches.{matches}
 use Rattle.sort.specs.Sort.{SortField, order}
-use Rattle.aggregate.specs.EnoughLaws.{enough_of_all, filter-passes}
-use Rattle.aggregate.specs.Stage.{Stage, match_stage}
-use Rattle.aggregate.specs.Taking.{IsEnough, KeepsFirst, leading_match, takes}
+use Rattle.aggregate_model.specs.EnoughLaws.{enough_of_all, filter-passes}
+use Rattle.aggregate_model.specs.Stage.{Stage, match_stage}
+use Rattle.aggregate_model.specs.Taking.{IsEnough, KeepsFirst, leading_match, takes}
 use Rattle.database_model.specs.Aggregate.{AreEnough}
 use Rattle.database_model.specs.Find.{matching}
-use Rattle.queries.specs.ByIndex.{AsksTaken}
+use Rattle.queries.specs.Folding.{AsksTaken}
 
 -- A pipeline takes what its `$match` in front asks for, and all documents where there is none.
 taken_by : (s : Stage) (stages : List Stage) → AsksTaken (s ∷ stages) (unwrap_or (leading_match (s ∷ stages)) no_conditions)

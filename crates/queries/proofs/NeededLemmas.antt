@@ -1,19 +1,19 @@
 -- Documents that are met one after the other, and those of them that are needed.
 use Rattle.std.proofs.Common.{◌≡◌, ℕ, zero, suc, ◌≤◌, Bool, true, false, List, [], ◌∷◌, ◌++◌, length, take, drop, Option, Some, refl, sym, ap, subst, ◌∙◌}
 use Rattle.std.proofs.Common.{append_assoc, arith}
-use Rattle.std.specs.Prelude.{None, All, IfOk, IfSome, Result, Ok, Err}
+use Rattle.std.specs.Prelude.{None, All, IfSome}
 use Rattle.std.specs.List.{filter}
 use Rattle.std.proofs.lemmas.List.{take-append-drop, append-nil}
 use Rattle.std.proofs.lemmas.List.Elements.{All-append as append_all, All-cons, All-nil, filter-append}
 use Rattle.bson.specs.Tree.{Pairs}
 use Rattle.value_order.specs.KeyText.{tree_text}
-use Rattle.aggregate.specs.Limits.{first_fault, limit_fault}
-use Rattle.aggregate.specs.Pipeline.{run}
-use Rattle.aggregate.specs.Stage.{Stage}
-use Rattle.aggregate.specs.Taking.{takes, SufficesTaken, IsEnough}
-use Rattle.aggregate.specs.EnoughLaws.{All-append, All-filter, All-front, Pass, Within, enough_of_all, enough_by_then, fault-within, filter-passes}
-use Rattle.aggregate.specs.EnoughLaws.{none_is_enough, passed-filter, within-fault}
-use Rattle.aggregate.specs.TakingLaws.{only_taken}
+use Rattle.aggregate_model.specs.Limits.{first_fault, limit_fault}
+use Rattle.aggregate_model.specs.Pipeline.{run}
+use Rattle.aggregate_model.specs.Stage.{Stage}
+use Rattle.aggregate_model.specs.Taking.{takes, SufficesTaken, IsEnough}
+use Rattle.aggregate_model.specs.EnoughLaws.{All-append, All-filter, All-front, Pass, Within, enough_of_all, enough_by_then, fault-within, filter-passes}
+use Rattle.aggregate_model.specs.EnoughLaws.{none_is_enough, passed-filter, within-fault}
+use Rattle.aggregate_model.specs.TakingLaws.{only_taken}
 use Rattle.btree.specs.declared.folding.Bounds.{Bounds}
 use Rattle.collections.specs.Folding.{documents_within, lies_within}
 use Rattle.database_model.specs.Aggregate.{AreEnough}
@@ -23,8 +23,8 @@ use Rattle.entries.specs.State.{key_of}
 use Rattle.planner.specs.IdLaws.{with_found}
 use Rattle.queries.specs.Folding.{Needs}
 use Rattle.queries.specs.declared.needed.Needing.{Needing}
-use Rattle.queries.proofs.LookingUpLemmas.{found_first}
-use Rattle.queries.proofs.WithinLemmas.{faultless_within, none_at_fault}
+use Rattle.walks.proofs.LookingUpLemmas.{found_first}
+use Rattle.queries.proofs.FaultlessLemmas.{faultless_within, none_at_fault}
 
 -- ---- more than enough
 
@@ -103,11 +103,6 @@ module _ (stages : List Stage) (x : Pairs) where
 
   pub taken_within : takes stages x ≡ true → IsWithin x → All IsWithin (filter (takes stages) (x ∷ []))
   taken_within is within = subst (All IsWithin) (sym (taken_alone is)) (All-cons IsWithin x [] within (All-nil IsWithin))
-
--- what holds of an answer holds less of it
-pub if_ok : {X E : Type 0} {P Q : X → Type 0} (r : Result X E) → ((x : X) → P x → Q x) → IfOk r P → IfOk r Q
-if_ok (Ok x) f h = f x h
-if_ok (Err e) f h = tt
 
 -- ---- documents that are lent
 

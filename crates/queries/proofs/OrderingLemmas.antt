@@ -15,7 +15,7 @@ use Rattle.filter.specs.Matches.{matches}
 use Rattle.planner.specs.IdLaws.{with_found}
 use Rattle.queries.specs.Folding.{Sorts, TellFirst}
 use Rattle.queries.specs.declared.ordering.Sorting.{Sorting}
-use Rattle.queries.proofs.SelectLemmas.{found_are_within}
+use Rattle.walks.proofs.SelectLemmas.{found_are_within}
 use Rattle.sort.specs.Sort.{SortField, compare_by, insert_in_order, order, put_before, sorted}
 
 -- ---- what holds of each holds of each in order

@@ -5,12 +5,12 @@ use Rattle.std.specs.List.{filter}
 use Rattle.bson.specs.Tree.{Pairs}
 use Rattle.outcome.specs.Outcome.{Gives}
 use Rattle.value_order.specs.KeyText.{tree_text}
-use Rattle.aggregate.specs.EnoughLaws.{All-filter, fault-within, within-fault}
-use Rattle.aggregate.specs.Limits.{first_fault, limit_fault}
-use Rattle.aggregate.specs.Pipeline.{run}
-use Rattle.aggregate.specs.Stage.{Stage}
-use Rattle.aggregate.specs.Taking.{takes}
-use Rattle.aggregate.specs.TakingLaws.{only_taken, stays_within}
+use Rattle.aggregate_model.specs.EnoughLaws.{All-filter, fault-within, within-fault}
+use Rattle.aggregate_model.specs.Limits.{first_fault, limit_fault}
+use Rattle.aggregate_model.specs.Pipeline.{run}
+use Rattle.aggregate_model.specs.Stage.{Stage}
+use Rattle.aggregate_model.specs.Taking.{takes}
+use Rattle.aggregate_model.specs.TakingLaws.{only_taken, stays_within}
 use Rattle.btree.specs.declared.folding.Bounds.{Bounds}
 use Rattle.collections.specs.Folding.{documents_within, lies_within}
 use Rattle.database_model.specs.Aggregate.{AreEnough}
@@ -19,7 +19,7 @@ use Rattle.entries.specs.State.{key_of}
 use Rattle.path.specs.declared.refusal.Refusal.{Refusal}
 use Rattle.path.specs.declared.refusal.Refusal.TheVariants as refusals
 use Rattle.queries.specs.Piping.{Pipes}
-use Rattle.queries.proofs.WithinLemmas.{faultless_within, none_at_fault}
+use Rattle.queries.proofs.FaultlessLemmas.{faultless_within, none_at_fault}
 
 -- what is given of documents within the limits is within them
 pub outcome_within : (stages : List Stage) (ds : List Pairs) (r : Result (Vec Pairs Global) Refusal) → All IsWithin ds → Pipes stages r ds

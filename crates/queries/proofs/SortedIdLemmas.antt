@@ -29,13 +29,13 @@ use Rattle.database_model.specs.Find.{matching}
 use Rattle.sort.specs.Sort.{SortField, compare_by, in_direction, insert_in_order, key_among, keys_of, order, put_before, sort_key, sorted}
 use Rattle.sort.specs.SortKeys.{field_of}
 use Rattle.sort.specs.declared.sort.Field.{Field}
-use Rattle.queries.specs.Listed.{id_text_of}
-use Rattle.queries.specs.Asking.{IsAsked}
+use Rattle.walks.specs.Listed.{id_text_of}
+use Rattle.asked_documents.specs.Asking.{IsAsked}
 use Rattle.queries.specs.Folding.{TellFirst}
 use Rattle.queries.specs.SortedIds.{HasNoOther, HasSameFirst, IsPartOf, IsShortOf, KeepsShort, looked_at}
 use Rattle.queries.specs.declared.sorted_ids.Shortening.{Shortening}
 use Rattle.queries.proofs.OrderingLemmas.{take_whole}
-use Rattle.queries.proofs.ReadingLemmas.{reads_made, reads_refused}
+use Rattle.asked_documents.proofs.ReadingLemmas.{reads_made, reads_refused}
 
 -- ---- what a part of a document has of a name
 

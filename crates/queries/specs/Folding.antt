@@ -1,12 +1,14 @@
 -- What documents that are lent make of a query.
-use Rattle.std.specs.Prelude.{◌≡◌, ℕ, ◌+◌, ◌-◌, ◌^◌, min, Bool, true, false, List, [], ◌++◌, All}
+use Rattle.std.specs.Prelude.{◌≡◌, ℕ, ◌+◌, ◌-◌, ◌^◌, min, true, false, List, [], ◌++◌, All}
 use Rattle.std.specs.Prelude.{length, take}
 use Rattle.std.specs.List.{filter}
 use Rattle.bson.specs.Tree.{Pairs}
+use Rattle.filter.specs.Condition.{Conditions}
+use Rattle.filter.specs.Matches.{matches}
 use Rattle.sort.specs.Sort.{SortField, order}
 use Rattle.aggregate.specs.Gathering.{HasGathered}
-use Rattle.aggregate.specs.Stage.{Stage}
-use Rattle.aggregate.specs.Taking.{IsEnough, SufficesTaken, takes}
+use Rattle.aggregate_model.specs.Stage.{Stage}
+use Rattle.aggregate_model.specs.Taking.{IsEnough, SufficesTaken, takes}
 use Rattle.aggregate.specs.View.{pipeline_of}
 use Rattle.database_model.specs.Find.{matching}
 use Rattle.database_model.specs.Lawful.{IsWithin}
@@ -14,22 +16,12 @@ use Rattle.queries.specs.declared.counting.Counting.{Counting}
 use Rattle.queries.specs.declared.needed.Needing.{Needing}
 use Rattle.queries.specs.declared.ordering.Sorting.{Sorting}
 use Rattle.queries.specs.declared.piping.Grouping.{Grouping}
-use Rattle.queries.specs.declared.scanning.Selecting.{Selecting}
 
 -- So many of them that the filter matches were counted, as far as a number goes.
 pub record Counts (start : Counting) (documents : List Pairs) (now : Counting) : Type 0 where
   pub filter : now.filter.now ≡ start.filter.now
   pub count : let more = length (matching start.filter.now documents) in
       now.count ≡ min (start.count + more) (2 ^ 64 - 1)
-
--- Those that are looked for were found, up to so many, and all are within the limits.
-pub record Selected {S : Type 0} (selects : S → Pairs → Bool) (start : Selecting S)
-    (documents : List Pairs) (now : Selecting S) : Type 0 where
-  pub which : now.which.now ≡ start.which.now
-  pub most : now.most ≡ start.most
-  pub found : now.found.items
-      ≡ take start.most (start.found.items ++ filter (selects start.which.now) documents)
-  pub within : All IsWithin start.found.items → All IsWithin now.found.items
 
 -- ---- in the order of a sort
 
@@ -48,6 +40,10 @@ pub record Sorts (start : Sorting) (documents : List Pairs) (now : Sorting) : Ty
   pub within : All IsWithin start.found.items → All IsWithin now.found.items
 
 -- ---- for a pipeline
+
+-- The filter matches the documents that a pipeline takes, and no others.
+abbrev pub AsksTaken : List Stage → Conditions → Type 0
+AsksTaken stages rs = (ds : List Pairs) → filter (matches rs) ds ≡ filter (takes stages) ds
 
 -- Those that were kept are enough of those that the pipeline takes, of all documents, or of the
 -- first ones where no others are needed.

@@ -3,9 +3,9 @@ use Rattle.std.specs.Prelude.{Bool, List, map}
 use Rattle.bson.specs.Tree.{Pairs}
 use Rattle.entries.specs.State.{Collection}
 use Rattle.entries.specs.declared.catalogue_reading.Catalogued.{Catalogued}
-use Rattle.queries.specs.Asking.{IsAsked}
-use Rattle.queries.specs.ById.{AreIdsOf, but_not}
-use Rattle.queries.specs.declared.telling.Told.{Told}
+use Rattle.asked_documents.specs.Asking.{IsAsked}
+use Rattle.asked_documents.specs.ById.{AreIdsOf, but_not}
+use Rattle.candidate_ids.specs.declared.telling.Told.{Told}
 
 -- The `_id`s tell the documents of the collection that pass and that none of the filters matches.
 pub record IsToldOf (home : Catalogued) (passes : Pairs → Bool) (told : Told)

@@ -3,9 +3,9 @@ use Rattle.std.specs.Prelude.{◌≡◌, None, List, Result}
 use Rattle.std.specs.Global.{Vec}
 use Rattle.bson.specs.Tree.{Pairs}
 use Rattle.outcome.specs.Outcome.{Gives}
-use Rattle.aggregate.specs.Limits.{first_fault}
-use Rattle.aggregate.specs.Pipeline.{run}
-use Rattle.aggregate.specs.Stage.{Stage}
+use Rattle.aggregate_model.specs.Limits.{first_fault}
+use Rattle.aggregate_model.specs.Pipeline.{run}
+use Rattle.aggregate_model.specs.Stage.{Stage}
 use Rattle.path.specs.declared.refusal.Refusal.{Refusal}
 use Rattle.path.specs.declared.refusal.Refusal.TheVariants as refusals
 

@@ -8,12 +8,12 @@ ghost use Rattle.database_model.specs.Lawful.{IsWithin};
 ghost use Rattle.sort.specs.Sort.{SortField, order};
 ghost use Rattle.index.specs.View.{texts_of};
 ghost use Rattle.planner.specs.View.{range_of};
-ghost use Rattle.queries.specs.Asking.{IsAsked};
-ghost use Rattle.queries.specs.ByIndex.{AreFirstIds, IsRangeOf, LeadInOrder};
+ghost use Rattle.asked_documents.specs.Asking.{IsAsked};
+ghost use Rattle.candidate_ids.specs.ByIndex.{IsRangeOf};
+ghost use Rattle.queries.specs.ByOrder.{AreFirstIds, LeadInOrder};
 
-use crate::by_index::range_asked;
-use crate::looking_up::look_up;
 use bson::SpelledDocument;
+use candidate_ids::range_asked;
 use collections::Collections;
 use entries::Catalogued;
 use filter::Filter;
@@ -23,6 +23,7 @@ use path::Refusal;
 use planner::{IndexRange, ids_of};
 use sort::Sort;
 use std::alloc::Global;
+use walks::look_up;
 
 /// So many entries are read where the filter passes over some: where these don't suffice, a walk through the collection is quicker.
 const MOST_FIRST: usize = 1_024;

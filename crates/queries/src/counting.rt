@@ -6,20 +6,19 @@ ghost use Rattle.database_model.specs.Find.{matching};
 ghost use Rattle.filter.specs.Matches.{matches};
 ghost use Rattle.index.specs.View.{texts_of};
 ghost use Rattle.planner.specs.IdLaws.{with_found};
-ghost use Rattle.queries.specs.Asking.{IsAsked};
-ghost use Rattle.queries.specs.ById.{AreIdsOf};
+ghost use Rattle.asked_documents.specs.Asking.{IsAsked};
+ghost use Rattle.asked_documents.specs.ById.{AreIdsOf};
 ghost use Rattle.queries.specs.Folding.{Counts};
 
-use crate::dense::fold_dense;
-use crate::id_range::fold_asked;
-use crate::telling::asked_ids;
 use bson::{NoMemory, RawDoc, SpelledDocument};
+use candidate_ids::asked_ids;
 use collections::{Collections, DocumentFold};
 use entries::Catalogued;
 use filter::Filter;
 use page::Disk;
 use path::Refusal;
 use std::alloc::Global;
+use walks::{fold_asked, fold_dense};
 
 /// How many documents match a filter, of those that are lent. No more of them is read than the filter asks for.
 #[derive(Drop)]

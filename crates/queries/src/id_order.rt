@@ -3,7 +3,7 @@
 ghost use Rattle.std.specs.Prelude.{◌≡◌};
 ghost use Rattle.queries.specs.IdOrder.{keeps_id_order};
 
-use crate::by_id::is_id;
+use candidate_ids::is_id;
 use sort::Sort;
 
 /// Whether a sort leaves documents in ascending order of `_id` as they are: it has no field, or its first one is `_id`, ascending.

@@ -1,10 +1,10 @@
 //! The order of an index in which the documents that a query asks for can be read.
 
 ghost use Rattle.std.specs.Prelude.{IfOk, IfSome};
-ghost use Rattle.queries.specs.InOrder.{IsOrderOf};
+ghost use Rattle.queries.specs.IndexOrder.{IsOrderOf};
 
-use crate::by_index::range_asked;
 use bson::NoMemory;
+use candidate_ids::range_asked;
 use filter::Filter;
 use index::IndexSpec;
 use sort::Sort;

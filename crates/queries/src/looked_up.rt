@@ -5,21 +5,20 @@ ghost use Rattle.std.specs.Prelude.{◌≡◌, ◌<◌, ◌≤◌, ◌^◌, [], 
 ghost use Rattle.collections.specs.Reading.{ReadsOf};
 ghost use Rattle.filter.specs.Matches.{matches};
 ghost use Rattle.index.specs.View.{texts_of};
-ghost use Rattle.queries.specs.Asking.{IsAsked};
-ghost use Rattle.queries.specs.ById.{AreIdsOf};
-ghost use Rattle.queries.specs.LookedUp.{AreIdsOfAsked, IsLookedUp, IsLookedUpWithin, IsWholeBatch};
-ghost use Rattle.replies.specs.View.{IsSendable};
+ghost use Rattle.asked_documents.specs.Asking.{IsAsked};
+ghost use Rattle.asked_documents.specs.ById.{AreIdsOfAsked};
+ghost use Rattle.queries.specs.LookedUp.{IsLookedUp, IsLookedUpWithin};
 
-use crate::batches::{BatchAsked, GivenBatch, Walk, begun, ended};
-use crate::dense::fold_dense;
-use crate::looking_up::{selected_by_ids, selected_one_by_one};
-use crate::telling::asked_ids;
 use bson::SpelledDocument;
+use candidate_ids::asked_ids;
 use collections::Collections;
 use entries::Catalogued;
 use page::Disk;
 use path::Refusal;
 use std::alloc::Global;
+use walks::{
+    BatchAsked, GivenBatch, Walk, batch_side_by_side, selected_by_ids, selected_one_by_one,
+};
 
 /// What was looked up for a first batch.
 #[derive(Drop)]
@@ -28,38 +27,6 @@ pub enum LookedUp {
     Batch(GivenBatch),
     /// The documents that match, in ascending order of `_id`: the first ones, up to as many as are asked for.
     Documents(Vec<SpelledDocument>),
-}
-
-/// A batch of what is asked for, by one walk from the first of these ascending `_id`s to the last. `None`: others are left, or the
-/// `_id`s are few, or lie far apart.
-fn batch_side_by_side<D: Disk>(
-    alloc: Global,
-    file: &mut Collections<D>,
-    home: &Catalogued,
-    walk: &Walk<'_>,
-    asked: &BatchAsked<'_>,
-    ids: &[Vec<u8>],
-) -> Result<Option<GivenBatch>, Refusal>
-    requires short { length asked.now.namespace.now ≤ 255 }
-    requires number { asked.now.number < 2 ^ 63 }
-    requires from { walk.now.from.now ≡ [] }
-    ensures reads { ReadsOf D.history
-        (AreIdsOfAsked home.now (matches walk.now.filter.now) (texts_of ids.now))
-        (λ now c found. IfSome found (IsWholeBatch walk.now asked.now c.documents))
-        result file.old file.new }
-    ensures sendable { IfOk result (λ found. IfSome found (λ b. IsSendable b.reply)) }
-{
-    if file.is_stopped() {
-        return Err(Refusal::StorageFailed);
-    }
-    let giving = begun(alloc, walk, asked)?;
-    let Some(given) = fold_dense(alloc, file, home.number, ids, giving)? else {
-        return Ok(None);
-    };
-    if given.next.is_some() {
-        return Ok(None);
-    }
-    Ok(Some(ended(given, asked)?))
 }
 
 /// What these ascending `_id`s lead to, among which are those of all documents that are asked for.

@@ -3,7 +3,7 @@
 ghost use Rattle.std.specs.Prelude.{◌≡◌, true, All, IfOk, IfSome, List, [], ◌∷◌, ◌++◌};
 ghost use Rattle.std.specs.List.{filter};
 ghost use Rattle.bson.specs.Tree.{Pairs};
-ghost use Rattle.aggregate.specs.Taking.{takes, IsEnough, SufficesTaken};
+ghost use Rattle.aggregate_model.specs.Taking.{takes, IsEnough, SufficesTaken};
 ghost use Rattle.aggregate.specs.View.{pipeline_of};
 ghost use Rattle.collections.specs.Reading.{ReadsOf};
 ghost use Rattle.command_model.specs.Insert.{documents_at};
@@ -11,24 +11,22 @@ ghost use Rattle.database_model.specs.Aggregate.{AreEnough};
 ghost use Rattle.database_model.specs.Lawful.{IsWithin};
 ghost use Rattle.index.specs.View.{texts_of};
 ghost use Rattle.planner.specs.IdLaws.{with_found};
-ghost use Rattle.queries.specs.Asking.{IsAsked};
-ghost use Rattle.queries.specs.ById.{AreIdsOf};
+ghost use Rattle.asked_documents.specs.Asking.{IsAsked};
+ghost use Rattle.asked_documents.specs.ById.{AreIdsOf};
 ghost use Rattle.queries.specs.Folding.{Needs};
 
-use crate::dense::fold_dense;
-use crate::id_range::fold_asked;
-use crate::looking_up::spelled_within;
 use crate::needed_by_order::needed_by_order;
-use crate::telling::asked_ids;
-use crate::within::built_within;
+use crate::taken_by::TakenBy;
 use aggregate::Pipeline;
 use bson::{Document, NoMemory, RawDoc, SpelledDocument};
+use candidate_ids::asked_ids;
 use collections::{Collections, DocumentFold};
 use entries::Catalogued;
 use page::Disk;
 use path::Refusal;
 use std::alloc::Global;
 use std::mem;
+use walks::{built_within, fold_asked, fold_dense, spelled_within};
 
 /// So many documents are kept before those that aren't needed any more are let go.
 const ROOM: usize = 1024;
@@ -146,7 +144,7 @@ fn needed_scanned<D: Disk>(
         room: ROOM,
         is_enough: are_enough(pipeline, 0),
     };
-    let walked = fold_asked(alloc, file, home, pipeline, needing)?;
+    let walked = fold_asked(alloc, file, home, &TakenBy { pipeline }, needing)?;
     if walked.is_enough {
         return Ok(walked.needed);
     }
@@ -269,7 +267,7 @@ fn needed_by_id<D: Disk>(
         result file.old file.new }
     ensures within { IfOk result (λ few. All IsWithin few.items) }
 {
-    match asked_ids(alloc, file, home, pipeline)? {
+    match asked_ids(alloc, file, home, &TakenBy { pipeline })? {
         Some(ids) => needed_by_ids(alloc, file, home.number, pipeline, &ids),
         None => needed_scanned(alloc, file, home, pipeline),
     }

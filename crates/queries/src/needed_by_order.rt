@@ -7,8 +7,8 @@ ghost use Rattle.database_model.specs.Aggregate.{AreEnough};
 ghost use Rattle.database_model.specs.Find.{matching};
 ghost use Rattle.database_model.specs.Lawful.{IsWithin};
 ghost use Rattle.filter.specs.Condition.{no_conditions};
-ghost use Rattle.queries.specs.Asking.{IsAsked};
-ghost use Rattle.queries.specs.ByIndex.{AsksTaken};
+ghost use Rattle.asked_documents.specs.Asking.{IsAsked};
+ghost use Rattle.queries.specs.Folding.{AsksTaken};
 ghost use Rattle.sort.specs.Sort.{order};
 
 use crate::by_order::first_by_index;

@@ -7,16 +7,14 @@ ghost use Rattle.database_model.specs.Lawful.{IsWithin};
 ghost use Rattle.filter.specs.Matches.{matches};
 ghost use Rattle.sort.specs.Sort.{order};
 ghost use Rattle.index.specs.View.{texts_of};
-ghost use Rattle.queries.specs.Asking.{IsAsked};
-ghost use Rattle.queries.specs.ById.{AreIdsOf};
+ghost use Rattle.asked_documents.specs.Asking.{IsAsked};
+ghost use Rattle.asked_documents.specs.ById.{AreIdsOf};
 ghost use Rattle.queries.specs.Folding.{Sorts, TellFirst};
 
 use crate::by_order::first_by_index;
-use crate::id_range::fold_asked;
-use crate::looking_up::{selected_by_ids, spelled_in};
-use crate::telling::asked_ids;
-use crate::within::built_within;
+use crate::looking_up::spelled_in;
 use bson::{Document, NoMemory, RawDoc, SpelledDocument};
+use candidate_ids::asked_ids;
 use collections::{Collections, DocumentFold};
 use entries::Catalogued;
 use filter::Filter;
@@ -26,6 +24,7 @@ use replies::spelled_all;
 use sort::Sort;
 use std::alloc::Global;
 use std::mem;
+use walks::{built_within, fold_asked, selected_by_ids};
 
 /// So many documents more than are asked for are kept before those that come too late are let go.
 const ROOM: usize = 1024;

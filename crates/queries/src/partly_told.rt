@@ -3,12 +3,12 @@
 ghost use Rattle.std.specs.Prelude.{◌≡◌, ◌&&◌, ◌||◌, [], IfOk, map};
 ghost use Rattle.database_model.specs.Documents.{key_of};
 ghost use Rattle.index.specs.Changes.{is_among};
-ghost use Rattle.queries.specs.ById.{one_matches};
+ghost use Rattle.asked_documents.specs.ById.{one_matches};
 ghost use Rattle.value_order.specs.KeyText.{tree_text};
 
-use crate::id_set::IdSet;
-use crate::selects::Selects;
+use asked_documents::Selects;
 use bson::{NoMemory, RawDoc};
+use candidate_ids::IdSet;
 use filter::Filter;
 use std::alloc::Global;
 

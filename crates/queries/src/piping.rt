@@ -2,27 +2,28 @@
 
 ghost use Rattle.std.specs.Prelude.{◌≡◌, All, IfOk, [], length};
 ghost use Rattle.aggregate.specs.Gathering.{HasGathered};
-ghost use Rattle.aggregate.specs.Taking.{takes};
+ghost use Rattle.aggregate_model.specs.Taking.{takes};
 ghost use Rattle.aggregate.specs.View.{pipeline_of};
 ghost use Rattle.collections.specs.Reading.{ReadsOf};
 ghost use Rattle.database_model.specs.Lawful.{IsWithin};
 ghost use Rattle.index.specs.View.{texts_of};
-ghost use Rattle.queries.specs.Asking.{IsAsked};
-ghost use Rattle.queries.specs.ById.{AreIdsOf};
+ghost use Rattle.asked_documents.specs.Asking.{IsAsked};
+ghost use Rattle.asked_documents.specs.ById.{AreIdsOf};
 ghost use Rattle.queries.specs.Folding.{Gathers};
 ghost use Rattle.queries.specs.Piping.{Pipes};
 
-use crate::id_range::fold_asked;
 use crate::needed::{needed_by_ids, needed_in};
-use crate::telling::asked_ids;
+use crate::taken_by::TakenBy;
 use aggregate::{Gathering, Pipeline};
 use bson::{Document, RawDoc};
+use candidate_ids::asked_ids;
 use collections::{Collections, DocumentFold};
 use entries::Catalogued;
 use page::Disk;
 use path::Refusal;
 use std::alloc::Global;
 use stored_documents::STORED_LIMIT;
+use walks::fold_asked;
 
 /// A pipeline that groups documents as they are lent. It keeps none of them.
 #[derive(Drop)]
@@ -67,7 +68,7 @@ fn grouped_scanned<D: Disk>(
     ensures within { IfOk result (λ given. IfOk given (λ v. All IsWithin v.items)) }
 {
     let grouping = Grouping { alloc, gathering };
-    let walked = fold_asked(alloc, file, home, pipeline, grouping)?;
+    let walked = fold_asked(alloc, file, home, &TakenBy { pipeline }, grouping)?;
     Ok(walked.gathering.into_documents(alloc, STORED_LIMIT as u32))
 }
 
@@ -105,7 +106,7 @@ fn grouped_in<D: Disk>(
         result file.old file.new }
     ensures within { IfOk result (λ given. IfOk given (λ v. All IsWithin v.items)) }
 {
-    match asked_ids(alloc, file, home, pipeline)? {
+    match asked_ids(alloc, file, home, &TakenBy { pipeline })? {
         Some(ids) => piped_by_ids(alloc, file, home.number, pipeline, &ids),
         None => grouped_scanned(alloc, file, home, pipeline, gathering),
     }

@@ -9,13 +9,11 @@ ghost use Rattle.collections.specs.Reading.{ReadsOf};
 ghost use Rattle.database_model.specs.Find.{matching};
 ghost use Rattle.index.specs.View.{texts_of};
 ghost use Rattle.sort.specs.Sort.{order};
-ghost use Rattle.queries.specs.Asking.{IsAsked};
-ghost use Rattle.queries.specs.Listed.{id_text_of};
+ghost use Rattle.asked_documents.specs.Asking.{IsAsked};
+ghost use Rattle.walks.specs.Listed.{id_text_of};
 ghost use Rattle.queries.specs.SortedIds.{HasNoOther, IsPartOf, IsShortOf, KeepsShort};
 
 use crate::by_order::first_by_index;
-use crate::id_range::fold_asked;
-use crate::listed::listed_texts;
 use crate::looking_up::looked_up_in;
 use crate::ordering::{first_ones, let_late_go};
 use bson::{BuildFault, Document, NoMemory, RawDoc, SpelledDocument, Value};
@@ -27,6 +25,7 @@ use path::Refusal;
 use sort::Sort;
 use std::alloc::{AllocError, Global};
 use value_order::group_text;
+use walks::{fold_asked, listed_texts};
 
 /// Adds what a document has of a name to a part of it, unless it is there.
 fn take_over(

@@ -9,7 +9,7 @@ use Rattle.bson.specs.Lookup.{lookup}
 use Rattle.bson.specs.Lawful.{items_levels, NoZero, Lacks}
 use Rattle.database_model.specs.Lawful.{IsWithin}
 use Rattle.database_model.specs.Cursors.{items_of_documents}
-use Rattle.update.proofs.IdLemmas.{bytes_differ}
+use Rattle.update_model.proofs.IdLemmas.{bytes_differ}
 
 pub no_zero : (name : List ℕ) → list_any (λ b. b == 0) name ≡ false → NoZero name
 no_zero [] e = tt

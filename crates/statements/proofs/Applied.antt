@@ -23,11 +23,11 @@ use Rattle.path.specs.EditLaws.{if_ok_value}
 use Rattle.outcome.specs.Outcome.{fault_or}
 use Rattle.path.specs.declared.refusal.Refusal.{Refusal}
 use Rattle.path.specs.declared.refusal.Refusal.TheVariants as refusals
-use Rattle.update.specs.Update.{Update as Change}
-use Rattle.update.specs.Stored.{id_name, pairs_fault, no_array, id_of, id_first, stored_fault, judged}
-use Rattle.update.specs.Applying.{changed, apply}
-use Rattle.update.specs.Upserts.{base_of}
-use Rattle.update.specs.UpdateLaws.{keeps_id, gives_stored}
+use Rattle.update_model.specs.Update.{Update as Change}
+use Rattle.update_model.specs.Stored.{id_name, pairs_fault, no_array, id_of, id_first, stored_fault, judged}
+use Rattle.update_model.specs.Applying.{changed, apply}
+use Rattle.update_model.specs.Upserts.{base_of}
+use Rattle.update_model.specs.UpdateLaws.{keeps_id, gives_stored}
 use Rattle.command_model.specs.OutcomeLaws.{step_of, passed}
 use Rattle.command_model.specs.Update.{UpdateStatement, IsRead}
 use Rattle.database_model.specs.Documents.{key_of, key_checked}
@@ -36,7 +36,7 @@ use Rattle.entries.specs.LawfulState.{IsRising}
 use Rattle.database_model.specs.Update.{spelled, upsert_document}
 use Rattle.statements.specs.Updating.{IsChange, MayBePut}
 use Rattle.statements.proofs.Checked.{id_first-id_first}
-use Rattle.statements.proofs.Ordered.{flipped}
+use Rattle.database_model.proofs.Ordered.{flipped}
 
 -- what an update gives, but for the length of its key text
 pub record Applied (ps : Pairs) : Type 0 where

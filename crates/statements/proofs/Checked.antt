@@ -12,11 +12,11 @@ use Rattle.bson.specs.Spelling.{tree_bytes, pairs_bytes, frame_of}
 use Rattle.value_order.specs.KeyText.{tree_text}
 use Rattle.outcome.specs.Outcome.{◌>>=◌, unless, or_refused}
 use Rattle.database_model.specs.Documents.{refused_if, key_of, checked}
-use Rattle.update.specs.Stored.{or_else, fault_if, pairs_fault, without, first_pair, id_name, id_first, no_array, id_of}
+use Rattle.update_model.specs.Stored.{or_else, fault_if, pairs_fault, without, first_pair, id_name, id_first, no_array, id_of}
 use Rattle.database_model.specs.Lawful.{IsStored}
 use Rattle.path.specs.declared.refusal.Refusal.{Refusal}
 use Rattle.path.specs.declared.refusal.Refusal.TheVariants as refusals
-use Rattle.update.proofs.IdLemmas.{pairs_levels-without}
+use Rattle.update_model.proofs.IdLemmas.{pairs_levels-without}
 
 -- ---- a document without a name, twice
 

@@ -14,14 +14,14 @@ use Rattle.bson.specs.Lookup.{lookup}
 use Rattle.bson.specs.Tree.{Tree, scalar, document, array, Pairs, no_pairs}
 use Rattle.value_order.specs.Order.{compare}
 use Rattle.value_order.specs.TotalLaws.{compare_total}
-use Rattle.update.specs.Stored.{id_name, no_array}
+use Rattle.update_model.specs.Stored.{id_name, no_array}
 use Rattle.entries.specs.Documents.{put_document, without_document}
 use Rattle.entries.specs.LawfulState.{IsRising, IsStorable}
 use Rattle.entries.specs.State.{by_order}
 use Rattle.database_model.specs.Documents.{key_of, place}
 use Rattle.database_model.specs.Lawful.{IsStored}
-use Rattle.statements.specs.Places.{IsGap, by_key}
-use Rattle.statements.proofs.Ordered.{Rises, flipped, rises_tail}
+use Rattle.database_model.specs.Places.{IsGap, by_key}
+use Rattle.database_model.proofs.Ordered.{Rises, flipped, rises_tail}
 
 -- ---- a stored document may be put
 

@@ -3,7 +3,7 @@ use Rattle.std.proofs.Common.{◌≡◌, ◌⊎◌, ◌+◌, inl, inr, ℕ, true
 use Rattle.std.specs.Prelude.{All, is_some}
 use Rattle.std.proofs.lemmas.List.Elements.{All-head, All-tail}
 use Rattle.bson.specs.Tree.{Pairs}
-use Rattle.update.specs.Stored.{id_first}
+use Rattle.update_model.specs.Stored.{id_first}
 use Rattle.command_model.specs.OutcomeLaws.{step_of}
 use Rattle.entries.specs.Documents.{put_document}
 use Rattle.entries.specs.Entering.{DocumentWrite, enter_each, entered}
@@ -17,7 +17,7 @@ use Rattle.database_model.specs.Documents.{checked, insert_all, insert_one, key_
 use Rattle.database_model.specs.Lawful.{AreShortIndexes, IsStored}
 use Rattle.statements.specs.WriteLaws.{documents_in}
 use Rattle.statements.proofs.Checked.{keeps}
-use Rattle.statements.proofs.ShortIndexes.{noted_short}
+use Rattle.database_model.proofs.ShortIndexes.{noted_short}
 
 -- a document put among others keeps them in ascending order
 pub rising_put : (d : Pairs) (ds : List Pairs) → IsRising ds → IsRising (put_document d ds)

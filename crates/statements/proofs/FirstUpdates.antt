@@ -12,7 +12,7 @@ use Rattle.filter.specs.Matches.{matches}
 use Rattle.value_order.specs.Order.{compare}
 use Rattle.outcome.specs.Outcome.{◌>>=◌}
 use Rattle.path.specs.declared.refusal.Refusal.{Refusal}
-use Rattle.update.specs.Applying.{apply}
+use Rattle.update_model.specs.Applying.{apply}
 use Rattle.command_model.specs.Update.{UpdateStatement}
 use Rattle.entries.specs.Documents.{put_document}
 use Rattle.entries.specs.Entering.{DocumentWrite}

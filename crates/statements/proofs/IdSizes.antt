@@ -29,15 +29,15 @@ use Rattle.filter.specs.Reading.{read_known, read_members, read_not, read_operan
 use Rattle.filter.specs.Words.{all_kinds, operator_of, size_in}
 use Rattle.filter.specs.declared.condition.Comparison.{Comparison}
 use Rattle.filter.specs.declared.condition.Comparison.TheVariants as comparisons
-use Rattle.update.specs.Update.{Path, set, Edit, Update as Change, replacement, edits}
-use Rattle.update.specs.Applying.{apply, changed}
-use Rattle.update.specs.IdEditLaws.{edits_keep_id, ok_same}
-use Rattle.update.specs.Laws.{IsStored}
-use Rattle.update.specs.Reading.{read_update, read_operators as read_edits_of}
-use Rattle.update.specs.Replacements.{in_place_of}
-use Rattle.update.specs.Stored.{id_first, id_name, judged}
-use Rattle.update.specs.UpdateLaws.{gives_stored, keeps_id, operators_avoid}
-use Rattle.update.specs.Upserts.{base_of, with_condition, with_conditions, with_equalities, with_equality}
+use Rattle.update_model.specs.Update.{Path, set, Edit, Update as Change, replacement, edits}
+use Rattle.update_model.specs.Applying.{apply, changed}
+use Rattle.update_model.specs.IdEditLaws.{edits_keep_id, ok_same}
+use Rattle.update_model.specs.Laws.{IsStored}
+use Rattle.update_model.specs.Reading.{read_update, read_operators as read_edits_of}
+use Rattle.update_model.specs.Replacements.{in_place_of}
+use Rattle.update_model.specs.Stored.{id_first, id_name, judged}
+use Rattle.update_model.specs.UpdateLaws.{gives_stored, keeps_id, operators_avoid}
+use Rattle.update_model.specs.Upserts.{base_of, with_condition, with_conditions, with_equalities, with_equality}
 use Rattle.command_model.specs.Update.{IsRead}
 use Rattle.database_model.specs.Documents.{key_of}
 use Rattle.statements.proofs.Applied.{id_is_first}

@@ -10,8 +10,8 @@ use Rattle.entries.specs.State.{Collection, find_collection}
 use Rattle.database_model.specs.Documents.{key_of, place}
 use Rattle.database_model.specs.Lawful.{IsKept, IsStored}
 use Rattle.database_model.specs.World.{documents_of, documents_or_none}
-use Rattle.statements.proofs.Located.{Gap, There, located}
-use Rattle.statements.proofs.Ordered.{rises_insert, All-inserted, place_gap, place_there}
+use Rattle.database_model.proofs.Located.{Gap, There, located}
+use Rattle.database_model.proofs.Ordered.{rises_insert, All-inserted, place_gap, place_there}
 
 abbrev pub Kept : List Pairs → Type 0
 Kept ds = IsRising ds × All IsStored ds

@@ -8,7 +8,7 @@ use Rattle.bson.specs.Tree.{Tree, Pairs}
 use Rattle.value_order.specs.Order.{compare}
 use Rattle.filter.specs.Matches.{matches}
 use Rattle.outcome.specs.Outcome.{◌>>=◌}
-use Rattle.update.specs.Applying.{apply}
+use Rattle.update_model.specs.Applying.{apply}
 use Rattle.command_model.specs.OutcomeLaws.{step_of}
 use Rattle.command_model.specs.Update.{UpdateStatement, IsRead}
 use Rattle.database_model.specs.Documents.{key_of}

@@ -1,10 +1,7 @@
-pub mod Ordered
 pub mod EditPlaceLemmas
 pub mod NamesApart
 pub mod Checked
 pub mod KeptLemmas
-pub mod Numbers
-pub mod Located
 pub mod EnteredLemmas
 pub mod Applied
 pub mod WriteSteps
@@ -21,7 +18,6 @@ pub mod WritePlaceLemmas
 pub mod ListedUpdates
 pub mod PlacingLemmas
 pub mod UpsertLemmas
-pub mod ShortIndexes
 pub mod IdSizes
 pub mod StatementSizes
 pub mod ReplyRoom

@@ -14,7 +14,7 @@ use Rattle.value_order.specs.Order.{compare}
 use Rattle.outcome.specs.Outcome.{◌>>=◌, or_refused}
 use Rattle.path.specs.declared.refusal.Refusal.{Refusal}
 use Rattle.path.specs.declared.refusal.Refusal.TheVariants as refusals
-use Rattle.update.specs.Applying.{apply}
+use Rattle.update_model.specs.Applying.{apply}
 use Rattle.command_model.specs.Update.{UpdateStatement, IsRead}
 use Rattle.entries.specs.LawfulState.{IsRising}
 use Rattle.entries.specs.State.{by_order}

@@ -10,8 +10,8 @@ use Rattle.bson.specs.Tree.{Tree, Pairs, Items, no_items}
 use Rattle.filter.specs.Matches.{matches}
 use Rattle.value_order.specs.Order.{compare}
 use Rattle.path.specs.declared.refusal.Refusal.{Refusal}
-use Rattle.update.specs.Applying.{apply}
-use Rattle.update.specs.Update.{Update as Change}
+use Rattle.update_model.specs.Applying.{apply}
+use Rattle.update_model.specs.Update.{Update as Change}
 use Rattle.command_model.specs.Update.{UpdateStatement, IsRead}
 use Rattle.entries.specs.LawfulState.{IsRising}
 use Rattle.entries.specs.StateReads.{find_document}

@@ -13,7 +13,7 @@ use Rattle.entries.specs.LawfulState.{IsRising}
 use Rattle.entries.specs.State.{by_order}
 use Rattle.database_model.specs.Documents.{key_of}
 use Rattle.database_model.specs.Merging.{put_each}
-use Rattle.statements.proofs.Ordered.{flipped}
+use Rattle.database_model.proofs.Ordered.{flipped}
 
 -- ---- documents, each with whether it is meant
 

@@ -8,7 +8,7 @@ use Rattle.std.proofs.lemmas.Grind.{get_or-set_at}
 use Rattle.std.proofs.lemmas.List.{get_or_default, get_or-set_other, length-set}
 use Rattle.entries.specs.State.{Collection}
 use Rattle.entries.specs.LawfulState.{AreNamedApart}
-use Rattle.statements.specs.Places.{collection_at, no_collection}
+use Rattle.database_model.specs.Places.{collection_at, no_collection}
 
 pub apart_set : (cs : List Collection) (i : ℕ) (c : Collection) → i < length cs → c.name ≡ (collection_at cs i).name → AreNamedApart cs
     → AreNamedApart (set cs i c)

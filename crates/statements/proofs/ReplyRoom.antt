@@ -16,8 +16,8 @@ use Rattle.bson.specs.Tree.{Tree, document, array, append, append_items, Pairs, 
 use Rattle.outcome.specs.Outcome.{◌>>=◌, unless, or_refused}
 use Rattle.path.specs.declared.refusal.Refusal.{Refusal}
 use Rattle.path.specs.declared.refusal.Refusal.TheVariants as refusals
-use Rattle.update.specs.Applying.{apply}
-use Rattle.update.specs.Upserts.{base_of}
+use Rattle.update_model.specs.Applying.{apply}
+use Rattle.update_model.specs.Upserts.{base_of}
 use Rattle.command_model.specs.Aggregate.{read_aggregate}
 use Rattle.command_model.specs.Command.{aggregate, as_command, Command, command_of, count, create, create_indexes, delete, drop, drop_indexes, explain}
 use Rattle.command_model.specs.Command.{find, get_more, hello}

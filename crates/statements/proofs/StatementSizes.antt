@@ -13,8 +13,8 @@ use Rattle.path.specs.declared.refusal.Refusal.{Refusal}
 use Rattle.path.specs.declared.refusal.Refusal.TheVariants as refusals
 use Rattle.filter.specs.Condition.{Conditions}
 use Rattle.filter.specs.Reading.{read_filter}
-use Rattle.update.specs.Reading.{read_update}
-use Rattle.update.specs.Update.{Update as Change, is_replacement}
+use Rattle.update_model.specs.Reading.{read_update}
+use Rattle.update_model.specs.Update.{Update as Change, is_replacement}
 use Rattle.command_model.specs.Fields.{CommonFields, read_fields, common_field}
 use Rattle.command_model.specs.FieldsLaws.{there}
 use Rattle.command_model.specs.Names.{namespace_of}

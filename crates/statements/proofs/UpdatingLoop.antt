@@ -18,8 +18,8 @@ use Rattle.path.specs.declared.refusal.Refusal.{Refusal}
 use Rattle.path.specs.declared.refusal.Refusal.TheVariants as refusals
 use Rattle.value_order.specs.Order.{compare}
 use Rattle.value_order.specs.TotalLaws.{compare_total}
-use Rattle.update.specs.Update.{Update as Change}
-use Rattle.update.specs.Applying.{apply}
+use Rattle.update_model.specs.Update.{Update as Change}
+use Rattle.update_model.specs.Applying.{apply}
 use Rattle.command_model.specs.Update.{UpdateStatement, IsRead}
 use Rattle.entries.specs.Documents.{put_document}
 use Rattle.entries.specs.LawfulState.{IsRising, IsStorable}
@@ -37,7 +37,7 @@ use Rattle.statements.specs.declared.statements.Write.{Write}
 use Rattle.statements.proofs.Applied.{applied, change_kept, change_puttable, rising_set, stored_puttable}
 use Rattle.statements.proofs.EditPlaceLemmas.{storable}
 use Rattle.statements.proofs.KeptLemmas.{kept_place}
-use Rattle.statements.proofs.Ordered.{flipped}
+use Rattle.database_model.proofs.Ordered.{flipped}
 use Rattle.replies.proofs.Steps.{drop_step}
 use Rattle.statements.proofs.EditPlaceLemmas.{put_where_placed}
 use Rattle.statements.proofs.WriteSteps.{changes_on, changes_only, changes_refused, found_at, news_more, none_written, old_more, one_written, or_false, or_true}

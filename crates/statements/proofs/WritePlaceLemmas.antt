@@ -16,8 +16,8 @@ use Rattle.filter.specs.Matches.{matches}
 use Rattle.value_order.specs.Order.{compare}
 use Rattle.value_order.specs.TotalLaws.{compare_total}
 use Rattle.path.specs.declared.refusal.Refusal.{Refusal}
-use Rattle.update.specs.Update.{Update as Change}
-use Rattle.update.specs.Applying.{apply}
+use Rattle.update_model.specs.Update.{Update as Change}
+use Rattle.update_model.specs.Applying.{apply}
 use Rattle.command_model.specs.OutcomeLaws.{step_of}
 use Rattle.command_model.specs.Update.{UpdateStatement, IsRead}
 use Rattle.entries.specs.Documents.{put_document}
@@ -37,7 +37,7 @@ use Rattle.statements.proofs.LawfulUpdates.{SameKeys, SameKeys-rising}
 use Rattle.statements.proofs.MeantUpdates.{one_step}
 use Rattle.statements.proofs.MeantWrites.{documents_append}
 use Rattle.statements.proofs.MergingLemmas.{Each, Each-map}
-use Rattle.statements.proofs.Ordered.{flipped}
+use Rattle.database_model.proofs.Ordered.{flipped}
 use Rattle.statements.proofs.EditPlaceLemmas.{put_where_placed}
 use Rattle.statements.proofs.UpdatingLoop.{put_in_place}
 use Rattle.statements.proofs.WriteLawLemmas.{HasChanged, HasMade, left_by, next_kept}

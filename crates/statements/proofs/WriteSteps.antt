@@ -16,7 +16,7 @@ use Rattle.filter.specs.Matches.{matches}
 use Rattle.value_order.specs.Order.{compare}
 use Rattle.value_order.specs.TotalLaws.{compare_total}
 use Rattle.path.specs.declared.refusal.Refusal.{Refusal}
-use Rattle.update.specs.Applying.{apply}
+use Rattle.update_model.specs.Applying.{apply}
 use Rattle.command_model.specs.Update.{UpdateStatement}
 use Rattle.entries.specs.Documents.{put_document}
 use Rattle.entries.specs.LawfulState.{IsRising}
@@ -29,7 +29,7 @@ use Rattle.database_model.specs.Update.{spelled, upsert_document}
 use Rattle.statements.specs.Updating.{HaveOld, news_of, replaced_in, seen}
 use Rattle.database_model.specs.Writes.{change_writes, changes_of, made_write, statement_writes, unless_refused, updated_by}
 use Rattle.statements.specs.declared.statements.Write.{Write}
-use Rattle.statements.proofs.Ordered.{flipped}
+use Rattle.database_model.proofs.Ordered.{flipped}
 
 pub or_true : (b : Bool) → (b || true) ≡ true
 or_true true = refl

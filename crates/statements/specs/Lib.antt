@@ -1,4 +1,3 @@
-pub mod Places
 pub mod Redoing
 pub mod WriteLaws
 pub mod Updating

@@ -12,8 +12,8 @@ use Rattle.filter.specs.Matches.{matches}
 use Rattle.outcome.specs.Outcome.{Fails, or_refused}
 use Rattle.path.specs.declared.refusal.Refusal.{Refusal}
 use Rattle.path.specs.declared.refusal.Refusal.TheVariants as refusals
-use Rattle.update.specs.Update.{Update as Change}
-use Rattle.update.specs.Applying.{apply}
+use Rattle.update_model.specs.Update.{Update as Change}
+use Rattle.update_model.specs.Applying.{apply}
 use Rattle.command_model.specs.Update.{UpdateStatement}
 use Rattle.entries.specs.Documents.{put_document}
 use Rattle.entries.specs.LawfulState.{IsRising, IsStorable}

@@ -8,7 +8,7 @@ ghost use Rattle.bson.specs.Spelling.{Spells, frame_of, pairs_bytes};
 ghost use Rattle.bson.specs.View.{tree, pairs_of};
 ghost use Rattle.filter.specs.Matches.{matches};
 ghost use Rattle.outcome.specs.Outcome.{Fails, Gives};
-ghost use Rattle.update.specs.Applying.{apply};
+ghost use Rattle.update_model.specs.Applying.{apply};
 ghost use Rattle.update.specs.View.{update_of};
 ghost use Rattle.command_model.specs.Update.{UpdateStatement, IsRead};
 ghost use Rattle.database_model.specs.Documents.{key_of};

@@ -8,7 +8,7 @@ ghost use Rattle.bson.specs.Tree.{scalar, null};
 ghost use Rattle.bson.specs.View.{tree};
 ghost use Rattle.entries.specs.LawfulState.{IsStorable};
 ghost use Rattle.database_model.specs.Documents.{key_of, checked};
-ghost use Rattle.update.specs.Stored.{id_first};
+ghost use Rattle.update_model.specs.Stored.{id_first};
 ghost use Rattle.value_order.specs.Order.{compare};
 ghost use Rattle.value_order.specs.KeyText.{tree_text};
 ghost use Rattle.value_order.specs.declared.TheConstants.{KEY_LIMIT};

@@ -18,8 +18,8 @@ use Rattle.path.specs.Place.{some_passes, value_at, passes_array}
 use Rattle.path.specs.declared.refusal.Refusal.{Refusal}
 use Rattle.path.specs.declared.refusal.Refusal.TheVariants as refusals
 use Rattle.path.proofs.WalkLemmas.{lookup-levels, cut_off-levels}
-use Rattle.update.specs.Update.{Path}
-use Rattle.update.proofs.IdLemmas.{bytes_differ}
+use Rattle.update_model.specs.Update.{Path}
+use Rattle.update_model.proofs.IdLemmas.{bytes_differ}
 use Rattle.update.proofs.InsideLemmas.{put_twice, put_same, some_one, document_one}
 use Rattle.update.proofs.RenamingLemmas.{no_array}
 use Rattle.update.proofs.UnsetLemmas.{cut_other}

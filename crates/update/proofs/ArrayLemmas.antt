@@ -15,7 +15,7 @@ use Rattle.path.specs.declared.refusal.Refusal.TheVariants as refusals
 use Rattle.path.specs.Edits.{within}
 use Rattle.filter.specs.Condition.{Condition}
 use Rattle.filter.specs.Elements.{element_matches}
-use Rattle.update.specs.Arrays.{items_without}
+use Rattle.update_model.specs.Arrays.{items_without}
 use Rattle.update.proofs.StepLemmas.{drop_step}
 
 pub items_step : (vs : List Value) (i : ℕ) (v : Value) (t : Tree) → i < length vs → v ≡ get_or vs i v → t ≡ tree v

@@ -16,11 +16,11 @@ use Rattle.path.specs.Edits.{put_or_cut, cut_found, cut_field, with_found, cut_i
 use Rattle.path.specs.Parts.{index_of}
 use Rattle.path.proofs.IndexLemmas.{item_at-levels}
 use Rattle.path.proofs.WalkLemmas.{lookup-levels, cut_off-levels}
-use Rattle.update.specs.Applying.{apply_edits}
+use Rattle.update_model.specs.Applying.{apply_edits}
 use Rattle.update.specs.Inside.{moves, begins_with_rename, value_after, in_field, in_item, inside}
 use Rattle.update.specs.Renaming.{moved_found, moved_field, moved_by, renamed}
 use Rattle.update.specs.Unsets.{is_below, is_unset_below, last_name, marked, unmarked, without_items}
-use Rattle.update.specs.Update.{Path, Action, set, unset, increment, at_most, at_least, push, pull, rename, Edit}
+use Rattle.update_model.specs.Update.{Path, Action, set, unset, increment, at_most, at_least, push, pull, rename, Edit}
 use Rattle.update.specs.View.{edit_of}
 use Rattle.update.specs.declared.edit.Edit.{Edit as Change}
 use Rattle.update.proofs.UnsetLemmas.{unmarked-none, unmarked_levels, marked_more, and_true}

@@ -1,5 +1,5 @@
 pub mod StepLemmas
-pub mod IdLemmas
+pub mod CopyingLemmas
 pub mod ArrayLemmas
 pub mod EditPathLemmas
 pub mod UnsetLemmas

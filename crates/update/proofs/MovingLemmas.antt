@@ -12,14 +12,14 @@ use Rattle.path.specs.Place.{value_at, passes_array}
 use Rattle.path.specs.declared.refusal.Refusal.{Refusal}
 use Rattle.path.specs.declared.refusal.Refusal.TheVariants as refusals
 use Rattle.path.proofs.WalkLemmas.{cut_off-levels}
-use Rattle.update.specs.Applying.{apply_edit, apply_edits}
+use Rattle.update_model.specs.Applying.{apply_edit, apply_edits}
 use Rattle.update.specs.Moving.{unset_of, move_of, put_all, MeetsNone, AreApart, MayMove}
-use Rattle.update.specs.Reading.{edits_meet, conflicts}
-use Rattle.update.specs.Renames.{moved, rename_at}
+use Rattle.update_model.specs.Reading.{edits_meet, conflicts}
+use Rattle.update_model.specs.Renames.{moved, rename_at}
 use Rattle.update.specs.Renaming.{rename_of}
 use Rattle.update.specs.Unsets.{is_unset, cut_all}
-use Rattle.update.specs.Update.{Path, Action, Edit, paths_with, paths_of, meets_any}
-use Rattle.update.specs.IdEditLaws.{or_none}
+use Rattle.update_model.specs.Update.{Path, Action, Edit, paths_with, paths_of, meets_any}
+use Rattle.update_model.specs.IdEditLaws.{or_none}
 use Rattle.update.specs.View.{edit_of}
 use Rattle.update.specs.declared.edit.Edit.{Edit as Change}
 use Rattle.update.specs.declared.moving.Moved.{Moved}

@@ -18,12 +18,12 @@ use Rattle.path.specs.Place.{is_array, some_passes, value_at, passes_array}
 use Rattle.path.specs.declared.refusal.Refusal.{Refusal}
 use Rattle.path.specs.declared.refusal.Refusal.TheVariants as refusals
 use Rattle.path.proofs.WalkLemmas.{lookup-levels}
-use Rattle.update.specs.Applying.{apply_edits}
+use Rattle.update_model.specs.Applying.{apply_edits}
 use Rattle.update.specs.Inside.{moves, value_after, inside, leads_to_array}
-use Rattle.update.specs.Renames.{moved, rename_at}
+use Rattle.update_model.specs.Renames.{moved, rename_at}
 use Rattle.update.specs.Renaming.{is_rename_below, moved_found, moved_field, renamed}
 use Rattle.update.specs.Unsets.{is_below, last_name, marked, unmarked, without_items}
-use Rattle.update.specs.Update.{Path, Action, set, unset, increment, at_most, at_least, push, pull, rename, Edit}
+use Rattle.update_model.specs.Update.{Path, Action, set, unset, increment, at_most, at_least, push, pull, rename, Edit}
 use Rattle.update.specs.View.{edit_of}
 use Rattle.update.specs.declared.edit.Edit.{Edit as Change}
 use Rattle.update.proofs.InsideLemmas.{moved_field-levels, put_twice, put_same, inside-none, inside-twice, inside-levels, last, not_below}

@@ -14,7 +14,7 @@ use Rattle.bson.specs.Lookup.{lookup}
 use Rattle.bson.specs.declared.value.Pair.{Pair}
 use Rattle.path.specs.declared.refusal.Refusal.{Refusal}
 use Rattle.path.specs.Edits.{if_ok, put_or_cut, cut_found, cut_field, cut_off}
-use Rattle.update.specs.Applying.{apply_edit, apply_edits}
+use Rattle.update_model.specs.Applying.{apply_edit, apply_edits}
 use Rattle.update.specs.Unsets.{unmarked}
 use Rattle.update.specs.View.{edit_of}
 use Rattle.update.specs.declared.edit.Edit.{Edit as Change}

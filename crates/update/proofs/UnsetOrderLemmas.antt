@@ -16,9 +16,9 @@ use Rattle.bson.specs.Lookup.{lookup}
 use Rattle.bson.specs.Tree.{Tree, scalar, null, document, array, Pairs, no_pairs, pair, Items, no_items, item}
 use Rattle.path.specs.Edits.{put_or_cut, cut_found, cut_field, with_found, cut_item, cut_off, cut_at}
 use Rattle.path.specs.Parts.{index_of}
-use Rattle.update.specs.Applying.{apply_edits}
+use Rattle.update_model.specs.Applying.{apply_edits}
 use Rattle.update.specs.Unsets.{takes_away, is_unset, cut_all}
-use Rattle.update.specs.Update.{Path, Action, set, unset, increment, at_most, at_least, push, pull, rename, Edit}
+use Rattle.update_model.specs.Update.{Path, Action, set, unset, increment, at_most, at_least, push, pull, rename, Edit}
 use Rattle.update.specs.View.{edit_of}
 use Rattle.update.specs.declared.edit.Edit.{Edit as Change}
 use Rattle.update.proofs.InsideLemmas.{put_twice, item_near, IsTree-found, IsTree-item}

@@ -7,7 +7,7 @@ use Rattle.path.specs.Parts.{index_of}
 use Rattle.path.specs.Place.{child, is_array, some_passes}
 use Rattle.update.specs.Renaming.{renamed}
 use Rattle.update.specs.Unsets.{marked, unmarked, without_items}
-use Rattle.update.specs.Update.{Path, Action, rename, Edit}
+use Rattle.update_model.specs.Update.{Path, Action, rename, Edit}
 
 abbrev pub moves : Action → Bool
 moves (rename new) = true

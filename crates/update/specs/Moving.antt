@@ -11,7 +11,7 @@ use Rattle.path.specs.Edits.{if_ok, set_at}
 use Rattle.path.specs.Parts.{meets}
 use Rattle.path.specs.Place.{passes_array}
 use Rattle.update.specs.Unsets.{is_unset, cut_all}
-use Rattle.update.specs.Update.{Path, unset, Edit, paths_of, meets_any}
+use Rattle.update_model.specs.Update.{Path, unset, Edit, paths_of, meets_any}
 use Rattle.update.specs.declared.moving.Moved.{Moved}
 
 abbrev pub unset_of : Path → Edit

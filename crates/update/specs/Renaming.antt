@@ -5,7 +5,7 @@ use Rattle.bson.specs.Edits.{put, cut}
 use Rattle.bson.specs.Tree.{Tree, Pairs, append}
 use Rattle.bson.specs.Lookup.{lookup}
 use Rattle.update.specs.Unsets.{is_below, last_name, unmarked}
-use Rattle.update.specs.Update.{Path, Action, rename, Edit}
+use Rattle.update_model.specs.Update.{Path, Action, rename, Edit}
 
 abbrev pub moves_below : Path → Action → Bool
 moves_below parent (rename new) = is_below parent new

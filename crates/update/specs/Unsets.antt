@@ -8,7 +8,7 @@ use Rattle.bson.specs.Tree.{scalar, null, Pairs, no_pairs, pair, Items}
 use Rattle.bson.specs.Lookup.{lookup}
 use Rattle.path.specs.Edits.{cut_item, cut_off, cut_at}
 use Rattle.path.specs.Parts.{index_of}
-use Rattle.update.specs.Update.{Path, Action, unset, Edit}
+use Rattle.update_model.specs.Update.{Path, Action, unset, Edit}
 
 abbrev pub is_one_name : Path → Bool
 is_one_name [] = false

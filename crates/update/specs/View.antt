@@ -2,8 +2,9 @@
 use Rattle.std.specs.Prelude.{map}
 use Rattle.bson.specs.View.{tree, items_of}
 use Rattle.filter.specs.View.{condition_of}
-use Rattle.update.specs.Update.{Number, int32, int64, Action, set, unset, increment, at_most}
-use Rattle.update.specs.Update.{at_least, push, pull, rename, Edit, Update, replacement, edits}
+use Rattle.update_model.specs.Update.{Number, int32, int64, Action, set, unset, increment, at_most}
+use Rattle.update_model.specs.Update.{at_least, push, pull, rename, Edit, Update, replacement}
+use Rattle.update_model.specs.Update.{edits}
 use Rattle.update.specs.declared.numbers.Number.{Number as Counted}
 use Rattle.update.specs.declared.numbers.Number.TheVariants as numbers
 use Rattle.update.specs.declared.edit.Action.{Action as Does}

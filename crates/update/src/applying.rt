@@ -2,8 +2,8 @@
 
 ghost use Rattle.std.specs.Prelude.{◌≡◌, ◌≤◌, true, length, map};
 ghost use Rattle.outcome.specs.Outcome.{Gives};
-ghost use Rattle.update.specs.Applying.{apply_edits, changed, apply};
-ghost use Rattle.update.specs.Stored.{judged};
+ghost use Rattle.update_model.specs.Applying.{apply_edits, changed, apply};
+ghost use Rattle.update_model.specs.Stored.{judged};
 ghost use Rattle.update.specs.View.{edit_of, form_of, update_of};
 
 use crate::edit::{Edit, Form, MANY, Update};

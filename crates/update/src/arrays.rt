@@ -6,7 +6,7 @@ ghost use Rattle.bson.specs.View.{tree, items_of};
 ghost use Rattle.path.specs.Edits.{within};
 ghost use Rattle.outcome.specs.Outcome.{Gives};
 ghost use Rattle.filter.specs.View.{condition_of};
-ghost use Rattle.update.specs.Arrays.{only_one, items_to_push, each_items, items_without, pull_at};
+ghost use Rattle.update_model.specs.Arrays.{only_one, items_to_push, each_items, items_without, pull_at};
 
 use crate::touching::touch_at;
 use bson::{Array, BuildFault, Document, NoMemory, Value};
@@ -92,7 +92,7 @@ pub(crate) struct Pushed<'a> {
 }
 
 impl NewValue for Pushed<'_> {
-    ghost use Rattle.update.specs.Arrays.{pushed};
+    ghost use Rattle.update_model.specs.Arrays.{pushed};
     ghost use Rattle.bson.specs.View.{items_of};
 
     ghost made = { λ a old. pushed (items_of a.items.now) old };
@@ -124,7 +124,7 @@ pub(crate) struct Pulled<'a> {
 }
 
 impl NewValue for Pulled<'_> {
-    ghost use Rattle.update.specs.Arrays.{pulled};
+    ghost use Rattle.update_model.specs.Arrays.{pulled};
     ghost use Rattle.filter.specs.View.{condition_of};
 
     ghost made = { λ a old. pulled (condition_of a.condition.now) old };

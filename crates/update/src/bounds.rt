@@ -12,7 +12,7 @@ pub(crate) struct Lowered<'a> {
 }
 
 impl NewValue for Lowered<'_> {
-    ghost use Rattle.update.specs.Bounds.{lowered};
+    ghost use Rattle.update_model.specs.Bounds.{lowered};
     ghost use Rattle.bson.specs.View.{tree};
 
     ghost made = { λ a old. lowered (tree a.operand.now) old };
@@ -35,7 +35,7 @@ pub(crate) struct Raised<'a> {
 }
 
 impl NewValue for Raised<'_> {
-    ghost use Rattle.update.specs.Bounds.{raised};
+    ghost use Rattle.update_model.specs.Bounds.{raised};
     ghost use Rattle.bson.specs.View.{tree};
 
     ghost made = { λ a old. raised (tree a.operand.now) old };

@@ -1,7 +1,7 @@
 //! Updates as they were read.
 
 ghost use Rattle.std.specs.Prelude.{◌≡◌};
-ghost use Rattle.update.specs.Update.{is_replacement};
+ghost use Rattle.update_model.specs.Update.{is_replacement};
 
 use crate::numbers::Number;
 use bson::{Document, Value};

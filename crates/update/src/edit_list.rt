@@ -3,7 +3,7 @@
 ghost use Rattle.std.specs.Prelude.{◌≡◌, ◌++◌, [], ◌∷◌, false, IfOk, OnOk, map};
 ghost use Rattle.outcome.specs.Outcome.{Gives};
 ghost use Rattle.update.specs.EditPaths.{HaveOneMore, conflicts_with};
-ghost use Rattle.update.specs.Reading.{conflicts, without_conflict};
+ghost use Rattle.update_model.specs.Reading.{conflicts, without_conflict};
 ghost use Rattle.update.specs.View.{edit_of};
 
 use crate::edit::{Action, Edit};
@@ -24,8 +24,8 @@ pub(crate) struct EditList {
 impl Model for EditList {
     ghost use Rattle.std.specs.Prelude.{List, map};
     ghost use Rattle.std.specs.Coded.{coded_list};
-    ghost use Rattle.update.specs.Update as updates;
-    ghost use Rattle.update.specs.UpdateCode.{coded_edit};
+    ghost use Rattle.update_model.specs.Update as updates;
+    ghost use Rattle.update_model.specs.UpdateCode.{coded_edit};
     ghost use Rattle.update.specs.EditPaths.{HavePathsOf};
     ghost use Rattle.update.specs.View.{edit_of};
 

@@ -1,7 +1,7 @@
 //! Laws of the definitions, as contracts.
 
-ghost use Rattle.update.specs.Laws.{KeepsId, ChangesNothing, SetStands, KeepsOthers};
-ghost use Rattle.update.specs.Laws.{GivesStored, RefusesByName};
+ghost use Rattle.update_model.specs.Laws.{KeepsId, ChangesNothing, SetStands, KeepsOthers};
+ghost use Rattle.update_model.specs.Laws.{GivesStored, RefusesByName};
 
 /// No update changes `_id`.
 pub fn keeps_id()

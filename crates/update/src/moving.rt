@@ -7,10 +7,10 @@ ghost use Rattle.bson.specs.Tree.{document};
 ghost use Rattle.outcome.specs.Outcome.{Gives};
 ghost use Rattle.path.specs.Edits.{if_ok};
 ghost use Rattle.path.specs.Place.{passes_array};
-ghost use Rattle.update.specs.Applying.{apply_edit, apply_edits};
+ghost use Rattle.update_model.specs.Applying.{apply_edit, apply_edits};
 ghost use Rattle.update.specs.Moving.{unset_of, move_of, put_all, all_moved, MayMove, GivesMoves};
-ghost use Rattle.update.specs.Reading.{conflicts};
-ghost use Rattle.update.specs.Renames.{rename_at};
+ghost use Rattle.update_model.specs.Reading.{conflicts};
+ghost use Rattle.update_model.specs.Renames.{rename_at};
 ghost use Rattle.update.specs.Renaming.{rename_of};
 ghost use Rattle.update.specs.Unsets.{cut_all};
 ghost use Rattle.update.specs.View.{edit_of};
@@ -51,7 +51,7 @@ impl Model for Moving {
     ghost use Rattle.std.specs.Coded.{codes};
     ghost use Rattle.bson.specs.TreeCode.{coded_pairs, coded_tree};
     ghost use Rattle.update.specs.Moving.{Moves, MayMove, move_of};
-    ghost use Rattle.update.specs.UpdateCode.{coded_edit};
+    ghost use Rattle.update_model.specs.UpdateCode.{coded_edit};
 
     ghost Value = { Moves };
 

@@ -3,7 +3,7 @@
 ghost use Rattle.std.specs.Prelude.{◌≡◌, option_map};
 ghost use Rattle.bson.specs.View.{tree};
 ghost use Rattle.outcome.specs.Outcome.{Gives};
-ghost use Rattle.update.specs.Numbers.{number_in, number_tree, sum};
+ghost use Rattle.update_model.specs.Numbers.{number_in, number_tree, sum};
 
 use crate::sums::{sum_of_int32, sum_of_int64};
 use bson::Value;
@@ -59,7 +59,7 @@ pub(crate) struct Incremented {
 }
 
 impl NewValue for Incremented {
-    ghost use Rattle.update.specs.Numbers.{incremented};
+    ghost use Rattle.update_model.specs.Numbers.{incremented};
     ghost use Rattle.update.specs.View.{number_of};
 
     ghost made = { λ a old. incremented (number_of a.by) old };

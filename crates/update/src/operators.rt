@@ -7,7 +7,7 @@ ghost use Rattle.std.specs.Prelude.{◌≡◌};
 ghost use Rattle.bson.specs.View.{tree};
 ghost use Rattle.outcome.specs.Outcome.{Gives};
 ghost use Rattle.filter.specs.IdPaths.{begins_with_id};
-ghost use Rattle.update.specs.Operators.{operator_of, editable_path, new_path, read_action, apply_action};
+ghost use Rattle.update_model.specs.Operators.{operator_of, editable_path, new_path, read_action, apply_action};
 ghost use Rattle.update.specs.View.{action_of};
 
 use crate::arrays::{Pushed, items_to_push, pull_at};
@@ -20,19 +20,7 @@ use bson::{Document, Value};
 use filter::{Condition, path_in};
 use path::{Path, Refusal, remove_from, write_into, write_new};
 use std::alloc::Global;
-
-/// An operator of updates.
-#[derive(Clone, Copy)]
-pub(crate) enum Operator {
-    Set,
-    Unset,
-    Increment,
-    Least,
-    Greatest,
-    Push,
-    Pull,
-    Rename,
-}
+use update_model::Operator;
 
 /// The operator of a name.
 pub(crate) fn operator_of(name: &str) -> Option<Operator>

@@ -3,17 +3,18 @@
 ghost use Rattle.std.specs.Prelude.{◌≡◌, [], map};
 ghost use Rattle.bson.specs.View.{tree};
 ghost use Rattle.outcome.specs.Outcome.{Gives};
-ghost use Rattle.update.specs.Reading.{read_edit, read_edits};
-ghost use Rattle.update.specs.Reading.{read_operator, read_operators, read_update};
+ghost use Rattle.update_model.specs.Reading.{read_edit, read_edits};
+ghost use Rattle.update_model.specs.Reading.{read_operator, read_operators, read_update};
 ghost use Rattle.update.specs.View.{edit_of, update_of};
 
 use crate::edit::{Edit, Form, Update};
 use crate::edit_list::EditList;
-use crate::operators::{Operator, editable_path, operator_of, read_action};
+use crate::operators::{editable_path, operator_of, read_action};
 use bson::{Document, Value};
 use filter::has_operators;
 use path::Refusal;
 use std::alloc::Global;
+use update_model::Operator;
 
 /// The edits before, and one more.
 fn read_edit(

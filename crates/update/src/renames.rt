@@ -2,7 +2,7 @@
 
 ghost use Rattle.std.specs.Prelude.{◌≡◌};
 ghost use Rattle.outcome.specs.Outcome.{Gives};
-ghost use Rattle.update.specs.Renames.{rename_at};
+ghost use Rattle.update_model.specs.Renames.{rename_at};
 
 use bson::Document;
 use path::{Path, Refusal, passes_array, remove_from, take_from, value_at, write_into};

@@ -9,7 +9,7 @@ ghost use Rattle.bson.specs.Lawful.{levels};
 ghost use Rattle.bson.specs.Lookup.{lookup};
 ghost use Rattle.bson.specs.View.{tree};
 ghost use Rattle.outcome.specs.Outcome.{Gives};
-ghost use Rattle.update.specs.Applying.{apply_edits};
+ghost use Rattle.update_model.specs.Applying.{apply_edits};
 ghost use Rattle.update.specs.Inside.{leads_to_array};
 ghost use Rattle.update.specs.Renaming.{is_rename_below, moved_field, renamed};
 ghost use Rattle.update.specs.Unsets.{unmarked};

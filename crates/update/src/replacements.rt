@@ -4,9 +4,9 @@ ghost use Rattle.std.specs.Prelude.{◌≡◌, IfOk, option_map};
 ghost use Rattle.bson.specs.Tree.{pair};
 ghost use Rattle.bson.specs.View.{tree};
 ghost use Rattle.outcome.specs.Outcome.{Gives};
-ghost use Rattle.update.specs.Fronts.{MayStand};
-ghost use Rattle.update.specs.Replacements.{replace};
-ghost use Rattle.update.specs.Stored.{id_name, without, first_pair};
+ghost use Rattle.update_model.specs.Fronts.{MayStand};
+ghost use Rattle.update_model.specs.Replacements.{replace};
+ghost use Rattle.update_model.specs.Stored.{id_name, without, first_pair};
 
 use crate::stored::ID;
 use bson::{Document, NoMemory, Pair, Text, Value};

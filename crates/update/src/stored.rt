@@ -3,10 +3,10 @@
 ghost use Rattle.std.specs.Prelude.{◌≡◌, ◌<◌, IfOk, IfSome, None, option_map};
 ghost use Rattle.std.specs.Option.{unwrap_or};
 ghost use Rattle.bson.specs.Edits.{pairs_len};
-ghost use Rattle.update.specs.Fronts.{to_front};
+ghost use Rattle.update_model.specs.Fronts.{to_front};
 ghost use Rattle.bson.specs.View.{tree, pairs_of, items_of};
-ghost use Rattle.update.specs.Stored.{name_fault, tree_fault, pairs_fault, items_fault, id_of};
-ghost use Rattle.update.specs.Stored.{id_first, limits_fault, stored_fault};
+ghost use Rattle.update_model.specs.Stored.{name_fault, tree_fault, pairs_fault, items_fault, id_of};
+ghost use Rattle.update_model.specs.Stored.{id_first, limits_fault, stored_fault};
 
 use bson::{Document, NoMemory, Pair, Value};
 use path::Refusal;
@@ -101,7 +101,7 @@ pub fn id_of(document: &Document) -> Option<&Value>
 
 /// Why a document may not be stored, if it may not: the first of `limits_fault`, `names_fault`, and `BadValue` where
 /// `_id` is missing or an array.
-#[tactic(auto, unfolding(crate::specs::Stored::stored_fault))]
+#[tactic(auto, unfolding(update_model::specs::Stored::stored_fault))]
 pub fn stored_fault(document: &Document, limit: u32) -> Option<Refusal>
     ensures { result ≡ stored_fault limit document.now }
 {

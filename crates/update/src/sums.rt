@@ -2,8 +2,8 @@
 
 ghost use Rattle.std.specs.Prelude.{◌≡◌, ◌+ℤ◌, Ok};
 ghost use Rattle.outcome.specs.Outcome.{Gives};
-ghost use Rattle.update.specs.Numbers.{as_int64, sum};
-ghost use Rattle.update.specs.Update.{int32};
+ghost use Rattle.update_model.specs.Numbers.{as_int64, sum};
+ghost use Rattle.update_model.specs.Update.{int32};
 ghost use Rattle.update.specs.View.{number_of};
 
 use crate::numbers::Number;

@@ -12,7 +12,7 @@ ghost use Rattle.bson.specs.View.{tree};
 ghost use Rattle.outcome.specs.Outcome.{Gives};
 ghost use Rattle.path.specs.Edits.{cut_off, cut_item};
 ghost use Rattle.path.specs.Parts.{index_of};
-ghost use Rattle.update.specs.Applying.{apply_edits};
+ghost use Rattle.update_model.specs.Applying.{apply_edits};
 ghost use Rattle.update.specs.Unsets.{is_below, is_unset, is_unset_below, last_name, marked, unmarked, without_items};
 ghost use Rattle.update.specs.View.{edit_of};
 

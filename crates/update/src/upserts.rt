@@ -3,8 +3,8 @@
 ghost use Rattle.std.specs.Prelude.{◌≡◌};
 ghost use Rattle.outcome.specs.Outcome.{Gives};
 ghost use Rattle.filter.specs.View.{condition_of, conditions_of, predicate_of};
-ghost use Rattle.update.specs.Upserts.{is_below_id, with_equal, with_equality, with_equalities};
-ghost use Rattle.update.specs.Upserts.{with_condition, base_of};
+ghost use Rattle.update_model.specs.Upserts.{is_below_id, with_equal, with_equality, with_equalities};
+ghost use Rattle.update_model.specs.Upserts.{with_condition, base_of};
 
 use crate::stored::ID;
 use bson::Document;

@@ -1,7 +1,7 @@
 use Rattle.std.proofs.Common.{refl, sym, ap, ◌∙◌}
 use Rattle.bson.specs.View.{pairs_of, tree}
 use Rattle.bson.specs.declared.value.Pair.{Pair}
-use Rattle.aggregate.specs.Group.{read_part, read_parts}
+use Rattle.aggregate_model.specs.Group.{read_part, read_parts}
 use Rattle.aggregate.specs.GroupView.{parts_of}
 use Rattle.aggregate.proofs.ReadingLemmas.{one_more, one_refused, refused}
 use Rattle.aggregate.proofs.grouping.read_parts.Goals as goal

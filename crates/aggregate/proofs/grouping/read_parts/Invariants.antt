@@ -1,6 +1,6 @@
 use Rattle.std.proofs.Common.{◌≡◌, drop}
 use Rattle.bson.specs.View.{pairs_of}
-use Rattle.aggregate.specs.Group.{no_parts, read_parts}
+use Rattle.aggregate_model.specs.Group.{no_parts, read_parts}
 use Rattle.aggregate.specs.GroupView.{parts_of}
 use Rattle.aggregate.proofs.grouping.read_parts.Given as goal
 

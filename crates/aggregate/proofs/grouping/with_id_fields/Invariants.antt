@@ -1,6 +1,6 @@
 use Rattle.std.proofs.Common.{◌≡◌, drop, map}
 use Rattle.bson.specs.Tree.{no_pairs}
-use Rattle.aggregate.specs.Group.{with_id_fields}
+use Rattle.aggregate_model.specs.Group.{with_id_fields}
 use Rattle.aggregate.specs.GroupView.{id_field_of}
 use Rattle.aggregate.proofs.grouping.with_id_fields.Given as goal
 

@@ -1,6 +1,6 @@
 use Rattle.std.proofs.Common.{ap, sym, ◌∙◌}
 use Rattle.bson.specs.View.{tree}
-use Rattle.aggregate.specs.Group.{same}
+use Rattle.aggregate_model.specs.Group.{same}
 use Rattle.aggregate.specs.declared.groups.Group.{Group}
 use Rattle.aggregate.proofs.groups.has_at.Goals as goal
 

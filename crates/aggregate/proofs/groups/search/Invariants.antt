@@ -1,6 +1,6 @@
 use Rattle.std.proofs.Common.{◌≡◌, drop, map}
 use Rattle.bson.specs.View.{tree}
-use Rattle.aggregate.specs.Group.{same}
+use Rattle.aggregate_model.specs.Group.{same}
 use Rattle.aggregate.specs.Groups.{entry_of}
 use Rattle.aggregate.specs.Table.{has}
 use Rattle.aggregate.proofs.groups.search.Given as goal

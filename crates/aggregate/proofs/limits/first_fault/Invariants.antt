@@ -1,5 +1,5 @@
 use Rattle.std.proofs.Common.{◌≡◌, drop}
-use Rattle.aggregate.specs.Limits.{first_fault}
+use Rattle.aggregate_model.specs.Limits.{first_fault}
 use Rattle.aggregate.proofs.limits.first_fault.Given as goal
 
 abbrev pub invariant-documents : goal.invariant-documents

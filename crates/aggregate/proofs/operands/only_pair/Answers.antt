@@ -1,5 +1,5 @@
 use Rattle.std.proofs.Common.{sym, ap, ◌∙◌}
-use Rattle.aggregate.specs.Operands.{only_pair}
+use Rattle.aggregate_model.specs.Operands.{only_pair}
 use Rattle.aggregate.proofs.ReadingLemmas.{not_only}
 use Rattle.aggregate.proofs.operands.only_pair.Goals as goal
 

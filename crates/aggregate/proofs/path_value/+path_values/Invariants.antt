@@ -1,7 +1,7 @@
 use Rattle.std.proofs.Common.{◌≡◌, ◌+◌, ◌*◌, drop}
 use Rattle.bson.specs.Tree.{count, count_pairs, count_items, append_items}
 use Rattle.bson.specs.View.{tree, items_of}
-use Rattle.aggregate.specs.PathValue.{path_value, each_by_field}
+use Rattle.aggregate_model.specs.PathValue.{path_value, each_by_field}
 use Rattle.aggregate.proofs.path_value.+path_values.Given as goal
 
 abbrev pub decreases-of_value : goal.decreases-of_value

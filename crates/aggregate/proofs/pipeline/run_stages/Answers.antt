@@ -1,5 +1,5 @@
 use Rattle.std.proofs.Common.{refl, map}
-use Rattle.aggregate.specs.Pipeline.{after_stage, run}
+use Rattle.aggregate_model.specs.Pipeline.{after_stage, run}
 use Rattle.aggregate.specs.View.{stage_of}
 use Rattle.aggregate.proofs.ReadingLemmas.{one_more, one_refused, refused}
 use Rattle.aggregate.proofs.pipeline.run_stages.Goals as goal

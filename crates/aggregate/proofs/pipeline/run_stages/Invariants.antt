@@ -1,5 +1,5 @@
 use Rattle.std.proofs.Common.{◌≡◌, drop, map}
-use Rattle.aggregate.specs.Pipeline.{run}
+use Rattle.aggregate_model.specs.Pipeline.{run}
 use Rattle.aggregate.specs.View.{stage_of}
 use Rattle.aggregate.proofs.pipeline.run_stages.Given as goal
 

@@ -1,6 +1,6 @@
 use Rattle.std.proofs.Common.{◌≡◌, drop}
-use Rattle.aggregate.specs.Each.{behind}
-use Rattle.aggregate.specs.Project.{all_projected}
+use Rattle.aggregate_model.specs.Each.{behind}
+use Rattle.aggregate_model.specs.Project.{all_projected}
 use Rattle.aggregate.specs.View.{projecting_of}
 use Rattle.aggregate.proofs.projecting.all_projected.Given as goal
 

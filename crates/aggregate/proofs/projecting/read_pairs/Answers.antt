@@ -1,7 +1,7 @@
 use Rattle.std.proofs.Common.{refl, sym, ap, ◌∙◌}
 use Rattle.bson.specs.View.{pairs_of, tree}
 use Rattle.bson.specs.declared.value.Pair.{Pair}
-use Rattle.aggregate.specs.Project.{read_pair, read_pairs}
+use Rattle.aggregate_model.specs.Project.{read_pair, read_pairs}
 use Rattle.aggregate.specs.View.{fields_of}
 use Rattle.aggregate.proofs.ReadingLemmas.{one_more, one_refused, refused}
 use Rattle.aggregate.proofs.projecting.read_pairs.Goals as goal

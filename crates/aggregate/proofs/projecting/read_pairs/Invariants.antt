@@ -1,6 +1,6 @@
 use Rattle.std.proofs.Common.{◌≡◌, drop}
 use Rattle.bson.specs.View.{pairs_of}
-use Rattle.aggregate.specs.Project.{no_fields, read_pairs}
+use Rattle.aggregate_model.specs.Project.{no_fields, read_pairs}
 use Rattle.aggregate.specs.View.{fields_of}
 use Rattle.aggregate.proofs.projecting.read_pairs.Given as goal
 

@@ -1,5 +1,5 @@
 use Rattle.std.proofs.Common.{◌≡◌, drop, map}
-use Rattle.aggregate.specs.Project.{with_all_computed}
+use Rattle.aggregate_model.specs.Project.{with_all_computed}
 use Rattle.aggregate.specs.View.{computed_of}
 use Rattle.aggregate.proofs.projecting.with_all_computed.Given as goal
 

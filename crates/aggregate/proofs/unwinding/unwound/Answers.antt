@@ -1,7 +1,7 @@
 use Rattle.std.proofs.Common.{List, sym, ap, ◌∙◌}
 use Rattle.bson.specs.Tree.{Pairs}
-use Rattle.aggregate.specs.Each.{behind}
-use Rattle.aggregate.specs.Unwind.{unwound_document, unwound}
+use Rattle.aggregate_model.specs.Each.{behind}
+use Rattle.aggregate_model.specs.Unwind.{unwound_document, unwound}
 use Rattle.aggregate.proofs.EachLemmas.{each_more, each_stops}
 use Rattle.aggregate.proofs.ReadingLemmas.{refused}
 use Rattle.aggregate.proofs.unwinding.unwound.Goals as goal

@@ -1,6 +1,6 @@
 use Rattle.std.proofs.Common.{◌≡◌}
-use Rattle.aggregate.specs.Each.{behind}
-use Rattle.aggregate.specs.Unwind.{unwound}
+use Rattle.aggregate_model.specs.Each.{behind}
+use Rattle.aggregate_model.specs.Unwind.{unwound}
 use Rattle.aggregate.proofs.unwinding.unwound.Given as goal
 
 abbrev pub invariant-documents : goal.invariant-documents

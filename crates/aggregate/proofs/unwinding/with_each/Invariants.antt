@@ -1,8 +1,8 @@
 use Rattle.std.proofs.Common.{◌≡◌, drop}
 use Rattle.bson.specs.View.{items_of}
 use Rattle.path.specs.Reach.{items_list}
-use Rattle.aggregate.specs.Each.{behind, each}
-use Rattle.aggregate.specs.Unwind.{with_element}
+use Rattle.aggregate_model.specs.Each.{behind, each}
+use Rattle.aggregate_model.specs.Unwind.{with_element}
 use Rattle.aggregate.proofs.unwinding.with_each.Given as goal
 
 abbrev pub invariant-elements : goal.invariant-elements

@@ -5,8 +5,8 @@ use Rattle.bson.specs.declared.value.Value.{Value}
 use Rattle.path.specs.Reach.{items_list}
 use Rattle.outcome.specs.Outcome.{Gives}
 use Rattle.path.specs.declared.refusal.Refusal.{Refusal}
-use Rattle.aggregate.specs.Stage.{Stage}
-use Rattle.aggregate.specs.Pipeline.{read_pipeline}
+use Rattle.aggregate_model.specs.Stage.{Stage}
+use Rattle.aggregate_model.specs.Pipeline.{read_pipeline}
 use Rattle.aggregate.specs.View.{pipeline_of}
 use Rattle.command_model.specs.Aggregate.{stages_in}
 use Rattle.path.specs.declared.refusal.Refusal.TheVariants as refusals

@@ -1,5 +1,5 @@
 use Rattle.std.proofs.Common.{◌≤◌, length, sym, ap, subst, arith}
-use Rattle.queries.proofs.NeededLemmas.{if_ok}
+use Rattle.asked_documents.proofs.AskingLemmas.{if_ok}
 use Rattle.replies.specs.View.{IsSendable}
 use Rattle.replies.proofs.SpelledSizes.{explain-sendable}
 use Rattle.engine.proofs.explaining.plan_reply.Goals as goal

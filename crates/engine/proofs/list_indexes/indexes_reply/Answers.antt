@@ -6,9 +6,9 @@ use Rattle.database_model.specs.Cursors.{batch_of}
 use Rattle.database_model.specs.Lawful.{IsWithin}
 use Rattle.database_model.specs.ListIndexes.{described_all}
 use Rattle.database_model.specs.Refusals.{ok_reply}
-use Rattle.queries.proofs.NeededLemmas.{if_ok}
+use Rattle.asked_documents.proofs.AskingLemmas.{if_ok}
 use Rattle.engine.proofs.ListingIndexes.{all_within, reply_is}
-use Rattle.statements.proofs.ShortIndexes.{definitions_short}
+use Rattle.database_model.proofs.ShortIndexes.{definitions_short}
 use Rattle.engine.proofs.list_indexes.indexes_reply.Goals as goal
 
 pub whole_reply-requires-clause-within : goal.whole_reply-requires-clause-within

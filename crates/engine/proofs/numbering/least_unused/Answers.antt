@@ -3,7 +3,7 @@ use Rattle.std.proofs.lemmas.List.{get_or_default, length-map}
 use Rattle.collections.specs.declared.reading.Name.{Name}
 use Rattle.entries.specs.State.{empty_collection, uses}
 use Rattle.engine.specs.Numbering.{numbered}
-use Rattle.statements.proofs.Numbers.{searched_all, searched_found, searched_none, searched_one}
+use Rattle.database_model.proofs.Numbers.{searched_all, searched_found, searched_none, searched_one}
 use Rattle.engine.proofs.numbering.least_unused.Goals as goal
 
 pub numbers-preserved : goal.numbers-preserved

@@ -1,5 +1,5 @@
 use Rattle.engine.specs.Numbering.{numbered}
-use Rattle.statements.proofs.Numbers.{Searched}
+use Rattle.database_model.proofs.Numbers.{Searched}
 use Rattle.engine.proofs.numbering.least_unused.Given as goal
 
 abbrev pub invariant-numbers : goal.invariant-numbers

@@ -1,6 +1,6 @@
 use Rattle.std.proofs.Common.{◌-◌}
 use Rattle.database_model.specs.World.{documents_of}
-use Rattle.queries.specs.Batches.{walk_rest}
+use Rattle.walks.specs.Batches.{walk_rest}
 use Rattle.engine.proofs.walking.rest_from.Given as goal
 
 abbrev pub ghost-of : goal.ghost-of

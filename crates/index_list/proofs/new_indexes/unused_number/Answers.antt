@@ -4,7 +4,7 @@ use Rattle.index.specs.Definition.{Definition}
 use Rattle.entries.specs.State.{empty_collection}
 use Rattle.database_model.specs.CreateIndexes.{numbered}
 use Rattle.index_list.proofs.NewIndexLemmas.{has_number_is}
-use Rattle.statements.proofs.Numbers.{searched_all, searched_found, searched_none, searched_one}
+use Rattle.database_model.proofs.Numbers.{searched_all, searched_found, searched_none, searched_one}
 use Rattle.index_list.proofs.new_indexes.unused_number.Goals as goal
 
 pub numbers-init : goal.numbers-init

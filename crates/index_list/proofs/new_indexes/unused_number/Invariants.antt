@@ -1,5 +1,5 @@
 use Rattle.database_model.specs.CreateIndexes.{numbered}
-use Rattle.statements.proofs.Numbers.{Searched}
+use Rattle.database_model.proofs.Numbers.{Searched}
 use Rattle.index_list.proofs.new_indexes.unused_number.Given as goal
 
 abbrev pub invariant-numbers : goal.invariant-numbers

@@ -11,8 +11,8 @@ use Rattle.database_model.specs.Cursors.{is_refused}
 use Rattle.database_model.specs.Lawful.{AreLawfulCursors, IsWithin}
 use Rattle.index.specs.View.{texts_of}
 use Rattle.collections.specs.Versions.{ReadsVersion}
-use Rattle.queries.specs.Listed.{AreListedIn, IsListedBatch, given_of}
-use Rattle.queries.specs.declared.batches.BatchAsked.{BatchAsked}
+use Rattle.walks.specs.Listed.{AreListedIn, IsListedBatch, given_of}
+use Rattle.walks.specs.declared.batches.BatchAsked.{BatchAsked}
 use Rattle.replies.specs.declared.batch_spelling.BatchKind.TheVariants as batches
 use Rattle.pinned_cursors.specs.Opening.{held_walk, way_by}
 use Rattle.pinned_cursors.proofs.FirstLemmas.{behind_left, listed_batch, none_so, some_so, if_none, if_some, pinned_unread, pinned_whole}

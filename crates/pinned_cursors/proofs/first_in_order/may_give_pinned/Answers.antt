@@ -8,8 +8,8 @@ use Rattle.cursors.specs.Held.{Held, cursors_of}
 use Rattle.bson.specs.Tree.{Pairs}
 use Rattle.database_model.specs.Cursors.{is_refused}
 use Rattle.database_model.specs.Lawful.{AreLawfulCursors, IsWithin}
-use Rattle.queries.specs.declared.batches.BatchAsked.{BatchAsked}
-use Rattle.queries.specs.declared.batches.GivenBatch.{GivenBatch}
+use Rattle.walks.specs.declared.batches.BatchAsked.{BatchAsked}
+use Rattle.walks.specs.declared.batches.GivenBatch.{GivenBatch}
 use Rattle.replies.specs.declared.batch_spelling.BatchKind.TheVariants as batches
 use Rattle.pinned_cursors.specs.Opening.{held_walk, way_in_order}
 use Rattle.pinned_cursors.proofs.FirstLemmas.{behind_in_order, in_order_batch, none_so, some_so, if_none, if_some, pinned_unread}

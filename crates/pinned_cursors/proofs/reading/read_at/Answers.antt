@@ -1,7 +1,7 @@
 use Rattle.std.proofs.Common.{refl, sym, ap, ◌∙◌}
 use Rattle.cursors.specs.Held.{HeldCursor, HeldWalk, held_at, through, listed, ordered}
 use Rattle.cursors.specs.View.{list_of, order_of, walk_in, walk_of}
-use Rattle.queries.specs.declared.batches.BatchAsked.{BatchAsked}
+use Rattle.walks.specs.declared.batches.BatchAsked.{BatchAsked}
 use Rattle.replies.specs.declared.batch_spelling.BatchKind.TheVariants as batches
 use Rattle.pinned_cursors.specs.Opening.{held_walk}
 use Rattle.pinned_cursors.proofs.NextLemmas.{AsksNext, reads_listed, reads_ordered, reads_through}

@@ -7,10 +7,10 @@ use Rattle.sort.specs.Sort.{order}
 use Rattle.index.specs.Definition.{Definition}
 use Rattle.planner.specs.View.{range_of}
 use Rattle.planner.specs.declared.range.IndexRange.{IndexRange}
-use Rattle.queries.specs.Asking.{IsAsked}
-use Rattle.queries.specs.ByIndex.{IsRangeOf}
-use Rattle.queries.proofs.ReadingLemmas.{reads_behind, reads_none, reads_refused}
-use Rattle.queries.proofs.WalkingLemmas.{asks_stopped}
+use Rattle.asked_documents.specs.Asking.{IsAsked}
+use Rattle.candidate_ids.specs.ByIndex.{IsRangeOf}
+use Rattle.asked_documents.proofs.ReadingLemmas.{reads_behind, reads_none, reads_refused}
+use Rattle.asked_documents.proofs.AskingLemmas.{asks_stopped}
 use Rattle.queries.proofs.by_order.first_by_index.Goals as goal
 
 pub returns-then-is_stopped-clause-reads : goal.returns-then-is_stopped-clause-reads

@@ -5,10 +5,10 @@ use Rattle.collections.specs.Reading.{ReadsOf}
 use Rattle.collections.specs.declared.index_texts.FirstTexts.{FirstTexts}
 use Rattle.index.specs.View.{texts_of}
 use Rattle.planner.specs.View.{range_of}
-use Rattle.queries.specs.ByIndex.{AreFirstIds}
+use Rattle.queries.specs.ByOrder.{AreFirstIds}
 use Rattle.queries.specs.declared.by_order.FirstIds.{FirstIds}
 use Rattle.queries.proofs.ByOrderLemmas.{first_in_span}
-use Rattle.queries.proofs.ReadingLemmas.{reads_made, reads_memory, reads_refused}
+use Rattle.asked_documents.proofs.ReadingLemmas.{reads_made, reads_memory, reads_refused}
 use Rattle.queries.proofs.by_order.first_ids.Goals as goal
 
 pub returns-in_err-read : goal.returns-in_err-read

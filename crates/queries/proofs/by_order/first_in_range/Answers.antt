@@ -9,12 +9,12 @@ use Rattle.index.specs.Definition.{Definition}
 use Rattle.entries.specs.State.{Collection}
 use Rattle.index.specs.View.{texts_of}
 use Rattle.planner.specs.View.{index_of, range_of}
-use Rattle.queries.specs.Asking.{IsAsked}
-use Rattle.queries.specs.ByIndex.{AreFirstIds, LeadInOrder}
+use Rattle.asked_documents.specs.Asking.{IsAsked}
+use Rattle.queries.specs.ByOrder.{AreFirstIds, LeadInOrder}
 use Rattle.queries.specs.declared.by_order.FirstIds.{FirstIds}
 use Rattle.queries.proofs.ByOrderLemmas.{asked_in_order}
-use Rattle.queries.proofs.ReadingLemmas.{reads_as, reads_behind, reads_none, reads_refused}
-use Rattle.queries.proofs.WalkingLemmas.{asks_stopped}
+use Rattle.asked_documents.proofs.ReadingLemmas.{reads_as, reads_behind, reads_none, reads_refused}
+use Rattle.asked_documents.proofs.AskingLemmas.{asks_stopped}
 use Rattle.queries.proofs.by_order.first_in_range.Goals as goal
 
 pub returns-then-is_stopped-clause-reads : goal.returns-then-is_stopped-clause-reads

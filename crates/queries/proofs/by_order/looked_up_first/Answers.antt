@@ -10,11 +10,11 @@ use Rattle.filter.specs.Matches.{matches}
 use Rattle.sort.specs.Sort.{order}
 use Rattle.index.specs.View.{texts_of}
 use Rattle.planner.specs.IdLaws.{found_by, with_found}
-use Rattle.queries.specs.ByIndex.{LeadInOrder}
+use Rattle.queries.specs.ByOrder.{LeadInOrder}
 use Rattle.queries.proofs.ByOrderLemmas.{AreInFront, full_front, none_in_front, one_in_front, told_in_order, whole_front}
-use Rattle.queries.proofs.LookingUpLemmas.{answered, begins_so, ends, fails, looks_one, next_text}
-use Rattle.queries.proofs.ReadingLemmas.{reads_none}
-use Rattle.queries.proofs.WalkingLemmas.{asks_stopped}
+use Rattle.walks.proofs.LookingUpLemmas.{answered, begins_so, ends, fails, looks_one, next_text}
+use Rattle.asked_documents.proofs.ReadingLemmas.{reads_none}
+use Rattle.asked_documents.proofs.AskingLemmas.{asks_stopped}
 use Rattle.queries.proofs.by_order.looked_up_first.Goals as goal
 
 pub returns-then-is_stopped-clause-reads : goal.returns-then-is_stopped-clause-reads

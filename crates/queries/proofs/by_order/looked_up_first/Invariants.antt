@@ -2,9 +2,9 @@ use Rattle.std.specs.Prelude.{All, List, drop}
 use Rattle.database_model.specs.Lawful.{IsWithin}
 use Rattle.sort.specs.Sort.{SortField}
 use Rattle.index.specs.View.{texts_of}
-use Rattle.queries.specs.ByIndex.{LeadInOrder}
+use Rattle.queries.specs.ByOrder.{LeadInOrder}
 use Rattle.queries.proofs.ByOrderLemmas.{AreInFront, told_in_order}
-use Rattle.queries.proofs.LookingUpLemmas.{HasLookedUp}
+use Rattle.walks.proofs.LookingUpLemmas.{HasLookedUp}
 use Rattle.queries.proofs.by_order.looked_up_first.Given as goal
 
 abbrev pub invariant-ids : goal.invariant-ids

@@ -4,8 +4,8 @@ use Rattle.std.proofs.lemmas.Result.{err_from_is_err_and}
 use Rattle.database_model.specs.Find.{matching}
 use Rattle.filter.specs.Matches.{matches}
 use Rattle.index.specs.View.{texts_of}
-use Rattle.queries.specs.ById.{AreIdsOf}
-use Rattle.queries.proofs.ReadingLemmas.{reads_behind, reads_made, reads_refused}
+use Rattle.asked_documents.specs.ById.{AreIdsOf}
+use Rattle.asked_documents.proofs.ReadingLemmas.{reads_behind, reads_made, reads_refused}
 use Rattle.queries.proofs.counting.count_by_ids.Goals as goal
 
 pub returns-in_err-count : goal.returns-in_err-count

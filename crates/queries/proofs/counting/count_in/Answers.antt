@@ -4,9 +4,9 @@ use Rattle.std.proofs.lemmas.Result.{err_from_is_err_and}
 use Rattle.database_model.specs.Find.{matching}
 use Rattle.filter.specs.Matches.{matches}
 use Rattle.index.specs.View.{texts_of}
-use Rattle.queries.specs.Asking.{IsAsked}
-use Rattle.queries.specs.ById.{AreIdsOf}
-use Rattle.queries.proofs.ReadingLemmas.{reads_behind, reads_refused}
+use Rattle.asked_documents.specs.Asking.{IsAsked}
+use Rattle.asked_documents.specs.ById.{AreIdsOf}
+use Rattle.asked_documents.proofs.ReadingLemmas.{reads_behind, reads_refused}
 use Rattle.queries.proofs.counting.count_in.Goals as goal
 
 pub returns-in_err-ids : goal.returns-in_err-ids

@@ -8,8 +8,8 @@ use Rattle.filter.specs.Matches.{matches}
 use Rattle.index.specs.View.{texts_of}
 use Rattle.planner.specs.IdLaws.{with_found}
 use Rattle.queries.proofs.CountLemmas.{AreCountedOf, all_counted_of, none_counted_of, one_counted_of}
-use Rattle.queries.specs.ById.{AreIdsOf}
-use Rattle.queries.proofs.LookingUpLemmas.{HasLookedUp, begins, ends, fails, forgets, looks_one, next_text, told_by_ids}
+use Rattle.asked_documents.specs.ById.{AreIdsOf}
+use Rattle.walks.proofs.LookingUpLemmas.{HasLookedUp, begins, ends, fails, forgets, looks_one, next_text, told_by_ids}
 use Rattle.queries.proofs.counting.count_one_by_one.Goals as goal
 
 pub ids-init : goal.ids-init

@@ -2,8 +2,8 @@ use Rattle.std.specs.Prelude.{◌≤◌, drop}
 use Rattle.filter.specs.Matches.{matches}
 use Rattle.index.specs.View.{texts_of}
 use Rattle.queries.proofs.CountLemmas.{AreCountedOf}
-use Rattle.queries.specs.ById.{AreIdsOf}
-use Rattle.queries.proofs.LookingUpLemmas.{HasLookedUp, told_by_ids}
+use Rattle.asked_documents.specs.ById.{AreIdsOf}
+use Rattle.walks.proofs.LookingUpLemmas.{HasLookedUp, told_by_ids}
 use Rattle.queries.proofs.counting.count_one_by_one.Given as goal
 
 abbrev pub invariant-ids : goal.invariant-ids

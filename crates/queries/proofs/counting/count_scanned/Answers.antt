@@ -4,9 +4,9 @@ use Rattle.collections.specs.Folding.{documents_within}
 use Rattle.collections.proofs.ReadingLemmas.{asked_on, asked_refused}
 use Rattle.database_model.specs.Find.{matching}
 use Rattle.filter.specs.Matches.{matches}
-use Rattle.queries.specs.Asking.{IsAsked}
+use Rattle.asked_documents.specs.Asking.{IsAsked}
 use Rattle.queries.specs.Folding.{Counts}
-use Rattle.queries.specs.IdRange.{IsWalked}
+use Rattle.walks.specs.IdRange.{IsWalked}
 use Rattle.queries.specs.declared.counting.Counting.{Counting}
 use Rattle.queries.proofs.CountLemmas.{all_counted}
 use Rattle.queries.proofs.counting.count_scanned.Goals as goal

@@ -5,12 +5,12 @@ use Rattle.collections.specs.Folding.{documents_within}
 use Rattle.database_model.specs.Find.{matching}
 use Rattle.filter.specs.Matches.{matches}
 use Rattle.index.specs.View.{texts_of}
-use Rattle.queries.specs.ById.{AreIdsOf}
+use Rattle.asked_documents.specs.ById.{AreIdsOf}
 use Rattle.queries.specs.Folding.{Counts}
-use Rattle.queries.specs.IdRange.{IsWalked}
+use Rattle.walks.specs.IdRange.{IsWalked}
 use Rattle.queries.specs.declared.counting.Counting.{Counting}
 use Rattle.queries.proofs.CountLemmas.{all_counted}
-use Rattle.queries.proofs.ReadingLemmas.{reads_made, reads_refused}
+use Rattle.asked_documents.proofs.ReadingLemmas.{reads_made, reads_refused}
 use Rattle.queries.proofs.counting.count_side_by_side.Goals as goal
 
 pub fold_dense-requires : goal.fold_dense-requires

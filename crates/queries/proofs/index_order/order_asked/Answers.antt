@@ -2,7 +2,7 @@ use Rattle.std.proofs.Common.{Option, ap, subst}
 use Rattle.std.specs.Prelude.{IfSome}
 use Rattle.planner.specs.View.{index_of, range_of}
 use Rattle.planner.specs.declared.range.IndexRange.{IndexRange}
-use Rattle.queries.specs.ByIndex.{IsRangeOf}
+use Rattle.candidate_ids.specs.ByIndex.{IsRangeOf}
 use Rattle.queries.proofs.ByOrderLemmas.{order_chosen}
 use Rattle.queries.proofs.index_order.order_asked.Goals as goal
 

@@ -5,13 +5,14 @@ use Rattle.std.proofs.lemmas.Result.{err_from_is_err_and}
 use Rattle.bson.specs.Tree.{Pairs}
 use Rattle.filter.specs.Matches.{matches}
 use Rattle.index.specs.View.{texts_of}
-use Rattle.queries.specs.ById.{AreIdsOf}
-use Rattle.queries.specs.LookedUp.{AreIdsOfAsked, IsLookedUp, IsWholeBatch}
-use Rattle.queries.specs.declared.batches.GivenBatch.{GivenBatch}
+use Rattle.asked_documents.specs.ById.{AreIdsOf, AreIdsOfAsked}
+use Rattle.queries.specs.LookedUp.{IsLookedUp}
+use Rattle.walks.specs.Batches.{IsWholeBatch}
+use Rattle.walks.specs.declared.batches.GivenBatch.{GivenBatch}
 use Rattle.queries.specs.declared.looked_up.LookedUp.{LookedUp}
 use Rattle.queries.specs.declared.looked_up.LookedUp.TheVariants as ways
 use Rattle.queries.proofs.LookedUpLemmas.{found_asked}
-use Rattle.queries.proofs.ReadingLemmas.{reads_behind, reads_made, reads_refused}
+use Rattle.asked_documents.proofs.ReadingLemmas.{reads_behind, reads_made, reads_refused}
 use Rattle.queries.proofs.looked_up.looked_up_by_ids.Goals as goal
 
 abbrev Found : List Pairs → (Pairs → Bool) → ℕ → Vec Pairs Global → Type 0

@@ -3,11 +3,11 @@ use Rattle.std.specs.Prelude.{IfSome}
 use Rattle.std.proofs.lemmas.Result.{err_from_is_err_and}
 use Rattle.filter.specs.Matches.{matches}
 use Rattle.index.specs.View.{texts_of}
-use Rattle.queries.specs.Asking.{IsAsked}
-use Rattle.queries.specs.ById.{AreIdsOf}
-use Rattle.queries.specs.LookedUp.{AreIdsOfAsked, IsLookedUp}
+use Rattle.asked_documents.specs.Asking.{IsAsked}
+use Rattle.asked_documents.specs.ById.{AreIdsOf, AreIdsOfAsked}
+use Rattle.queries.specs.LookedUp.{IsLookedUp}
 use Rattle.queries.specs.declared.looked_up.LookedUp.{LookedUp}
-use Rattle.queries.proofs.ReadingLemmas.{reads_behind, reads_made, reads_refused}
+use Rattle.asked_documents.proofs.ReadingLemmas.{reads_behind, reads_made, reads_refused}
 use Rattle.queries.proofs.looked_up.looked_up_first.Goals as goal
 
 pub returns-in_err-ids-clause-reads : goal.returns-in_err-ids-clause-reads

@@ -6,12 +6,13 @@ use Rattle.bson.specs.Tree.{Pairs}
 use Rattle.filter.specs.Condition.{Conditions}
 use Rattle.entries.specs.State.{Collection}
 use Rattle.index.specs.View.{texts_of}
-use Rattle.queries.specs.Asking.{IsAsked}
-use Rattle.queries.specs.ById.{AreIdsOf}
+use Rattle.asked_documents.specs.Asking.{IsAsked}
+use Rattle.asked_documents.specs.ById.{AreIdsOf}
 use Rattle.queries.specs.PartlyTold.{IsToldOf}
-use Rattle.queries.proofs.PartlyToldLemmas.{all_are_told, is_beside, same_beside}
-use Rattle.queries.proofs.WalkingLemmas.{none_there}
-use Rattle.queries.proofs.ReadingLemmas.{reads_within}
+use Rattle.queries.proofs.PartlyToldLemmas.{is_beside, same_beside}
+use Rattle.candidate_ids.proofs.TellingLemmas.{all_are_told}
+use Rattle.asked_documents.proofs.AskingLemmas.{none_there}
+use Rattle.asked_documents.proofs.ReadingLemmas.{reads_within}
 use Rattle.queries.proofs.looking_up.selected_as_told.Goals as goal
 
 pub returns-then-is_empty-clause-reads : goal.returns-then-is_empty-clause-reads

@@ -4,8 +4,8 @@ use Rattle.std.specs.List.{filter}
 use Rattle.std.proofs.lemmas.Result.{err_from_is_err_and}
 use Rattle.bson.specs.Tree.{Pairs}
 use Rattle.database_model.specs.Lawful.{IsWithin}
-use Rattle.queries.specs.Asking.{IsAsked}
-use Rattle.queries.proofs.ReadingLemmas.{reads_made, reads_memory, reads_refused}
+use Rattle.asked_documents.specs.Asking.{IsAsked}
+use Rattle.asked_documents.proofs.ReadingLemmas.{reads_made, reads_memory, reads_refused}
 use Rattle.queries.proofs.looking_up.selected_in.Goals as goal
 
 pub returns-in_err-found-clause-reads : goal.returns-in_err-found-clause-reads

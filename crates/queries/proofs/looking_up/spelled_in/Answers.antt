@@ -5,11 +5,11 @@ use Rattle.std.specs.List.{filter}
 use Rattle.std.proofs.lemmas.Result.{err_from_is_err_and}
 use Rattle.bson.specs.Tree.{Pairs}
 use Rattle.filter.specs.Condition.{Conditions}
-use Rattle.queries.specs.Asking.{IsAsked}
-use Rattle.queries.specs.ById.{AreIdsOf, but_not}
+use Rattle.asked_documents.specs.Asking.{IsAsked}
+use Rattle.asked_documents.specs.ById.{AreIdsOf, but_not}
 use Rattle.queries.specs.PartlyTold.{IsToldOf}
-use Rattle.queries.specs.declared.telling.Told.{Told}
-use Rattle.queries.proofs.ReadingLemmas.{reads_behind, reads_refused}
+use Rattle.candidate_ids.specs.declared.telling.Told.{Told}
+use Rattle.asked_documents.proofs.ReadingLemmas.{reads_behind, reads_refused}
 use Rattle.queries.proofs.looking_up.spelled_in.Goals as goal
 
 pub returns-in_err-told-clause-reads : goal.returns-in_err-told-clause-reads

@@ -2,12 +2,12 @@ use Rattle.std.proofs.Common.{Option, Vec, Global, subst}
 use Rattle.std.specs.Prelude.{IfSome}
 use Rattle.std.proofs.lemmas.Result.{err_from_is_err_and}
 use Rattle.bson.specs.Tree.{Pairs}
-use Rattle.aggregate.specs.Taking.{takes}
+use Rattle.aggregate_model.specs.Taking.{takes}
 use Rattle.aggregate.specs.View.{pipeline_of}
 use Rattle.database_model.specs.Aggregate.{AreEnough}
 use Rattle.index.specs.View.{texts_of}
-use Rattle.queries.specs.ById.{AreIdsOf}
-use Rattle.queries.proofs.ReadingLemmas.{reads_behind, reads_made, reads_refused}
+use Rattle.asked_documents.specs.ById.{AreIdsOf}
+use Rattle.asked_documents.proofs.ReadingLemmas.{reads_behind, reads_made, reads_refused}
 use Rattle.queries.proofs.needed.needed_by_ids.Goals as goal
 
 pub returns-in_err-few-clause-reads : goal.returns-in_err-few-clause-reads

@@ -2,14 +2,14 @@ use Rattle.std.proofs.Common.{◌≡◌, ◌+◌, ℕ, List, [], Option, Vec, Gl
 use Rattle.std.proofs.lemmas.List.{drop_all}
 use Rattle.std.proofs.lemmas.Result.{err_from_is_err_and}
 use Rattle.bson.specs.Tree.{Pairs}
-use Rattle.aggregate.specs.Taking.{takes, SufficesTaken}
+use Rattle.aggregate_model.specs.Taking.{takes, SufficesTaken}
 use Rattle.aggregate.specs.View.{pipeline_of}
 use Rattle.collections.specs.Reading.{stored_at}
 use Rattle.database_model.specs.Aggregate.{AreEnough}
 use Rattle.index.specs.View.{texts_of}
 use Rattle.planner.specs.IdLaws.{with_found}
-use Rattle.queries.specs.ById.{AreIdsOf}
-use Rattle.queries.proofs.LookingUpLemmas.{HasLookedUp, answered, begins, ends, fails, forgets, looks_one, next_text, told_by_ids}
+use Rattle.asked_documents.specs.ById.{AreIdsOf}
+use Rattle.walks.proofs.LookingUpLemmas.{HasLookedUp, answered, begins, ends, fails, forgets, looks_one, next_text, told_by_ids}
 use Rattle.queries.proofs.NeededLemmas.{AreOfWithin, AreTakenOf, all_taken_of, are_within, batch_of_within, enough_taken_of, found_within, none_of_within}
 use Rattle.queries.proofs.NeededLemmas.{none_taken_of, one_taken_of}
 use Rattle.queries.proofs.needed.needed_one_by_one.Goals as goal

@@ -1,9 +1,9 @@
 use Rattle.std.specs.Prelude.{drop}
-use Rattle.aggregate.specs.Taking.{takes}
+use Rattle.aggregate_model.specs.Taking.{takes}
 use Rattle.aggregate.specs.View.{pipeline_of}
 use Rattle.index.specs.View.{texts_of}
-use Rattle.queries.specs.ById.{AreIdsOf}
-use Rattle.queries.proofs.LookingUpLemmas.{HasLookedUp, told_by_ids}
+use Rattle.asked_documents.specs.ById.{AreIdsOf}
+use Rattle.walks.proofs.LookingUpLemmas.{HasLookedUp, told_by_ids}
 use Rattle.queries.proofs.NeededLemmas.{AreOfWithin, AreTakenOf}
 use Rattle.queries.proofs.needed.needed_one_by_one.Given as goal
 

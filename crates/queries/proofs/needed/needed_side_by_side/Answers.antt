@@ -2,15 +2,15 @@ use Rattle.std.proofs.Common.{Option, Some, None, Ok, Err, Vec, Global, subst}
 use Rattle.std.specs.Prelude.{IfSome}
 use Rattle.std.proofs.lemmas.Result.{err_from_is_err_and}
 use Rattle.bson.specs.Tree.{Pairs}
-use Rattle.aggregate.specs.Taking.{takes}
+use Rattle.aggregate_model.specs.Taking.{takes}
 use Rattle.aggregate.specs.View.{pipeline_of}
 use Rattle.collections.specs.Folding.{HasTaken, documents_within}
 use Rattle.collections.proofs.ReadingLemmas.{asked_on, asked_refused}
 use Rattle.database_model.specs.Aggregate.{AreEnough}
 use Rattle.index.specs.View.{texts_of}
-use Rattle.queries.specs.ById.{AreIdsOf}
+use Rattle.asked_documents.specs.ById.{AreIdsOf}
 use Rattle.queries.specs.Folding.{Needs}
-use Rattle.queries.specs.IdRange.{IsWalked}
+use Rattle.walks.specs.IdRange.{IsWalked}
 use Rattle.queries.specs.declared.needed.Needing.{Needing}
 use Rattle.queries.proofs.NeededLemmas.{all_needed, are_within, enough_needed, enough_within, needed_of_within, none_needed}
 use Rattle.queries.proofs.needed.needed_side_by_side.Goals as goal

@@ -1,9 +1,9 @@
 use Rattle.std.proofs.Common.{◌≡◌, List, rules, ap, sym, subst, ◌∙◌}
 use Rattle.bson.specs.Tree.{Pairs}
 use Rattle.command_model.specs.Insert.{documents_at}
-use Rattle.aggregate.specs.Taking.{IsEnough}
+use Rattle.aggregate_model.specs.Taking.{IsEnough}
 use Rattle.aggregate.specs.View.{pipeline_of}
-use Rattle.queries.proofs.NeededLemmas.{if_ok}
+use Rattle.asked_documents.proofs.AskingLemmas.{if_ok}
 use Rattle.queries.proofs.needed.only_needed.Goals as goal
 
 pub returns : goal.returns

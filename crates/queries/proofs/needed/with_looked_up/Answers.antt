@@ -2,10 +2,11 @@ use Rattle.std.proofs.Common.{◌≡◌, ◌++◌, ◌∷◌, true, false, List,
 use Rattle.std.specs.Prelude.{IfOk}
 use Rattle.std.specs.List.{filter}
 use Rattle.bson.specs.Tree.{Pairs}
-use Rattle.aggregate.specs.Taking.{takes, IsEnough}
+use Rattle.aggregate_model.specs.Taking.{takes, IsEnough}
 use Rattle.aggregate.specs.View.{pipeline_of}
 use Rattle.planner.specs.IdLaws.{with_found}
-use Rattle.queries.proofs.NeededLemmas.{if_ok, none_found_enough, passed_enough, taken_alone}
+use Rattle.queries.proofs.NeededLemmas.{none_found_enough, passed_enough, taken_alone}
+use Rattle.asked_documents.proofs.AskingLemmas.{if_ok}
 use Rattle.queries.proofs.needed.with_looked_up.Goals as goal
 
 pub returns-in_default : goal.returns-in_default

@@ -4,10 +4,10 @@ use Rattle.std.proofs.lemmas.Result.{err_from_is_err_and}
 use Rattle.bson.specs.Tree.{Pairs}
 use Rattle.database_model.specs.Find.{matching}
 use Rattle.sort.specs.Sort.{order}
-use Rattle.queries.specs.Asking.{IsAsked}
+use Rattle.asked_documents.specs.Asking.{IsAsked}
 use Rattle.queries.proofs.IdOrderLemmas.{keeps_asked}
-use Rattle.queries.proofs.ReadingLemmas.{reads_refused, reads_told}
-use Rattle.queries.proofs.WalkingLemmas.{asks_stopped}
+use Rattle.asked_documents.proofs.ReadingLemmas.{reads_refused, reads_told}
+use Rattle.asked_documents.proofs.AskingLemmas.{asks_stopped}
 use Rattle.queries.proofs.needed_by_order.first_in_order.Goals as goal
 
 pub returns-then-is_stopped-clause-reads : goal.returns-then-is_stopped-clause-reads

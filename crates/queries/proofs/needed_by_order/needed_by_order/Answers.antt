@@ -1,15 +1,15 @@
 use Rattle.std.proofs.Common.{◌≡◌, Option, Some, None, Vec, Global, take, subst, sym, ◌∙◌}
 use Rattle.std.specs.Prelude.{IfSome}
 use Rattle.bson.specs.Tree.{Pairs}
-use Rattle.aggregate.specs.Taking.{KeepsFirst}
+use Rattle.aggregate_model.specs.Taking.{KeepsFirst}
 use Rattle.aggregate.specs.View.{pipeline_of}
 use Rattle.database_model.specs.Aggregate.{AreEnough}
 use Rattle.database_model.specs.Find.{matching}
 use Rattle.sort.specs.Sort.{order}
-use Rattle.queries.specs.Asking.{IsAsked}
+use Rattle.asked_documents.specs.Asking.{IsAsked}
 use Rattle.queries.proofs.NeededByOrderLemmas.{first_needed}
-use Rattle.queries.proofs.ReadingLemmas.{reads_made, reads_none}
-use Rattle.queries.proofs.WalkingLemmas.{asks_stopped}
+use Rattle.asked_documents.proofs.ReadingLemmas.{reads_made, reads_none}
+use Rattle.asked_documents.proofs.AskingLemmas.{asks_stopped}
 use Rattle.queries.proofs.needed_by_order.needed_by_order.Goals as goal
 
 pub returns-then-is_stopped-clause-reads : goal.returns-then-is_stopped-clause-reads

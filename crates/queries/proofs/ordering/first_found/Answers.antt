@@ -3,7 +3,7 @@ use Rattle.std.specs.Prelude.{All}
 use Rattle.bson.specs.Tree.{Pairs}
 use Rattle.database_model.specs.Lawful.{IsWithin}
 use Rattle.sort.specs.Sort.{order}
-use Rattle.queries.proofs.NeededLemmas.{if_ok}
+use Rattle.asked_documents.proofs.AskingLemmas.{if_ok}
 use Rattle.queries.proofs.ordering.first_found.Goals as goal
 
 pub first_spelled-requires : goal.first_spelled-requires

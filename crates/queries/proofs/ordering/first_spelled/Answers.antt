@@ -1,7 +1,7 @@
 use Rattle.std.proofs.Common.{sym, subst, ◌∙◌}
 use Rattle.std.specs.Prelude.{All}
 use Rattle.database_model.specs.Lawful.{IsWithin}
-use Rattle.queries.proofs.NeededLemmas.{if_ok}
+use Rattle.asked_documents.proofs.AskingLemmas.{if_ok}
 use Rattle.queries.proofs.ordering.first_spelled.Goals as goal
 
 pub spelled_all-requires : goal.spelled_all-requires

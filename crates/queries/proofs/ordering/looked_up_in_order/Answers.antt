@@ -5,9 +5,9 @@ use Rattle.database_model.specs.Find.{matching}
 use Rattle.filter.specs.Matches.{matches}
 use Rattle.sort.specs.Sort.{order}
 use Rattle.index.specs.View.{texts_of}
-use Rattle.queries.specs.ById.{AreIdsOf}
+use Rattle.asked_documents.specs.ById.{AreIdsOf}
 use Rattle.queries.proofs.OrderingLemmas.{take_whole}
-use Rattle.queries.proofs.ReadingLemmas.{reads_made, reads_memory, reads_refused}
+use Rattle.asked_documents.proofs.ReadingLemmas.{reads_made, reads_memory, reads_refused}
 use Rattle.queries.proofs.ordering.looked_up_in_order.Goals as goal
 
 pub returns-in_err-found-clause-reads : goal.returns-in_err-found-clause-reads

@@ -6,9 +6,9 @@ use Rattle.entries.specs.State.{Collection}
 use Rattle.collections.specs.Reading.{ReadsOf}
 use Rattle.database_model.specs.Find.{matching}
 use Rattle.sort.specs.Sort.{order}
-use Rattle.queries.specs.Asking.{IsAsked}
+use Rattle.asked_documents.specs.Asking.{IsAsked}
 use Rattle.queries.proofs.OrderingLemmas.{no_sort}
-use Rattle.queries.proofs.ReadingLemmas.{reads_behind, reads_made, reads_refused}
+use Rattle.asked_documents.proofs.ReadingLemmas.{reads_behind, reads_made, reads_refused}
 use Rattle.queries.proofs.ordering.ordered_in.Goals as goal
 
 pub returns-then-is_empty-clause-reads : goal.returns-then-is_empty-clause-reads

@@ -9,9 +9,9 @@ use Rattle.database_model.specs.Find.{matching}
 use Rattle.database_model.specs.Lawful.{IsWithin}
 use Rattle.filter.specs.Matches.{matches}
 use Rattle.sort.specs.Sort.{order}
-use Rattle.queries.specs.Asking.{IsAsked}
+use Rattle.asked_documents.specs.Asking.{IsAsked}
 use Rattle.queries.specs.Folding.{Sorts}
-use Rattle.queries.specs.IdRange.{IsWalked}
+use Rattle.walks.specs.IdRange.{IsWalked}
 use Rattle.queries.specs.declared.ordering.Sorting.{Sorting}
 use Rattle.queries.proofs.OrderingLemmas.{all_sorted, none_sorted}
 use Rattle.queries.proofs.ordering.scanned_in_order.Goals as goal

@@ -6,9 +6,9 @@ use Rattle.database_model.specs.Find.{matching}
 use Rattle.filter.specs.Matches.{matches}
 use Rattle.sort.specs.Sort.{order}
 use Rattle.index.specs.View.{texts_of}
-use Rattle.queries.specs.Asking.{IsAsked}
-use Rattle.queries.specs.ById.{AreIdsOf}
-use Rattle.queries.proofs.ReadingLemmas.{reads_behind, reads_refused}
+use Rattle.asked_documents.specs.Asking.{IsAsked}
+use Rattle.asked_documents.specs.ById.{AreIdsOf}
+use Rattle.asked_documents.proofs.ReadingLemmas.{reads_behind, reads_refused}
 use Rattle.queries.proofs.ordering.sorted_in.Goals as goal
 
 pub returns-in_err-ids-clause-reads : goal.returns-in_err-ids-clause-reads

@@ -1,5 +1,5 @@
 use Rattle.std.proofs.Common.{◌≡◌, drop, map}
-use Rattle.queries.specs.ById.{one_matches}
+use Rattle.asked_documents.specs.ById.{one_matches}
 use Rattle.queries.proofs.partly_told.one_matches.Given as goal
 
 abbrev pub invariant-filters : goal.invariant-filters

@@ -2,14 +2,14 @@ use Rattle.std.proofs.Common.{List, ℕ, Option, Result, Vec, Global, subst, sym
 use Rattle.std.specs.Prelude.{IfSome}
 use Rattle.std.proofs.lemmas.Result.{err_from_is_err_and}
 use Rattle.bson.specs.Tree.{Pairs}
-use Rattle.aggregate.specs.Taking.{takes}
+use Rattle.aggregate_model.specs.Taking.{takes}
 use Rattle.aggregate.specs.View.{pipeline_of}
 use Rattle.index.specs.View.{texts_of}
 use Rattle.path.specs.declared.refusal.Refusal.{Refusal}
-use Rattle.queries.specs.Asking.{IsAsked}
-use Rattle.queries.specs.ById.{AreIdsOf}
+use Rattle.asked_documents.specs.Asking.{IsAsked}
+use Rattle.asked_documents.specs.ById.{AreIdsOf}
 use Rattle.queries.specs.Piping.{Pipes}
-use Rattle.queries.proofs.ReadingLemmas.{reads_behind, reads_refused}
+use Rattle.asked_documents.proofs.ReadingLemmas.{reads_behind, reads_refused}
 use Rattle.queries.proofs.piping.grouped_in.Goals as goal
 
 pub returns-in_err-ids-clause-reads : goal.returns-in_err-ids-clause-reads

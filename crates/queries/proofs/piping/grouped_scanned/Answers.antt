@@ -3,14 +3,14 @@ use Rattle.std.proofs.lemmas.List.{append-nil}
 use Rattle.std.proofs.lemmas.Result.{err_from_is_err_and}
 use Rattle.bson.specs.Tree.{Pairs}
 use Rattle.aggregate.specs.Gathering.{HasGathered}
-use Rattle.aggregate.specs.Taking.{takes}
+use Rattle.aggregate_model.specs.Taking.{takes}
 use Rattle.aggregate.specs.View.{pipeline_of}
 use Rattle.collections.specs.Folding.{documents_within}
 use Rattle.collections.proofs.ReadingLemmas.{asked_on, asked_refused}
 use Rattle.path.specs.declared.refusal.Refusal.{Refusal}
-use Rattle.queries.specs.Asking.{IsAsked}
+use Rattle.asked_documents.specs.Asking.{IsAsked}
 use Rattle.queries.specs.Folding.{Gathers}
-use Rattle.queries.specs.IdRange.{IsWalked}
+use Rattle.walks.specs.IdRange.{IsWalked}
 use Rattle.queries.specs.Piping.{Pipes}
 use Rattle.queries.specs.declared.piping.Grouping.{Grouping}
 use Rattle.queries.proofs.PipingLemmas.{given_within, pipes_within}

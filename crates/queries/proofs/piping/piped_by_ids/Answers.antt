@@ -1,15 +1,15 @@
 use Rattle.std.proofs.Common.{Result, Vec, Global}
 use Rattle.std.proofs.lemmas.Result.{err_from_is_err_and}
 use Rattle.bson.specs.Tree.{Pairs}
-use Rattle.aggregate.specs.Taking.{takes}
+use Rattle.aggregate_model.specs.Taking.{takes}
 use Rattle.aggregate.specs.View.{pipeline_of}
 use Rattle.database_model.specs.Aggregate.{AreEnough}
 use Rattle.index.specs.View.{texts_of}
 use Rattle.path.specs.declared.refusal.Refusal.{Refusal}
-use Rattle.queries.specs.ById.{AreIdsOf}
+use Rattle.asked_documents.specs.ById.{AreIdsOf}
 use Rattle.queries.specs.Piping.{Pipes}
 use Rattle.queries.proofs.PipingLemmas.{enough_pipes}
-use Rattle.queries.proofs.ReadingLemmas.{reads_made, reads_refused}
+use Rattle.asked_documents.proofs.ReadingLemmas.{reads_made, reads_refused}
 use Rattle.queries.proofs.piping.piped_by_ids.Goals as goal
 
 pub returns-in_err-few-clause-reads : goal.returns-in_err-few-clause-reads

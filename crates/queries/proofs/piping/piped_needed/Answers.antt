@@ -4,10 +4,10 @@ use Rattle.bson.specs.Tree.{Pairs}
 use Rattle.aggregate.specs.View.{pipeline_of}
 use Rattle.database_model.specs.Aggregate.{AreEnough}
 use Rattle.path.specs.declared.refusal.Refusal.{Refusal}
-use Rattle.queries.specs.Asking.{IsAsked}
+use Rattle.asked_documents.specs.Asking.{IsAsked}
 use Rattle.queries.specs.Piping.{Pipes}
 use Rattle.queries.proofs.PipingLemmas.{enough_pipes}
-use Rattle.queries.proofs.ReadingLemmas.{reads_made, reads_refused}
+use Rattle.asked_documents.proofs.ReadingLemmas.{reads_made, reads_refused}
 use Rattle.queries.proofs.piping.piped_needed.Goals as goal
 
 pub returns-in_err-few-clause-reads : goal.returns-in_err-few-clause-reads

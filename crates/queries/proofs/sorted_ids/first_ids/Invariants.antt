@@ -1,6 +1,6 @@
 use Rattle.std.proofs.Common.{◌≡◌, map, take}
 use Rattle.index.specs.View.{texts_of}
-use Rattle.queries.specs.Listed.{id_text_of}
+use Rattle.walks.specs.Listed.{id_text_of}
 use Rattle.queries.proofs.sorted_ids.first_ids.Given as goal
 
 abbrev pub invariant-first : goal.invariant-first

@@ -5,9 +5,9 @@ use Rattle.bson.specs.Tree.{Pairs}
 use Rattle.database_model.specs.Find.{matching}
 use Rattle.index.specs.View.{texts_of}
 use Rattle.sort.specs.Sort.{order}
-use Rattle.queries.specs.Asking.{IsAsked}
-use Rattle.queries.specs.Listed.{id_text_of}
-use Rattle.queries.proofs.ReadingLemmas.{reads_behind, reads_made, reads_refused}
+use Rattle.asked_documents.specs.Asking.{IsAsked}
+use Rattle.walks.specs.Listed.{id_text_of}
+use Rattle.asked_documents.proofs.ReadingLemmas.{reads_behind, reads_made, reads_refused}
 use Rattle.queries.proofs.sorted_ids.ordered_ids_in.Goals as goal
 
 pub returns-in_err-found : goal.returns-in_err-found

@@ -6,9 +6,9 @@ use Rattle.database_model.specs.Find.{matching}
 use Rattle.filter.specs.Matches.{matches}
 use Rattle.index.specs.View.{texts_of}
 use Rattle.sort.specs.Sort.{order}
-use Rattle.queries.specs.Asking.{IsAsked}
-use Rattle.queries.specs.IdRange.{IsWalked}
-use Rattle.queries.specs.Listed.{id_text_of}
+use Rattle.asked_documents.specs.Asking.{IsAsked}
+use Rattle.walks.specs.IdRange.{IsWalked}
+use Rattle.walks.specs.Listed.{id_text_of}
 use Rattle.queries.specs.SortedIds.{KeepsShort}
 use Rattle.queries.specs.declared.sorted_ids.Shortening.{Shortening}
 use Rattle.queries.proofs.SortedIdLemmas.{all_shortened}

@@ -2,7 +2,7 @@ use Rattle.std.proofs.Common.{◌≡◌, [], ◌∷◌, ◌++◌, set, false, So
 use Rattle.std.specs.Prelude.{IfSome, IfNone}
 use Rattle.std.proofs.lemmas.List.{get_or_default}
 use Rattle.bson.specs.Tree.{Pairs, no_pairs}
-use Rattle.update.specs.Applying.{apply}
+use Rattle.update_model.specs.Applying.{apply}
 use Rattle.update.specs.View.{update_of}
 use Rattle.outcome.specs.Outcome.{Fails}
 use Rattle.path.specs.declared.refusal.Refusal.TheVariants as refusals

@@ -6,7 +6,7 @@ use Rattle.outcome.specs.Outcome.{or_refused}
 use Rattle.database_model.specs.Documents.{key_of, place}
 use Rattle.database_model.specs.Lawful.{IsWithin}
 use Rattle.statements.specs.Updating.{IsPlaceOf, write_of_new}
-use Rattle.statements.proofs.Ordered.{All-inserted}
+use Rattle.database_model.proofs.Ordered.{All-inserted}
 use Rattle.statements.proofs.statements.insert.Goals as goal
 
 pub insert-requires : goal.insert-requires

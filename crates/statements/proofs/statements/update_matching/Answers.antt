@@ -6,7 +6,7 @@ use Rattle.filter.specs.Matches.{matches}
 use Rattle.command_model.specs.Update.{UpdateStatement, IsRead}
 use Rattle.outcome.specs.Outcome.{Fails}
 use Rattle.path.specs.declared.refusal.Refusal.TheVariants as refusals
-use Rattle.update.specs.Applying.{apply}
+use Rattle.update_model.specs.Applying.{apply}
 use Rattle.statements.specs.Updating.{document_at, ChangesAt}
 use Rattle.statements.proofs.UpdatingLoop.{begins, goes_by, refused_one, goes_on, only_first, looked_at_all}
 use Rattle.statements.proofs.statements.update_matching.Goals as goal

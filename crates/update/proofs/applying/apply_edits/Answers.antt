@@ -1,7 +1,7 @@
 use Rattle.std.proofs.Common.{rules, ◌≡◌, ◌≤◌, false, length, map, arith}
 use Rattle.bson.specs.Tree.{document}
 use Rattle.path.specs.Place.{passes_array}
-use Rattle.update.specs.Applying.{apply_edits}
+use Rattle.update_model.specs.Applying.{apply_edits}
 use Rattle.update.specs.View.{edit_of}
 use Rattle.update.proofs.RenameInsideLemmas.{no_array_first}
 use Rattle.update.proofs.StepLemmas.{refused}

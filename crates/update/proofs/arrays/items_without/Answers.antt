@@ -6,7 +6,7 @@ use Rattle.bson.specs.Lawful.{IsArray}
 use Rattle.bson.specs.View.{tree, items_of}
 use Rattle.filter.specs.Elements.{element_matches}
 use Rattle.filter.specs.View.{condition_of}
-use Rattle.update.specs.Arrays.{items_without}
+use Rattle.update_model.specs.Arrays.{items_without}
 use Rattle.update.proofs.ArrayLemmas.{items_of-filter}
 use Rattle.update.proofs.arrays.items_without.Goals as goal
 

@@ -1,4 +1,4 @@
-use Rattle.update.specs.UpdateLaws.{gives_stored}
+use Rattle.update_model.specs.UpdateLaws.{gives_stored}
 use Rattle.update.proofs.laws.gives_stored.Goals as goal
 
 pub returns : goal.returns

@@ -1,4 +1,4 @@
-use Rattle.update.specs.UpdateLaws.{keeps_others}
+use Rattle.update_model.specs.UpdateLaws.{keeps_others}
 use Rattle.update.proofs.laws.keeps_others.Goals as goal
 
 pub returns : goal.returns

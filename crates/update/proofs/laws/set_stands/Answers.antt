@@ -1,4 +1,4 @@
-use Rattle.update.specs.UpdateLaws.{set_stands}
+use Rattle.update_model.specs.UpdateLaws.{set_stands}
 use Rattle.update.proofs.laws.set_stands.Goals as goal
 
 pub returns : goal.returns

@@ -1,7 +1,7 @@
 use Rattle.std.proofs.Common.{map, subst}
 use Rattle.outcome.specs.Outcome.{Gives}
 use Rattle.path.specs.declared.refusal.Refusal.TheVariants as refusals
-use Rattle.update.specs.Applying.{apply_edits}
+use Rattle.update_model.specs.Applying.{apply_edits}
 use Rattle.update.specs.Moving.{all_moved}
 use Rattle.update.specs.View.{edit_of}
 use Rattle.update.proofs.MovingLemmas.{edit_on, edit_stops, edits_done}

@@ -1,6 +1,6 @@
 use Rattle.std.proofs.Common.{◌≡◌, drop, map}
 use Rattle.path.specs.Edits.{if_ok}
-use Rattle.update.specs.Applying.{apply_edits}
+use Rattle.update_model.specs.Applying.{apply_edits}
 use Rattle.update.specs.Moving.{all_moved}
 use Rattle.update.specs.View.{edit_of}
 use Rattle.update.proofs.moving.move_all.Given as goal

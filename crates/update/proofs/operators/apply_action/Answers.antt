@@ -2,8 +2,8 @@ use Rattle.std.proofs.Common.{sym, ap, subst, ◌∙◌}
 use Rattle.bson.specs.View.{items_of}
 use Rattle.path.specs.Edits.{write_at}
 use Rattle.outcome.specs.Outcome.{Gives}
-use Rattle.update.specs.Arrays.{pushed}
-use Rattle.update.specs.Operators.{apply_action}
+use Rattle.update_model.specs.Arrays.{pushed}
+use Rattle.update_model.specs.Operators.{apply_action}
 use Rattle.update.specs.View.{action_of}
 use Rattle.path.specs.declared.refusal.Refusal.TheVariants as refusals
 use Rattle.update.proofs.operators.apply_action.Goals as goal

@@ -1,6 +1,6 @@
 use Rattle.std.proofs.Common.{◌≡◌, drop}
 use Rattle.bson.specs.View.{pairs_of}
-use Rattle.update.specs.Reading.{read_edits}
+use Rattle.update_model.specs.Reading.{read_edits}
 use Rattle.update.proofs.reading.read_edits.Given as goal
 
 abbrev pub invariant-pairs : goal.invariant-pairs

@@ -4,8 +4,9 @@ use Rattle.std.specs.Str.{bytes_eq}
 use Rattle.bson.specs.Lawful.{IsDocument}
 use Rattle.bson.specs.View.{tree}
 use Rattle.bson.specs.declared.value.Pair.{Pair}
-use Rattle.update.specs.Stored.{id_name, first_pair, without}
-use Rattle.update.proofs.IdLemmas.{IsDocument-first_pair, tested, passed_over, copied, all_copied}
+use Rattle.update_model.specs.Stored.{id_name, first_pair, without}
+use Rattle.update_model.proofs.IdLemmas.{IsDocument-first_pair}
+use Rattle.update.proofs.CopyingLemmas.{tested, passed_over, copied, all_copied}
 use Rattle.update.proofs.replacements.copy_with_id.Goals as goal
 use Rattle.update.proofs.replacements.copy_with_id.Goals.{then-ne+in_ok-name-2+in_ok-value-2+in_ok-push-2, else-ne}
 

@@ -2,7 +2,7 @@ use Rattle.std.proofs.Common.{◌≡◌, drop}
 use Rattle.std.specs.Prelude.{option_map}
 use Rattle.bson.specs.Tree.{append}
 use Rattle.bson.specs.View.{tree, pairs_of}
-use Rattle.update.specs.Stored.{id_name, without, first_pair}
+use Rattle.update_model.specs.Stored.{id_name, without, first_pair}
 use Rattle.update.proofs.replacements.copy_with_id.Given as goal
 
 abbrev pub invariant-pairs : goal.invariant-pairs

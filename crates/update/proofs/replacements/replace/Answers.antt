@@ -1,7 +1,7 @@
 use Rattle.std.proofs.Common.{sym, subst}
-use Rattle.update.specs.Fronts.{MayStand}
-use Rattle.update.specs.Stored.{id_name}
-use Rattle.update.proofs.IdLemmas.{may_stand}
+use Rattle.update_model.specs.Fronts.{MayStand}
+use Rattle.update_model.specs.Stored.{id_name}
+use Rattle.update_model.proofs.IdLemmas.{may_stand}
 use Rattle.update.proofs.replacements.replace.Goals as goal
 
 pub copy_with_id-requires : goal.copy_with_id-requires

@@ -1,7 +1,7 @@
 use Rattle.std.proofs.Common.{◌≡◌, ◌+◌, ◌*◌, drop}
 use Rattle.bson.specs.Tree.{count, count_pairs, count_items}
 use Rattle.bson.specs.View.{tree, pairs_of, items_of}
-use Rattle.update.specs.Stored.{pairs_fault, items_fault}
+use Rattle.update_model.specs.Stored.{pairs_fault, items_fault}
 use Rattle.update.proofs.stored.+names.Given as goal
 
 abbrev pub decreases-value_fault : goal.decreases-value_fault

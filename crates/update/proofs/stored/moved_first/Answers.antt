@@ -3,8 +3,9 @@ use Rattle.bson.specs.Edits.{pairs_len}
 use Rattle.bson.specs.EditsLaws.{pairs_len-pairs_of}
 use Rattle.bson.specs.Lawful.{IsDocument}
 use Rattle.bson.specs.View.{pairs_of}
-use Rattle.update.specs.Fronts.{to_front}
-use Rattle.update.proofs.IdLemmas.{IsDocument-to_front, moved}
+use Rattle.update_model.specs.Fronts.{to_front}
+use Rattle.update_model.proofs.IdLemmas.{IsDocument-to_front}
+use Rattle.update.proofs.CopyingLemmas.{moved}
 use Rattle.update.proofs.stored.moved_first.Goals as goal
 
 pub remove-pair-requires : goal.remove-pair-requires

@@ -1,7 +1,7 @@
 use Rattle.std.proofs.Common.{◌≡◌, sym, ◌∙◌}
 use Rattle.bson.specs.EditsLaws.{place-there}
-use Rattle.update.specs.Stored.{id_name}
-use Rattle.update.proofs.IdLemmas.{id_first-at, id_first-none, to_front-first}
+use Rattle.update_model.specs.Stored.{id_name}
+use Rattle.update_model.proofs.IdLemmas.{id_first-at, id_first-none, to_front-first}
 use Rattle.update.proofs.stored.place_to_leave.Goals as goal
 
 pub returns-in-None-clause-stays : goal.returns-in-None-clause-stays

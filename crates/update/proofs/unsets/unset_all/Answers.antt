@@ -1,7 +1,7 @@
 use Rattle.std.proofs.Common.{ap, subst, map, ◌∙◌}
 use Rattle.outcome.specs.Outcome.{Gives}
 use Rattle.path.specs.declared.refusal.Refusal.TheVariants as refusals
-use Rattle.update.specs.Applying.{apply_edits}
+use Rattle.update_model.specs.Applying.{apply_edits}
 use Rattle.update.specs.View.{edit_of}
 use Rattle.update.proofs.UnsetOrderLemmas.{in_any_order}
 use Rattle.update.proofs.unsets.unset_all.Goals as goal

@@ -1,6 +1,6 @@
 use Rattle.std.proofs.Common.{◌≡◌, true, map, ap, ◌∙◌}
 use Rattle.std.specs.List.{list_all}
-use Rattle.update.specs.Applying.{apply_edits}
+use Rattle.update_model.specs.Applying.{apply_edits}
 use Rattle.update.specs.Unsets.{is_unset_below}
 use Rattle.update.specs.View.{edit_of}
 use Rattle.update.proofs.InsideLemmas.{unsets_inside}

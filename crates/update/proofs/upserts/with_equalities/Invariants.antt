@@ -1,6 +1,6 @@
 use Rattle.std.proofs.Common.{◌≡◌, drop}
 use Rattle.filter.specs.View.{conditions_of}
-use Rattle.update.specs.Upserts.{with_equalities}
+use Rattle.update_model.specs.Upserts.{with_equalities}
 use Rattle.update.proofs.upserts.with_equalities.Given as goal
 
 abbrev pub invariant-conditions : goal.invariant-conditions

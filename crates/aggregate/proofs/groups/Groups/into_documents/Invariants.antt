@@ -1,5 +1,5 @@
 use Rattle.std.proofs.Common.{◌≡◌, map}
-use Rattle.aggregate.specs.Each.{behind}
+use Rattle.aggregate_model.specs.Each.{behind}
 use Rattle.aggregate.specs.GroupView.{group_field_of}
 use Rattle.aggregate.specs.Groups.{entry_of, entries_of}
 use Rattle.aggregate.specs.Table.{entry_documents}

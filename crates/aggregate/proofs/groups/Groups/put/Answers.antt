@@ -4,7 +4,7 @@ use Rattle.bson.specs.Tree.{Tree}
 use Rattle.bson.specs.View.{tree}
 use Rattle.indexmap.specs.IndexMap.{get}
 use Rattle.value_order.specs.KeyText.{tree_text}
-use Rattle.aggregate.specs.Group.{same}
+use Rattle.aggregate_model.specs.Group.{same}
 use Rattle.aggregate.specs.GroupView.{group_field_of, id_value_of}
 use Rattle.aggregate.specs.Groups.{entry_of, entries_of, same_text}
 use Rattle.aggregate.specs.Table.{Entry, has, put_document}

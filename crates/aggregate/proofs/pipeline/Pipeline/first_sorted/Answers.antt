@@ -1,6 +1,6 @@
 use Rattle.std.proofs.Common.{rules, ◌≡◌, ◌∷◌, List, map}
-use Rattle.aggregate.specs.Stage.{Stage, sort_stage}
-use Rattle.aggregate.specs.Taking.{behind_match}
+use Rattle.aggregate_model.specs.Stage.{Stage, sort_stage}
+use Rattle.aggregate_model.specs.Taking.{behind_match}
 use Rattle.aggregate.specs.View.{stage_of, pipeline_of}
 use Rattle.aggregate.proofs.TakingLemmas.{first_are_enough}
 use Rattle.aggregate.proofs.pipeline.Pipeline.first_sorted.Goals as goal

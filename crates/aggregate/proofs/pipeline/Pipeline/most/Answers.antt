@@ -1,5 +1,5 @@
 use Rattle.std.proofs.Common.{rules, ◌≡◌, map}
-use Rattle.aggregate.specs.Taking.{behind_match}
+use Rattle.aggregate_model.specs.Taking.{behind_match}
 use Rattle.aggregate.specs.View.{stage_of, pipeline_of}
 use Rattle.aggregate.proofs.TakingLemmas.{most_taken}
 use Rattle.aggregate.proofs.pipeline.Pipeline.most.Goals as goal

@@ -1,6 +1,6 @@
 use Rattle.std.proofs.Common.{◌≡◌, [], drop, map}
 use Rattle.bson.specs.View.{tree}
-use Rattle.aggregate.specs.Pipeline.{read_stages}
+use Rattle.aggregate_model.specs.Pipeline.{read_stages}
 use Rattle.aggregate.specs.View.{stage_of}
 use Rattle.aggregate.proofs.pipeline.Pipeline.read.Given as goal
 

@@ -1,7 +1,7 @@
 use Rattle.std.proofs.Common.{◌≡◌, ◌∙◌, sym, ap, List, map, take, subst}
 use Rattle.std.proofs.lemmas.List.{take-map}
 use Rattle.bson.specs.Tree.{Pairs}
-use Rattle.aggregate.specs.Taking.{IsEnough}
+use Rattle.aggregate_model.specs.Taking.{IsEnough}
 use Rattle.aggregate.specs.View.{pipeline_of}
 use Rattle.sort.specs.Sort.{order}
 use Rattle.aggregate.proofs.pipeline.Pipeline.still_needed.Goals as goal

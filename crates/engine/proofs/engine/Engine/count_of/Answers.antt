@@ -2,7 +2,7 @@ use Rattle.std.proofs.Common.{◌≡◌, ℕ, length, refl}
 use Rattle.std.proofs.lemmas.Result.{err_from_is_err_and}
 use Rattle.database_model.specs.Find.{matching}
 use Rattle.database_model.specs.World.{documents_of}
-use Rattle.queries.specs.Asking.{IsAsked}
+use Rattle.asked_documents.specs.Asking.{IsAsked}
 use Rattle.engine.proofs.CataloguedLemmas.{IsCatalogueOf}
 use Rattle.engine.proofs.LookingLemmas.{looks_refused, looks_so_of}
 use Rattle.engine.proofs.NamedLemmas.{asked_at_home, of_home, of_no_home}

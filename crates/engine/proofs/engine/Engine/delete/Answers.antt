@@ -9,7 +9,7 @@ use Rattle.replies.specs.View.{IsSendable}
 use Rattle.engine.specs.View.{world}
 use Rattle.engine.specs.Writing.{planned_or}
 use Rattle.engine.proofs.LookingLemmas.{collections_same, performs_memory, performs_refused}
-use Rattle.queries.proofs.ReadingLemmas.{word_before}
+use Rattle.asked_documents.proofs.ReadingLemmas.{word_before}
 use Rattle.engine.proofs.MakingLemmas.{makes_behind}
 use Rattle.engine.proofs.RemovingLemmas.{count_taken, delete_done, delete_refused}
 use Rattle.replies.proofs.SpelledSizes.{insert-sendable}

@@ -11,7 +11,7 @@ use Rattle.engine.specs.TakingOut.{HasHome}
 use Rattle.engine.specs.View.{world}
 use Rattle.engine.specs.Walking.{AreIdsAsked, AreOf}
 use Rattle.index.specs.View.{texts_of}
-use Rattle.queries.specs.Listed.{id_text_of}
+use Rattle.walks.specs.Listed.{id_text_of}
 use Rattle.engine.proofs.CataloguedLemmas.{IsCatalogueOf, has_home}
 use Rattle.engine.proofs.Finding.{all_suffice, given_within_limits}
 use Rattle.engine.proofs.FirstLemmas.{ids_asked}

@@ -9,7 +9,8 @@ use Rattle.database_model.specs.Lawful.{IsWithin}
 use Rattle.database_model.specs.World.{World, documents_of}
 use Rattle.entries.specs.State.{Collection}
 use Rattle.path.specs.declared.refusal.Refusal.{Refusal}
-use Rattle.queries.specs.LookedUp.{IsLookedUp, IsLookedUpWithin, IsWholeBatch}
+use Rattle.queries.specs.LookedUp.{IsLookedUp, IsLookedUpWithin}
+use Rattle.walks.specs.Batches.{IsWholeBatch}
 use Rattle.queries.specs.declared.looked_up.LookedUp.{LookedUp}
 use Rattle.engine.specs.Looking.{Looks}
 use Rattle.engine.specs.TakingOut.{HasHome}

@@ -9,7 +9,7 @@ use Rattle.cursors.specs.Held.{listed, table_of}
 use Rattle.entries.specs.State.{key_of}
 use Rattle.entries.specs.StateReads.{find_document}
 use Rattle.index.specs.View.{texts_of}
-use Rattle.queries.specs.Listed.{id_text_of}
+use Rattle.walks.specs.Listed.{id_text_of}
 use Rattle.database_model.specs.World.{World}
 use Rattle.database_model.specs.Cursors.{new_cursor}
 use Rattle.database_model.specs.Lawful.{IsWithin}

@@ -12,8 +12,8 @@ use Rattle.entries.specs.State.{Collection}
 use Rattle.path.specs.declared.refusal.Refusal.{Refusal}
 use Rattle.path.specs.declared.refusal.Refusal.TheVariants as refusals
 use Rattle.cursors.specs.Held.{Held, through}
-use Rattle.queries.specs.Batches.{IsGivenBatch, walk_rest}
-use Rattle.queries.specs.declared.batches.BatchAsked.{BatchAsked}
+use Rattle.walks.specs.Batches.{IsGivenBatch, walk_rest}
+use Rattle.walks.specs.declared.batches.BatchAsked.{BatchAsked}
 use Rattle.replies.specs.declared.batch_spelling.BatchKind.TheVariants as kinds
 use Rattle.engine.specs.TakingOut.{HasHome}
 use Rattle.engine.specs.View.{world}

@@ -9,7 +9,7 @@ use Rattle.database_model.specs.ListCollections.{listed, names_behind, names_in}
 use Rattle.engine.specs.View.{world}
 use Rattle.engine.proofs.Listing.{go_into_one, listed_same}
 use Rattle.engine.proofs.LookingLemmas.{looks_memory, reads_so}
-use Rattle.queries.proofs.WithinLemmas.{all_within, within_all}
+use Rattle.walks.proofs.WithinLemmas.{all_within, within_all}
 use Rattle.engine.proofs.engine.Engine.listed.Goals as goal
 
 pub returns-in_err-names-clause-looks : goal.returns-in_err-names-clause-looks

@@ -1,6 +1,6 @@
 use Rattle.std.proofs.Common.{Option, refl}
 use Rattle.std.specs.Prelude.{IfSome}
-use Rattle.queries.specs.Asking.{IsAsked}
+use Rattle.asked_documents.specs.Asking.{IsAsked}
 use Rattle.queries.specs.LookedUp.{IsLookedUp}
 use Rattle.queries.specs.declared.looked_up.LookedUp.{LookedUp}
 use Rattle.engine.proofs.LookingLemmas.{looks_so_of}

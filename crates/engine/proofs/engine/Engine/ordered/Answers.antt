@@ -4,7 +4,7 @@ use Rattle.collections.specs.Reading.{ReadsOf}
 use Rattle.command_model.specs.Find.{Query}
 use Rattle.database_model.specs.Find.{matching}
 use Rattle.sort.specs.Sort.{order}
-use Rattle.queries.specs.Asking.{IsAsked}
+use Rattle.asked_documents.specs.Asking.{IsAsked}
 use Rattle.engine.proofs.LookingLemmas.{looks_so_of}
 use Rattle.engine.proofs.NamedLemmas.{asked_at_home}
 use Rattle.engine.proofs.engine.Engine.ordered.Goals as goal

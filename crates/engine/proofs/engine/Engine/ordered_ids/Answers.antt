@@ -1,11 +1,11 @@
 use Rattle.std.proofs.Common.{◌≡◌, ℕ, Vec, Global, map, take, refl, subst}
 use Rattle.index.specs.View.{texts_of}
-use Rattle.queries.specs.Listed.{id_text_of}
+use Rattle.walks.specs.Listed.{id_text_of}
 use Rattle.collections.specs.Reading.{ReadsOf}
 use Rattle.command_model.specs.Find.{Query}
 use Rattle.database_model.specs.Find.{matching}
 use Rattle.sort.specs.Sort.{order}
-use Rattle.queries.specs.Asking.{IsAsked}
+use Rattle.asked_documents.specs.Asking.{IsAsked}
 use Rattle.engine.proofs.LookingLemmas.{looks_so_of}
 use Rattle.engine.proofs.NamedLemmas.{asked_at_home}
 use Rattle.engine.proofs.engine.Engine.ordered_ids.Goals as goal

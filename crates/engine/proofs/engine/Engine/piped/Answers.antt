@@ -7,7 +7,7 @@ use Rattle.aggregate.specs.View.{pipeline_of}
 use Rattle.database_model.specs.Lawful.{IsWithin}
 use Rattle.database_model.specs.World.{documents_of}
 use Rattle.path.specs.declared.refusal.Refusal.{Refusal}
-use Rattle.queries.specs.Asking.{IsAsked}
+use Rattle.asked_documents.specs.Asking.{IsAsked}
 use Rattle.queries.specs.Piping.{Pipes}
 use Rattle.queries.proofs.PipingLemmas.{outcome_within}
 use Rattle.engine.proofs.CataloguedLemmas.{IsCatalogueOf}

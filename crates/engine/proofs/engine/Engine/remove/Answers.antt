@@ -11,7 +11,7 @@ use Rattle.engine.proofs.Deleting.{deleted_lawful}
 use Rattle.engine.proofs.MakingLemmas.{lawful_now, makes_none}
 use Rattle.engine.proofs.OnlyReading.{reads_none}
 use Rattle.engine.proofs.RemovingLemmas.{remove_stopped, removes_nothing, removes_written, removal_leads, taken_indexable}
-use Rattle.queries.proofs.WalkingLemmas.{none_there, some_there}
+use Rattle.asked_documents.proofs.AskingLemmas.{none_there, some_there}
 use Rattle.engine.proofs.engine.Engine.remove.Goals as goal
 
 pub returns-then-is_stopped-clause-makes : goal.returns-then-is_stopped-clause-makes

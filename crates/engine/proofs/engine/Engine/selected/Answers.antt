@@ -1,7 +1,7 @@
 use Rattle.std.proofs.Common.{◌≡◌, Vec, Global, take, refl}
 use Rattle.std.specs.List.{filter}
 use Rattle.bson.specs.Tree.{Pairs}
-use Rattle.queries.specs.Asking.{IsAsked}
+use Rattle.asked_documents.specs.Asking.{IsAsked}
 use Rattle.engine.proofs.LookingLemmas.{looks_so_of}
 use Rattle.engine.proofs.NamedLemmas.{asked_at_home}
 use Rattle.engine.proofs.engine.Engine.selected.Goals as goal

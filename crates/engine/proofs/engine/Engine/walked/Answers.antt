@@ -1,7 +1,7 @@
 use Rattle.std.proofs.Common.{refl}
-use Rattle.queries.specs.Asking.{IsAsked}
-use Rattle.queries.specs.Batches.{IsGivenBatch}
-use Rattle.queries.specs.declared.batches.GivenBatch.{GivenBatch}
+use Rattle.asked_documents.specs.Asking.{IsAsked}
+use Rattle.walks.specs.Batches.{IsGivenBatch}
+use Rattle.walks.specs.declared.batches.GivenBatch.{GivenBatch}
 use Rattle.engine.proofs.LookingLemmas.{looks_so_of}
 use Rattle.engine.proofs.NamedLemmas.{asked_at_home}
 use Rattle.engine.proofs.engine.Engine.walked.Goals as goal

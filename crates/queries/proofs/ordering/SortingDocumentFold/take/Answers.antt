@@ -4,7 +4,7 @@ use Rattle.bson.specs.Tree.{Pairs}
 use Rattle.filter.specs.Matches.{matches}
 use Rattle.planner.specs.IdLaws.{with_found}
 use Rattle.queries.proofs.OrderingLemmas.{one_sorted}
-use Rattle.queries.proofs.SelectLemmas.{left_one, taken_one}
+use Rattle.walks.proofs.SelectLemmas.{left_one, taken_one}
 use Rattle.queries.proofs.ordering.SortingDocumentFold.take.Goals as goal
 
 pub returns-then-not-branch-clause-takes : goal.returns-then-not-branch-clause-takes

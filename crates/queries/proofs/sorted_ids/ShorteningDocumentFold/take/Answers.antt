@@ -1,6 +1,6 @@
 use Rattle.std.proofs.Common.{sym, refl, ◌∙◌}
 use Rattle.filter.specs.Matches.{matches}
-use Rattle.queries.proofs.SelectLemmas.{taken_one}
+use Rattle.walks.proofs.SelectLemmas.{taken_one}
 use Rattle.queries.proofs.SortedIdLemmas.{one_shortened}
 use Rattle.queries.proofs.sorted_ids.ShorteningDocumentFold.take.Goals as goal
 

@@ -1,6 +1,6 @@
 use Rattle.std.proofs.Common.{List, map, ap, ◌∙◌}
-use Rattle.update.specs.Reading.{conflicts}
-use Rattle.update.specs.Update.{Edit}
+use Rattle.update_model.specs.Reading.{conflicts}
+use Rattle.update_model.specs.Update.{Edit}
 use Rattle.update.specs.View.{edit_of}
 use Rattle.update.proofs.EditPathLemmas.{conflicts_so}
 use Rattle.update.proofs.edit_list.EditList.conflicts.Goals as goal

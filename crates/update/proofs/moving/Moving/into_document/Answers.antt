@@ -2,7 +2,7 @@ use Rattle.std.proofs.Common.{◌≡◌, ap, sym, subst, map, ◌∙◌}
 use Rattle.std.specs.List.{list_all}
 use Rattle.outcome.specs.Outcome.{Gives}
 use Rattle.path.specs.declared.refusal.Refusal.TheVariants as refusals
-use Rattle.update.specs.Applying.{apply_edits}
+use Rattle.update_model.specs.Applying.{apply_edits}
 use Rattle.update.specs.Moving.{move_of, put_all, all_moved}
 use Rattle.update.specs.Unsets.{is_unset, cut_all}
 use Rattle.update.specs.View.{edit_of}

@@ -1,8 +1,0 @@
-use Rattle.std.specs.Prelude.{Ok}
-use Rattle.collections.specs.Reading.{ReadsOf}
-use Rattle.queries.specs.Asking.{IsAsked}
-use Rattle.queries.proofs.alternatives.ids_by_alternatives.Given as goal
-
--- the file was only read
-abbrev pub invariant-conditions : goal.invariant-conditions
-invariant-conditions g l = ReadsOf g.D.Disk.history (IsAsked l.home) (λ now c (_ : Unit {0}). Unit {0}) (Ok tt) l.fn.file l.file

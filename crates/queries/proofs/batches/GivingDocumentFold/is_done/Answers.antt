@@ -1,6 +1,0 @@
-use Rattle.std.proofs.Common.{sym, ◌∙◌}
-use Rattle.queries.proofs.BatchesLemmas.{over_gives}
-use Rattle.queries.proofs.batches.GivingDocumentFold.is_done.Goals as goal
-
-pub returns : goal.returns
-returns c = λ done start all more h. over_gives start c.args.self.now all more h (sym c.is_over.ensures ∙ done)

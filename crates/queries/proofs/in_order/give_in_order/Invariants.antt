@@ -1,5 +1,0 @@
-use Rattle.queries.proofs.InOrderReadLemmas.{HasCome}
-use Rattle.queries.proofs.in_order.give_in_order.Given as goal
-
-abbrev pub invariant-loop : goal.invariant-loop
-invariant-loop g l = HasCome g.D.Disk.history l.version l.number l.walk l.fn.giving l.fn.file l.file l.from.items l.giving

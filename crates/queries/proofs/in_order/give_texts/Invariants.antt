@@ -1,7 +1,0 @@
-use Rattle.index.specs.View.{texts_of}
-use Rattle.queries.proofs.InOrderLendLemmas.{HasLent}
-use Rattle.queries.proofs.in_order.give_texts.Given as goal
-
-abbrev pub invariant-texts : goal.invariant-texts
-invariant-texts g l =
-    HasLent g.D.Disk.history l.version l.number l.index (texts_of l.texts) l.fn.giving l.fn.file l.file l.text-index l.giving

@@ -1,6 +1,0 @@
-use Rattle.bson.specs.View.{tree}
-use Rattle.queries.proofs.MembersLemmas.{beginning_is_range}
-use Rattle.queries.proofs.members.beginning_with.Goals as goal
-
-pub returns : goal.returns
-returns c = λ path begins plain. beginning_is_range path (tree c.args.value.now) plain c.args.index.now begins

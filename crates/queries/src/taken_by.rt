@@ -1,0 +1,43 @@
+//! The documents that a pipeline takes, as those that are looked for.
+
+ghost use Rattle.std.specs.Prelude.{option_to_list};
+ghost use Rattle.aggregate_model.specs.Taking.{leading_match, takes};
+ghost use Rattle.aggregate.specs.View.{pipeline_of};
+
+use aggregate::Pipeline;
+use asked_documents::Selects;
+use bson::{NoMemory, RawDoc};
+use filter::Filter;
+use std::alloc::Global;
+
+/// Those that the pipeline takes.
+#[derive(Clone, Copy)]
+pub(crate) struct TakenBy<'a> {
+    pub(crate) pipeline: &'a Pipeline,
+}
+
+impl Selects for TakenBy<'_> {
+    ghost selects = { λ a. takes (pipeline_of a.pipeline.now) };
+
+    ghost filters = { λ a. option_to_list (leading_match (pipeline_of a.pipeline.now)) };
+
+    fn selects_raw(&self, alloc: Global, document: &RawDoc<'_>) -> Result<bool, NoMemory> {
+        self.pipeline.takes_raw(alloc, document)
+    }
+
+    fn filter_count(&self) -> usize {
+        usize::from(self.pipeline.leading_match().is_some())
+    }
+
+    fn filter_at(&self, _at: usize) -> Option<&Filter> {
+        self.pipeline.leading_match()
+    }
+
+    fn put_ids(&self, _alloc: Global, _ids: &mut Vec<Vec<u8>>) -> Result<bool, NoMemory> {
+        Ok(self.pipeline.leading_match().is_some())
+    }
+
+    fn asked_filter(&self) -> Option<&Filter> {
+        self.pipeline.leading_match()
+    }
+}

@@ -1,0 +1,7 @@
+pub mod Batches
+pub mod Dense
+pub mod IdRange
+pub mod InOrder
+pub mod Listed
+pub mod Scanning
+pub mod Within
