@@ -99,20 +99,32 @@ impl Session {
         }
     }
 
-    /// A turn.
-    pub fn turn(&mut self) -> Result<TurnOut, Fault> {
+    /// A turn of the server.
+    fn turn_once(&mut self) -> Result<TurnOut, Fault> {
         let mut out = self.core.turn();
         if self.is_patient && matches!(out, Err(TurnFault::Memory)) {
             out = self.core.turn();
-        }
-        if let (Some(run), Ok(out)) = (self.run.as_mut(), &out) {
-            run.push_turn(out)?;
         }
         match out {
             Ok(out) => Ok(out),
             Err(TurnFault::Stopped) => Err(Fault::Stopped),
             Err(TurnFault::Memory) => Err(Fault::Memory),
         }
+    }
+
+    /// Records what a turn hands out, where that is recorded.
+    fn record_turn(&mut self, out: &TurnOut) -> Result<(), Fault> {
+        match self.run.as_mut() {
+            Some(run) => run.push_turn(out),
+            None => Ok(()),
+        }
+    }
+
+    /// A turn.
+    pub fn turn(&mut self) -> Result<TurnOut, Fault> {
+        let out = self.turn_once()?;
+        self.record_turn(&out)?;
+        Ok(out)
     }
 
     /// What its file holds.
