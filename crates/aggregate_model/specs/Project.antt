@@ -11,7 +11,7 @@ use Rattle.path.specs.declared.refusal.Refusal.TheVariants as refusals
 use Rattle.projection.specs.Projection.{Projection, project}
 use Rattle.projection.specs.ProjectionReading.{Seen, nothing_seen, read_field, with_computed}
 use Rattle.projection.specs.ProjectionReading.{projection_seen}
-use Rattle.filter.specs.Reading.{path_in}
+use Rattle.filter.specs.Parsing.{path_in}
 use Rattle.aggregate_model.specs.Each.{just, each}
 use Rattle.aggregate_model.specs.Operands.{dollar_path, source_path}
 use Rattle.aggregate_model.specs.PathValue.{path_value}

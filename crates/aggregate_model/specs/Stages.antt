@@ -5,7 +5,7 @@ use Rattle.std.specs.Str.{bytes_eq}
 use Rattle.bson.specs.Tree.{Tree, Pairs}
 use Rattle.outcome.specs.Outcome.{◌>>=◌}
 use Rattle.path.specs.declared.refusal.Refusal.{Refusal}
-use Rattle.filter.specs.Reading.{read_filter}
+use Rattle.filter.specs.Parsing.{read_filter}
 use Rattle.sort.specs.Sort.{order}
 use Rattle.sort.specs.SortReading.{read_sort}
 use Rattle.aggregate_model.specs.Operands.{document_in, text_in, number_in, dollar_path_in}

@@ -12,7 +12,7 @@ use Rattle.bson.specs.Lawful.{IsBytes, Lacks}
 use Rattle.bson.specs.EditPlaces.{IsPairs-append, pairs_levels-append}
 use Rattle.bson.specs.Spelling.{element, type_byte, tree_bytes, pairs_bytes}
 use Rattle.bson.specs.SizingLaws.{pairs_bytes-none, pairs_bytes-one, pairs_bytes-append}
-use Rattle.bson.specs.Reading.{Read, stands_in, element_by, item_by, content_at, pairs_in, items_in, value_at}
+use Rattle.bson.specs.Decoding.{Read, stands_in, element_by, item_by, content_at, pairs_in, items_in, value_at}
 use Rattle.bson.specs.Raw.{tree_names, pairs_spelled, Elements, name_and_rest, rest_of, outcome_of}
 use Rattle.outcome.specs.Outcome.{◌>>=◌}
 use Rattle.bson.specs.Checked.{PairsSoFar, CheckedPairs, CountedPairs}

@@ -11,7 +11,7 @@ use Rattle.std.specs.BTreeMap.Comparable.{le_lt_trans}
 use Rattle.std.proofs.lemmas.Cmp.{nat_list_cmp_total}
 use Rattle.std.proofs.lemmas.Bool.{cases_lt}
 use Rattle.std.proofs.lemmas.List.{append-nil, length-append, length-drop, take_at, drop_at, nil_from_length}
-use Rattle.bson.specs.Reading.{zero_at, name_at, kind_of, stands_in}
+use Rattle.bson.specs.Decoding.{zero_at, name_at, kind_of, stands_in}
 use Rattle.outcome.specs.Outcome.{unless}
 use Rattle.bson.specs.Raw.{tree_names, len_at}
 use Rattle.bson.specs.RawNames.{name_of, next_name, name_and, names_by, names_in, AreNew}

@@ -14,8 +14,8 @@ use Rattle.bson.specs.Spelling.{element, type_byte, tree_bytes, pairs_bytes, ite
 use Rattle.bson.specs.Edits.{items_len}
 use Rattle.bson.specs.EditPlaces.{IsPairs-append, IsItems-append, pairs_levels-append, items_levels-append, items_len-append}
 use Rattle.bson.specs.SizingLaws.{pairs_bytes-append, pairs_bytes-one, items_bytes-append}
-use Rattle.bson.specs.Reading.{Read, zero_at, name_at, kind_of, element_by, item_by}
-use Rattle.bson.specs.Reading.{pairs_by, items_by, stands_in, is_no_index}
+use Rattle.bson.specs.Decoding.{Read, zero_at, name_at, kind_of, element_by, item_by}
+use Rattle.bson.specs.Decoding.{pairs_by, items_by, stands_in, is_no_index}
 use Rattle.bson.specs.Raw.{tree_names}
 use Rattle.bson.specs.FirstFault.{Behind, WrongElement, wrong_type, wrong_name, wrong_here, wrong_value, WrongPair, WrongItem}
 use Rattle.bson.proofs.FrameLaws.{done, Takes, name_takes}

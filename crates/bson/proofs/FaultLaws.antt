@@ -6,9 +6,9 @@ use Rattle.bson.specs.declared.kind.Kind.{Kind}
 use Rattle.bson.specs.declared.kind.Kind.TheVariants as kinds
 use Rattle.bson.specs.Tree.{Tree}
 use Rattle.outcome.specs.Outcome.{◌>>=◌, unless}
-use Rattle.bson.specs.Reading.{Read, fixed_at, count_at, ended_at, text_at, content_at, name_at, kind_of, string_at, binary_of, binary_at, object_id_at}
-use Rattle.bson.specs.Reading.{boolean_at, date_at, int32_at, timestamp_at, int64_at, leaf, scalar_at, element_by, item_by, stands_in, is_no_index, pairs_by}
-use Rattle.bson.specs.Reading.{items_by, pairs_in, items_in, value_at, length_at, document_at}
+use Rattle.bson.specs.Decoding.{Read, fixed_at, count_at, ended_at, text_at, content_at, name_at, kind_of, string_at, binary_of, binary_at, object_id_at}
+use Rattle.bson.specs.Decoding.{boolean_at, date_at, int32_at, timestamp_at, int64_at, leaf, scalar_at, element_by, item_by, stands_in, is_no_index, pairs_by}
+use Rattle.bson.specs.Decoding.{items_by, pairs_in, items_in, value_at, length_at, document_at}
 
 pub record IsNoMemory {Y : Type 0} (read : Result Y BsonFault) : Type 0 where
   pub never : read ≢ Err faults.Memory

@@ -14,8 +14,8 @@ use Rattle.bson.specs.Lawful.{IsBytes}
 use Rattle.outcome.specs.Outcome.{◌>>=◌, unless, Gives}
 use Rattle.bson.specs.Spelling.{HasNoDocument, frame_of}
 use Rattle.bson.specs.SizingLaws.{pairs_bytes-none, items_bytes-none}
-use Rattle.bson.specs.Reading.{Read, is_below, fixed_at, leaf, scalar_at, count_at, ended_at, content_at, element_by, item_by}
-use Rattle.bson.specs.Reading.{pairs_by, items_by, value_at, pairs_in, items_in, length_at, document_at, stands_in}
+use Rattle.bson.specs.Decoding.{Read, is_below, fixed_at, leaf, scalar_at, count_at, ended_at, content_at, element_by, item_by}
+use Rattle.bson.specs.Decoding.{pairs_by, items_by, value_at, pairs_in, items_in, length_at, document_at, stands_in}
 use Rattle.bson.specs.FirstFault.{WrongScalar, TooDeep, WrongPair, WrongItem, InFrame}
 use Rattle.bson.specs.FirstFault.{WrongFrame, wrong_count, wrong_end, wrong_in, WrongValue, WrongDocument, wrong_length, wrong_last, wrong_inside, FirstFault}
 use Rattle.bson.proofs.FrameLaws.{done, Takes, Takes-then, content_takes, ended_takes}

@@ -20,7 +20,7 @@ use Rattle.bson.specs.Kinds.{kind_byte}
 use Rattle.bson.specs.Lawful.{IsBytes, NoZero, IsName}
 use Rattle.bson.specs.Spelling.{scalar_bytes, frame_of}
 use Rattle.outcome.specs.Outcome.{◌>>=◌, unless}
-use Rattle.bson.specs.Reading.{is_below, fixed_at, count_at, ended_at, text_at, content_at, kind_of, zero_at, name_at}
+use Rattle.bson.specs.Decoding.{is_below, fixed_at, count_at, ended_at, text_at, content_at, kind_of, zero_at, name_at}
 
 pub IsBytes-drop : (n : ℕ) (bytes : List ℕ) → IsBytes bytes → IsBytes (drop n bytes)
 IsBytes-drop n bytes h i = rw get_or-drop (h (n + i))

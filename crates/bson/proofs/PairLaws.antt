@@ -16,7 +16,7 @@ use Rattle.bson.specs.Kinds.{kind_byte, kind}
 use Rattle.bson.specs.Lawful.{IsBytes, levels, pairs_levels, IsName, Lacks, IsTree, IsPairs}
 use Rattle.bson.specs.Spelling.{type_byte, element, tree_bytes, pairs_bytes}
 use Rattle.outcome.specs.Outcome.{◌>>=◌, unless}
-use Rattle.bson.specs.Reading.{Read, element_by, stands_in, kind_of, name_at, pairs_by}
+use Rattle.bson.specs.Decoding.{Read, element_by, stands_in, kind_of, name_at, pairs_by}
 use Rattle.bson.proofs.FrameLaws.{or_false, bind_ok, unless_ok, ok_is, Takes}
 use Rattle.bson.proofs.FrameLaws.{name_takes, name_again, kind_again, kind_takes}
 

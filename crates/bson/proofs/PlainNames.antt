@@ -14,7 +14,7 @@ use Rattle.std.proofs.lemmas.Str.{is_utf8-from_IsUtf8, IsUtf8-from_is_utf8, IsUt
 use Rattle.std.proofs.lemmas.Str.Ascii.{IsAscii-from_reads}
 use Rattle.outcome.specs.Outcome.{unless}
 use Rattle.bson.specs.declared.fault.BsonFault.TheVariants as faults
-use Rattle.bson.specs.Reading.{zero_at, name_at}
+use Rattle.bson.specs.Decoding.{zero_at, name_at}
 use Rattle.bson.proofs.FrameLaws.{or_false, zero_later}
 
 -- a byte before which a name of ASCII ends, or which isn't ASCII

@@ -13,7 +13,7 @@ use Rattle.bson.specs.Kinds.{kind}
 use Rattle.bson.specs.Lawful.{IsBytes, IsScalar, IsTree}
 use Rattle.bson.specs.Spelling.{Spells, scalar_bytes, frame_of, element, type_byte, tree_bytes, pairs_bytes, items_bytes}
 use Rattle.bson.specs.SizingLaws.{frame_of-length, element-length, pairs_bytes-none, pairs_bytes-pair}
-use Rattle.bson.specs.Reading.{kind_of, name_at, stands_in, value_at, document_at}
+use Rattle.bson.specs.Decoding.{kind_of, name_at, stands_in, value_at, document_at}
 use Rattle.bson.specs.Lookup.{lookup}
 use Rattle.bson.specs.Raw.{tree_names, pairs_or_none, pairs_spelled, Elements, IsFirst, number_at, len_at, value_or_null, value_spelled, SpellsValue}
 use Rattle.bson.specs.Raw.{document_or_none, document_spelled, only_length, only_document}

@@ -17,7 +17,7 @@ use Rattle.bson.specs.EditPlaces.{append-none, append-one, append_items-none, ap
 use Rattle.bson.specs.EditsLaws.{pairs_of-push, items_of-push}
 use Rattle.bson.specs.Spelling.{element, type_byte, tree_bytes}
 use Rattle.outcome.specs.Outcome.{◌>>=◌, Fails}
-use Rattle.bson.specs.Reading.{Read, element_by, item_by, stands_in, pairs_by, items_by, pairs_in, items_in, value_at, content_at}
+use Rattle.bson.specs.Decoding.{Read, element_by, item_by, stands_in, pairs_by, items_by, pairs_in, items_in, value_at, content_at}
 use Rattle.bson.specs.Checked.{PairsSoFar, with_front}
 use Rattle.bson.proofs.PairLaws.{IsBytes-rest, element_takes, pairs_take}
 use Rattle.bson.proofs.TreeLaws.{item_takes, items_take, value_reads}

@@ -12,8 +12,8 @@ use Rattle.bson.specs.Kinds.{scalar_kind}
 use Rattle.bson.specs.Lawful.{IsBytes, IsScalar}
 use Rattle.bson.specs.Spelling.{scalar_bytes}
 use Rattle.outcome.specs.Outcome.{◌>>=◌}
-use Rattle.bson.specs.Reading.{fixed_at, count_at, text_at, string_at, binary_of, binary_at, object_id_at, boolean_at, date_at, int32_at, timestamp_at}
-use Rattle.bson.specs.Reading.{int64_at, scalar_at}
+use Rattle.bson.specs.Decoding.{fixed_at, count_at, text_at, string_at, binary_of, binary_at, object_id_at, boolean_at, date_at, int32_at, timestamp_at}
+use Rattle.bson.specs.Decoding.{int64_at, scalar_at}
 use Rattle.bson.proofs.FrameLaws.{Takes, Takes-then, IsWide, wide32, wide64, bind_ok, unless_ok, done, ok_is, fixed_takes, fixed_again, number_takes}
 use Rattle.bson.proofs.FrameLaws.{count_takes, count_again, text_takes, text_again, signed_fits32, signed_fits64, unsigned_fits32, unsigned_fits64}
 

@@ -11,7 +11,7 @@ use Rattle.bson.specs.declared.kind.Kind.TheVariants as kinds
 use Rattle.outcome.specs.Outcome.{unless}
 use Rattle.bson.specs.Spelling.{pairs_bytes, items_bytes}
 use Rattle.bson.specs.Edits.{items_len}
-use Rattle.bson.specs.Reading.{Read, zero_at, name_at, stands_in, is_no_index}
+use Rattle.bson.specs.Decoding.{Read, zero_at, name_at, stands_in, is_no_index}
 use Rattle.bson.specs.Raw.{tree_names}
 use Rattle.bson.specs.FirstFault.{Behind, WrongElement, wrong_type, wrong_name, wrong_here, wrong_value, WrongPair, WrongItem, Agrees, IsStill}
 use Rattle.bson.proofs.FrameLaws.{zero_later}

@@ -11,7 +11,7 @@ use Rattle.bson.specs.declared.kind.Kind.{Kind}
 use Rattle.bson.specs.declared.kind.Kind.TheVariants as kinds
 use Rattle.outcome.specs.Outcome.{◌>>=◌, unless}
 use Rattle.bson.specs.Spelling.{frame_of}
-use Rattle.bson.specs.Reading.{Read, is_below, fixed_at, count_at, length_at}
+use Rattle.bson.specs.Decoding.{Read, is_below, fixed_at, count_at, length_at}
 use Rattle.bson.specs.FirstFault.{Behind, WrongPair, WrongItem, Agrees, IsStill, WrongScalar}
 use Rattle.bson.specs.FirstFault.{WrongCount, WrongEnd, InFrame, WrongFrame, wrong_count, wrong_end, wrong_in, WrongValue, WrongDocument, wrong_length}
 use Rattle.bson.specs.FirstFault.{wrong_last, wrong_inside}

@@ -19,7 +19,7 @@ use Rattle.std.proofs.lemmas.List.Sorted.{searchable_from_sorted, list_any-IsPer
 use Rattle.std.proofs.lemmas.Map.Keys.{Less-from_sorted, sorted_from_all_adjacent, IsDistinct-from_sorted, IsDistinct-IsPermutation, IsDistinct-head}
 use Rattle.std.proofs.lemmas.Map.Keys.{IsDistinct-tail}
 use Rattle.std.proofs.lemmas.Map.Text.{is_eq-slice_cmp}
-use Rattle.bson.specs.Reading.{stands_in}
+use Rattle.bson.specs.Decoding.{stands_in}
 use Rattle.bson.specs.RawNames.{AreNew, AreOthers, AreApart}
 
 abbrev Name : Type 0

@@ -21,8 +21,8 @@ use Rattle.bson.specs.Kinds.{scalar_kind, kind}
 use Rattle.bson.specs.Lawful.{IsBytes, levels, items_levels, NoZero, IsName, IsScalar, IsTree, IsItems}
 use Rattle.bson.specs.Spelling.{Spells, scalar_bytes, frame_of, type_byte, element, tree_bytes, pairs_bytes, items_bytes}
 use Rattle.outcome.specs.Outcome.{◌>>=◌, unless, Gives}
-use Rattle.bson.specs.Reading.{Read, element_by, item_by, is_no_index, leaf, scalar_at, content_at, items_by, pairs_in}
-use Rattle.bson.specs.Reading.{items_in, value_at, is_below, ended_at, length_at, document_at}
+use Rattle.bson.specs.Decoding.{Read, element_by, item_by, is_no_index, leaf, scalar_at, content_at, items_by, pairs_in}
+use Rattle.bson.specs.Decoding.{items_in, value_at, is_below, ended_at, length_at, document_at}
 use Rattle.bson.proofs.FrameLaws.{is_below-false, not_below, bind_ok, unless_ok, done, ok_is, Takes, Takes-then, content_takes, content_again}
 use Rattle.bson.proofs.FrameLaws.{front32, wide32, ended_takes, ended_again}
 use Rattle.bson.proofs.ScalarLaws.{scalar_takes, scalar_again}

@@ -16,8 +16,8 @@ use Rattle.bson.specs.Limits.{message_limit}
 use Rattle.outcome.specs.Outcome.{◌>>=◌}
 use Rattle.bson.specs.Spelling.{frame_of, element, type_byte, tree_bytes, pairs_bytes, items_bytes}
 use Rattle.bson.specs.Edits.{items_len}
-use Rattle.bson.specs.Reading.{Read, leaf, scalar_at, count_at, ended_at, content_at, element_by, item_by, pairs_by, items_by, value_at, pairs_in, items_in}
-use Rattle.bson.specs.Reading.{length_at, document_at, stands_in, is_no_index}
+use Rattle.bson.specs.Decoding.{Read, leaf, scalar_at, count_at, ended_at, content_at, element_by, item_by, pairs_by, items_by, value_at, pairs_in, items_in}
+use Rattle.bson.specs.Decoding.{length_at, document_at, stands_in, is_no_index}
 use Rattle.bson.specs.Raw.{tree_names}
 use Rattle.bson.specs.FirstFault.{WrongScalar, WrongElement, wrong_type, wrong_name, wrong_here, wrong_value, WrongPair, WrongItem, WrongFrame, wrong_count}
 use Rattle.bson.specs.FirstFault.{wrong_end, wrong_in, WrongValue, WrongDocument, wrong_length, wrong_last, wrong_inside}

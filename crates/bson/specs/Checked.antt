@@ -4,7 +4,7 @@ use Rattle.bson.specs.Tree.{Pairs, append}
 use Rattle.bson.specs.Lawful.{IsBytes, IsPairs, pairs_levels}
 use Rattle.bson.specs.Spelling.{pairs_bytes}
 use Rattle.outcome.specs.Outcome.{◌>>=◌}
-use Rattle.bson.specs.Reading.{pairs_by, pairs_in, value_at}
+use Rattle.bson.specs.Decoding.{pairs_by, pairs_in, value_at}
 use Rattle.bson.specs.Raw.{tree_names}
 use Rattle.bson.specs.declared.fault.BsonFault.{BsonFault}
 

@@ -11,8 +11,8 @@ use Rattle.bson.specs.Lawful.{IsName, IsPairs, IsItems, pairs_levels, items_leve
 use Rattle.bson.specs.Limits.{message_limit}
 use Rattle.bson.specs.Spelling.{frame_of, pairs_bytes, items_bytes}
 use Rattle.bson.specs.Edits.{items_len}
-use Rattle.bson.specs.Reading.{zero_at, name_at, kind_of, scalar_at, count_at, length_at}
-use Rattle.bson.specs.Reading.{document_at, stands_in, is_no_index}
+use Rattle.bson.specs.Decoding.{zero_at, name_at, kind_of, scalar_at, count_at, length_at}
+use Rattle.bson.specs.Decoding.{document_at, stands_in, is_no_index}
 use Rattle.bson.specs.Raw.{tree_names}
 use Rattle.bson.specs.declared.fault.BsonFault.{BsonFault}
 use Rattle.bson.specs.declared.fault.BsonFault.TheVariants as faults

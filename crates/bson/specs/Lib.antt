@@ -15,7 +15,7 @@ pub mod Lookup
 pub mod Marks
 pub mod Raw
 pub mod RawNames
-pub mod Reading
+pub mod Decoding
 pub mod Sizing
 pub mod SizingLaws
 pub mod Spelling

@@ -2,7 +2,7 @@
 -- known to be new without a comparison. What number it is promises nothing to a caller.
 use Rattle.std.specs.Prelude.{◌≡◌, ℕ, ◌+◌, ◌*◌, ◌^◌, ◌/◌, ◌%◌, Bool, false, List, [], ◌∷◌}
 use Rattle.std.specs.Prelude.{get_or}
-use Rattle.bson.specs.Reading.{stands_in}
+use Rattle.bson.specs.Decoding.{stands_in}
 
 -- bytes, taken into a number of 64 bits one after the other
 abbrev pub mixed : ℕ → List ℕ → ℕ

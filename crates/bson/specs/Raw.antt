@@ -6,7 +6,7 @@ use Rattle.bson.specs.Tree.{Tree, scalar, null, Pairs, no_pairs, pair}
 use Rattle.bson.specs.Kinds.{kind}
 use Rattle.bson.specs.Lawful.{IsTree, IsPairs, levels, pairs_levels}
 use Rattle.bson.specs.Spelling.{tree_bytes, pairs_bytes}
-use Rattle.bson.specs.Reading.{Read, pairs_in, value_at, document_at}
+use Rattle.bson.specs.Decoding.{Read, pairs_in, value_at, document_at}
 use Rattle.bson.specs.declared.fault.BsonFault.{BsonFault}
 use Rattle.bson.specs.declared.kind.Kind.{Kind}
 use Rattle.bson.specs.declared.kind.Kind.TheVariants as kinds

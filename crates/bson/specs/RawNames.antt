@@ -2,7 +2,7 @@
 -- looked into.
 use Rattle.std.specs.Prelude.{◌≡◌, ℕ, zero, suc, ◌+◌, ◌<◌, false, nat_lt, if◌then◌else◌, Option}
 use Rattle.std.specs.Prelude.{Some, None, List, [], ◌∷◌, ◌++◌, length, take, drop, Result, Ok, Err}
-use Rattle.bson.specs.Reading.{zero_at, kind_of, stands_in}
+use Rattle.bson.specs.Decoding.{zero_at, kind_of, stands_in}
 use Rattle.bson.specs.Raw.{len_at}
 use Rattle.bson.specs.declared.fault.BsonFault.{BsonFault}
 use Rattle.bson.specs.declared.kind.Kind.{Kind}

@@ -3,7 +3,7 @@
 
 ghost use Rattle.std.specs.Prelude.{true, false, ℕ, List, Ok, IfOk, ◌≡◌, ◌^◌, ◌<◌, ◌≤◌, length};
 ghost use Rattle.outcome.specs.Outcome.{GivesExactly};
-ghost use Rattle.bson.specs.Reading.{leaf, scalar_at, value_at, element_by, item_by, stands_in, kind_of, name_at, pairs_in, items_in, document_at};
+ghost use Rattle.bson.specs.Decoding.{leaf, scalar_at, value_at, element_by, item_by, stands_in, kind_of, name_at, pairs_in, items_in, document_at};
 ghost use Rattle.bson.specs.declared.kind.Kind.{Kind};
 ghost use Rattle.bson.specs.Raw.{tree_names, pairs_spelled, Elements, name_and_rest, rest_of, outcome_of, only_length};
 ghost use Rattle.bson.specs.Checked.{CountedPairs};
@@ -11,6 +11,7 @@ ghost use Rattle.bson.specs.Marks.{name_mark, AreMarked};
 ghost use Rattle.bson.specs.declared.fault.BsonFault.TheVariants as faults;
 
 use crate::MOST_LEVELS;
+use crate::decoding::{is_index, read_length};
 use crate::distinct::count_of_many;
 use crate::elements::{ElementNames, has_element};
 use crate::fault::BsonFault;
@@ -18,7 +19,6 @@ use crate::frames::{
     read_content, read_ended, read_fixed, read_marked_name, read_name_bytes, read_text_bytes,
 };
 use crate::kind::Kind;
-use crate::reading::{is_index, read_length};
 use crate::scalars::{read_body, read_bool, read_kind};
 
 /// How many names are told apart by their marks: of a document with more, the names are counted.
@@ -26,7 +26,7 @@ const MARKED: usize = 48;
 
 /// What is left behind a value of a kind other than documents and arrays.
 #[inline(always)]
-#[tactic(auto, unfolding(crate::specs::Reading::scalar_at, crate::specs::Reading::string_at, crate::specs::Reading::object_id_at, crate::specs::Reading::date_at, crate::specs::Reading::int32_at, crate::specs::Reading::timestamp_at, crate::specs::Reading::int64_at))]
+#[tactic(auto, unfolding(crate::specs::Decoding::scalar_at, crate::specs::Decoding::string_at, crate::specs::Decoding::object_id_at, crate::specs::Decoding::date_at, crate::specs::Decoding::int32_at, crate::specs::Decoding::timestamp_at, crate::specs::Decoding::int64_at))]
 fn check_scalar(kind: Kind, bytes: &[u8]) -> Result<&[u8], BsonFault>
     ensures { GivesExactly (λ r. r.now) result (rest_of (leaf (scalar_at kind bytes.now))) }
 {
@@ -48,7 +48,7 @@ fn check_scalar(kind: Kind, bytes: &[u8]) -> Result<&[u8], BsonFault>
 /// What is left behind a value where this many more levels are allowed.
 #[cycle(checking)]
 #[inline(always)]
-#[tactic(auto, unfolding(crate::specs::Reading::value_at))]
+#[tactic(auto, unfolding(crate::specs::Decoding::value_at))]
 fn check_value(more: u32, kind: Kind, bytes: &[u8]) -> Result<&[u8], BsonFault>
     requires { more ≤ 99 }
     ensures { GivesExactly (λ r. r.now) result (rest_of (value_at more kind bytes.now)) }
@@ -92,7 +92,7 @@ fn is_repeated(is_new: bool, earlier: &[u8], name: &[u8]) -> bool
 /// no name before it has is new. The type byte is looked at where the value is read, so once.
 #[cycle(checking)]
 #[inline(always)]
-#[tactic(auto, unfolding(crate::specs::Reading::element_by))]
+#[tactic(auto, unfolding(crate::specs::Decoding::element_by))]
 fn check_pair<'a>(
     more: u32,
     marks: &[bool; 256],
@@ -128,7 +128,7 @@ fn check_pair<'a>(
 
 /// What is left behind an element of a document, after its type byte.
 #[cycle(checking)]
-#[tactic(auto, unfolding(crate::specs::Reading::element_by))]
+#[tactic(auto, unfolding(crate::specs::Decoding::element_by))]
 fn check_later<'a>(
     more: u32,
     is_new: bool,
@@ -155,7 +155,7 @@ fn check_later<'a>(
 
 /// What is left behind an element of an array, after its type byte.
 #[cycle(checking)]
-#[tactic(auto, unfolding(crate::specs::Reading::element_by, crate::specs::Reading::item_by))]
+#[tactic(auto, unfolding(crate::specs::Decoding::element_by, crate::specs::Decoding::item_by))]
 fn check_item(more: u32, i: usize, type_byte: u8, bytes: &[u8]) -> Result<&[u8], BsonFault>
     requires { more ≤ 99 }
     ensures { GivesExactly (λ r. r.now) result
@@ -229,7 +229,7 @@ fn check_items(more: u32, content: &[u8]) -> Result<(), BsonFault>
 }
 
 /// The length of the document at the front of the input.
-#[tactic(auto, unfolding(crate::specs::Reading::document_at))]
+#[tactic(auto, unfolding(crate::specs::Decoding::document_at))]
 pub(crate) fn check_document(bytes: &[u8]) -> Result<usize, BsonFault>
     ensures { GivesExactly (λ n. n) result (only_length (document_at bytes.now)) }
 {

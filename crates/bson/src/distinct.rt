@@ -4,7 +4,7 @@ ghost use Rattle.std.specs.Prelude.{◌≡◌, ◌⊎◌, ◌+◌, ◌<◌, ◌�
 ghost use Rattle.std.specs.Ordering.{nat_cmp};
 ghost use Rattle.std.specs.Cmp.Lexicographic.{slice_cmp};
 ghost use Rattle.std.specs.List.Sorted.{IsStrictlySortedBy};
-ghost use Rattle.bson.specs.Reading.{stands_in};
+ghost use Rattle.bson.specs.Decoding.{stands_in};
 ghost use Rattle.bson.specs.RawNames.{AreNew, AreOthers, AreApart};
 
 use std::cmp::Ordering;

@@ -3,7 +3,7 @@
 ghost use Rattle.std.specs.Prelude.{◌≡◌, ◌^◌, ◌<◌, ◌≤◌, length, MatchOption, option_map};
 ghost use Rattle.bson.specs.RawNames.{next_name, names_in};
 ghost use Rattle.bson.specs.Tree.{no_pairs};
-ghost use Rattle.bson.specs.Reading.{stands_in};
+ghost use Rattle.bson.specs.Decoding.{stands_in};
 ghost use Rattle.bson.specs.Raw.{tree_names, pairs_spelled, Elements, IsFirst, number_at, len_at};
 
 use crate::distinct::NamedParts;

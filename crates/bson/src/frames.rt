@@ -5,13 +5,13 @@ ghost use Rattle.std.specs.Str.{is_utf8};
 ghost use Rattle.std.specs.Int.{w32, w64};
 ghost use Rattle.outcome.specs.Outcome.{GivesExactly};
 ghost use Rattle.bson.specs.Marks.{mixed, mark, name_mark};
-ghost use Rattle.bson.specs.Reading.{fixed_at, count_at, ended_at, text_at, content_at, name_at};
+ghost use Rattle.bson.specs.Decoding.{fixed_at, count_at, ended_at, text_at, content_at, name_at};
 
 use crate::fault::BsonFault;
 use std::simd::prelude::*;
 
 /// The first bytes, this many, and those after them.
-#[tactic(auto, unfolding(crate::specs::Reading::fixed_at))]
+#[tactic(auto, unfolding(crate::specs::Decoding::fixed_at))]
 pub(crate) fn read_fixed(len: usize, bytes: &[u8]) -> Result<(&[u8], &[u8]), BsonFault>
     ensures { GivesExactly (λ x. (x.0.now, x.1.now)) result (fixed_at len bytes.now) }
 {
@@ -22,7 +22,7 @@ pub(crate) fn read_fixed(len: usize, bytes: &[u8]) -> Result<(&[u8], &[u8]), Bso
 }
 
 /// The first four bytes as a number.
-#[tactic(auto, unfolding(crate::specs::Reading::fixed_at))]
+#[tactic(auto, unfolding(crate::specs::Decoding::fixed_at))]
 pub(crate) fn read_four(bytes: &[u8]) -> Result<([u8; 4], &[u8]), BsonFault>
     ensures { GivesExactly (λ x. (x.0, x.1.now)) result (fixed_at 4 bytes.now) }
 {
@@ -33,7 +33,7 @@ pub(crate) fn read_four(bytes: &[u8]) -> Result<([u8; 4], &[u8]), BsonFault>
 }
 
 /// The first eight bytes.
-#[tactic(auto, unfolding(crate::specs::Reading::fixed_at))]
+#[tactic(auto, unfolding(crate::specs::Decoding::fixed_at))]
 pub(crate) fn read_eight(bytes: &[u8]) -> Result<([u8; 8], &[u8]), BsonFault>
     ensures { GivesExactly (λ x. (x.0, x.1.now)) result (fixed_at 8 bytes.now) }
 {
@@ -44,7 +44,7 @@ pub(crate) fn read_eight(bytes: &[u8]) -> Result<([u8; 8], &[u8]), BsonFault>
 }
 
 /// A count, which is an int32, of at least this many.
-#[tactic(auto, unfolding(crate::specs::Reading::count_at))]
+#[tactic(auto, unfolding(crate::specs::Decoding::count_at))]
 pub(crate) fn read_count(least: u32, bytes: &[u8]) -> Result<(usize, &[u8]), BsonFault>
     ensures gives { GivesExactly (λ x. (x.0, x.1.now)) result (count_at least bytes.now) }
     ensures within { IfOk result (λ x. (least ≤ x.0) × (x.0 < 2 ^ 31)) }
@@ -58,7 +58,7 @@ pub(crate) fn read_count(least: u32, bytes: &[u8]) -> Result<(usize, &[u8]), Bso
 }
 
 /// This many bytes and the zero behind them, or the fault where no zero stands there.
-#[tactic(auto, unfolding(crate::specs::Reading::ended_at))]
+#[tactic(auto, unfolding(crate::specs::Decoding::ended_at))]
 pub(crate) fn read_ended(
     fault: BsonFault,
     len: usize,
@@ -78,7 +78,7 @@ pub(crate) fn read_ended(
 }
 
 /// A text, whose count includes the zero that ends it.
-#[tactic(auto, unfolding(crate::specs::Reading::text_at))]
+#[tactic(auto, unfolding(crate::specs::Decoding::text_at))]
 pub(crate) fn read_text(bytes: &[u8]) -> Result<(&str, &[u8]), BsonFault>
     ensures { GivesExactly (λ x. (x.0.now, x.1.now)) result (text_at bytes.now) }
 {
@@ -91,7 +91,7 @@ pub(crate) fn read_text(bytes: &[u8]) -> Result<(&str, &[u8]), BsonFault>
 }
 
 /// A text as `read_text` gives it, by its bytes. One of ASCII is quickly judged.
-#[tactic(auto, unfolding(crate::specs::Reading::text_at))]
+#[tactic(auto, unfolding(crate::specs::Decoding::text_at))]
 pub(crate) fn read_text_bytes(bytes: &[u8]) -> Result<(&[u8], &[u8]), BsonFault>
     ensures { GivesExactly (λ x. (x.0.now, x.1.now)) result (text_at bytes.now) }
 {
@@ -104,7 +104,7 @@ pub(crate) fn read_text_bytes(bytes: &[u8]) -> Result<(&[u8], &[u8]), BsonFault>
 }
 
 /// What a document or an array holds between its length and the zero that ends it.
-#[tactic(auto, unfolding(crate::specs::Reading::content_at))]
+#[tactic(auto, unfolding(crate::specs::Decoding::content_at))]
 pub(crate) fn read_content(bytes: &[u8]) -> Result<(&[u8], &[u8]), BsonFault>
     ensures short { IfOk result (λ x. length x.0.now < 2 ^ 31) }
     ensures gives { GivesExactly (λ x. (x.0.now, x.1.now)) result (content_at bytes.now) }
@@ -217,7 +217,7 @@ pub(crate) fn read_marked_name(bytes: &[u8]) -> Result<((&[u8], usize), &[u8]), 
 
 /// The same of a name with other characters.
 #[inline(never)]
-#[tactic(auto, unfolding(crate::specs::Reading::name_at))]
+#[tactic(auto, unfolding(crate::specs::Decoding::name_at))]
 fn read_wide_name(bytes: &[u8]) -> Result<((&[u8], usize), &[u8]), BsonFault>
     ensures gives { GivesExactly (λ x. (x.0.0.now, x.1.now)) result (name_at bytes.now) }
     ensures mark { IfOk result (λ x. x.0.1 ≡ name_mark x.0.0.now) }

@@ -7,7 +7,7 @@ ghost use Rattle.bson.specs.Lawful.{IsBytes, IsTree, levels};
 ghost use Rattle.bson.specs.Spelling.{Spells, IsSpellable, tree_bytes};
 ghost use Rattle.bson.specs.Raw.{document_spelled};
 ghost use Rattle.bson.specs.FirstFault.{WrongDocument, Agrees, IsStill};
-ghost use Rattle.bson.specs.Reading.{value_at, pairs_by, items_by, pairs_in, items_in, document_at};
+ghost use Rattle.bson.specs.Decoding.{value_at, pairs_by, items_by, pairs_in, items_in, document_at};
 ghost use Rattle.bson.specs.declared.fault.BsonFault.{BsonFault};
 ghost use Rattle.bson.specs.declared.fault.BsonFault.TheVariants as faults;
 ghost use Rattle.bson.specs.Faults.{bson_fault_number, build_fault_number, encode_fault_number};

@@ -3,7 +3,7 @@
 ghost use Rattle.std.specs.Prelude.{◌≡◌, ◌||◌, ◌≤◌, ℕ, List, [], true, false, not, map, IfOk, OnErr};
 ghost use Rattle.std.specs.Str.{bytes_eq};
 ghost use Rattle.bson.specs.View.{names_of};
-ghost use Rattle.bson.specs.Reading.{stands_in};
+ghost use Rattle.bson.specs.Decoding.{stands_in};
 
 use crate::fault::NoMemory;
 use crate::value::Pair;

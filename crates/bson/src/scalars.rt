@@ -8,7 +8,7 @@ ghost use Rattle.bson.specs.Spelling.{scalar_bytes, tree_bytes};
 ghost use Rattle.bson.specs.Writing.{Puts, IsFront};
 ghost use Rattle.outcome.specs.Outcome.{Gives, GivesExactly};
 ghost use Rattle.bson.specs.declared.fault.BsonFault.TheVariants as faults;
-ghost use Rattle.bson.specs.Reading.{leaf, scalar_at, string_at, binary_at, object_id_at, boolean_at, date_at, int32_at, timestamp_at, int64_at, kind_of};
+ghost use Rattle.bson.specs.Decoding.{leaf, scalar_at, string_at, binary_at, object_id_at, boolean_at, date_at, int32_at, timestamp_at, int64_at, kind_of};
 
 use crate::MESSAGE_LIMIT;
 use crate::binary::{Binary, Bytes, Subtype};
@@ -23,7 +23,7 @@ use std::alloc::Global;
 
 /// The kind that a type byte of BSON 1.1 stands for, of those that this crate takes.
 #[inline(always)]
-#[tactic(auto, unfolding(crate::specs::Reading::kind_of))]
+#[tactic(auto, unfolding(crate::specs::Decoding::kind_of))]
 pub(crate) fn read_kind(byte: u8) -> Result<Kind, BsonFault>
     ensures { GivesExactly (λ k. k) result (kind_of byte) }
 {
@@ -45,7 +45,7 @@ pub(crate) fn read_kind(byte: u8) -> Result<Kind, BsonFault>
     }
 }
 
-#[tactic(auto, unfolding(crate::specs::Reading::string_at))]
+#[tactic(auto, unfolding(crate::specs::Decoding::string_at))]
 fn read_string(alloc: Global, bytes: &[u8]) -> Result<(Value, &[u8]), BsonFault>
     ensures { Gives faults.Memory (λ x. (tree x.0, x.1.now)) result (leaf (string_at bytes.now)) }
 {
@@ -54,7 +54,7 @@ fn read_string(alloc: Global, bytes: &[u8]) -> Result<(Value, &[u8]), BsonFault>
 }
 
 /// A binary's subtype with its bytes.
-#[tactic(auto, unfolding(crate::specs::Reading::binary_at))]
+#[tactic(auto, unfolding(crate::specs::Decoding::binary_at))]
 pub(crate) fn read_body(bytes: &[u8]) -> Result<((Subtype, &[u8]), &[u8]), BsonFault>
     ensures { GivesExactly (λ x. (binary x.0.0 x.0.1.now, x.1.now)) result (binary_at bytes.now) }
 {
@@ -81,7 +81,7 @@ fn read_binary(alloc: Global, bytes: &[u8]) -> Result<(Value, &[u8]), BsonFault>
     }
 }
 
-#[tactic(auto, unfolding(crate::specs::Reading::object_id_at, crate::specs::Reading::fixed_at))]
+#[tactic(auto, unfolding(crate::specs::Decoding::object_id_at, crate::specs::Decoding::fixed_at))]
 fn read_object_id(bytes: &[u8]) -> Result<(Value, &[u8]), BsonFault>
     ensures { GivesExactly (λ x. (tree x.0, x.1.now)) result (leaf (object_id_at bytes.now)) }
 {
@@ -91,7 +91,7 @@ fn read_object_id(bytes: &[u8]) -> Result<(Value, &[u8]), BsonFault>
     }
 }
 
-#[tactic(auto, unfolding(crate::specs::Reading::boolean_at))]
+#[tactic(auto, unfolding(crate::specs::Decoding::boolean_at))]
 pub(crate) fn read_bool(bytes: &[u8]) -> Result<(Value, &[u8]), BsonFault>
     ensures { GivesExactly (λ x. (tree x.0, x.1.now)) result (leaf (boolean_at bytes.now)) }
 {
@@ -103,7 +103,7 @@ pub(crate) fn read_bool(bytes: &[u8]) -> Result<(Value, &[u8]), BsonFault>
     }
 }
 
-#[tactic(auto, unfolding(crate::specs::Reading::date_at))]
+#[tactic(auto, unfolding(crate::specs::Decoding::date_at))]
 fn read_date(bytes: &[u8]) -> Result<(Value, &[u8]), BsonFault>
     ensures { GivesExactly (λ x. (tree x.0, x.1.now)) result (leaf (date_at bytes.now)) }
 {
@@ -111,7 +111,7 @@ fn read_date(bytes: &[u8]) -> Result<(Value, &[u8]), BsonFault>
     Ok((Value::Date(i64::from_le_bytes(eight)), rest))
 }
 
-#[tactic(auto, unfolding(crate::specs::Reading::int32_at))]
+#[tactic(auto, unfolding(crate::specs::Decoding::int32_at))]
 fn read_int32(bytes: &[u8]) -> Result<(Value, &[u8]), BsonFault>
     ensures { GivesExactly (λ x. (tree x.0, x.1.now)) result (leaf (int32_at bytes.now)) }
 {
@@ -119,7 +119,7 @@ fn read_int32(bytes: &[u8]) -> Result<(Value, &[u8]), BsonFault>
     Ok((Value::Int32(i32::from_le_bytes(four)), rest))
 }
 
-#[tactic(auto, unfolding(crate::specs::Reading::timestamp_at))]
+#[tactic(auto, unfolding(crate::specs::Decoding::timestamp_at))]
 fn read_timestamp(bytes: &[u8]) -> Result<(Value, &[u8]), BsonFault>
     ensures { GivesExactly (λ x. (tree x.0, x.1.now)) result (leaf (timestamp_at bytes.now)) }
 {
@@ -127,7 +127,7 @@ fn read_timestamp(bytes: &[u8]) -> Result<(Value, &[u8]), BsonFault>
     Ok((Value::Timestamp(u64::from_le_bytes(eight)), rest))
 }
 
-#[tactic(auto, unfolding(crate::specs::Reading::int64_at))]
+#[tactic(auto, unfolding(crate::specs::Decoding::int64_at))]
 fn read_int64(bytes: &[u8]) -> Result<(Value, &[u8]), BsonFault>
     ensures { GivesExactly (λ x. (tree x.0, x.1.now)) result (leaf (int64_at bytes.now)) }
 {
@@ -136,7 +136,7 @@ fn read_int64(bytes: &[u8]) -> Result<(Value, &[u8]), BsonFault>
 }
 
 /// A value of a kind other than documents and arrays.
-#[tactic(auto, unfolding(crate::specs::Reading::scalar_at))]
+#[tactic(auto, unfolding(crate::specs::Decoding::scalar_at))]
 pub(crate) fn read_scalar(
     alloc: Global,
     kind: Kind,

@@ -6,9 +6,9 @@ ghost use Rattle.bson.specs.Spelling.{Spells};
 ghost use Rattle.bson.specs.Raw.{document_spelled};
 
 use crate::checking::check_document;
+use crate::decoding::decode;
 use crate::fault::{BsonFault, NoMemory};
 use crate::raw::RawDoc;
-use crate::reading::decode;
 use crate::value::Document;
 use std::alloc::{AllocError, Global};
 use std::marker::Model;

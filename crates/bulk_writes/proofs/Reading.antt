@@ -11,9 +11,9 @@ use Rattle.filter.specs.declared.condition.Comparison.{Comparison}
 use Rattle.filter.specs.declared.condition.Comparison.TheVariants as comparisons
 use Rattle.filter.specs.Elements.{read_element_condition}
 use Rattle.filter.specs.IdPaths.{begins_with_id}
-use Rattle.filter.specs.Reading.{array_in, every, exists, has_operators, just, named_condition, operation, order_operand, path_in, read_element}
-use Rattle.filter.specs.Reading.{read_filter, read_known}
-use Rattle.filter.specs.Reading.{read_members, read_not, read_operand, read_operators}
+use Rattle.filter.specs.Parsing.{array_in, every, exists, has_operators, just, named_condition, operation, order_operand, path_in, read_element}
+use Rattle.filter.specs.Parsing.{read_filter, read_known}
+use Rattle.filter.specs.Parsing.{read_members, read_not, read_operand, read_operators}
 use Rattle.filter.specs.Words.{all_kinds, operator_of, size_in}
 use Rattle.path.specs.declared.refusal.Refusal.{Refusal}
 use Rattle.path.specs.declared.refusal.Refusal.TheVariants as refusals
@@ -21,8 +21,8 @@ use Rattle.path.specs.Edits.{if_ok, set_at}
 use Rattle.update_model.specs.Arrays.{each_items, items_to_push, no_more}
 use Rattle.update_model.specs.Numbers.{number_in}
 use Rattle.update_model.specs.Operators.{editable_path, new_path, no_id, operator_of as edit_operator_of, read_action}
-use Rattle.update_model.specs.Reading.{conflicts, known_operator, operands_in, read_edit, read_edits, read_operator, read_operators as read_edits_of}
-use Rattle.update_model.specs.Reading.{read_update, without_conflict}
+use Rattle.update_model.specs.Parsing.{conflicts, known_operator, operands_in, read_edit, read_edits, read_operator, read_operators as read_edits_of}
+use Rattle.update_model.specs.Parsing.{read_update, without_conflict}
 use Rattle.update_model.specs.Update.{Edit, edits, Path, replacement}
 use Rattle.update_model.specs.Upserts.{base_of, is_below_id, with_condition, with_conditions, with_equal, with_equalities, with_equality}
 use Rattle.bulk_writes.proofs.Changing.{AreEdits, IsAction, IsChange, IsEdit, IsNumber, number_given}

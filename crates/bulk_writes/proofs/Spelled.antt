@@ -6,12 +6,12 @@ use Rattle.std.proofs.lemmas.List.Elements.{All-cons}
 use Rattle.bson.specs.Edits.{items_len}
 use Rattle.bson.specs.Lawful.{IsDocument, IsItems, IsPairs, IsTree}
 use Rattle.bson.specs.Tree.{Tree, scalar, document, array, Pairs, no_pairs, pair, Items, no_items, item}
-use Rattle.filter.specs.Reading.{read_filter}
+use Rattle.filter.specs.Parsing.{read_filter}
 use Rattle.outcome.specs.Outcome.{◌>>=◌, or_refused, unless}
 use Rattle.path.specs.declared.refusal.Refusal.{Refusal}
 use Rattle.path.specs.declared.refusal.Refusal.TheVariants as refusals
 use Rattle.update_model.specs.Applying.{apply}
-use Rattle.update_model.specs.Reading.{read_update}
+use Rattle.update_model.specs.Parsing.{read_update}
 use Rattle.update_model.specs.Update.{is_replacement, Update as Change}
 use Rattle.update_model.specs.Upserts.{base_of}
 use Rattle.command_model.specs.Command.{aggregate, as_command, Command, command_of, count}

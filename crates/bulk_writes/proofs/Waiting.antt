@@ -14,7 +14,7 @@ use Rattle.bson.specs.Lookup.{lookup}
 use Rattle.bson.specs.Tree.{Tree, scalar, boolean, document, array, Pairs, no_pairs, pair}
 use Rattle.filter.specs.Condition.{all, any, at, Condition, condition, Conditions, no_conditions, not_any}
 use Rattle.filter.specs.IdPaths.{is_id}
-use Rattle.filter.specs.Reading.{has_operators, named_condition, or_refusal, path_in, read_filter, read_members, read_operand}
+use Rattle.filter.specs.Parsing.{has_operators, named_condition, or_refusal, path_in, read_filter, read_members, read_operand}
 use Rattle.outcome.specs.Outcome.{◌>>=◌, fault_or, or_refused, unless}
 use Rattle.path.specs.declared.fault.PathFault.{PathFault}
 use Rattle.path.specs.declared.refusal.Refusal.{Refusal}
@@ -22,7 +22,7 @@ use Rattle.path.specs.declared.refusal.Refusal.TheVariants as refusals
 use Rattle.path.specs.Edits.{if_ok}
 use Rattle.path.specs.Parts.{parts_of, path_fault}
 use Rattle.update_model.specs.Applying.{apply}
-use Rattle.update_model.specs.Reading.{read_operators as read_edits_of, read_update}
+use Rattle.update_model.specs.Parsing.{read_operators as read_edits_of, read_update}
 use Rattle.update_model.specs.Stored.{id_name}
 use Rattle.update_model.specs.Update.{Edit, edits, is_replacement, replacement, Update as Change}
 use Rattle.update_model.specs.Upserts.{base_of}

@@ -29,7 +29,7 @@ use Rattle.entries.specs.StateReads.{find_document}
 use Rattle.entries.specs.declared.catalogue_reading.Catalogued.{Catalogued}
 use Rattle.pager.specs.State.{State as PagerState}
 use Rattle.pager.specs.View.{pager_history, store_of}
-use Rattle.collections.specs.declared.reading.Name.{Name}
+use Rattle.collections.specs.declared.lookups.Name.{Name}
 use Rattle.collections.specs.Calls.{GoesFrom, HasReadCause, IsUnchanged}
 use Rattle.collections.specs.Standing.{HasState}
 use Rattle.collections.specs.State.{State}

@@ -12,7 +12,7 @@ ghost use Rattle.std.specs.Option.{option_map};
 
 use crate::applying::refusal_of;
 use crate::collections::Collections;
-use crate::reading::{entries_below, value_below};
+use crate::lookups::{entries_below, value_below};
 use btree::{Batch, Entry, Range};
 use entries::{end_of, index_key, is_another};
 use index::{IndexSpec, entry_key};

@@ -5,7 +5,7 @@ ghost use Rattle.collections.specs.Reading.{ReadsOf};
 ghost use Rattle.collections.specs.Walk.{BeginsWalk, GoesOnWalking, HasNext, IsWalk, StepsOn};
 
 use crate::collections::Collections;
-use crate::reading::{documents_of, spelled_of};
+use crate::lookups::{documents_of, spelled_of};
 use bson::{Document, NoMemory, SpelledDocument};
 use btree::{Entry, Range};
 use entries::first_key;

@@ -4,7 +4,7 @@ use Rattle.std.specs.Prelude.{unwrap_or}
 use Rattle.std.specs.Str.{bytes_eq}
 use Rattle.bson.specs.Tree.{Tree, Pairs}
 use Rattle.filter.specs.Condition.{Conditions, no_conditions}
-use Rattle.filter.specs.Reading.{read_filter}
+use Rattle.filter.specs.Parsing.{read_filter}
 use Rattle.outcome.specs.Outcome.{◌>>=◌, or_refused}
 use Rattle.path.specs.declared.refusal.Refusal.{Refusal}
 use Rattle.path.specs.declared.refusal.Refusal.TheVariants as refusals

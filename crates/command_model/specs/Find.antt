@@ -4,7 +4,7 @@ use Rattle.std.specs.Prelude.{false, unwrap_or}
 use Rattle.std.specs.Str.{bytes_eq}
 use Rattle.bson.specs.Tree.{Tree, Pairs}
 use Rattle.filter.specs.Condition.{Conditions, no_conditions}
-use Rattle.filter.specs.Reading.{read_filter}
+use Rattle.filter.specs.Parsing.{read_filter}
 use Rattle.sort.specs.Sort.{SortField}
 use Rattle.sort.specs.SortReading.{read_sort}
 use Rattle.projection.specs.Projection.{Projection}

@@ -13,7 +13,7 @@ use Rattle.path.specs.declared.fault.PathFault.{PathFault}
 use Rattle.path.specs.declared.fault.PathFault.TheVariants as faults
 use Rattle.path.specs.declared.refusal.Refusal.{Refusal}
 use Rattle.path.specs.declared.refusal.Refusal.TheVariants as refusals
-use Rattle.filter.specs.Reading.{or_refusal, path_in}
+use Rattle.filter.specs.Parsing.{or_refusal, path_in}
 use Rattle.index.specs.Definition.{Field}
 use Rattle.value_order.specs.declared.texts.Direction.{Direction}
 use Rattle.command_model.specs.Fields.{read_fields}

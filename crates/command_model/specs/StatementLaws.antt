@@ -6,9 +6,9 @@ use Rattle.std.specs.Prelude.{◌||◌, ◌&&◌, All, ◌==◌, nat_lt, if◌th
 use Rattle.std.specs.Str.{bytes_eq}
 use Rattle.std.proofs.lemmas.Bool.{ltb-false, eqb-false}
 use Rattle.filter.specs.Condition.{Conditions}
-use Rattle.filter.specs.Reading.{read_filter}
+use Rattle.filter.specs.Parsing.{read_filter}
 use Rattle.update_model.specs.Update.{is_replacement}
-use Rattle.update_model.specs.Reading.{read_update}
+use Rattle.update_model.specs.Parsing.{read_update}
 use Rattle.bson.specs.Tree.{Tree, Pairs, no_pairs, pair, Items, no_items, item}
 use Rattle.bson.specs.Edits.{items_len}
 use Rattle.outcome.specs.Outcome.{◌>>=◌, unless, or_refused}

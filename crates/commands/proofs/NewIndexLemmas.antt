@@ -18,7 +18,7 @@ use Rattle.path.specs.declared.fault.PathFault.{PathFault}
 use Rattle.path.specs.declared.fault.PathFault.TheVariants as faults
 use Rattle.path.specs.declared.refusal.Refusal.{Refusal}
 use Rattle.path.specs.declared.refusal.Refusal.TheVariants as refusals
-use Rattle.filter.specs.Reading.{path_in}
+use Rattle.filter.specs.Parsing.{path_in}
 use Rattle.value_order.specs.declared.texts.Direction.{Direction}
 use Rattle.value_order.specs.declared.texts.Direction.TheVariants as directions
 use Rattle.index.specs.Definition.{Field, direction_value, key_document, IsPath}

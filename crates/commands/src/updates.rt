@@ -6,7 +6,7 @@ ghost use Rattle.outcome.specs.Outcome.{Gives, Does};
 ghost use Rattle.command_model.specs.Update.{flag_field, no_statement_fields, statement_field, read_statement, no_update_fields, update_statements_in, update_field, read_update_command};
 ghost use Rattle.command_model.specs.Statements.{each_of};
 ghost use Rattle.command_model.specs.Values.{spelled_in};
-ghost use Rattle.update_model.specs.Reading.{read_update};
+ghost use Rattle.update_model.specs.Parsing.{read_update};
 ghost use Rattle.update.specs.View.{update_of};
 ghost use Rattle.command_model.specs.Command.{as_command, update};
 ghost use Rattle.commands.specs.View.{command_read};

@@ -2,7 +2,7 @@
 
 ghost use Rattle.std.specs.Prelude.{◌≡◌};
 ghost use Rattle.bson.specs.View.{tree};
-ghost use Rattle.filter.specs.Reading.{read_filter};
+ghost use Rattle.filter.specs.Parsing.{read_filter};
 ghost use Rattle.outcome.specs.Outcome.{Gives};
 ghost use Rattle.command_model.specs.Values.{text_in, bool_in, id_in, count_in, document_in, spelled_in};
 

@@ -8,7 +8,7 @@ use Rattle.std.proofs.lemmas.Bool.Decides.{nat_tests}
 use Rattle.std.proofs.lemmas.List.{length-take, length-drop, length-append}
 use Rattle.outcome.specs.Outcome.{unless}
 use Rattle.bson.specs.Raw.{number_at}
-use Rattle.bson.specs.Reading.{name_at, kind_of, zero_at}
+use Rattle.bson.specs.Decoding.{name_at, kind_of, zero_at}
 use Rattle.bson.specs.declared.fault.BsonFault.{BsonFault}
 use Rattle.bson.specs.declared.fault.BsonFault.TheVariants as faults
 use Rattle.bson.specs.declared.kind.Kind.{Kind}

@@ -7,7 +7,7 @@ use Rattle.std.specs.Prelude.{Err}
 use Rattle.std.specs.Str.{bytes_eq}
 use Rattle.outcome.specs.Outcome.{◌>>=◌, unless, Fails}
 use Rattle.bson.specs.Tree.{Pairs}
-use Rattle.bson.specs.Reading.{name_at, document_at}
+use Rattle.bson.specs.Decoding.{name_at, document_at}
 use Rattle.bson.specs.Raw.{only_document}
 use Rattle.bson.specs.declared.fault.BsonFault.{BsonFault}
 use Rattle.bson.specs.declared.fault.BsonFault.TheVariants as bson_faults

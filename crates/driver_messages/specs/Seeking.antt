@@ -6,7 +6,7 @@ use Rattle.std.specs.Prelude.{length, take, drop, Option, Some, None, Result, Ok
 use Rattle.std.specs.Option.{option_or, option_map}
 use Rattle.std.specs.Fmt.{decimal}
 use Rattle.bson.specs.Raw.{number_at, len_at}
-use Rattle.bson.specs.Reading.{name_at, kind_of}
+use Rattle.bson.specs.Decoding.{name_at, kind_of}
 use Rattle.bson.specs.declared.fault.BsonFault.{BsonFault}
 use Rattle.bson.specs.declared.kind.Kind.{Kind}
 use Rattle.bson.specs.declared.kind.Kind.TheVariants as kinds

@@ -2,7 +2,7 @@
 
 ghost use Rattle.std.specs.Prelude.{◌≡◌, [], ◌∷◌, take, drop, length, IfOk};
 ghost use Rattle.bson.specs.Raw.{number_at};
-ghost use Rattle.bson.specs.Reading.{name_at};
+ghost use Rattle.bson.specs.Decoding.{name_at};
 ghost use Rattle.std.specs.Fmt.{decimal};
 ghost use Rattle.driver_messages.specs.Seeking.{foreign_in, in_documents, in_sequence, in_section, in_sections, foreign_in_sections};
 

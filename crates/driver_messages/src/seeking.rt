@@ -2,7 +2,7 @@
 
 ghost use Rattle.std.specs.Prelude.{◌≡◌, ◌<◌, ◌^◌, drop, IfOk, option_map};
 ghost use Rattle.bson.specs.Raw.{number_at, len_at};
-ghost use Rattle.bson.specs.Reading.{name_at, kind_of};
+ghost use Rattle.bson.specs.Decoding.{name_at, kind_of};
 ghost use Rattle.driver_messages.specs.ForeignTypes.{foreign_of};
 ghost use Rattle.driver_messages.specs.Seeking.{past, past_known, past_value, step, seek, foreign_in};
 ghost use Rattle.driver_messages.specs.SeekingView.{seek_of, kind_or_none};
@@ -53,7 +53,7 @@ pub(crate) fn value_len(kind: Kind, bytes: &[u8]) -> usize
 }
 
 /// The kind that a type byte stands for.
-#[tactic(auto, unfolding(bson::specs::Reading::kind_of))]
+#[tactic(auto, unfolding(bson::specs::Decoding::kind_of))]
 pub(crate) fn kind_of(byte: u8) -> Option<Kind>
     ensures { result ≡ kind_or_none (kind_of byte) }
 {

@@ -3,7 +3,7 @@
 ghost use Rattle.std.specs.Prelude.{◌≡◌, ◌≤◌, ◌+◌, ℕ, List, length, drop, Result, Ok, IfOk, IfSome};
 ghost use Rattle.outcome.specs.Outcome.{Gives, GivesExactly};
 ghost use Rattle.bson.specs.Tree.{Pairs};
-ghost use Rattle.bson.specs.Reading.{document_at};
+ghost use Rattle.bson.specs.Decoding.{document_at};
 ghost use Rattle.bson.specs.Raw.{only_document};
 ghost use Rattle.bson.specs.declared.fault.BsonFault.{BsonFault};
 ghost use Rattle.op_msg.specs.Frame.{Frame, number_at};

@@ -3,7 +3,7 @@
 ghost use Rattle.std.specs.Prelude.{◌≡◌, ◌++◌, ◌∷◌, [], take, drop, IfOk, OnOk};
 ghost use Rattle.std.specs.Fmt.{decimal};
 ghost use Rattle.driver_messages.specs.WithIntegers.{int64_element, elements_with, document_with, documents_with, sequence_with, section_with, sections_with, with_integers};
-ghost use Rattle.bson.specs.Reading.{name_at};
+ghost use Rattle.bson.specs.Decoding.{name_at};
 
 use crate::passing::{Passed, pass};
 use crate::place::Place;

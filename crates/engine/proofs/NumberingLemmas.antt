@@ -12,7 +12,7 @@ use Rattle.entries.specs.State.{Collection, empty_collection, uses}
 use Rattle.collections.specs.Calls.{Reads}
 use Rattle.collections.specs.Reading.{name_in, name_of}
 use Rattle.collections.specs.State.{State}
-use Rattle.collections.specs.declared.reading.Name.{Name}
+use Rattle.collections.specs.declared.lookups.Name.{Name}
 use Rattle.engine.specs.Durable.{disk_history, IsSound}
 use Rattle.engine.specs.Numbering.{AreMarked, IsNewNumber, IsTooMany, numbered}
 use Rattle.engine.specs.Trying.{Tries}

@@ -3,7 +3,7 @@ use Rattle.std.specs.Prelude.{◌≡◌, ◌<◌, ◌≤◌, ℕ, Bool, false, L
 use Rattle.path.specs.declared.refusal.Refusal.{Refusal}
 use Rattle.path.specs.declared.refusal.Refusal.TheVariants as refusals
 use Rattle.entries.specs.State.{Collection, empty_collection, uses}
-use Rattle.collections.specs.declared.reading.Name.{Name}
+use Rattle.collections.specs.declared.lookups.Name.{Name}
 use Rattle.database_model.specs.World.{unused}
 
 -- collections that have the numbers of these names

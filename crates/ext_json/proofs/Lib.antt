@@ -1,7 +1,7 @@
 pub mod CalendarLemmas
 pub mod WritingLemmas
 pub mod NumberLemmas
-pub mod ReadingLemmas
+pub mod ParsingLemmas
 pub mod MomentLemmas
 pub mod ScalarsBack
 pub mod TreesBack

@@ -23,14 +23,14 @@ use Rattle.ext_json.specs.Encoded.{or_wrapper, object_id_in, byte_in, subtype_in
 use Rattle.ext_json.specs.Wrappers.{is_unsupported, known_wrapper, wrapper_named}
 use Rattle.ext_json.specs.Wrapped.{two_at, date_at, binary_at, timestamp_at, one_at, content_at, wrapped_at}
 use Rattle.ext_json.specs.Tokens.{first, rest}
-use Rattle.ext_json.specs.Reading.{value_at}
+use Rattle.ext_json.specs.Parsing.{value_at}
 use Rattle.ext_json.specs.declared.wrapper.Wrapper.{Wrapper}
 use Rattle.ext_json.specs.declared.wrapper.Wrapper.TheVariants as wrappers
 use Rattle.ext_json.specs.declared.fault.ExtJsonFault.{ExtJsonFault}
 use Rattle.ext_json.specs.declared.fault.ExtJsonFault.TheVariants as faults
 use Rattle.ext_json.specs.declared.form.Form.TheVariants.{Canonical}
 use Rattle.ext_json.proofs.NumberLemmas.{own, are_digits-parts}
-use Rattle.ext_json.proofs.ReadingLemmas.{value_is}
+use Rattle.ext_json.proofs.ParsingLemmas.{value_is}
 
 -- ---- numbers
 

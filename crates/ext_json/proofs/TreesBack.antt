@@ -19,11 +19,11 @@ use Rattle.bson.specs.EditPlaces.{append-none, append-one, append_items-none, ap
 use Rattle.ext_json.specs.Written.{scalar_tokens, tree_tokens, pairs_tokens, items_tokens, document_tokens, canonical_text}
 use Rattle.ext_json.specs.Tokens.{first, rest, key_at}
 use Rattle.ext_json.specs.Wrappers.{wrapper_in}
-use Rattle.ext_json.specs.Reading.{has_name, new_name, pairs_by, is_end, items_by, most_turns, value_at, document_in, document_at}
+use Rattle.ext_json.specs.Parsing.{has_name, new_name, pairs_by, is_end, items_by, most_turns, value_at, document_in, document_at}
 use Rattle.ext_json.specs.RoundTrip.{first_name, HasNoWrapper, PairsHaveNoWrapper, ItemsHaveNoWrapper}
 use Rattle.ext_json.specs.declared.fault.ExtJsonFault.{ExtJsonFault}
 use Rattle.ext_json.specs.declared.form.Form.TheVariants.{Canonical}
-use Rattle.ext_json.proofs.ReadingLemmas.{name_from_Lacks, value_is, document_found, array_found}
+use Rattle.ext_json.proofs.ParsingLemmas.{name_from_Lacks, value_is, document_found, array_found}
 use Rattle.ext_json.proofs.ScalarsBack.{scalar_back}
 
 -- ---- names

@@ -7,6 +7,6 @@ pub mod Tokens
 pub mod Encoded
 pub mod Moments
 pub mod Wrapped
-pub mod Reading
+pub mod Parsing
 pub mod Lines
 pub mod RoundTrip

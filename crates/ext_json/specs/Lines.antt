@@ -4,7 +4,7 @@ use Rattle.std.specs.Prelude.{Result, Ok, Err}
 use Rattle.std.specs.List.{list_all}
 use Rattle.bson.specs.Tree.{Pairs}
 use Rattle.outcome.specs.Outcome.{Fails}
-use Rattle.ext_json.specs.Reading.{document_at}
+use Rattle.ext_json.specs.Parsing.{document_at}
 use Rattle.ext_json.specs.declared.fault.FaultAt.{FaultAt}
 use Rattle.ext_json.specs.declared.fault.ExtJsonFault.TheVariants as faults
 

@@ -5,7 +5,7 @@ use Rattle.bson.specs.Tree.{item}
 use Rattle.bson.specs.Lawful.{IsDocument}
 use Rattle.ext_json.specs.Wrappers.{wrapper_in}
 use Rattle.ext_json.specs.Written.{document_tokens, canonical_text}
-use Rattle.ext_json.specs.Reading.{document_at}
+use Rattle.ext_json.specs.Parsing.{document_at}
 use Rattle.ext_json.specs.declared.form.Form.TheVariants.{Canonical}
 
 abbrev pub first_name : Pairs → Option (List ℕ)

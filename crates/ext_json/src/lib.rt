@@ -12,7 +12,7 @@ pub mod laws;
 mod lines;
 mod moments;
 mod numbers;
-mod reading;
+mod parsing;
 mod scalars;
 mod texts;
 mod tokens;

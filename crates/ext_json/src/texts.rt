@@ -1,10 +1,10 @@
 //! Documents from text, with the places of faults.
 
 ghost use Rattle.std.specs.Prelude.{◌≡◌};
-ghost use Rattle.ext_json.specs.Reading.{Reads, document_at};
+ghost use Rattle.ext_json.specs.Parsing.{Reads, document_at};
 
 use crate::fault::{ExtJsonFault, FaultAt};
-use crate::reading::take_document;
+use crate::parsing::take_document;
 use crate::tokens::Tokens;
 use bson::Document;
 use json::Scratch;
@@ -32,7 +32,7 @@ fn fault_at(fault: ExtJsonFault, text: &str, first_line: usize, at: usize) -> Fa
 }
 
 /// The document that a text is which begins at a line. The scratch is kept from text to text.
-#[tactic(auto, unfolding(crate::specs::Reading::document_at))]
+#[tactic(auto, unfolding(crate::specs::Parsing::document_at))]
 pub(crate) fn read_at(
     alloc: Global,
     scratch: &mut Scratch,

@@ -6,7 +6,7 @@ use Rattle.bson.specs.declared.value.Value.{Value}
 use Rattle.path.specs.declared.refusal.Refusal.{Refusal}
 use Rattle.path.specs.Edits.{if_ok}
 use Rattle.filter.specs.Words.{each_kind, kinds_in}
-use Rattle.filter.proofs.ReadingLemmas.{drop_step}
+use Rattle.filter.proofs.ParsingLemmas.{drop_step}
 
 behind_kinds : (done more : List Kind) (r : Result (List Kind) Refusal)
     → if_ok r (λ ks. Ok ((done ++ more) ++ ks)) ≡ if_ok (if_ok r (λ ls. Ok (more ++ ls))) (λ ks. Ok (done ++ ks))

@@ -1,5 +1,5 @@
 pub mod MeasureLemmas
 pub mod WalkLemmas
 pub mod AmongLemmas
-pub mod ReadingLemmas
+pub mod ParsingLemmas
 pub mod KindLemmas

@@ -4,7 +4,7 @@ use Rattle.bson.specs.Tree.{Tree, scalar, document, array}
 use Rattle.path.specs.declared.refusal.Refusal.{Refusal}
 use Rattle.filter.specs.Condition.{Condition, is, equal, element, element_document}
 use Rattle.filter.specs.Matches.{alone, all_hold, of_document}
-use Rattle.filter.specs.Reading.{just, read_element}
+use Rattle.filter.specs.Parsing.{just, read_element}
 
 -- an operator document, which looks at the element as it stands; another document, a filter that
 -- looks at elements that are documents; or a value to be equal to

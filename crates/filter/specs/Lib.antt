@@ -7,7 +7,7 @@ pub mod Among
 pub mod Probes
 pub mod Words
 pub mod Tables
-pub mod Reading
+pub mod Parsing
 pub mod IdPaths
 pub mod Elements
 pub mod Rows

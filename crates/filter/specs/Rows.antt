@@ -9,7 +9,7 @@ use Rattle.path.specs.declared.refusal.Refusal.{Refusal}
 use Rattle.path.specs.declared.refusal.Refusal.TheVariants as refusals
 use Rattle.path.specs.Edits.{if_ok}
 use Rattle.filter.specs.Matches.{matches}
-use Rattle.filter.specs.Reading.{read_filter}
+use Rattle.filter.specs.Parsing.{read_filter}
 
 abbrev pub number : ℕ → Tree
 number n = scalar (int32 (pos n))

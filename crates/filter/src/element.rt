@@ -9,7 +9,7 @@ ghost use Rattle.filter.specs.View.{condition_of};
 use crate::condition::Condition;
 use crate::matching::{all_hold_alone, all_hold_of_document};
 use crate::operands::{equal, just};
-use crate::reading::read_element;
+use crate::parsing::read_element;
 use bson::Value;
 use path::Refusal;
 use std::alloc::Global;

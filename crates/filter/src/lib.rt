@@ -12,9 +12,9 @@ pub mod laws;
 mod matching;
 mod operands;
 mod operator;
+mod parsing;
 mod predicate;
 mod raw_matching;
-mod reading;
 mod value_set;
 
 pub use condition::{Comparison, Condition, Filter, Predicate};

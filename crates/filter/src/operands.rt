@@ -7,7 +7,7 @@ ghost use Rattle.bson.specs.Kinds.{kind_byte};
 ghost use Rattle.path.specs.Edits.{if_ok};
 ghost use Rattle.filter.specs.Condition.{equals, is, equal, of_kinds, not_all};
 ghost use Rattle.filter.specs.Words.{all_kinds};
-ghost use Rattle.filter.specs.Reading.{path_in, just, has_operators, order_operand, array_in, every, exists, read_operation};
+ghost use Rattle.filter.specs.Parsing.{path_in, just, has_operators, order_operand, array_in, every, exists, read_operation};
 ghost use Rattle.filter.specs.View.{condition_of};
 
 use crate::condition::{Comparison, Condition, Filter, Predicate};

@@ -10,8 +10,8 @@ use Rattle.bson.proofs.TreeLaws.{document_takes, value_reads}
 use Rattle.bson.specs.Lawful.{IsBytes}
 use Rattle.bson.specs.Limits.{message_limit}
 use Rattle.bson.specs.Lookup.{lookup}
-use Rattle.bson.specs.Reading.{document_at, value_at, zero_at}
-use Rattle.bson.specs.Reading as names
+use Rattle.bson.specs.Decoding.{document_at, value_at, zero_at}
+use Rattle.bson.specs.Decoding as names
 use Rattle.bson.specs.SizingLaws.{frame_of-length, items_size-item, pairs_size-pair}
 use Rattle.bson.specs.Spelling.{items_bytes, pairs_bytes, tree_bytes}
 use Rattle.bson.specs.Tree.{Tree, scalar, document, array, append, Pairs, no_pairs, pair, Items, no_items, item}

@@ -7,7 +7,7 @@ use Rattle.bson.specs.EditPlaces.{append-none, append_items-none, append_items-o
 use Rattle.bson.specs.EditsLaws.{pairs_of-push, IsDocument-append}
 use Rattle.bson.specs.Lawful.{Lacks, levels, IsName, IsTree, IsArray, IsDocument}
 use Rattle.bson.specs.Lookup.{lookup}
-use Rattle.bson.specs.Reading.{Read, value_at, stands_in}
+use Rattle.bson.specs.Decoding.{Read, value_at, stands_in}
 use Rattle.bson.specs.View.{tree, pairs_of, names_of}
 use Rattle.bson.specs.declared.value.Pair.{Pair}
 use Rattle.bson.specs.Tree.{Tree, array, Pairs, no_pairs, pair, append, Items, no_items, item, append_items}

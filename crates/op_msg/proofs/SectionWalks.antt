@@ -6,8 +6,8 @@ use Rattle.std.specs.Str.{is_utf8}
 use Rattle.std.proofs.lemmas.List.Sums.{fails_before_first}
 use Rattle.bson.proofs.FrameLaws.{NoZero-take}
 use Rattle.bson.specs.Lawful.{NoZero}
-use Rattle.bson.specs.Reading.{zero_at, stands_in}
-use Rattle.bson.specs.Reading as names
+use Rattle.bson.specs.Decoding.{zero_at, stands_in}
+use Rattle.bson.specs.Decoding as names
 use Rattle.bson.specs.declared.fault.BsonFault.{BsonFault}
 use Rattle.outcome.specs.Outcome.{◌>>=◌, unless}
 use Rattle.op_msg.specs.Frame.{Part, Sequence, Section, body, sequence, number_at, part_at, or_section, name_at, each_from, each_by, each_in, is_more}

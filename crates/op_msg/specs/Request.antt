@@ -11,7 +11,7 @@ use Rattle.bson.specs.declared.fault.BsonFault.TheVariants as bson_faults
 use Rattle.bson.specs.Lookup.{lookup}
 use Rattle.bson.specs.Tree.{array, Pairs, no_pairs, pair, append, Items, no_items, item}
 use Rattle.bson.specs.Spelling.{frame_of, pairs_bytes}
-use Rattle.bson.specs.Reading.{value_at, document_at}
+use Rattle.bson.specs.Decoding.{value_at, document_at}
 use Rattle.outcome.specs.Outcome.{◌>>=◌, unless, Gives}
 use Rattle.bson.specs.declared.fault.BsonFault.{BsonFault}
 use Rattle.bson.specs.declared.kind.Kind.TheVariants as kinds

@@ -4,7 +4,7 @@ use Rattle.std.specs.Prelude.{option_map, is_some}
 use Rattle.outcome.specs.Outcome.{◌>>=◌, unless}
 use Rattle.bson.specs.Lawful.{NoZero, IsDocument}
 use Rattle.bson.specs.Lookup.{lookup}
-use Rattle.bson.specs.Reading.{value_at, stands_in}
+use Rattle.bson.specs.Decoding.{value_at, stands_in}
 use Rattle.bson.specs.Tree.{Items, no_items, item, append_items, Pairs, append}
 use Rattle.bson.specs.View.{pairs_of}
 use Rattle.bson.specs.declared.value.Pair.{Pair}
@@ -14,7 +14,7 @@ use Rattle.op_msg.specs.Frame.{Frame, Sequence, Section, body, sequence, part_at
 use Rattle.op_msg.specs.Frame.{bodies_of, sequences_of, sections_in}
 use Rattle.op_msg.specs.declared.fault.FrameFault.{FrameFault}
 use Rattle.op_msg.specs.declared.fault.FrameFault.TheVariants as faults
-use Rattle.op_msg.specs.declared.reading.Message.{Message}
+use Rattle.op_msg.specs.declared.first_message.Message.{Message}
 use Rattle.op_msg.specs.declared.sections.Found.{Found}
 use Rattle.op_msg.specs.declared.sections.Sequence.{Sequence as SequenceRead}
 use Rattle.op_msg.specs.declared.sections.Section.{Section as SectionRead}

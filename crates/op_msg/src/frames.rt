@@ -6,8 +6,8 @@ ghost use Rattle.op_msg.specs.Request.{IsNext, is_waiting, head_of};
 ghost use Rattle.op_msg.specs.Whole.{AreWhole, Joins};
 
 use crate::fault::FrameFault;
+use crate::first_message::{read_front, whole_len};
 use crate::pieces::Pieces;
-use crate::reading::{read_front, whole_len};
 use crate::request::{Head, Request, read_request};
 use std::alloc::{AllocError, Global};
 use std::marker::Model;

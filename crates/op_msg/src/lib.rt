@@ -2,10 +2,10 @@
 #![tactic(auto)]
 
 mod fault;
+mod first_message;
 mod frames;
 pub mod laws;
 mod pieces;
-mod reading;
 mod request;
 mod sections;
 mod writing;

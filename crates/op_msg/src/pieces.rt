@@ -5,7 +5,7 @@ ghost use Rattle.std.specs.List.{flat_map};
 ghost use Rattle.op_msg.specs.Frame.{number_at};
 ghost use Rattle.op_msg.specs.Whole.{EndsAt, EndsIn, IsBegun};
 
-use crate::reading::message_end;
+use crate::first_message::message_end;
 use std::alloc::{AllocError, Global};
 use std::marker::Model;
 

@@ -10,7 +10,7 @@ ghost use Rattle.op_msg.specs.Request.{IsRequest, IsRead, document_in, body_of, 
 ghost use Rattle.op_msg.specs.View.{frame_in, sequence_of, section_of, with_document, HasName, joined, IsJoining};
 
 use crate::fault::FrameFault;
-use crate::reading::{Message, read_front};
+use crate::first_message::{Message, read_front};
 use crate::sections::{Section, Sequence, SequenceNames, read_part, read_section};
 use bson::{
     Array, BsonFault, BuildFault, Document, NamedParts, Names, Pair, Text, Value, decode,

@@ -3,7 +3,7 @@
 ghost use Rattle.std.specs.Prelude.{◌≡◌, ◌<◌, ◌≤◌, ◌+◌, ◌^◌, ℕ, List, [], ◌∷◌, true, false, length, take};
 ghost use Rattle.op_msg.specs.Frame.{number_at, part_at, name_at, each_in, is_more, sequence_in, section_at, sections_in, names_of, has_twice, body_of_all};
 ghost use Rattle.op_msg.specs.Frame.{Section as Parts};
-ghost use Rattle.bson.specs.Reading.{stands_in};
+ghost use Rattle.bson.specs.Decoding.{stands_in};
 ghost use Rattle.op_msg.specs.View.{Finds, sequence_of, section_of, body_with};
 
 use crate::fault::FrameFault;

@@ -2,12 +2,12 @@
 //! made durable or taken back as one turn.
 #![tactic(auto)]
 
+mod cached_pages;
 mod finding;
 mod mark;
 mod merging;
 mod pager;
 mod planning;
-mod reading;
 mod taking;
 mod version;
 mod writing;

@@ -1,10 +1,10 @@
 //! The pages of a database file.
 ghost use Rattle.std.specs.Prelude.{◌≡◌};
 
+use crate::cached_pages::read_page;
 use crate::finding::{find_page, find_place};
 use crate::mark::Mark;
 use crate::planning::plan_commit;
-use crate::reading::read_page;
 use crate::taking::{keep_lower, take_page};
 use crate::version::Version;
 use crate::writing::{forget_all, keep_all};

@@ -7,7 +7,7 @@ ghost use Rattle.page.specs.Format.{Sheet};
 ghost use Rattle.pager.specs.Order.{pages_at};
 ghost use Rattle.pager.specs.Writing.{Forgets, KeepsAll, retired_all, written_of};
 
-use crate::reading::keep_page;
+use crate::cached_pages::keep_page;
 use freelist::{FreePages, NoMemory};
 use page::{PageCache, SharedPage};
 use std::alloc::{AllocError, Global};

@@ -6,7 +6,7 @@ ghost use Rattle.database_model.specs.Lawful.{AreLawfulCursors};
 ghost use Rattle.pinned_cursors.specs.Batches.{GivesNext};
 ghost use Rattle.replies.specs.View.{IsSendable};
 
-use crate::reading::next_batch;
+use crate::next_batches::next_batch;
 use bson::SpelledDocument;
 use collections::Collections;
 use cursors::Cursors;

@@ -5,8 +5,8 @@ mod ending;
 mod first;
 mod first_in_order;
 mod giving;
+mod next_batches;
 mod opening;
-mod reading;
 
 pub use ending::end_all;
 pub use first::{FirstAsked, give_first};

@@ -5,7 +5,7 @@ use Rattle.bson.specs.Tree.{Tree, scalar, int32, document, Pairs, no_pairs}
 use Rattle.path.specs.declared.refusal.Refusal.{Refusal}
 use Rattle.path.specs.Edits.{if_ok}
 use Rattle.value_order.specs.declared.texts.Direction.TheVariants.{Ascending, Descending}
-use Rattle.filter.specs.Reading.{read_filter}
+use Rattle.filter.specs.Parsing.{read_filter}
 use Rattle.filter.specs.Rows.{number, nothing, one, two, single, asks, between}
 use Rattle.sort.specs.SortReading.{read_sort}
 use Rattle.index.specs.Definition.{Field, Definition}

@@ -11,7 +11,7 @@ use Rattle.bson.specs.declared.value.Pair.{Pair}
 use Rattle.bson.specs.declared.value.Value.{Value}
 use Rattle.projection.specs.Projection.{Path, below, is_end, is_none, only, pick, add_pair, add_item, of_tree, of_pairs, of_items}
 use Rattle.std.proofs.lemmas.List.{drop_all}
-use Rattle.filter.proofs.ReadingLemmas.{drop_step}
+use Rattle.filter.proofs.ParsingLemmas.{drop_step}
 
 -- ---- what is left is lawful and nests no deeper
 

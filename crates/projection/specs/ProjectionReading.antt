@@ -9,7 +9,7 @@ use Rattle.path.specs.declared.refusal.Refusal.TheVariants as refusals
 use Rattle.path.specs.Edits.{if_ok}
 use Rattle.path.specs.Parts.{meets}
 use Rattle.filter.specs.IdPaths.{is_id, begins_with_id}
-use Rattle.filter.specs.Reading.{path_in}
+use Rattle.filter.specs.Parsing.{path_in}
 use Rattle.projection.specs.Projection.{Path, Projection}
 
 abbrev pub flag_of : ℤ → Result Bool Refusal

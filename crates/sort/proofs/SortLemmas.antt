@@ -26,7 +26,7 @@ use Rattle.sort.specs.SortKeys.{field_of, earlier, first_of, document_keys, firs
 use Rattle.sort.specs.SortKeys.{arranged}
 use Rattle.sort.specs.declared.sort.Field.{Field}
 use Rattle.sort.specs.declared.sorting.Ranked.{Ranked}
-use Rattle.filter.proofs.ReadingLemmas.{drop_step}
+use Rattle.filter.proofs.ParsingLemmas.{drop_step}
 use Rattle.sort.specs.SortLaws.{OrdersStably, SortsInParts, sorted-permuted}
 use Rattle.sort.proofs.FrontLemmas.{sorted-front}
 use Rattle.sort.proofs.StableSortLemmas.{sorted_rising, sorted_stable, sorted-map}

@@ -5,7 +5,7 @@ use Rattle.bson.specs.Tree.{Tree, scalar, int32, int64, Pairs, no_pairs, pair}
 use Rattle.path.specs.declared.refusal.Refusal.{Refusal}
 use Rattle.path.specs.declared.refusal.Refusal.TheVariants as refusals
 use Rattle.path.specs.Edits.{if_ok}
-use Rattle.filter.specs.Reading.{path_in}
+use Rattle.filter.specs.Parsing.{path_in}
 use Rattle.sort.specs.Sort.{SortField}
 
 abbrev pub direction_of : ℤ → Result Bool Refusal

@@ -23,9 +23,9 @@ use Rattle.path.specs.declared.refusal.Refusal.TheVariants as refusals
 use Rattle.filter.specs.Condition.{Predicate, equal, of_kinds, size, Condition, all, any, not_all, not_any, at, is, element, element_document}
 use Rattle.filter.specs.Condition.{Conditions, no_conditions, condition, equals}
 use Rattle.filter.specs.IdPaths.{begins_with_id, is_id}
-use Rattle.filter.specs.Reading.{array_in, every, exists, has_operators, just, named_condition, operation, or_refusal, order_operand, path_in}
-use Rattle.filter.specs.Reading.{read_element, read_filter}
-use Rattle.filter.specs.Reading.{read_known, read_members, read_not, read_operand, read_operators}
+use Rattle.filter.specs.Parsing.{array_in, every, exists, has_operators, just, named_condition, operation, or_refusal, order_operand, path_in}
+use Rattle.filter.specs.Parsing.{read_element, read_filter}
+use Rattle.filter.specs.Parsing.{read_known, read_members, read_not, read_operand, read_operators}
 use Rattle.filter.specs.Words.{all_kinds, operator_of, size_in}
 use Rattle.filter.specs.declared.condition.Comparison.{Comparison}
 use Rattle.filter.specs.declared.condition.Comparison.TheVariants as comparisons
@@ -33,7 +33,7 @@ use Rattle.update_model.specs.Update.{Path, set, Edit, Update as Change, replace
 use Rattle.update_model.specs.Applying.{apply, changed}
 use Rattle.update_model.specs.IdEditLaws.{edits_keep_id, ok_same}
 use Rattle.update_model.specs.Laws.{IsStored}
-use Rattle.update_model.specs.Reading.{read_update, read_operators as read_edits_of}
+use Rattle.update_model.specs.Parsing.{read_update, read_operators as read_edits_of}
 use Rattle.update_model.specs.Replacements.{in_place_of}
 use Rattle.update_model.specs.Stored.{id_first, id_name, judged}
 use Rattle.update_model.specs.UpdateLaws.{gives_stored, keeps_id, operators_avoid}

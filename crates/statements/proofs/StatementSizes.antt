@@ -12,8 +12,8 @@ use Rattle.outcome.specs.Outcome.{◌>>=◌, unless, or_refused}
 use Rattle.path.specs.declared.refusal.Refusal.{Refusal}
 use Rattle.path.specs.declared.refusal.Refusal.TheVariants as refusals
 use Rattle.filter.specs.Condition.{Conditions}
-use Rattle.filter.specs.Reading.{read_filter}
-use Rattle.update_model.specs.Reading.{read_update}
+use Rattle.filter.specs.Parsing.{read_filter}
+use Rattle.update_model.specs.Parsing.{read_update}
 use Rattle.update_model.specs.Update.{Update as Change, is_replacement}
 use Rattle.command_model.specs.Fields.{CommonFields, read_fields, common_field}
 use Rattle.command_model.specs.FieldsLaws.{there}

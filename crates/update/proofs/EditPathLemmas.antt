@@ -2,7 +2,7 @@
 use Rattle.std.proofs.Common.{◌≡◌, Bool, true, false, ◌||◌, List, [], ◌∷◌, refl, sym, ap, ◌∙◌}
 use Rattle.std.specs.List.{list_any}
 use Rattle.update_model.specs.Update.{Path, Edit, meets_any, paths_of}
-use Rattle.update_model.specs.Reading.{conflicts, meets_itself}
+use Rattle.update_model.specs.Parsing.{conflicts, meets_itself}
 use Rattle.update.specs.EditPaths.{HavePathsOf, conflicts_with}
 
 -- ---- both ways round

@@ -14,7 +14,7 @@ use Rattle.path.specs.declared.refusal.Refusal.TheVariants as refusals
 use Rattle.path.proofs.WalkLemmas.{cut_off-levels}
 use Rattle.update_model.specs.Applying.{apply_edit, apply_edits}
 use Rattle.update.specs.Moving.{unset_of, move_of, put_all, MeetsNone, AreApart, MayMove}
-use Rattle.update_model.specs.Reading.{edits_meet, conflicts}
+use Rattle.update_model.specs.Parsing.{edits_meet, conflicts}
 use Rattle.update_model.specs.Renames.{moved, rename_at}
 use Rattle.update.specs.Renaming.{rename_of}
 use Rattle.update.specs.Unsets.{is_unset, cut_all}

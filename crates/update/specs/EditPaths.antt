@@ -3,7 +3,7 @@ use Rattle.std.specs.Prelude.{◌≡◌, ◌||◌, Bool, List}
 use Rattle.std.specs.List.{list_any}
 use Rattle.path.specs.Parts.{meets}
 use Rattle.update_model.specs.Update.{Path, Edit, meets_any, paths_of}
-use Rattle.update_model.specs.Reading.{meets_itself}
+use Rattle.update_model.specs.Parsing.{meets_itself}
 
 -- these paths are those that the edits change, as far as meeting goes
 abbrev pub HavePathsOf : List Path → List Edit → Type 0

@@ -3,7 +3,7 @@
 ghost use Rattle.std.specs.Prelude.{◌≡◌, ◌++◌, [], ◌∷◌, false, IfOk, OnOk, map};
 ghost use Rattle.outcome.specs.Outcome.{Gives};
 ghost use Rattle.update.specs.EditPaths.{HaveOneMore, conflicts_with};
-ghost use Rattle.update_model.specs.Reading.{conflicts, without_conflict};
+ghost use Rattle.update_model.specs.Parsing.{conflicts, without_conflict};
 ghost use Rattle.update.specs.View.{edit_of};
 
 use crate::edit::{Action, Edit};

@@ -18,7 +18,7 @@ pub mod laws;
 mod moving;
 mod numbers;
 mod operators;
-mod reading;
+mod parsing;
 mod renames;
 mod renaming;
 mod replacements;

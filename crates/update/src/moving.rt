@@ -9,7 +9,7 @@ ghost use Rattle.path.specs.Edits.{if_ok};
 ghost use Rattle.path.specs.Place.{passes_array};
 ghost use Rattle.update_model.specs.Applying.{apply_edit, apply_edits};
 ghost use Rattle.update.specs.Moving.{unset_of, move_of, put_all, all_moved, MayMove, GivesMoves};
-ghost use Rattle.update_model.specs.Reading.{conflicts};
+ghost use Rattle.update_model.specs.Parsing.{conflicts};
 ghost use Rattle.update_model.specs.Renames.{rename_at};
 ghost use Rattle.update.specs.Renaming.{rename_of};
 ghost use Rattle.update.specs.Unsets.{cut_all};

@@ -9,7 +9,7 @@ use Rattle.path.specs.Edits.{if_ok, within, write_at}
 use Rattle.path.specs.Place.{value_at}
 use Rattle.filter.specs.Condition.{Condition}
 use Rattle.filter.specs.Elements.{element_matches}
-use Rattle.filter.specs.Reading.{array_in, has_operators}
+use Rattle.filter.specs.Parsing.{array_in, has_operators}
 use Rattle.update_model.specs.Update.{Path}
 
 -- ---- $push

@@ -13,7 +13,7 @@ use Rattle.path.specs.declared.refusal.Refusal.TheVariants as refusals
 use Rattle.update_model.specs.Update.{Path, Action, set, unset, pull, rename, Edit, Update}
 use Rattle.update_model.specs.Update.{paths_of, meets_any}
 use Rattle.update_model.specs.Stored.{id_name, pairs_fault, no_array}
-use Rattle.update_model.specs.Reading.{read_update}
+use Rattle.update_model.specs.Parsing.{read_update}
 use Rattle.update_model.specs.Applying.{apply_edit, apply_edits, apply}
 
 -- no update changes `_id`

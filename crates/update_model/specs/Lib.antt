@@ -7,7 +7,7 @@ pub mod IdEditLaws
 pub mod Laws
 pub mod Numbers
 pub mod Operators
-pub mod Reading
+pub mod Parsing
 pub mod RefusalLaws
 pub mod Renames
 pub mod Replacements

@@ -8,7 +8,7 @@ use Rattle.path.specs.declared.refusal.Refusal.TheVariants as refusals
 use Rattle.path.specs.Edits.{if_ok, write_at}
 use Rattle.filter.specs.Elements.{read_element_condition}
 use Rattle.filter.specs.IdPaths.{begins_with_id}
-use Rattle.filter.specs.Reading.{path_in}
+use Rattle.filter.specs.Parsing.{path_in}
 use Rattle.update_model.specs.Update.{Path, Action, set, unset, increment, at_most, at_least, push}
 use Rattle.update_model.specs.Update.{pull, rename}
 use Rattle.update_model.specs.Fields.{set_field, unset_field}

@@ -26,7 +26,7 @@ use Rattle.filter.specs.Condition.{Condition}
 use Rattle.filter.specs.Elements.{read_element_condition}
 use Rattle.filter.specs.Matches.{is_equal}
 use Rattle.filter.specs.IdPaths.{begins_with_id}
-use Rattle.filter.specs.Reading.{path_in, has_operators}
+use Rattle.filter.specs.Parsing.{path_in, has_operators}
 use Rattle.update_model.specs.Update.{Path, Number, Action, set, unset, increment, at_most}
 use Rattle.update_model.specs.Update.{at_least, push, pull, rename, Edit, Update, replacement}
 use Rattle.update_model.specs.Update.{edits, paths_with}
@@ -41,8 +41,8 @@ use Rattle.update_model.specs.Renames.{moved}
 use Rattle.update_model.specs.Replacements.{with_id, in_place_of, replace}
 use Rattle.update_model.specs.Operators.{operator_of, no_id, editable_path, new_path, read_action}
 use Rattle.update_model.specs.Operators.{apply_action}
-use Rattle.update_model.specs.Reading.{conflicts, without_conflict, read_edit, read_edits}
-use Rattle.update_model.specs.Reading.{known_operator, operands_in, read_operator, read_operators}
+use Rattle.update_model.specs.Parsing.{conflicts, without_conflict, read_edit, read_edits}
+use Rattle.update_model.specs.Parsing.{known_operator, operands_in, read_operator, read_operators}
 use Rattle.update_model.specs.Applying.{apply_edits, changed}
 use Rattle.update_model.specs.Laws.{KeepsId, MeetsNothing, ChangesNothing, IsPath, ArePaths}
 use Rattle.update_model.specs.Laws.{SetStands, KeepsOthers, IsStored, GivesStored}

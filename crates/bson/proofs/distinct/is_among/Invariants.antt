@@ -1,5 +1,5 @@
 use Rattle.std.proofs.Common.{◌≡◌, drop}
-use Rattle.bson.specs.Reading.{stands_in}
+use Rattle.bson.specs.Decoding.{stands_in}
 use Rattle.bson.proofs.TableLaws.{lent}
 use Rattle.bson.proofs.distinct.is_among.Given as goal
 

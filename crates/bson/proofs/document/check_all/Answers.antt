@@ -3,7 +3,7 @@ use Rattle.std.specs.Prelude.{position, ◌==◌}
 use Rattle.std.proofs.lemmas.Result.{err_from_is_err_and}
 use Rattle.bson.specs.View.{pairs_of, names_of}
 use Rattle.bson.specs.Lawful.{HoldsDocument}
-use Rattle.bson.specs.Reading.{stands_in}
+use Rattle.bson.specs.Decoding.{stands_in}
 use Rattle.bson.specs.declared.value.Pair.{Pair}
 use Rattle.bson.specs.declared.fault.BuildFault.TheVariants as builds
 use Rattle.bson.proofs.ReadLoopLaws.{names_pushed}

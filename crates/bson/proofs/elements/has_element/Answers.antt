@@ -1,5 +1,5 @@
 use Rattle.std.proofs.Common.{List, ℕ, ap, ◌∙◌}
-use Rattle.bson.specs.Reading.{stands_in}
+use Rattle.bson.specs.Decoding.{stands_in}
 use Rattle.bson.proofs.DistinctLaws.{names_spelled}
 use Rattle.bson.proofs.elements.has_element.Goals as goal
 

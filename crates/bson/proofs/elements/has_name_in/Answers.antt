@@ -1,5 +1,5 @@
 use Rattle.std.proofs.Common.{Bool, ◌||◌, ap, sym, ◌∙◌}
-use Rattle.bson.specs.Reading.{stands_in}
+use Rattle.bson.specs.Decoding.{stands_in}
 use Rattle.bson.specs.RawNames.{names_in}
 use Rattle.bson.proofs.DistinctLaws.{other_name, no_name, after_shorter}
 use Rattle.bson.proofs.elements.has_name_in.Goals as goal

@@ -1,5 +1,5 @@
 use Rattle.std.proofs.Common.{◌≡◌, length}
-use Rattle.bson.specs.Reading.{stands_in}
+use Rattle.bson.specs.Decoding.{stands_in}
 use Rattle.bson.specs.RawNames.{names_in}
 use Rattle.bson.proofs.elements.has_name_in.Given as goal
 

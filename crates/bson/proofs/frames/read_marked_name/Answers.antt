@@ -1,5 +1,5 @@
 use Rattle.std.proofs.Common.{◌≡◌, ℕ, List, Ok, get_or, sym, ◌∙◌, arith}
-use Rattle.bson.specs.Reading.{Read}
+use Rattle.bson.specs.Decoding.{Read}
 use Rattle.bson.proofs.PlainNames.{plain_name, no_name_end}
 use Rattle.bson.proofs.frames.read_marked_name.Goals as goal
 

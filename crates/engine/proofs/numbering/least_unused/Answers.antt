@@ -1,6 +1,6 @@
 use Rattle.std.proofs.Common.{◌≡◌, ◌<◌, [], length, true, false, sym, ◌∙◌, arith}
 use Rattle.std.proofs.lemmas.List.{get_or_default, length-map}
-use Rattle.collections.specs.declared.reading.Name.{Name}
+use Rattle.collections.specs.declared.lookups.Name.{Name}
 use Rattle.entries.specs.State.{empty_collection, uses}
 use Rattle.engine.specs.Numbering.{numbered}
 use Rattle.database_model.proofs.Numbers.{searched_all, searched_found, searched_none, searched_one}

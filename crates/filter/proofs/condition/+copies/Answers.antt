@@ -1,4 +1,4 @@
-use Rattle.filter.proofs.ReadingLemmas.{copied}
+use Rattle.filter.proofs.ParsingLemmas.{copied}
 use Rattle.filter.proofs.condition.+copies.Goals as goal
 
 pub Filter::copy-conditions-preserved : goal.Filter::copy-conditions-preserved

@@ -3,7 +3,7 @@ use Rattle.std.proofs.lemmas.List.{drop_all}
 use Rattle.bson.specs.View.{items_of}
 use Rattle.filter.specs.Condition.{equals, append_conditions}
 use Rattle.filter.specs.View.{conditions_of}
-use Rattle.filter.proofs.ReadingLemmas.{equals_more, append_conditions-none}
+use Rattle.filter.proofs.ParsingLemmas.{equals_more, append_conditions-none}
 use Rattle.filter.proofs.operands.equals.Goals as goal
 
 pub items-preserved : goal.items-preserved

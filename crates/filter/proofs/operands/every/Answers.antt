@@ -1,8 +1,8 @@
-use Rattle.filter.proofs.ReadingLemmas.{every-some}
+use Rattle.filter.proofs.ParsingLemmas.{every-some}
 use Rattle.std.proofs.Common.{sym, ap, ◌∙◌}
 use Rattle.std.specs.Prelude.{◌==◌}
 use Rattle.filter.specs.Condition.{all}
-use Rattle.filter.specs.Reading.{every}
+use Rattle.filter.specs.Parsing.{every}
 use Rattle.filter.proofs.operands.every.Goals as goal
 
 pub returns-else-is_empty : goal.returns-else-is_empty

@@ -1,6 +1,6 @@
 use Rattle.std.proofs.Common.{◌++◌, ap, ◌∙◌}
 use Rattle.filter.proofs.KindLemmas.{kinds_more, kinds_refused}
-use Rattle.filter.proofs.ReadingLemmas.{refused}
+use Rattle.filter.proofs.ParsingLemmas.{refused}
 use Rattle.filter.proofs.operator.each_kind.Goals as goal
 
 pub returns-in_err-more : goal.returns-in_err-more

@@ -3,7 +3,7 @@ use Rattle.bson.specs.Tree.{count_pairs, count_items}
 use Rattle.bson.specs.View.{pairs_of, items_of}
 use Rattle.bson.specs.Lawful.{IsDocument, IsArray}
 use Rattle.projection.specs.Projection.{of_pairs, of_items}
-use Rattle.filter.proofs.ReadingLemmas.{pair_count, item_count}
+use Rattle.filter.proofs.ParsingLemmas.{pair_count, item_count}
 use Rattle.projection.proofs.ProjectionLemmas.{IsDocument-of, IsArray-of, pairs_more, pairs_end, items_more, items_end}
 use Rattle.projection.proofs.projecting.+projecting.Goals as goal
 

@@ -6,7 +6,7 @@ use Rattle.bson.specs.Tree.{document}
 use Rattle.bson.specs.View.{tree}
 use Rattle.path.specs.Place.{value_at}
 use Rattle.update.specs.Moving.{unset_of, move_of, put_all, MayMove}
-use Rattle.update_model.specs.Reading.{conflicts}
+use Rattle.update_model.specs.Parsing.{conflicts}
 use Rattle.update.specs.Unsets.{cut_all}
 use Rattle.update.proofs.MovingLemmas.{moved_absent, moved_there, may_move_too, old_alone, new_alone}
 use Rattle.update.proofs.moving.with_move.Goals as goal

@@ -1,7 +1,7 @@
 use Rattle.std.proofs.Common.{Ok, sym, ap, subst, ◌∙◌, arith}
 use Rattle.bson.specs.Spelling.{Spells}
 use Rattle.bson.specs.Raw.{only_document, document_spelled}
-use Rattle.bson.specs.Reading.{document_at}
+use Rattle.bson.specs.Decoding.{document_at}
 use Rattle.bson.proofs.RawLaws.{raw_found, raw_only, length_err}
 use Rattle.bson.proofs.FirstFaultLaws.{raw_fault}
 use Rattle.bson.proofs.FaultLaws.{fault_no}

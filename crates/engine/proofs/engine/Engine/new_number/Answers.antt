@@ -1,6 +1,6 @@
 use Rattle.std.proofs.Common.{List, ap, ◌∙◌, arith}
 use Rattle.std.proofs.lemmas.Result.{err_from_is_err_and}
-use Rattle.collections.specs.declared.reading.Name.{Name}
+use Rattle.collections.specs.declared.lookups.Name.{Name}
 use Rattle.engine.specs.Numbering.{numbered}
 use Rattle.database_model.specs.World.{unused}
 use Rattle.engine.proofs.NumberingLemmas.{number_found, number_many, number_unread, number_without_memory}

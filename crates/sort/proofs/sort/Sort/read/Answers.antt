@@ -2,7 +2,7 @@ use Rattle.std.proofs.Common.{◌<◌, length, arith}
 use Rattle.sort.specs.Sort.{SortField}
 use Rattle.sort.specs.SortReading.{read_sort}
 use Rattle.std.proofs.Common.{List}
-use Rattle.filter.proofs.ReadingLemmas.{refused}
+use Rattle.filter.proofs.ParsingLemmas.{refused}
 use Rattle.sort.proofs.SortLemmas.{fields_more, fields_refused}
 use Rattle.sort.proofs.sort.Sort.read.Goals as goal
 

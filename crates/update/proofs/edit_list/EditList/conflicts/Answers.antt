@@ -1,5 +1,5 @@
 use Rattle.std.proofs.Common.{List, map, ap, ◌∙◌}
-use Rattle.update_model.specs.Reading.{conflicts}
+use Rattle.update_model.specs.Parsing.{conflicts}
 use Rattle.update_model.specs.Update.{Edit}
 use Rattle.update.specs.View.{edit_of}
 use Rattle.update.proofs.EditPathLemmas.{conflicts_so}

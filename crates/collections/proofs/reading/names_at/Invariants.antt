@@ -1,7 +1,0 @@
-use Rattle.std.proofs.Common.{List, take}
-use Rattle.entries.specs.State.{Collection}
-use Rattle.collections.specs.Reading.{AreEach, IsNameOf, IsOfCollection}
-use Rattle.collections.proofs.reading.names_at.Given as goal
-
-abbrev pub invariant-loop-entry : goal.invariant-loop-entry
-invariant-loop-entry l = (cs : List Collection) → AreEach IsOfCollection l.entries cs → AreEach IsNameOf l.names.items (take l.entry-index cs)
